@@ -1,0 +1,17 @@
+pub mod Fields
+pub mod Bounds
+pub mod Sizes
+pub mod Count
+pub mod Same
+pub mod Heard
+pub mod Next
+pub mod Valid
+pub mod Journal
+pub mod Lawful
+pub mod WellFormed
+pub mod Headers
+pub mod Past
+pub mod Answer
+pub mod Reply
+pub mod Follow
+pub mod Keep
