@@ -15,3 +15,4 @@ pub mod Answer
 pub mod Reply
 pub mod Follow
 pub mod Keep
+pub mod Fit

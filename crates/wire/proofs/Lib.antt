@@ -1,0 +1,9 @@
+pub mod Values
+pub mod Telling
+pub mod Statements
+pub mod Frames
+pub mod Unique
+pub mod Taking
+pub mod Joining
+pub mod Whole
+pub mod Cutting

@@ -1,0 +1,75 @@
+-- That what a reader answers is true of the bytes, byte by byte along a frame.
+use Rattle.std.proofs.Common.{ℕ, suc, ◌≡◌, ◌<◌, ◌≤◌, Bool, true, false, cond, List, [], ◌∷◌, ◌++◌, get_or, Result, Ok, Err, refl, sym, subst, ◌∙◌, append_assoc, arith}
+use Rattle.std.proofs.lemmas.Bool.{leb-true, le-leb, and_parts, and_from, true≢false}
+use Rattle.std.proofs.lemmas.List.{append-nil}
+use Rattle.terms.specs.declared.Size.{Size}
+use Rattle.wire.specs.declared.message.Message.{Message}
+use Rattle.wire.specs.declared.message.Stop.{Stop}
+use Rattle.wire.specs.declared.message.Stop.TheVariants.{Partial, Fault}
+use Rattle.wire.specs.declared.message.WireFault.{WireFault}
+use Rattle.wire.specs.Texts.{text, Fits}
+use Rattle.wire.specs.Reading.{AreBytes, Begins, IsPartial, Breaks, fault_after}
+use Rattle.wire.specs.Looking.{◌>>=◌, within, byte_at}
+
+-- a list whose places all have bytes is bytes
+pub from_places : (bytes : List ℕ) → ((i : ℕ) → get_or bytes i 0 < 256) → AreBytes bytes
+from_places [] h = tt
+from_places (b ∷ bytes) h = (h 0, from_places bytes (λ i. h (suc i)))
+
+-- a front of bytes is bytes
+pub bytes_front : (a b : List ℕ) → AreBytes (a ++ b) → AreBytes a
+bytes_front [] b h = tt
+bytes_front (x ∷ a) b h = (h.0, bytes_front a b h.1)
+
+-- what stands behind a front of bytes is bytes
+pub bytes_back : (a b : List ℕ) → AreBytes (a ++ b) → AreBytes b
+bytes_back [] b h = h
+bytes_back (x ∷ a) b h = bytes_back a b h.1
+
+-- the answer is true of the bytes
+abbrev pub Tells : Size → List ℕ → Result (Message × List ℕ) Stop → Type 0
+Tells size bytes (Ok x) = Fits size x.0 × (bytes ≡ text x.0 ++ x.1)
+Tells size bytes (Err Partial) = IsPartial size bytes
+Tells size bytes (Err (Fault f)) = Breaks size bytes f
+
+-- the byte is in the range
+abbrev pub In : ℕ → ℕ → ℕ → Type 0
+In least b most = (least ≤ b) × (b ≤ most)
+
+-- what the test of a range says
+pub in_range : (least b most : ℕ) → within least most b ≡ true → In least b most
+in_range least b most e =
+    let p = and_parts _ _ e in (leb-true least b p.0, leb-true b most p.1)
+
+-- the test of a range holds in it
+within_from : (least b most : ℕ) → In least b most → within least most b ≡ true
+within_from least b most h = and_from _ _ (le-leb least b h.0) (le-leb b most h.1)
+
+-- by a test: the next byte is read, or it is the fault
+pub chosen : (size : Size) (whole : List ℕ) (v : Bool) (x : ℕ × List ℕ) (f : WireFault) (k : ℕ × List ℕ → Result (Message × List ℕ) Stop)
+    → (v ≡ true → Tells size whole (k x)) → (v ≡ false → Breaks size whole f) → Tells size whole (cond v (Ok x) (Err (Fault f)) >>= k)
+chosen size whole true x f k good bad = good refl
+chosen size whole false x f k good bad = bad refl
+
+-- one byte further: behind a front of a text comes a byte with which it still begins one, and the fault is
+-- that of the position
+pub step : (size : Size) (front : List ℕ) (least most : ℕ) (f : WireFault) (k : ℕ × List ℕ → Result (Message × List ℕ) Stop) (bytes : List ℕ)
+    → IsPartial size front → ((b : ℕ) → Begins size (front ++ b ∷ []) → In least b most) → f ≡ fault_after front → AreBytes bytes
+    → ((b : ℕ) (rest : List ℕ) → In least b most → AreBytes rest → Tells size ((front ++ b ∷ []) ++ rest) (k (b, rest)))
+    → Tells size (front ++ bytes) (byte_at least most f bytes >>= k)
+step size front least most f k [] partial range is fits next =
+    let P : List ℕ → Type 0 = λ p. IsPartial size p in subst P (sym (append-nil front)) partial
+step size front least most f k (b ∷ rest) partial range is fits next =
+    chosen size (front ++ b ∷ rest) (within least most b) (b, rest) f k
+    (λ e. let P : List ℕ → Type 0 = λ p. Tells size p (k (b, rest)) in subst P (append_assoc front (b ∷ []) rest) (next b rest (in_range least b most e) fits.1))
+    (λ e. record { front = front; byte = b; after = rest; whole = refl; partial = partial; none = λ h. true≢false (sym (within_from least b most (range b h)) ∙ e); fault_is = is })
+
+-- one byte further, where there is one choice
+pub step_one : (size : Size) (front : List ℕ) (x : ℕ) (f : WireFault) (k : ℕ × List ℕ → Result (Message × List ℕ) Stop) (bytes : List ℕ)
+    → IsPartial size front → ((b : ℕ) → Begins size (front ++ b ∷ []) → b ≡ x) → f ≡ fault_after front → AreBytes bytes
+    → ((rest : List ℕ) → AreBytes rest → Tells size ((front ++ x ∷ []) ++ rest) (k (x, rest)))
+    → Tells size (front ++ bytes) (byte_at x x f bytes >>= k)
+step_one size front x f k bytes partial one is fits next =
+    step size front x x f k bytes partial (λ b h. let e = one b h in (omega arith, omega arith)) is fits
+    (λ b rest r fits'. let e : x ≡ b = omega arith in
+    let P : ℕ → Type 0 = λ y. Tells size ((front ++ y ∷ []) ++ rest) (k (y, rest)) in subst P e (next rest fits'))

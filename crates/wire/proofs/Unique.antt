@@ -1,0 +1,160 @@
+-- No text begins another, and each list of bytes has one reading at most.
+use Rattle.std.proofs.Common.{ℕ, ◌≡◌, ◌+◌, ◌*◌, ◌/◌, ◌%◌, ◌<◌, ◌≤◌, List, [], ◌∷◌, ◌++◌, length, get_or, take, drop, refl, sym, ap, subst, ◌∙◌, ◌⊎◌, inl, inr, append_assoc, arith}
+use Rattle.std.specs.List.{flat_map, AllByRecursion}
+use Rattle.std.proofs.lemmas.List.{append-nil, length-append, take_at, drop_at}
+use Rattle.terms.specs.declared.Kind.{Kind}
+use Rattle.terms.specs.declared.Kind.TheVariants.{Initial, Echo, Ready}
+use Rattle.terms.specs.declared.Value.{Value}
+use Rattle.terms.specs.declared.Value.TheVariants.{Zero, One, SureZero, SureOne, Unsure}
+use Rattle.terms.specs.declared.Size.{Size}
+use Rattle.terms.specs.Bounds.{IsSize}
+use Rattle.terms.specs.Same.{value_code, place_of, statement_of}
+use Rattle.wire.specs.declared.message.Message.{Message}
+use Rattle.wire.specs.declared.message.Message.TheVariants as message
+use Rattle.wire.specs.Texts.{kind_byte, text, body, Fits}
+use Rattle.wire.specs.Looking.{kind_of, value_of}
+use Rattle.wire.specs.Reading.{Begins, IsPartial, End, Rest, Broken, Ends, Reads, fault_after}
+use Rattle.wire.proofs.Frames.{begins_with, cell}
+
+-- two fronts of one list: one begins the other
+pub compare : (a x b y : List ℕ) → a ++ x ≡ b ++ y
+    → ((z : List ℕ) × (b ≡ a ++ z) × (x ≡ z ++ y)) ⊎ ((c : ℕ) × (z : List ℕ) × (a ≡ b ++ c ∷ z) × (y ≡ c ∷ (z ++ x)))
+compare [] x b y e = inl (b, refl, e)
+compare (n ∷ a) x [] y e = inr (n, a, refl, sym e)
+compare (n ∷ a) x (m ∷ b) y e =
+    let heads : n ≡ m = cell 0 _ _ e in
+    let tails : a ++ x ≡ b ++ y = ap (λ (t : List ℕ). drop 1 t) e in
+    elim (compare a x b y tails) [
+      | inl l ↦ inl (l.0, (ap (λ (t : List ℕ). m ∷ t) l.1 ∙ ap (λ (h : ℕ). h ∷ (a ++ l.0)) (sym heads)), l.2)
+      | inr r ↦ inr (r.0, r.1, (ap (λ (t : List ℕ). n ∷ t) r.2 ∙ ap (λ (h : ℕ). h ∷ (b ++ r.0 ∷ r.1)) heads), r.3)
+    ]
+
+-- where two texts begin one list, they are one text, and what follows is the same
+pub same_text : (m n : Message) (x y : List ℕ) → text m ++ x ≡ text n ++ y → (text m ≡ text n) × (x ≡ y)
+same_text m n x y e =
+    let a = begins_with m in
+    let b = begins_with n in
+    let e' : 0 ∷ length (body m) ∷ (body m ++ x) ≡ 0 ∷ length (body n) ∷ (body n ++ y) =
+    ap (λ (t : List ℕ). t ++ x) (sym a) ∙ e ∙ ap (λ (t : List ℕ). t ++ y) b in
+    let long : length (body m) ≡ length (body n) = cell 1 _ _ e' in
+    let both : body m ++ x ≡ body n ++ y = ap (λ (t : List ℕ). drop 2 t) e' in
+    let bodies : body m ≡ body n = sym (take_at (body m) x (length (body n)) long)
+    ∙ ap (λ (t : List ℕ). take (length (body n)) t) both ∙ take_at (body n) y (length (body n)) refl in
+    let rests : x ≡ y = sym (drop_at (body m) x (length (body n)) long)
+    ∙ ap (λ (t : List ℕ). drop (length (body n)) t) both ∙ drop_at (body n) y (length (body n)) refl in
+    (a ∙ ap (λ (t : List ℕ). 0 ∷ length t ∷ t) bodies ∙ sym b, rests)
+
+-- the kind of the byte of a kind
+kind_again : (k : Kind) → kind_of (kind_byte k) ≡ k
+kind_again Initial = refl
+kind_again Echo = refl
+kind_again Ready = refl
+
+-- the value of the byte of a value
+value_again : (v : Value) → value_of (value_code v) ≡ v
+value_again Zero = refl
+value_again One = refl
+value_again SureZero = refl
+value_again SureOne = refl
+value_again Unsure = refl
+
+-- the message that a text spells, read off its bytes
+abbrev message_of : List ℕ → Message
+message_of t =
+    message.Statement (statement_of (kind_of (get_or t 3 0)) (place_of (256 * get_or t 4 0 + get_or t 5 0) (get_or t 6 0) (get_or t 7 0) (get_or t 8 0)) (value_of (get_or t 9 0)))
+
+-- it is the message that was spelled
+message_back : (size : Size) (m : Message) → IsSize size → Fits size m → message_of (text m) ≡ m
+message_back size (message.Statement s) lawful fits =
+    let few : size.questions ≤ 256 = lawful.few in
+    let lt : s.place.question < size.questions = fits.question in
+    let q : 256 * (s.place.question / 256 % 256) + s.place.question % 256 ≡ s.place.question = omega arith in
+    ap (λ (k : Kind). message.Statement (statement_of k (place_of (256 * (s.place.question / 256 % 256) + s.place.question % 256) s.place.origin s.place.round s.place.step) (value_of (value_code s.value)))) (kind_again s.kind)
+    ∙ ap (λ (v : Value). message.Statement (statement_of s.kind (place_of (256 * (s.place.question / 256 % 256) + s.place.question % 256) s.place.origin s.place.round s.place.step) v)) (value_again s.value)
+    ∙ ap (λ (n : ℕ). message.Statement (statement_of s.kind (place_of n s.place.origin s.place.round s.place.step) s.value)) q
+
+-- no text begins another, and it spells one message
+pub no_other : (size : Size) (m n : Message) (x y : List ℕ) → IsSize size → Fits size m → Fits size n
+    → text m ++ x ≡ text n ++ y → (m ≡ n) × (x ≡ y)
+no_other size m n x y lawful fits_m fits_n e =
+    let s = same_text m n x y e in
+    (sym (message_back size m lawful fits_m) ∙ ap (λ (t : List ℕ). message_of t) s.0 ∙ message_back size n lawful fits_n, s.1)
+
+-- no text stands in a front of another
+pub not_within : (size : Size) (front z : List ℕ) (m : Message) → IsPartial size front → front ≡ text m ++ z → ⊥
+not_within size front z m p e =
+    let whole : text p.message ++ [] ≡ text m ++ (z ++ p.next ∷ p.more) = append-nil (text p.message) ∙ p.whole
+    ∙ ap (λ (t : List ℕ). t ++ p.next ∷ p.more) e ∙ append_assoc (text m) z (p.next ∷ p.more) in
+    let s = same_text p.message m [] (z ++ p.next ∷ p.more) whole in
+    let long : length (z ++ p.next ∷ p.more) ≡ 0 = ap length (sym s.1) in
+    omega (arith, length-append z (p.next ∷ p.more))
+
+-- an end is no text and what follows it
+no_end : (size : Size) (m : Message) (x : List ℕ) (end : End) → Fits size m → Ends size (text m ++ x) end → ⊥
+no_end size m x (Rest rest) fits h = not_within size rest x m h.1 (sym h.0)
+no_end size m x (Broken f) fits h =
+    elim (compare (text m) x h.front (h.byte ∷ h.after) h.whole) [
+      | inl l ↦ not_within size h.front l.0 m h.partial l.1
+      | inr r ↦
+          let byte : h.byte ≡ r.0 = cell 0 _ _ r.3 in
+          h.none (record {
+            message = m;
+            fits = fits;
+            more = r.1;
+            whole = r.2 ∙ ap (λ (b : ℕ). h.front ++ b ∷ r.1) (sym byte)
+                ∙ sym (append_assoc h.front (h.byte ∷ []) r.1);
+          })
+    ]
+
+-- a longer front goes past the byte that no text has
+past : (size : Size) (front z after x : List ℕ) (byte c : ℕ) (longer : List ℕ)
+    → (Begins size (front ++ byte ∷ []) → ⊥) → IsPartial size longer
+    → longer ≡ front ++ c ∷ z → byte ≡ c → ⊥
+past size front z after x byte c longer none p e b =
+    none (record {
+      message = p.message;
+      fits = p.fits;
+      more = z ++ p.next ∷ p.more;
+      whole = p.whole ∙ ap (λ (t : List ℕ). t ++ p.next ∷ p.more) (e ∙ ap (λ (n : ℕ). front ++ n ∷ z) (sym b))
+          ∙ append_assoc front (byte ∷ z) (p.next ∷ p.more)
+          ∙ sym (append_assoc front (byte ∷ []) (z ++ p.next ∷ p.more));
+    })
+
+-- an end is one
+one_end : (size : Size) (bytes : List ℕ) (e f : End) → Ends size bytes e → Ends size bytes f → e ≡ f
+one_end size bytes (Rest a) (Rest b) h k = ap (λ (t : List ℕ). Rest t) (sym h.0 ∙ k.0)
+one_end size bytes (Rest a) (Broken g) h k =
+    absurd (past size k.front k.after [] [] k.byte k.byte a k.none h.1 (sym h.0 ∙ k.whole) refl)
+one_end size bytes (Broken f) (Rest b) h k =
+    absurd (past size h.front h.after [] [] h.byte h.byte b h.none k.1 (sym k.0 ∙ h.whole) refl)
+one_end size bytes (Broken f) (Broken g) h k =
+    elim (compare h.front (h.byte ∷ h.after) k.front (k.byte ∷ k.after) (sym h.whole ∙ k.whole)) [
+      | inr r ↦ absurd (past size k.front r.1 [] [] k.byte r.0 h.front k.none h.partial r.2 (cell 0 _ _ r.3))
+      | inl l ↦ elim l.0 as (λ z. k.front ≡ h.front ++ z → h.byte ∷ h.after ≡ z ++ k.byte ∷ k.after → Broken f ≡ Broken g) [
+        | [] ↦ λ same rest. ap Broken (h.fault_is ∙ ap fault_after (sym (append-nil h.front) ∙ sym same) ∙ sym k.fault_is)
+        | c ∷ z ↦ λ longer rest. absurd (past size h.front z [] [] h.byte c k.front h.none k.partial longer (cell 0 _ _ rest))
+      ] l.1 l.2
+    ]
+
+-- one list in two ways as texts and an end: they are the same texts and the same end
+pub one_reading : (size : Size) (bytes : List ℕ) (ms ns : List Message) (e f : End) (x y : List ℕ) → IsSize size
+    → AllByRecursion (Fits size) ms → AllByRecursion (Fits size) ns → flat_map text ms ++ x ≡ flat_map text ns ++ y → Ends size x e → Ends size y f → (ms ≡ ns) × (e ≡ f)
+one_reading size bytes [] [] e f x y lawful fm fn whole h k =
+    (refl, let P : List ℕ → Type 0 = λ t. Ends size t f in one_end size x e f h (subst P (sym whole) k))
+one_reading size bytes [] (n ∷ ns) e f x y lawful fm fn whole h k =
+    let P : List ℕ → Type 0 = λ t. Ends size t e in
+    absurd (no_end size n (flat_map text ns ++ y) e fn.0 (subst P (whole ∙ append_assoc (text n) (flat_map text ns) y) h))
+one_reading size bytes (m ∷ ms) [] e f x y lawful fm fn whole h k =
+    let P : List ℕ → Type 0 = λ t. Ends size t f in
+    absurd (no_end size m (flat_map text ms ++ x) f fm.0 (subst P (sym whole ∙ append_assoc (text m) (flat_map text ms) x) k))
+one_reading size bytes (m ∷ ms) (n ∷ ns) e f x y lawful fm fn whole h k =
+    let o =
+    no_other size m n (flat_map text ms ++ x) (flat_map text ns ++ y) lawful fm.0 fn.0 (sym (append_assoc (text m) (flat_map text ms) x) ∙ whole ∙ append_assoc (text n) (flat_map text ns) y) in
+    let i = one_reading size bytes ms ns e f x y lawful fm.1 fn.1 o.1 h k in
+    (ap (λ (t : List Message). t ++ ms) (ap (λ (c : Message). c ∷ []) o.0) ∙ ap (λ (t : List Message). n ∷ t) i.0, i.1)
+
+-- the same of readings
+pub reads_once : (size : Size) (bytes : List ℕ) (ms ns : List Message) (e f : End) → IsSize size
+    → Reads size bytes ms e → Reads size bytes ns f → (ms ≡ ns) × (e ≡ f)
+reads_once size bytes ms ns e f lawful a b =
+    one_reading size bytes ms ns e f a.others b.others lawful a.each b.each (sym a.whole ∙ b.whole) a.ends b.ends

@@ -1,0 +1,5 @@
+pub mod Texts
+pub mod Reading
+pub mod Looking
+pub mod Held
+pub mod Feeding

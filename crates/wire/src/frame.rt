@@ -1,0 +1,121 @@
+//! The message at the front of some bytes, read byte by byte.
+
+ghost use Rattle.std.specs.Prelude.{◌≡◌, ◌≤◌, ◌++◌, IfOk, IfErr};
+ghost use Rattle.wire.specs.Texts.{text, Fits};
+ghost use Rattle.wire.specs.Feeding.{Stops};
+ghost use Rattle.wire.specs.Looking.{least_value, most_value, most_low, kind_of, value_of, Gives, byte_at, statement_at, frame_at};
+
+use crate::message::{Message, Stop, WireFault};
+use terms::{Kind, Place, Size, Statement, Value};
+
+/// The first byte, which is to be in that range, and the bytes behind it.
+fn byte_between(bytes: &[u8], least: u8, most: u8, fault: WireFault) -> Result<(u8, &[u8]), Stop>
+    ensures reads { Gives (λ x. (x.0, x.1.now)) result (byte_at least most fault bytes.now) }
+    ensures range { IfOk result (λ x. (least ≤ x.0) × (x.0 ≤ most)) }
+{
+    match bytes {
+        [] => Err(Stop::Partial),
+        [first, rest @ ..] => {
+            if least <= *first && *first <= most {
+                Ok((*first, rest))
+            } else {
+                Err(Stop::Fault(fault))
+            }
+        }
+    }
+}
+
+/// The kind of that number, 1 to 3.
+fn kind_numbered(number: u8) -> Kind
+    ensures { result ≡ kind_of number }
+{
+    match number {
+        1 => Kind::Initial,
+        2 => Kind::Echo,
+        _ => Kind::Ready,
+    }
+}
+
+/// The value of that number, 0 to 4.
+fn value_numbered(number: u8) -> Value
+    ensures { result ≡ value_of number }
+{
+    match number {
+        0 => Value::Zero,
+        1 => Value::One,
+        2 => Value::SureZero,
+        3 => Value::SureOne,
+        _ => Value::Unsure,
+    }
+}
+
+/// The greatest low byte of a question up to the last one, behind this high byte.
+fn most_low_of(last: u16, high: u8) -> u8
+    ensures { result ≡ most_low last high }
+{
+    if u16::from(high) == last / 256 {
+        (last % 256) as u8
+    } else {
+        255
+    }
+}
+
+/// The least number of a value of the step.
+fn least_value_of(step: u8) -> u8
+    ensures { result ≡ least_value step }
+{
+    if step == 3 { 2 } else { 0 }
+}
+
+/// The greatest number of a value of the step.
+fn most_value_of(step: u8) -> u8
+    ensures { result ≡ most_value step }
+{
+    if step == 3 { 4 } else { 1 }
+}
+
+/// The statement whose body the bytes begin with, and the bytes behind it.
+#[tactic(auto, unfolding(crate::specs::Looking::statement_at))]
+fn statement(size: Size, bytes: &[u8]) -> Result<(Message, &[u8]), Stop>
+    ensures { Gives (λ x. (x.0, x.1.now)) result (statement_at size bytes.now) }
+{
+    let last = size.questions() - 1;
+    let (_, rest) = byte_between(bytes, 3, 3, WireFault::BadType)?;
+    let (kind, rest) = byte_between(rest, 1, 3, WireFault::BadKind)?;
+    let (high, rest) = byte_between(rest, 0, (last / 256) as u8, WireFault::BadPlace)?;
+    let (low, rest) = byte_between(rest, 0, most_low_of(last, high), WireFault::BadPlace)?;
+    let (origin, rest) = byte_between(rest, 0, size.n() - 1, WireFault::BadPlace)?;
+    let (round, rest) = byte_between(rest, 1, 32, WireFault::BadPlace)?;
+    let (step, rest) = byte_between(rest, 1, 3, WireFault::BadPlace)?;
+    let least = least_value_of(step);
+    let most = most_value_of(step);
+    let (value, rest) = byte_between(rest, least, most, WireFault::BadValue)?;
+    let question = u16::from_be_bytes([high, low]);
+    match Place::new(question, origin, round, step) {
+        None => unreachable!(),
+        Some(place) => match Statement::new(kind_numbered(kind), place, value_numbered(value)) {
+            None => unreachable!(),
+            Some(statement) => Ok((Message::Statement(statement), rest)),
+        },
+    }
+}
+
+/// The message whose frame the bytes begin with, and the bytes behind it.
+#[tactic(auto, unfolding(crate::specs::Looking::frame_at))]
+fn frame_by_bytes(size: Size, bytes: &[u8]) -> Result<(Message, &[u8]), Stop>
+    ensures { Gives (λ x. (x.0, x.1.now)) result (frame_at size bytes.now) }
+{
+    let (_, rest) = byte_between(bytes, 0, 0, WireFault::BadLength)?;
+    let (_, rest) = byte_between(rest, 8, 8, WireFault::BadLength)?;
+    statement(size, rest)
+}
+
+/// The message whose frame the bytes begin with, and the bytes behind it.
+pub(crate) fn frame(size: Size, bytes: &[u8]) -> Result<(Message, &[u8]), Stop>
+    ensures whole { IfOk result (λ x. Fits size x.0 × (bytes.now ≡ text x.0 ++ x.1.now)) }
+    ensures stops { IfErr result (λ stop. Stops size bytes.now stop) }
+{
+    // The bounds of a size are known where it is read.
+    let _members = size.n();
+    frame_by_bytes(size, bytes)
+}

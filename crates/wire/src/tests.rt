@@ -1,0 +1,222 @@
+//! Worked rows of the format, cut in every way, and refused memory.
+//!
+//! Where `rt try --test --fail-alloc N` refuses an allocation, the helpers see that nothing changed and go
+//! on with the same call again.
+
+use super::*;
+use std::process::Abort;
+use std::test::Fail;
+use terms::{Kind, Place, Size, Statement, Value};
+
+/// Four members of whom one may lie, and one question.
+fn size() -> Result<Size, Fail> {
+    Ok(Size::new(4, 1, 1).ok().ok_or("a size")?)
+}
+
+/// The initial statement One of question 0, origin 0, round 1, step 1.
+const FIRST: [u8; 10] = [0, 8, 3, 1, 0, 0, 0, 1, 1, 1];
+
+/// An echo whose value is none of step 1.
+const WRONG: [u8; 10] = [0, 8, 3, 2, 0, 0, 0, 1, 1, 2];
+
+fn message(kind: Kind, place: (u16, u8, u8, u8), value: Value) -> Result<Message, Fail> {
+    let (question, origin, round, step) = place;
+    let place = Place::new(question, origin, round, step).ok_or("a place")?;
+    let statement = Statement::new(kind, place, value).ok_or("a statement")?;
+    Ok(Message::Statement(statement))
+}
+
+fn first() -> Result<Message, Fail> {
+    message(Kind::Initial, (0, 0, 1, 1), Value::One)
+}
+
+/// Feeds the piece. If memory is refused, nothing has changed and the same call is made again.
+fn feed(
+    rt: &impl Abort,
+    feeder: &mut Feeder,
+    piece: &[u8],
+    out: &mut Vec<Message>,
+) -> Result<Fed, Fail> {
+    let before = out.len();
+    if let Ok(fed) = feeder.feed(piece, out) {
+        return Ok(fed);
+    }
+    assert_eq!(rt; out.len(), before, "a refused feed added messages");
+    Ok(feeder.feed(piece, out).ok().ok_or("memory, twice")?)
+}
+
+/// Encodes the message, likewise.
+fn encode_again(rt: &impl Abort, message: &Message, out: &mut Vec<u8>) -> Result<(), Fail> {
+    let before = out.len();
+    if encode(message, out) == Ok(()) {
+        return Ok(());
+    }
+    assert_eq!(rt; out.len(), before, "a refused encode added bytes");
+    encode(message, out).ok().ok_or("memory, twice")?;
+    Ok(())
+}
+
+#[test]
+fn encodes(rt: HostRuntime) -> Result<(), Fail> {
+    let rows = [
+        (first()?, FIRST),
+        (
+            message(Kind::Echo, (258, 3, 32, 2), Value::Zero)?,
+            [0, 8, 3, 2, 1, 2, 3, 32, 2, 0],
+        ),
+        (
+            message(Kind::Ready, (255, 31, 7, 3), Value::SureZero)?,
+            [0, 8, 3, 3, 0, 255, 31, 7, 3, 2],
+        ),
+        (
+            message(Kind::Ready, (1, 2, 3, 3), Value::SureOne)?,
+            [0, 8, 3, 3, 0, 1, 2, 3, 3, 3],
+        ),
+        (
+            message(Kind::Initial, (1, 2, 3, 3), Value::Unsure)?,
+            [0, 8, 3, 1, 0, 1, 2, 3, 3, 4],
+        ),
+    ];
+    for (message, frame) in rows {
+        let mut out = Vec::new(rt.alloc());
+        encode_again(&rt, &message, &mut out)?;
+        assert_eq!(rt; out.as_slice(), frame.as_slice());
+        encode_again(&rt, &message, &mut out)?;
+        assert_eq!(rt; out.len(), 20);
+    }
+    Ok(())
+}
+
+#[test]
+fn reads_a_frame_cut_anywhere(rt: HostRuntime) -> Result<(), Fail> {
+    for cut in 0..=FIRST.len() {
+        let mut feeder = Feeder::new(size()?);
+        let mut out = Vec::new(rt.alloc());
+        let before = feed(&rt, &mut feeder, &FIRST[..cut], &mut out)?;
+        assert!(rt; before == Fed::More, "cut at {cut}");
+        assert_eq!(rt; out.len() == 1, cut == FIRST.len(), "cut at {cut}");
+        let after = feed(&rt, &mut feeder, &FIRST[cut..], &mut out)?;
+        assert!(rt; after == Fed::More, "cut at {cut}");
+        assert_eq!(rt; out.as_slice(), [first()?].as_slice(), "cut at {cut}");
+    }
+    Ok(())
+}
+
+#[test]
+fn reads_byte_by_byte(rt: HostRuntime) -> Result<(), Fail> {
+    let mut feeder = Feeder::new(size()?);
+    let mut out = Vec::new(rt.alloc());
+    for (i, byte) in FIRST.iter().enumerate() {
+        assert_eq!(rt; out.len(), 0, "before byte {i}");
+        let fed = feed(&rt, &mut feeder, &[*byte], &mut out)?;
+        assert!(rt; fed == Fed::More, "at byte {i}");
+    }
+    assert_eq!(rt; out.as_slice(), [first()?].as_slice());
+    Ok(())
+}
+
+#[test]
+fn gives_the_messages_before_a_fault(rt: HostRuntime) -> Result<(), Fail> {
+    let mut feeder = Feeder::new(size()?);
+    let mut out = Vec::new(rt.alloc());
+    let broken = Fed::Broken(WireFault::BadValue);
+    let mut bytes = [0; 20];
+    bytes[..10].copy_from_slice(&FIRST);
+    bytes[10..].copy_from_slice(&WRONG);
+    assert!(rt; feed(&rt, &mut feeder, &bytes, &mut out)? == broken);
+    assert_eq!(rt; out.as_slice(), [first()?].as_slice());
+    assert!(rt; feed(&rt, &mut feeder, &FIRST, &mut out)? == broken);
+    assert!(rt; feed(&rt, &mut feeder, &[], &mut out)? == broken);
+    assert_eq!(rt; out.as_slice(), [first()?].as_slice());
+    Ok(())
+}
+
+/// Bytes of which the last is the first wrong one, for the size (4, 1, 1).
+const WRONG_BYTES: [(&[u8], WireFault); 16] = [
+    (&[1], WireFault::BadLength),
+    (&[0, 1], WireFault::BadLength),
+    (&[0, 9], WireFault::BadLength),
+    (&[0, 8, 2], WireFault::BadType),
+    (&[0, 8, 3, 0], WireFault::BadKind),
+    (&[0, 8, 3, 4], WireFault::BadKind),
+    (&[0, 8, 3, 1, 1], WireFault::BadPlace),
+    (&[0, 8, 3, 1, 0, 1], WireFault::BadPlace),
+    (&[0, 8, 3, 1, 0, 0, 4], WireFault::BadPlace),
+    (&[0, 8, 3, 1, 0, 0, 0, 0], WireFault::BadPlace),
+    (&[0, 8, 3, 1, 0, 0, 0, 33], WireFault::BadPlace),
+    (&[0, 8, 3, 1, 0, 0, 0, 1, 0], WireFault::BadPlace),
+    (&[0, 8, 3, 1, 0, 0, 0, 1, 4], WireFault::BadPlace),
+    (&[0, 8, 3, 1, 0, 0, 0, 1, 1, 2], WireFault::BadValue),
+    (&[0, 8, 3, 1, 0, 0, 0, 1, 2, 4], WireFault::BadValue),
+    (&[0, 8, 3, 1, 0, 0, 0, 1, 3, 1], WireFault::BadValue),
+];
+
+#[test]
+fn breaks_at_the_first_wrong_byte(rt: HostRuntime) -> Result<(), Fail> {
+    for (bytes, fault) in WRONG_BYTES {
+        let mut out = Vec::new(rt.alloc());
+        let mut whole = Feeder::new(size()?);
+        let fed = feed(&rt, &mut whole, bytes, &mut out)?;
+        assert!(rt; fed == Fed::Broken(fault), "{fault} in one piece");
+        let (front, last) = bytes.split_at(bytes.len().saturating_sub(1));
+        let mut cut = Feeder::new(size()?);
+        let fed = feed(&rt, &mut cut, front, &mut out)?;
+        assert!(rt; fed == Fed::More, "{fault} before its byte");
+        let fed = feed(&rt, &mut cut, last, &mut out)?;
+        assert!(rt; fed == Fed::Broken(fault), "{fault} in a piece of its own");
+        assert_eq!(rt; out.len(), 0, "{fault}");
+    }
+    Ok(())
+}
+
+#[test]
+fn takes_as_many_questions_as_there_are(rt: HostRuntime) -> Result<(), Fail> {
+    let size = Size::new(32, 10, 256).ok().ok_or("a size")?;
+    let last = message(Kind::Ready, (255, 31, 32, 3), Value::Unsure)?;
+    let mut out = Vec::new(rt.alloc());
+    let mut feeder = Feeder::new(size);
+    let frame = [0, 8, 3, 3, 0, 255, 31, 32, 3, 4];
+    assert!(rt; feed(&rt, &mut feeder, &frame, &mut out)? == Fed::More);
+    assert_eq!(rt; out.as_slice(), [last].as_slice());
+    let broken = Fed::Broken(WireFault::BadPlace);
+    assert!(rt; feed(&rt, &mut feeder, &[0, 8, 3, 3, 1], &mut out)? == broken);
+    Ok(())
+}
+
+#[test]
+fn names_each_fault(rt: HostRuntime) -> Result<(), Fail> {
+    let rows = [
+        (WireFault::BadLength, "BadLength"),
+        (WireFault::BadType, "BadType"),
+        (WireFault::BadKind, "BadKind"),
+        (WireFault::BadPlace, "BadPlace"),
+        (WireFault::BadValue, "BadValue"),
+    ];
+    for (fault, name) in rows {
+        let text = match format!(in rt.alloc(); "{fault}") {
+            Ok(text) => text,
+            Err(_) => format!(in rt.alloc(); "{fault}")?,
+        };
+        assert_eq!(rt; text.as_str(), name);
+    }
+    Ok(())
+}
+
+/// Several frames in one piece behind a held front, so that memory is refused at some of them.
+#[test]
+fn reads_what_was_encoded(rt: HostRuntime) -> Result<(), Fail> {
+    let mut bytes = Vec::new(rt.alloc());
+    for _ in 0..12 {
+        encode_again(&rt, &first()?, &mut bytes)?;
+    }
+    let (front, rest) = bytes.as_slice().split_at(bytes.len().min(5));
+    let mut feeder = Feeder::new(size()?);
+    let mut out = Vec::new(rt.alloc());
+    assert!(rt; feed(&rt, &mut feeder, front, &mut out)? == Fed::More);
+    assert_eq!(rt; out.len(), 0);
+    assert!(rt; feed(&rt, &mut feeder, rest, &mut out)? == Fed::More);
+    assert_eq!(rt; out.as_slice(), [first()?; 12].as_slice());
+    assert!(rt; feed(&rt, &mut feeder, &WRONG, &mut out)? == Fed::Broken(WireFault::BadValue));
+    assert_eq!(rt; out.len(), 12);
+    Ok(())
+}
