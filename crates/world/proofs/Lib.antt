@@ -1,0 +1,14 @@
+pub mod Sets
+pub mod Sending
+pub mod Good
+pub mod Invariant
+pub mod Keeps
+pub mod Formed
+pub mod Order
+pub mod Broadcast
+pub mod Rounds
+pub mod Settled
+pub mod Checker
+pub mod Four
+pub mod Example
+pub mod Runs

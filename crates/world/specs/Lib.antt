@@ -1,0 +1,4 @@
+pub mod World
+pub mod Sent
+pub mod Claims
+pub mod Laws
