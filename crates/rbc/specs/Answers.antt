@@ -1,0 +1,26 @@
+-- The answers that are due for what was heard and said.
+use Rattle.std.specs.Prelude.{ℕ, ◌≡◌, cond, Option, Some, None, List}
+use Rattle.terms.specs.declared.Value.{Value}
+use Rattle.terms.specs.declared.Place.{Place}
+use Rattle.terms.specs.declared.Statement.{Statement}
+use Rattle.terms.specs.declared.Size.{Size}
+use Rattle.terms.specs.Heard.{got, is_foreign, is_none, Accepted}
+use Rattle.terms.specs.Past.{Past}
+use Rattle.rbc.specs.declared.Heard.{Heard}
+use Rattle.rbc.specs.declared.Heard.TheVariants.{News, Repeat, Foreign}
+
+-- how a statement of that sender is taken
+abbrev pub heard_as : Past → ℕ → Statement → Heard
+heard_as past from s =
+    cond (is_foreign from s) Foreign (cond (is_none (got past.heard from s.kind s.place)) News Repeat)
+
+-- the value that is accepted, or none where none is
+abbrev pub IsAccepted : Past → Place → Option Value → Type 0
+IsAccepted past place None = (m : Value) → Accepted past.size past.heard place m → ⊥
+IsAccepted past place (Some m) = Accepted past.size past.heard place m
+
+-- at most one value is accepted at a place of what was heard
+abbrev pub AcceptsOne : Type 0
+AcceptsOne =
+    (size : Size) (heard : List (ℕ × Statement)) (place : Place) (m k : Value)
+    → Accepted size heard place m → Accepted size heard place k → m ≡ k

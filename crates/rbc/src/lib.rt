@@ -1,0 +1,208 @@
+//! Reliable broadcast of one question: what was heard and said at each place, what is to be said there, and what is
+//! accepted. It follows Bracha 1987, section 3, which Cachin, Guerraoui and Rodrigues, chapter 3, call Byzantine
+//! reliable broadcast.
+//!
+//! Of n members up to t may lie, and n > 3t. At each place, of each sender the first Initial, the first Echo and the
+//! first Ready count, and an Initial counts only from the place's origin. A member
+//!
+//! - says Echo m once, after the origin's Initial m, or after Echo m from an echo quorum (c senders with
+//!   2c > n + t), or after Ready m from t + 1 senders;
+//! - says Ready m once, after Echo m from an echo quorum, or after Ready m from t + 1 senders;
+//! - accepts the first m for which Ready m from 2t + 1 senders was heard.
+//!
+//! The question of a place isn't looked at: a caller keeps one [`Broadcasts`] for each question. Each call searches
+//! anew all that was heard of it.
+#![tactic(auto)]
+
+ghost use Rattle.std.specs.Prelude.{◌≡◌, ◌≢◌, ◌<◌, ℕ, IfOk, IfSome, OnOk, OnErr};
+ghost use Rattle.rbc.specs.Answers.{AcceptsOne};
+
+use std::alloc::Global;
+use terms::{Kind, Memory, Place, Size, Statement, Value};
+
+mod entries;
+mod rules;
+#[cfg(test)]
+mod tests;
+
+use entries::Entry;
+
+/// How a statement was taken.
+#[derive(Clone, Copy, Debug, PartialEq, Eq)]
+pub enum Heard {
+    /// It counts: the first of its sender, kind and place. What is due or accepted at its place may have changed.
+    News,
+    /// One of its sender, kind and place counts already, of this value or another. Nothing changed.
+    Repeat,
+    /// An Initial whose sender isn't its origin. It doesn't count, and nothing changed.
+    Foreign,
+}
+
+/// What is to be said at a place, as an Echo and as a Ready.
+#[derive(Clone, Copy, Debug, PartialEq, Eq)]
+pub struct Due {
+    /// The value of the Echo that is due: of several the one of least code. None where none is due, or one was said.
+    pub echo: Option<Value>,
+    /// The value of the Ready that is due: of several the one of least code. None where none is due, or one was said.
+    pub ready: Option<Value>,
+}
+
+/// The broadcasts of one question, at one member: what it heard, and what it said itself.
+#[derive(Drop)]
+pub struct Broadcasts {
+    size: Size,
+    me: u8,
+    heard: Vec<Entry>,
+    said: Vec<Statement>,
+}
+
+impl Broadcasts {
+    ghost use Rattle.terms.specs.declared.Kind.TheVariants.{Echo, Ready};
+    ghost use Rattle.terms.specs.declared.Record.TheVariants.{Said};
+    ghost use Rattle.terms.specs.Answer.{MaySay, IsLeast};
+    ghost use Rattle.terms.specs.Bounds.{FitsStep};
+    ghost use Rattle.terms.specs.Journal.{said};
+    ghost use Rattle.terms.specs.Past.{Past, no_past, after_hearing, after_record};
+    ghost use Rattle.rbc.specs.declared.Heard.TheVariants.{News};
+    ghost use Rattle.rbc.specs.Words.{size_by, got_by, said_by};
+    ghost use Rattle.rbc.specs.Stands.{Stands};
+    ghost use Rattle.rbc.specs.Answers.{heard_as, IsAccepted};
+    ghost use Rattle.rbc.specs.Due.{due_of};
+
+    /// Those of the member `me`, below `size.n()`, that heard and said nothing yet. It takes no memory: `alloc` is
+    /// kept for [`hear`](Broadcasts::hear) and [`say`](Broadcasts::say).
+    pub fn new(alloc: Global, size: Size, me: u8) -> Broadcasts
+        ensures size { size_by result ≡ size }
+        ensures stands { (question : ℕ) → Stands result (no_past size me question) }
+    {
+        Broadcasts {
+            size,
+            me,
+            heard: Vec::new(alloc),
+            said: Vec::new(alloc),
+        }
+    }
+
+    /// Hears a statement from the member `from`. Only [`Heard::News`] changes anything.
+    ///
+    /// `from` and the origin of the place are below n: the caller sees to it.
+    ///
+    /// [`Memory`]: the statement is news, and there was no memory to note it. Nothing changed, so it may be heard
+    /// again.
+    pub fn hear(&mut self, from: u8, s: &Statement) -> Result<Heard, Memory>
+        requires from { from < (size_by self.old).n }
+        requires origin { s.now.place.origin < (size_by self.old).n }
+
+        ensures answer { IfOk result (λ taken.
+            (past : Past) → Stands self.old past → s.now.place.question ≡ past.question →
+            taken ≡ heard_as past from s.now) }
+        ensures ok { OnOk result (
+            (past : Past) → Stands self.old past → s.now.place.question ≡ past.question →
+            Stands self.new (after_hearing past from s.now)) }
+        ensures unchanged_unless_news { IfOk result (λ taken. taken ≢ News →
+            (past : Past) → Stands self.old past → Stands self.new past) }
+
+        ensures err { OnErr result ((past : Past) → Stands self.old past → Stands self.new past) }
+        ensures err_only_at_news { OnErr result (
+            (past : Past) → Stands self.old past → s.now.place.question ≡ past.question →
+            heard_as past from s.now ≡ News) }
+        ensures size { size_by self.new ≡ size_by self.old }
+    {
+        if entries::is_foreign(from, *s) {
+            return Ok(Heard::Foreign);
+        }
+        if self.got(from, s.kind(), s.place()).is_some() {
+            return Ok(Heard::Repeat);
+        }
+        self.heard.push(Entry {
+            from,
+            statement: *s,
+        })?;
+        Ok(Heard::News)
+    }
+
+    /// What is to be said at the place, whose origin is below n. It takes no memory.
+    pub fn due(&self, place: Place) -> Due
+        requires { place.origin < (size_by self.now).n }
+        ensures echo { (past : Past) → Stands self.now past → place.question ≡ past.question →
+            IsLeast (MaySay past Echo place) result.echo }
+        ensures ready { (past : Past) → Stands self.now past → place.question ≡ past.question →
+            IsLeast (MaySay past Ready place) result.ready }
+    {
+        let initial = self.got(place.origin(), Kind::Initial, place);
+        Due {
+            echo: self.due_as(Kind::Echo, place, initial),
+            ready: self.due_as(Kind::Ready, place, None),
+        }
+    }
+
+    /// Notes that the member itself said the statement, an Echo or a Ready: from then on no other of that kind is due
+    /// at its place. Of several the first counts. An Initial changes nothing.
+    ///
+    /// The origin of the place is below n: the caller sees to it.
+    ///
+    /// [`Memory`]: the statement is the first of its kind at the place, and there was no memory to note it. Nothing
+    /// changed, so it may be said again.
+    pub fn say(&mut self, s: &Statement) -> Result<(), Memory>
+        requires { s.now.place.origin < (size_by self.old).n }
+
+        ensures ok { OnOk result (
+            (past : Past) → Stands self.old past → s.now.place.question ≡ past.question →
+            Stands self.new (after_record past (Said s.now))) }
+
+        ensures err { OnErr result ((past : Past) → Stands self.old past → Stands self.new past) }
+        ensures err_only_at_first { OnErr result (
+            (past : Past) → Stands self.old past → s.now.place.question ≡ past.question →
+            said past.records s.now.kind s.now.place ≡ None) }
+        ensures size { size_by self.new ≡ size_by self.old }
+    {
+        if entries::is_initial(s.kind()) || self.said(s.kind(), s.place()).is_some() {
+            return Ok(());
+        }
+        self.said.push(*s)?;
+        Ok(())
+    }
+
+    /// The value that is accepted at the place, whose origin is below n: the first of which 2t + 1 senders of a Ready
+    /// were heard. None where there is none yet. It takes no memory.
+    pub fn accepted(&self, place: Place) -> Option<Value>
+        requires { place.origin < (size_by self.now).n }
+        ensures value { (past : Past) → Stands self.now past → place.question ≡ past.question →
+            IsAccepted past place result }
+        ensures fits { IfSome result (λ m. FitsStep place.step m) }
+    {
+        rules::first_reached(&self.heard, self.size, place)
+    }
+
+    /// The value of the sender's statement of that kind at that place, if one counts.
+    #[tactic(auto, unfolding(crate::specs::Words::got_by))]
+    fn got(&self, from: u8, kind: Kind, place: Place) -> Option<Value>
+        ensures { result ≡ got_by self.now from kind place }
+    {
+        entries::first_value(&self.heard, from, kind, place)
+    }
+
+    /// The value that the member itself said as that kind at that place, if it did.
+    #[tactic(auto, unfolding(crate::specs::Words::said_by))]
+    fn said(&self, kind: Kind, place: Place) -> Option<Value>
+        ensures { result ≡ said_by self.now kind place }
+    {
+        entries::first_said(&self.said, kind, place)
+    }
+
+    /// The value to be said as that kind, where that of the Initial, if it is given, may be said too.
+    fn due_as(&self, kind: Kind, place: Place, initial: Option<Value>) -> Option<Value>
+        ensures { result ≡ due_of self.now kind place initial }
+    {
+        if self.said(kind, place).is_some() {
+            return None;
+        }
+        rules::least_due(&self.heard, self.size, place, initial)
+    }
+}
+
+/// The law that at most one value is accepted at a place, of any statements heard in any order: so what
+/// [`accepted`](Broadcasts::accepted) answers is the only one. It is a proof and does nothing.
+pub fn one_accepted()
+    ensures { AcceptsOne }
+{}
