@@ -1,0 +1,92 @@
+//! The words of the command line.
+
+ghost use Rattle.std.specs.Prelude.{◌≡◌, IfOk, MatchResult, None, Some};
+ghost use Rattle.terms.specs.Sizes.{size_of, size_fault};
+
+use clap::error::ErrorKind;
+use clap::{Arg, ArgMatches, Error, value_parser};
+use std::alloc::Global;
+use std::convert::AsStr;
+use terms::{Size, SizeFault};
+
+/// What the program is asked to do.
+#[derive(Clone, Copy, Debug, PartialEq, Eq)]
+pub enum Task {
+    /// Reads pieces of streams and prints the broadcasts' answers, as member `me` of a cluster of that size.
+    Hear {
+        n: u16,
+        t: u16,
+        questions: u16,
+        me: u8,
+    },
+}
+
+/// The size of these numbers, or the first thing that is wrong with them, in the order of [`SizeFault`]. A number of
+/// members or of liars that no byte holds is too many, as one just above the limit is.
+pub fn size_from(n: u16, t: u16, questions: u16) -> Result<Size, SizeFault>
+    ensures ok { IfOk result (λ size. size ≡ size_of n t questions) }
+    ensures exact {
+        MatchResult result (λ _. size_fault n t questions ≡ None) (λ fault. size_fault n t questions ≡ Some fault)
+    }
+{
+    let n = u8::try_from(n).unwrap_or(u8::MAX);
+    let t = u8::try_from(t).unwrap_or(u8::MAX);
+    Size::new(n, t, questions)
+}
+
+/// A required number of that name, such as `--n 4`.
+fn number<'a>(alloc: Global, name: &'a str, value: &'a str, help: &'a str) -> Arg<'a> {
+    Arg::new(alloc, name)
+        .long(name)
+        .value_name(value)
+        .required(true)
+        .help(help)
+}
+
+/// The options that name a size.
+fn with_size<'a>(alloc: Global, command: clap::Command<'a>) -> Result<clap::Command<'a>, Error> {
+    let n = number(alloc, "n", "N", "How many members there are (1 to 32)");
+    let t = number(alloc, "t", "T", "How many of them may lie (less than a third)");
+    let questions = number(alloc, "questions", "Q", "How many questions there are (1 to 256)");
+    Ok(command
+        .arg(n.value_parser(value_parser!(u16)))?
+        .arg(t.value_parser(value_parser!(u16)))?
+        .arg(questions.value_parser(value_parser!(u16)))?)
+}
+
+fn hear<'a>(alloc: Global) -> Result<clap::Command<'a>, Error> {
+    let about = "Reads lines `SENDER HEX`, each a piece of a sender's stream, and prints what reliable broadcast answers";
+    let me = number(alloc, "me", "M", "The member that hears (below N)");
+    let command = with_size(alloc, clap::Command::new(alloc, "hear").about(about))?;
+    Ok(command.arg(me.value_parser(value_parser!(u8)))?)
+}
+
+fn program<'a>(alloc: Global) -> Result<clap::Command<'a>, Error> {
+    let program = clap::Command::new(alloc, "bracha")
+        .version("0.1.0")
+        .about("A cluster that settles yes-or-no questions while some of its members lie")
+        .subcommand_required(true)
+        .arg_required_else_help(true);
+    Ok(program.subcommand(hear(alloc)?)?)
+}
+
+/// The values of `hear`'s options, each of which the parser has demanded.
+fn hear_of(options: &ArgMatches) -> Option<Task> {
+    Some(Task::Hear {
+        n: options.get_one::<u16>("n")?,
+        t: options.get_one::<u16>("t")?,
+        questions: options.get_one::<u16>("questions")?,
+        me: options.get_one::<u8>("me")?,
+    })
+}
+
+/// The task that the words ask for, the program's name first among them. An `Err` is to be printed: it is a fault of
+/// the words, the help or the version.
+pub fn command<'a, S: AsStr>(alloc: Global, words: &'a [S]) -> Result<Task, Error> {
+    let mut program = program(alloc)?;
+    let matches = program.try_get_matches_from_mut(words)?;
+    match matches.subcommand_matches("hear").and_then(hear_of) {
+        Some(task) => Ok(task),
+        None => Err(program.error(ErrorKind::MissingSubcommand, "no command")?),
+    }
+}
