@@ -7,14 +7,15 @@ mod hear;
 mod piece;
 mod session;
 
+use clap::error::ErrorKind;
 use command::{Task, command, size_from};
 use fault::Fault;
 use std::env;
 use std::io::{self, LineWriter};
 use std::process::ExitCode;
 
-/// Does the work, and gives the status to end with.
-fn run(rt: &HostRuntime, task: &Task) -> Result<u8, Fault> {
+/// Does the task, and gives the status to end with.
+fn work(rt: &HostRuntime, task: &Task) -> Result<u8, Fault> {
     match task {
         Task::Hear {
             n,
@@ -30,16 +31,21 @@ fn run(rt: &HostRuntime, task: &Task) -> Result<u8, Fault> {
     }
 }
 
-fn main(rt: HostRuntime) -> io::Result<ExitCode> {
-    let words: Vec<String> = env::args(&rt)?.collect(rt.alloc())?;
-    let task = match command(rt.alloc(), words.as_slice()) {
-        Ok(task) => task,
+/// Reads the words and does what they ask for. Help, the version and faults of the words are printed here.
+fn run(rt: &HostRuntime) -> Result<u8, Fault> {
+    let words: Vec<String> = env::args(rt)?.collect(rt.alloc())?;
+    match command(rt.alloc(), words.as_slice()) {
+        Ok(task) => work(rt, &task),
+        Err(error) if error.kind() == ErrorKind::OutOfMemory => Err(Fault::Memory),
         Err(error) => {
-            error.print(&rt)?;
-            return Ok(ExitCode::from(error.exit_code() as u8));
+            error.print(rt)?;
+            Ok(error.exit_code() as u8)
         }
-    };
-    match run(&rt, &task) {
+    }
+}
+
+fn main(rt: HostRuntime) -> io::Result<ExitCode> {
+    match run(&rt) {
         Ok(status) => Ok(ExitCode::from(status)),
         Err(fault) => {
             eprintln!(rt; "bracha: {fault}")?;
@@ -47,7 +53,6 @@ fn main(rt: HostRuntime) -> io::Result<ExitCode> {
         }
     }
 }
-
 
 #[cfg(test)]
 mod tests;
