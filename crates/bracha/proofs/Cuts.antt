@@ -1,10 +1,10 @@
 -- A line is cut at its first space in one way only.
-use Rattle.std.proofs.Common.{ℕ, zero, suc, ◌≡◌, ◌+◌, ◌<◌, ◌==◌, Bool, true, false, cond, eqb, refl, sym, ap, ◌∙◌, subst, arith, Option, Some, None, List, [], ◌∷◌, ◌++◌, take, drop, length, take_all, length-drop, ◌-◌, ◌≤◌}
+use Rattle.std.proofs.Common.{ℕ, suc, ◌≡◌, ◌+◌, ◌<◌, Bool, true, false, cond, refl, sym, ap, ◌∙◌, subst, arith, Some, None, List, [], ◌∷◌, ◌++◌, take, drop, length, take_all, length-drop, ◌-◌}
 use Rattle.std.specs.List.{position_from}
-use Rattle.std.specs.Str.Parse.{AllDigits, IsNumeral, digits_value}
+use Rattle.std.specs.Str.Parse.{AllDigits}
 use Rattle.std.specs.Char.{digit_value}
 use Rattle.std.proofs.lemmas.Bool.{eqb-true}
-use Rattle.bracha.specs.Pieces.{is_space, NoSpace, IsMember, IsPiece}
+use Rattle.bracha.specs.Pieces.{is_space, NoSpace, IsPiece}
 
 -- a line cut at its first space
 pub record Cut (line : List ℕ) (at : ℕ) : Type 0 where

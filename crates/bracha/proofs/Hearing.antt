@@ -1,5 +1,5 @@
 -- What one statement's answer is made of, and what it leaves.
-use Rattle.std.proofs.Common.{ℕ, ◌≡◌, refl, sym, ap, ◌∙◌, subst, Option, Some, None, List, [], ◌∷◌, ◌++◌, append_assoc}
+use Rattle.std.proofs.Common.{ℕ, ◌≡◌, refl, sym, ap, ◌∙◌, subst, Option, Some, None, List, ◌++◌, append_assoc}
 use Rattle.std.specs.Prelude.{codes}
 use Rattle.std.specs.List.{flat_map}
 use Rattle.terms.specs.declared.Kind.{Kind}
@@ -18,7 +18,7 @@ use Rattle.rbc.specs.declared.Heard.TheVariants.{News, Repeat, Foreign}
 use Rattle.rbc.specs.declared.Broadcasts.{Broadcasts}
 use Rattle.rbc.specs.Answers.{heard_as}
 use Rattle.rbc.specs.Stands.{Stands}
-use Rattle.bracha.specs.Replies.{line, frame_line, SaysDue, AnswersAs, AnswersStatement}
+use Rattle.bracha.specs.Replies.{line, frame_line, AnswersAs, AnswersStatement}
 use Rattle.bracha.specs.Sessions.{IsOf}
 
 -- what is said changes neither the question nor the size nor what was heard
@@ -71,18 +71,16 @@ module _ (from : ℕ) (past : Past) (s : Statement) (b c d : Broadcasts) (old fi
       let u : third ≡ second ++ flat_map frame_line (said_if Ready s.place ready) = says_ready.text g in
       let e = says_echo.stands f (after_hearing past from s) stands asked in
       let r = says_ready.stands g (after_records (after_hearing past from s) (said_if Echo s.place echo)) e
-        (asked ∙ sym (saying_question (after_hearing past from s) Echo s.place echo)) in
-      (
+      (asked ∙ sym (saying_question (after_hearing past from s) Echo s.place echo)) in (
         after_records (after_records (after_hearing past from s) (said_if Echo s.place echo)) (said_if Ready s.place ready),
         line (codes "news") ++ (flat_map frame_line (said_if Echo s.place echo) ++ flat_map frame_line (said_if Ready s.place ready)),
         subst (λ (t : Heard). AnswersAs t past from s
-          (after_records (after_records (after_hearing past from s) (said_if Echo s.place echo)) (said_if Ready s.place ready))
-          (line (codes "news") ++ (flat_map frame_line (said_if Echo s.place echo) ++ flat_map frame_line (said_if Ready s.place ready)))) news
-          (
-            flat_map frame_line (said_if Echo s.place echo) ++ flat_map frame_line (said_if Ready s.place ready),
-            record { echo = echo; ready = ready; echo_is = echo_is; ready_is = ready_is; after_is = refl; text_is = refl },
-            refl,
-          ),
+            (after_records (after_records (after_hearing past from s) (said_if Echo s.place echo)) (said_if Ready s.place ready))
+            (line (codes "news") ++ (flat_map frame_line (said_if Echo s.place echo) ++ flat_map frame_line (said_if Ready s.place ready)))) news (
+              flat_map frame_line (said_if Echo s.place echo) ++ flat_map frame_line (said_if Ready s.place ready),
+              record { echo = echo; ready = ready; echo_is = echo_is; ready_is = ready_is; after_is = refl; text_is = refl },
+              refl,
+            ),
         r,
         joined (flat_map frame_line (said_if Echo s.place echo)) (flat_map frame_line (said_if Ready s.place ready)) t u,
       )

@@ -1,5 +1,5 @@
 -- Lines, one after the other.
-use Rattle.std.proofs.Common.{ℕ, zero, suc, ◌==◌, ◌-◌, ◌≡◌, ◌+◌, Bool, true, false, cond, eqb, refl, sym, ap, ◌∙◌, subst, ◌⊎◌, inl, inr, arith, Option, Some, None, List, [], ◌∷◌, ◌++◌, length, append_assoc, append-nil, length-append}
+use Rattle.std.proofs.Common.{ℕ, zero, suc, ◌==◌, ◌-◌, ◌≡◌, ◌+◌, Bool, true, false, eqb, refl, sym, ap, ◌∙◌, subst, ◌⊎◌, inl, inr, arith, Option, Some, None, List, [], ◌∷◌, ◌++◌, length, append_assoc, append-nil, length-append}
 use Rattle.std.specs.Prelude.{IfSome, slice_get}
 use Rattle.std.specs.Io.KnownBytes.{Appends, IsAtEnd}
 use Rattle.std.specs.Io.BufRead.{take_through, drop_through, DropsThrough}
@@ -150,8 +150,7 @@ one_line size me number n (Some all) left next old mid new session later line te
     let f = some_line rest line n r.0 len some in
     let same = line_is f r.0 cut last in
     let a = answers before at in
-    let more = length-append good (f.line ∷ []) in
-    (
+    let more = length-append good (f.line ∷ []) in (
       drop_through 10 rest,
       good ++ f.line ∷ [],
       a.0,

@@ -1,5 +1,5 @@
 -- What a session does with one piece.
-use Rattle.std.proofs.Common.{ℕ, zero, suc, arith, ◌≡◌, ◌<◌, Bool, true, false, cond, eqb, refl, sym, ap, ◌∙◌, subst, ◌⊎◌, inl, inr, Option, Some, None, List, [], ◌∷◌, ◌++◌, length, append_assoc, append-nil}
+use Rattle.std.proofs.Common.{ℕ, zero, suc, arith, ◌≡◌, ◌<◌, Bool, true, false, cond, eqb, refl, sym, ap, ◌∙◌, subst, ◌⊎◌, inl, inr, Some, List, [], ◌∷◌, ◌++◌, length, append_assoc}
 use Rattle.std.specs.Prelude.{slice_get, slice_set}
 use Rattle.std.specs.List.{AllByRecursion}
 use Rattle.std.proofs.Math.ListN.{get_or}
@@ -7,12 +7,11 @@ use Rattle.std.proofs.lemmas.Option.{slice_get_read}
 use Rattle.std.proofs.lemmas.Bool.{eqb-true, eq-eqb}
 use Rattle.std.proofs.lemmas.List.{length-set}
 use Rattle.terms.specs.declared.Size.{Size}
-use Rattle.terms.specs.Past.{Past, no_past}
+use Rattle.terms.specs.Past.{no_past}
 use Rattle.wire.specs.declared.message.Message.{Message}
 use Rattle.wire.specs.declared.message.WireFault.{WireFault}
 use Rattle.wire.specs.declared.message.Message.TheVariants as message
 use Rattle.wire.specs.declared.feeder.Feeder.{Feeder}
-use Rattle.wire.specs.declared.feeder.Fed.{Fed}
 use Rattle.wire.specs.declared.feeder.Fed.TheVariants as fed
 use Rattle.wire.specs.Texts.{Fits}
 use Rattle.wire.specs.Reading.{End, Rest, Broken}
@@ -21,8 +20,8 @@ use Rattle.rbc.specs.declared.Broadcasts.{Broadcasts}
 use Rattle.rbc.specs.Words.{size_by}
 use Rattle.rbc.specs.Stands.{Stands}
 use Rattle.bracha.specs.InTurn.{InTurn}
-use Rattle.bracha.specs.Replies.{Hearing, no_hearing, put, with_end, broken_line, AnswersMessage, AnswersPiece}
-use Rattle.bracha.specs.Sessions.{HasFeeders, HasBroadcasts, AreFed, IsOf, AreStanding}
+use Rattle.bracha.specs.Replies.{Hearing, put, with_end, broken_line, AnswersMessage, AnswersPiece}
+use Rattle.bracha.specs.Sessions.{HasFeeders, AreFed, IsOf, AreStanding}
 use Rattle.bracha.proofs.Turns.{slice_get-set}
 
 -- what a feeder gives fits
@@ -75,7 +74,7 @@ module _ (size : Size) (from : ℕ) (fs : List Feeder) (bs cs : List Broadcasts)
   -- a piece is answered by what its messages are, and by the fault
   pub taken : slice_get fs from ≡ Some f → f.size ≡ size → Feeds f.size f.end piece [] ms g.end
       → ((h : Hearing) → AreStanding size bs h →
-        (after : Hearing) × (others : List ℕ) × InTurn (AnswersMessage from) h ms after others × AreStanding size cs after × (second ≡ first ++ others))
+      (after : Hearing) × (others : List ℕ) × InTurn (AnswersMessage from) h ms after others × AreStanding size cs after × (second ≡ first ++ others))
       → third ≡ second ++ broken_line g.end
       → (h : Hearing) → AreFed fs h → AreStanding size bs h
       → (after : Hearing) × (others : List ℕ) × AnswersPiece size from h piece after others
@@ -90,14 +89,13 @@ module _ (size : Size) (from : ℕ) (fs : List Feeder) (bs cs : List Broadcasts)
       step : (after : Hearing) × (others : List ℕ) × InTurn (AnswersMessage from) (with_end h from g.end) ms after others × AreStanding size cs after × (second ≡ first ++ others)
           → (after : Hearing) × (others : List ℕ) × AnswersPiece size from h piece after others
           × (AreFed (slice_set fs from g) after × AreStanding size cs after) × (third ≡ first ++ others)
-      step (after, others, answered, stands, shown) =
-          (
-            after,
-            others ++ broken_line g.end,
-            record { messages = ms; end = g.end; others = others; fed = feeds_here; answered = answered; text_is = refl },
-            (fed_still h after was (ends_same from (with_end h from g.end) ms after others answered), stands),
-            text ∙ (ap (λ t. t ++ broken_line g.end) shown ∙ append_assoc first others (broken_line g.end)),
-          )
+      step (after, others, answered, stands, shown) = (
+        after,
+        others ++ broken_line g.end,
+        record { messages = ms; end = g.end; others = others; fed = feeds_here; answered = answered; text_is = refl },
+        (fed_still h after was (ends_same from (with_end h from g.end) ms after others answered), stands),
+        text ∙ (ap (λ t. t ++ broken_line g.end) shown ∙ append_assoc first others (broken_line g.end)),
+      )
 
 -- the feeder of the sender, read at its index
 module _ (size : Size) (fs : List Feeder) (i from : ℕ) (f g : Feeder) (index : i ≡ from) (read : f ≡ get_or fs i f) (below : from < size.n) (has : HasFeeders size fs) where
@@ -113,24 +111,24 @@ module _ (size : Size) (fs : List Feeder) (i from : ℕ) (f g : Feeder) (index :
   pub piece_answered : (bs cs : List Broadcasts) (piece : List ℕ) (ms old read_back : List Message) (first second third : List ℕ)
       → old ≡ [] → Feeds f.size f.end piece old ms g.end → read_back ≡ ms
       → ((h : Hearing) → AreStanding size bs h →
-        (after : Hearing) × (others : List ℕ) × InTurn (AnswersMessage from) h read_back after others × AreStanding size cs after × (second ≡ first ++ others))
+      (after : Hearing) × (others : List ℕ) × InTurn (AnswersMessage from) h read_back after others × AreStanding size cs after × (second ≡ first ++ others))
       → third ≡ second ++ broken_line g.end
       → (h : Hearing) → AreFed fs h → AreStanding size bs h
       → (after : Hearing) × (others : List ℕ) × AnswersPiece size from h piece after others
       × (AreFed (slice_set fs i g) after × AreStanding size cs after) × (third ≡ first ++ others)
   piece_answered bs cs piece ms old read_back first second third none feeds same all text h was standing =
       subst (λ k. (after : Hearing) × (others : List ℕ) × AnswersPiece size from h piece after others
-        × (AreFed (slice_set fs k g) after × AreStanding size cs after) × (third ≡ first ++ others)) (sym index)
+      × (AreFed (slice_set fs k g) after × AreStanding size cs after) × (third ≡ first ++ others)) (sym index)
       (taken size from fs bs cs f g piece ms first second third (subst (λ k. slice_get fs k ≡ Some f) index found) found_size
-        (subst (λ (l : List Message). Feeds f.size f.end piece l ms g.end) none feeds)
-        (λ k stands. let r = all k stands in (r.0, r.1, subst (λ (l : List Message). InTurn (AnswersMessage from) k l r.0 r.1) same r.2, r.3, r.4))
-        text h was standing)
+      (subst (λ (l : List Message). Feeds f.size f.end piece l ms g.end) none feeds)
+      (λ k stands. let r = all k stands in (r.0, r.1, subst (λ (l : List Message). InTurn (AnswersMessage from) k l r.0 r.1) same r.2, r.3, r.4))
+      text h was standing)
 
   pub messages_fit : (piece : List ℕ) (ms old read_back : List Message) → old ≡ [] → Feeds f.size f.end piece old ms g.end → read_back ≡ ms → AllByRecursion (Fits size) read_back
   messages_fit piece ms old read_back none feeds same =
       subst (λ (l : List Message). AllByRecursion (Fits size) l) (sym same)
       (subst (λ (z : Size). AllByRecursion (Fits z) ms) found_size
-        (fed_fits f.size f.end piece ms g.end (subst (λ (l : List Message). Feeds f.size f.end piece l ms g.end) none feeds)))
+      (fed_fits f.size f.end piece ms g.end (subst (λ (l : List Message). Feeds f.size f.end piece l ms g.end) none feeds)))
 
 -- what stands in a list after one more
 slice_get-push : {A : Type 0} (xs : List A) (y : A) (k : ℕ) (z : A) → slice_get (xs ++ y ∷ []) k ≡ Some z → (slice_get xs k ≡ Some z) ⊎ (z ≡ y)

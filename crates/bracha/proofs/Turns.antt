@@ -1,5 +1,5 @@
 -- One message more is answered.
-use Rattle.std.proofs.Common.{ℕ, zero, suc, ◌≡◌, ◌+◌, ◌<◌, Bool, true, false, cond, eqb, refl, sym, ap, ◌∙◌, subst, arith, ◌⊎◌, inl, inr, Option, Some, None, List, [], ◌∷◌, ◌++◌, take, length, append_assoc, append-nil}
+use Rattle.std.proofs.Common.{ℕ, zero, suc, ◌≡◌, ◌+◌, ◌<◌, Bool, true, false, cond, eqb, refl, sym, ap, ◌∙◌, subst, arith, ◌⊎◌, inl, inr, Some, List, [], ◌∷◌, ◌++◌, take, length, append_assoc, append-nil}
 use Rattle.std.specs.Prelude.{slice_get, slice_set}
 use Rattle.std.specs.List.{AllByRecursion}
 use Rattle.std.proofs.Math.ListN.{get_or}
@@ -20,7 +20,7 @@ use Rattle.rbc.specs.declared.Broadcasts.{Broadcasts}
 use Rattle.rbc.specs.Words.{size_by}
 use Rattle.rbc.specs.Stands.{Stands}
 use Rattle.bracha.specs.InTurn.{InTurn}
-use Rattle.bracha.specs.Replies.{Hearing, put, with_past, AnswersStatement, AnswersMessage}
+use Rattle.bracha.specs.Replies.{Hearing, put, with_past, AnswersMessage}
 use Rattle.bracha.specs.Sessions.{HasBroadcasts, IsOf, AreStanding}
 use Rattle.bracha.proofs.Hearing.{IsAnswered, answered_of}
 
@@ -82,10 +82,10 @@ Hears from s b c old new =
 module _ (size : Size) (from : ℕ) (start bs : List Broadcasts) (ms : List Message) (s : Statement) (b c : Broadcasts) (first old new : List ℕ) where
   pub next_answered : slice_get bs s.place.question ≡ Some b → FitsStep s.place.step s.value → Hears from s b c old new
       → ((h : Hearing) → AreStanding size start h →
-        (now : Hearing) × (others : List ℕ) × InTurn (AnswersMessage from) h ms now others × AreStanding size bs now × (old ≡ first ++ others))
+      (now : Hearing) × (others : List ℕ) × InTurn (AnswersMessage from) h ms now others × AreStanding size bs now × (old ≡ first ++ others))
       → (h : Hearing) → AreStanding size start h →
-        (now : Hearing) × (others : List ℕ) × InTurn (AnswersMessage from) h (ms ++ message.Statement s ∷ []) now others
-        × AreStanding size (slice_set bs s.place.question c) now × (new ≡ first ++ others)
+      (now : Hearing) × (others : List ℕ) × InTurn (AnswersMessage from) h (ms ++ message.Statement s ∷ []) now others
+      × AreStanding size (slice_set bs s.place.question c) now × (new ≡ first ++ others)
   next_answered there fits hears before h at = step (before h at)
     where
       step : (now : Hearing) × (others : List ℕ) × InTurn (AnswersMessage from) h ms now others × AreStanding size bs now × (old ≡ first ++ others)
@@ -94,8 +94,7 @@ module _ (size : Size) (from : ℕ) (start bs : List Broadcasts) (ms : List Mess
       step (now, others, answered, standing, text) =
           let q = s.place.question in
           let of = standing.pasts q in
-          let r = hears (now.pasts q) (standing.each q b there) (sym of.question_is) of.fits fits in
-          (
+          let r = hears (now.pasts q) (standing.each q b there) (sym of.question_is) of.fits fits in (
             with_past now q r.0,
             others ++ r.1,
             InTurn-snoc (AnswersMessage from) h ms (message.Statement s) now (with_past now q r.0) others r.1 answered (r.0, r.2, refl),
@@ -114,7 +113,7 @@ abbrev pub AreAnswered : Size → ℕ → List Broadcasts → List Broadcasts �
 AreAnswered size from start bs ms first old =
     HasBroadcasts size bs
     × ((h : Hearing) → AreStanding size start h →
-      (now : Hearing) × (others : List ℕ) × InTurn (AnswersMessage from) h ms now others × AreStanding size bs now × (old ≡ first ++ others))
+    (now : Hearing) × (others : List ℕ) × InTurn (AnswersMessage from) h ms now others × AreStanding size bs now × (old ≡ first ++ others))
 
 module _ (size : Size) (from : ℕ) (start bs : List Broadcasts) (ms : List Message) (s : Statement) (b c : Broadcasts) (first old new : List ℕ) where
   -- one turn of that loop
@@ -129,16 +128,15 @@ module _ (size : Size) (from : ℕ) (start bs : List Broadcasts) (ms : List Mess
       let found : slice_get bs i ≡ Some b = slice_get_read bs (length bs) i b refl in_range there in
       let here : slice_get bs s.place.question ≡ Some b = subst (λ k. slice_get bs k ≡ Some b) asked found in
       let more : take (index + 1) ms ≡ take index ms ++ message.Statement s ∷ [] =
-          subst (λ k. take k ms ≡ take index ms ++ message.Statement s ∷ []) (let e : suc index ≡ index + 1 = omega arith in e)
-          (take-suc ms index item within ∙ ap (λ (m : Message). take index ms ++ m ∷ []) (sym at ∙ is)) in
-      (
+      subst (λ k. take k ms ≡ take index ms ++ message.Statement s ∷ []) (let e : suc index ≡ index + 1 = omega arith in e)
+      (take-suc ms index item within ∙ ap (λ (m : Message). take index ms ++ m ∷ []) (sym at ∙ is)) in (
         has_still size bs i b c found has same,
         λ h standing.
-          let r = next_answered size from start bs (take index ms) s b c first old new here fits.value hears before h standing in
-          (
-            r.0, r.1,
-            subst (λ (l : List Message). InTurn (AnswersMessage from) h l r.0 r.1) (sym more) r.2,
-            subst (λ k. AreStanding size (slice_set bs k c) r.0) (sym asked) r.3,
-            r.4,
-          ),
+            let r = next_answered size from start bs (take index ms) s b c first old new here fits.value hears before h standing in (
+              r.0,
+              r.1,
+              subst (λ (l : List Message). InTurn (AnswersMessage from) h l r.0 r.1) (sym more) r.2,
+              subst (λ k. AreStanding size (slice_set bs k c) r.0) (sym asked) r.3,
+              r.4,
+            ),
       )

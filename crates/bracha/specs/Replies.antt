@@ -1,5 +1,5 @@
 -- What `hear` answers to one statement, to one piece of a stream, and to one line.
-use Rattle.std.specs.Prelude.{ℕ, ◌≡◌, ◌==◌, Bool, cond, Option, List, [], ◌∷◌, ◌++◌, codes}
+use Rattle.std.specs.Prelude.{ℕ, ◌≡◌, ◌==◌, cond, Option, List, [], ◌∷◌, ◌++◌, codes}
 use Rattle.std.specs.List.{flat_map}
 use Rattle.terms.specs.declared.Kind.TheVariants.{Echo, Ready}
 use Rattle.terms.specs.declared.Value.{Value}

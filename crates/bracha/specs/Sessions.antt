@@ -1,5 +1,5 @@
 -- What a session keeps for what happened.
-use Rattle.std.specs.Prelude.{ℕ, ◌≡◌, ◌<◌, Some, List, length, slice_get}
+use Rattle.std.specs.Prelude.{ℕ, ◌≡◌, Some, List, length, slice_get}
 use Rattle.terms.specs.declared.Size.{Size}
 use Rattle.terms.specs.Past.{Past}
 use Rattle.terms.specs.Fit.{AllFit}

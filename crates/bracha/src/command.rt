@@ -25,9 +25,7 @@ pub enum Task {
 /// members or of liars that no byte holds is too many, as one just above the limit is.
 pub fn size_from(n: u16, t: u16, questions: u16) -> Result<Size, SizeFault>
     ensures ok { IfOk result (λ size. size ≡ size_of n t questions) }
-    ensures exact {
-        MatchResult result (λ _. size_fault n t questions ≡ None) (λ fault. size_fault n t questions ≡ Some fault)
-    }
+    ensures exact { MatchResult result (λ _. size_fault n t questions ≡ None) (λ fault. size_fault n t questions ≡ Some fault) }
 {
     let n = u8::try_from(n).unwrap_or(u8::MAX);
     let t = u8::try_from(t).unwrap_or(u8::MAX);
@@ -46,16 +44,29 @@ fn number<'a>(alloc: Global, name: &'a str, value: &'a str, help: &'a str) -> Ar
 /// The options that name a size.
 fn with_size<'a>(alloc: Global, command: clap::Command<'a>) -> Result<clap::Command<'a>, Error> {
     let n = number(alloc, "n", "N", "How many members there are (1 to 32)");
-    let t = number(alloc, "t", "T", "How many of them may lie (less than a third)");
-    let questions = number(alloc, "questions", "Q", "How many questions there are (1 to 256)");
-    Ok(command
-        .arg(n.value_parser(value_parser!(u16)))?
-        .arg(t.value_parser(value_parser!(u16)))?
-        .arg(questions.value_parser(value_parser!(u16)))?)
+    let t = number(
+        alloc,
+        "t",
+        "T",
+        "How many of them may lie (less than a third)",
+    );
+    let questions = number(
+        alloc,
+        "questions",
+        "Q",
+        "How many questions there are (1 to 256)",
+    );
+    Ok(
+        command
+            .arg(n.value_parser(value_parser!(u16)))?
+            .arg(t.value_parser(value_parser!(u16)))?
+            .arg(questions.value_parser(value_parser!(u16)))?,
+    )
 }
 
 fn hear<'a>(alloc: Global) -> Result<clap::Command<'a>, Error> {
-    let about = "Reads lines `SENDER HEX`, each a piece of a sender's stream, and prints what reliable broadcast answers";
+    let about =
+        "Reads lines `SENDER HEX`, each a piece of a sender's stream, and prints what reliable broadcast answers";
     let me = number(alloc, "me", "M", "The member that hears (below N)");
     let command = with_size(alloc, clap::Command::new(alloc, "hear").about(about))?;
     Ok(command.arg(me.value_parser(value_parser!(u8)))?)

@@ -37,14 +37,10 @@ pub fn hear_lines<R: BufRead, W: Write>(
     output: &mut W,
 ) -> Result<u8, Fault>
     // Where the bytes of the streams are known, what is written is the answer to what is read, and nothing else.
-    ensures all {
-        IfOk result (λ status. (status ≡ 0)
-            × Writes size me (R.remaining input.old) None (W.contents output.old) (W.contents output.new))
-    }
-    ensures line {
-        (number : ℕ) → result ≡ Err (Fault.Line number) →
-            Writes size me (R.remaining input.old) (Some number) (W.contents output.old) (W.contents output.new)
-    }
+    ensures all { IfOk result (λ status. (status ≡ 0)
+        × Writes size me (R.remaining input.old) None (W.contents output.old) (W.contents output.new)) }
+    ensures line { (number : ℕ) → result ≡ Err (Fault.Line number) →
+        Writes size me (R.remaining input.old) (Some number) (W.contents output.old) (W.contents output.new) }
     ensures me { (result ≡ Err Fault.Me) ↔ (size.n ≤ me) }
     ensures none { result ≡ Err Fault.Me → Keeps (W.contents output.old) (W.contents output.new) }
 {

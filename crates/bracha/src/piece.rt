@@ -2,7 +2,6 @@
 
 ghost use Rattle.std.specs.Prelude.{IsTrue, ◌↔◌, IfOk, IfSome, IsSome, ℕ, MatchOption};
 ghost use Rattle.bracha.specs.Pieces.{is_space, NoSpace, IsMember, IsNoPiece, IsPiece};
-
 ghost use Rattle.std.specs.Prelude.{◌≡◌, ◌<◌, ◌∷◌, ◌++◌, length};
 ghost use Rattle.std.specs.List.{position_from};
 

@@ -50,10 +50,8 @@ fn say(
 ) -> Result<(), Memory>
     requires { place.origin < (size_by broadcasts.old).n }
     ensures text { OnOk result (FitsIf place due → text.new.items ≡ text.old.items ++ flat_map frame_line (said_if kind place due)) }
-    ensures stands {
-        OnOk result (FitsIf place due → (past : Past) → Stands broadcasts.old past → place.question ≡ past.question →
-            Stands broadcasts.new (after_records past (said_if kind place due)))
-    }
+    ensures stands { OnOk result (FitsIf place due → (past : Past) → Stands broadcasts.old past → place.question ≡ past.question →
+        Stands broadcasts.new (after_records past (said_if kind place due))) }
     ensures size { size_by broadcasts.new ≡ size_by broadcasts.old }
 {
     let Some(value) = due else {
@@ -78,12 +76,10 @@ fn hear(
 ) -> Result<(), Memory>
     requires from { from < (size_by broadcasts.old).n }
     requires origin { statement.now.place.origin < (size_by broadcasts.old).n }
-    ensures answers {
-        OnOk result ((past : Past) → Stands broadcasts.old past → statement.now.place.question ≡ past.question → AllFit past →
-            FitsStep statement.now.place.step statement.now.value →
-            (after : Past) × (others : List ℕ) × AnswersStatement from past statement.now after others
-            × Stands broadcasts.new after × (text.new.items ≡ text.old.items ++ others))
-    }
+    ensures answers { OnOk result ((past : Past) → Stands broadcasts.old past → statement.now.place.question ≡ past.question → AllFit past →
+        FitsStep statement.now.place.step statement.now.value →
+        (after : Past) × (others : List ℕ) × AnswersStatement from past statement.now after others
+        × Stands broadcasts.new after × (text.new.items ≡ text.old.items ++ others)) }
     ensures size { size_by broadcasts.new ≡ size_by broadcasts.old }
 {
     match broadcasts.hear(from, statement)? {
@@ -121,11 +117,9 @@ fn hear_all(
     requires has { HasBroadcasts size broadcasts.old.items }
     requires from { from < size.n }
     requires fits { AllByRecursion (Fits size) messages.now }
-    ensures answers {
-        OnOk result ((h : Hearing) → AreStanding size broadcasts.old.items h →
-            (after : Hearing) × (others : List ℕ) × InTurn (AnswersMessage from) h messages.now after others
-            × AreStanding size broadcasts.new.items after × (text.new.items ≡ text.old.items ++ others))
-    }
+    ensures answers { OnOk result ((h : Hearing) → AreStanding size broadcasts.old.items h →
+        (after : Hearing) × (others : List ℕ) × InTurn (AnswersMessage from) h messages.now after others
+        × AreStanding size broadcasts.new.items after × (text.new.items ≡ text.old.items ++ others)) }
     ensures has { OnOk result (HasBroadcasts size broadcasts.new.items) }
 {
     for message in messages {
@@ -190,16 +184,21 @@ impl Session {
     pub fn take(&mut self, sender: u8, piece: &[u8], text: &mut Vec<u8>) -> Result<(), Memory>
         requires sound { IsSound self.old.size self.old }
         requires sender { sender < self.old.size.n }
-        ensures answers {
-            OnOk result ((h : Hearing) → IsAt self.old h →
-                (after : Hearing) × (others : List ℕ) × AnswersPiece self.old.size sender h piece.now after others
-                × IsAt self.new after × (text.new.items ≡ text.old.items ++ others))
-        }
+        ensures answers { OnOk result ((h : Hearing) → IsAt self.old h →
+            (after : Hearing) × (others : List ℕ) × AnswersPiece self.old.size sender h piece.now after others
+            × IsAt self.new after × (text.new.items ≡ text.old.items ++ others)) }
         ensures sound { OnOk result (IsSound self.old.size self.new) }
     {
         let mut messages = Vec::new(self.alloc);
         let fed = self.feeders[usize::from(sender)].feed(piece, &mut messages)?;
-        hear_all(self.alloc, self.size, &mut self.broadcasts, sender, &messages, text)?;
+        hear_all(
+            self.alloc,
+            self.size,
+            &mut self.broadcasts,
+            sender,
+            &messages,
+            text,
+        )?;
         match fed {
             Fed::More => Ok(()),
             Fed::Broken(fault) => {
@@ -215,11 +214,9 @@ impl Session {
     /// [`Fault::Stream`] and [`Fault::Memory`]: a write or a growth failed, and the session is not to be used again.
     pub fn answer<W: Write>(&mut self, line: &[u8], output: &mut W) -> Result<bool, Fault>
         requires { IsSound self.old.size self.old }
-        ensures answers {
-            result ≡ Ok true → (h : Hearing) → IsAt self.old h →
-                (after : Hearing) × (text : List ℕ) × AnswersLine self.old.size h line.now after text
-                × IsAt self.new after × Appends (W.contents output.old) (W.contents output.new) text
-        }
+        ensures answers { result ≡ Ok true → (h : Hearing) → IsAt self.old h →
+            (after : Hearing) × (text : List ℕ) × AnswersLine self.old.size h line.now after text
+            × IsAt self.new after × Appends (W.contents output.old) (W.contents output.new) text }
         ensures sound { result ≡ Ok true → IsSound self.old.size self.new }
         ensures no_piece { result ≡ Ok false → IsNoPiece self.old.size.n line.now }
         ensures nothing { result ≡ Ok false → output.new ≡ output.old }

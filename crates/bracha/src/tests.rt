@@ -49,8 +49,24 @@ fn answers_line_by_line(rt: HostRuntime) -> Result<(), Fail> {
 #[test]
 fn names_the_first_bad_line(rt: HostRuntime) -> Result<(), Fail> {
     for line in [
-        "", "0", "0 ", " 00", "0 0", "0 0g", "0 00 00", "0  00", "4 00", "+0 00", "-1 00", "256 00",
-        "99999999999999999999999 00", "0x0 00", "0 00\r", "0\t00", "a 00", "0,00",
+        "",
+        "0",
+        "0 ",
+        " 00",
+        "0 0",
+        "0 0g",
+        "0 00 00",
+        "0  00",
+        "4 00",
+        "+0 00",
+        "-1 00",
+        "256 00",
+        "99999999999999999999999 00",
+        "0x0 00",
+        "0 00\r",
+        "0\t00",
+        "a 00",
+        "0,00",
     ] {
         let input = format!(in rt.alloc(); "0 00080301000000010101\n{line}\n0 00\n")?;
         let (text, result) = heard(&rt, input.as_str())?;
@@ -127,7 +143,10 @@ fn ends_where_a_stream_fails(rt: HostRuntime) -> Result<(), Fail> {
     let mut torn = Torn("0 00080301000000010101\n0 00".as_bytes());
     let result = hear_lines(rt.alloc(), size, 1, &mut torn, &mut output);
     assert!(rt; matches!(result, Err(Fault::Stream)));
-    assert_eq!(rt; output.as_slice(), "news\n00080302000000010101\n".as_bytes());
+    assert_eq!(rt;
+        output.as_slice(),
+        "news\n00080302000000010101\n".as_bytes()
+    );
     for room in 0..30usize {
         let mut narrow = Narrow {
             taken: Vec::new(rt.alloc()),
@@ -151,14 +170,28 @@ fn numbers_past_a_byte_are_too_many(rt: HostRuntime) {
         (0, 65535, 0, SizeFault::NoMembers),
         (4, 1, 65535, SizeFault::TooManyQuestions),
     ] {
-        assert!(rt; size_from(n, t, questions) == Err(want), "at {n}, {t}, {questions}");
+        assert!(rt;
+            size_from(n, t, questions) == Err(want),
+            "at {n}, {t}, {questions}"
+        );
     }
     assert!(rt; size_from(4, 1, 1) == Size::new(4, 1, 1));
 }
 
 #[test]
 fn reads_the_words(rt: HostRuntime) -> Result<(), Fail> {
-    let words = ["bracha", "hear", "--n", "4", "--t", "1", "--questions", "2", "--me", "3"];
+    let words = [
+        "bracha",
+        "hear",
+        "--n",
+        "4",
+        "--t",
+        "1",
+        "--questions",
+        "2",
+        "--me",
+        "3",
+    ];
     let task = command(rt.alloc(), words.as_slice()).ok().ok_or("a task")?;
     let want = Task::Hear {
         n: 4,
@@ -174,11 +207,58 @@ fn reads_the_words(rt: HostRuntime) -> Result<(), Fail> {
         (["bracha"].as_slice(), 2),
         (["bracha", "listen"].as_slice(), 2),
         (["bracha", "hear", "--n", "4"].as_slice(), 2),
-        (["bracha", "hear", "--n", "65536", "--t", "1", "--questions", "1", "--me", "1"].as_slice(), 2),
-        (["bracha", "hear", "--n", "4", "--t", "1", "--questions", "1", "--me", "256"].as_slice(), 2),
-        (["bracha", "hear", "--n", "-4", "--t", "1", "--questions", "1", "--me", "1"].as_slice(), 2),
+        (
+            [
+                "bracha",
+                "hear",
+                "--n",
+                "65536",
+                "--t",
+                "1",
+                "--questions",
+                "1",
+                "--me",
+                "1",
+            ]
+            .as_slice(),
+            2,
+        ),
+        (
+            [
+                "bracha",
+                "hear",
+                "--n",
+                "4",
+                "--t",
+                "1",
+                "--questions",
+                "1",
+                "--me",
+                "256",
+            ]
+            .as_slice(),
+            2,
+        ),
+        (
+            [
+                "bracha",
+                "hear",
+                "--n",
+                "-4",
+                "--t",
+                "1",
+                "--questions",
+                "1",
+                "--me",
+                "1",
+            ]
+            .as_slice(),
+            2,
+        ),
     ] {
-        let error = command(rt.alloc(), words).err().ok_or("a fault of the words")?;
+        let error = command(rt.alloc(), words)
+            .err()
+            .ok_or("a fault of the words")?;
         assert!(rt; error.exit_code() == status, "at {words:?}");
     }
     Ok(())

@@ -16,3 +16,4 @@ pub mod Reply
 pub mod Follow
 pub mod Keep
 pub mod Fit
+pub mod Laws

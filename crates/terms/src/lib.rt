@@ -8,6 +8,8 @@ use std::alloc::{AllocError, AllocFailed};
 use std::marker::Model;
 use thiserror::Error;
 
+pub mod laws;
+
 /// The last round. Rounds are counted from 1.
 pub const LAST_ROUND: u8 = 32;
 

@@ -1,10 +1,7 @@
 -- What a correct member says over all of its lives, in order, and that it is well formed.
 use Rattle.std.proofs.Common.{ℕ, ◌≡◌, ◌<◌, ◌≤◌, Bool, true, false, cond, ◌&&◌, ◌||◌, ◌⊎◌, inl, inr, eqb, refl, sym, ◌∙◌, arith, Option, Some, None, List, [], ◌∷◌, ◌++◌, append-nil, append_assoc}
 use Rattle.std.proofs.lemmas.Bool.{and_parts, or_cases, or_right, eqb-true}
-use Rattle.terms.specs.declared.Kind.{Kind}
-use Rattle.terms.specs.declared.Kind.TheVariants.{Initial, Echo, Ready}
-use Rattle.terms.specs.declared.Value.{Value}
-use Rattle.terms.specs.declared.Place.{Place}
+use Rattle.terms.specs.declared.Kind.TheVariants.{Initial}
 use Rattle.terms.specs.declared.Statement.{Statement}
 use Rattle.terms.specs.declared.Record.{Record}
 use Rattle.terms.specs.declared.Record.TheVariants.{Said, Decided}
@@ -15,11 +12,12 @@ use Rattle.terms.specs.Same.{statement_of, statement_eq, place_of, plain}
 use Rattle.terms.specs.WellFormed.{IsWellFormed}
 use Rattle.terms.specs.Heard.{hear_all}
 use Rattle.terms.specs.Journal.{said, has_said}
-use Rattle.terms.specs.Lawful.{IsLawful, IsLawfulStatement, IsLawfulBatch}
+use Rattle.terms.specs.Lawful.{IsLawfulBatch}
 use Rattle.terms.proofs.Same.{statement_eq-true}
+use Rattle.terms.proofs.Stands.{Stands, lawful_stands}
 use Rattle.world.specs.World.{World, Step, has_sent, IsCorrect, AllSent, put, statements_of, in_doubt, after, after_batch, IsAllowed, IsProposalBatch, first_said, IsRun, after_all, start}
 use Rattle.world.specs.World.Step.{Lie, Hears, Proposes, Crash, Restart}
-use Rattle.world.specs.Laws.{AreWellFormed, SentWellFormed, SavedWellFormed, StandsOn, InitialsStandOn}
+use Rattle.world.specs.Laws.{AreWellFormed, SentWellFormed, SavedWellFormed, InitialsStandOn}
 use Rattle.world.proofs.Sending.{has_sent-append}
 use Rattle.world.proofs.Invariant.{WorldOk, all_of, start_ok}
 use Rattle.world.proofs.Keeps.{all_shows, step_ok}
@@ -29,11 +27,6 @@ use Rattle.world.proofs.Formed.{GotWellFormed, batch_formed, AreWellFormed-appen
 split : (P : Bool → Type 0) (b : Bool) → (b ≡ true → P true) → (b ≡ false → P false) → P b
 split P true f g = f refl
 split P false f g = g refl
-
--- the record stands on those before it, where it is an Initial
-abbrev pub Stands : ℕ → List Record → Record → Type 0
-Stands me earlier (Said s) = s.kind ≡ Initial → StandsOn me earlier s.place
-Stands me earlier (Decided q r b) = Unit {0}
 
 -- each of the records stands on those before it
 abbrev pub AllStand : ℕ → List Record → List Record → Type 0
@@ -55,17 +48,7 @@ AllStand-at : (me : ℕ) (earlier xs ys : List Record) (x : Record) → AllStand
 AllStand-at me earlier [] ys x h = rw append-nil h.0
 AllStand-at me earlier (y ∷ xs) ys x h = rw append_assoc at (AllStand-at me (earlier ++ y ∷ []) xs ys x h.1)
 
--- what is lawful stands
-pub lawful_stands : (size : Size) (me : ℕ) (records : List Record) (heard : List (ℕ × Statement)) (x : Record) → IsLawful size me records heard x → Stands me records x
-lawful_stands size me records heard (Said s) h = go s.kind s.place s.value h
-  where
-    go : (kind : Kind) (place : Place) (m : Value) → IsLawfulStatement size me records heard kind place m → kind ≡ Initial → StandsOn me records place
-    go Initial place m g e = record { own = g.0; new = g.1; before = inr g.2; last = g.4; decision = g.5 }
-    go Echo place m g e = cc
-    go Ready place m g e = cc
-lawful_stands size me records heard (Decided q r b) h = tt
-
--- so does each record of a lawful batch
+-- each record of a lawful batch stands
 batch_stands : (size : Size) (me : ℕ) (records : List Record) (heard : List (ℕ × Statement)) (xs : List Record)
     → IsLawfulBatch size me records heard xs → AllStand me records xs
 batch_stands size me records heard [] h = tt

@@ -1,9 +1,4 @@
-use Rattle.std.proofs.Common.{ℕ, ◌≡◌, ◌+◌, Option, Some, List, ◌++◌, length}
 use Rattle.std.specs.Prelude.{IfSome}
-use Rattle.std.specs.Io.KnownBytes.{Appends}
-use Rattle.bracha.specs.Pieces.{lines_of}
-use Rattle.bracha.specs.InTurn.{InTurn}
-use Rattle.bracha.specs.Replies.{Hearing, no_hearing, AnswersLine}
 use Rattle.bracha.specs.Keeping.{IsSound}
 use Rattle.bracha.proofs.Lines.{AreHeard}
 use Rattle.bracha.proofs.hear.hear_lines.Given as goal
@@ -13,4 +8,4 @@ abbrev pub invariant-loop-number : goal.invariant-loop-number
 invariant-loop-number g l =
     IsSound l.fn.size l.session
     × IfSome (g.R.Read.remaining l.fn.input) (λ all.
-      AreHeard l.fn.size l.fn.me all (g.R.Read.remaining l.input) l.session (g.W.Write.contents l.fn.output) (g.W.Write.contents l.output) l.number)
+    AreHeard l.fn.size l.fn.me all (g.R.Read.remaining l.input) l.session (g.W.Write.contents l.fn.output) (g.W.Write.contents l.output) l.number)

@@ -1,4 +1,4 @@
-use Rattle.std.proofs.Common.{ap, ◌∙◌, take}
+use Rattle.std.proofs.Common.{ap, ◌∙◌}
 use Rattle.terms.specs.declared.Place.{Place}
 use Rattle.bracha.proofs.Turns.{turn}
 use Rattle.bracha.proofs.session.hear_all.Goals as goal

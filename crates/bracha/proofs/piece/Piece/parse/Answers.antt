@@ -1,8 +1,8 @@
-use Rattle.std.proofs.Common.{rules, ℕ, refl, ◌≡◌, ◌<◌, Bool, true, false, sym, ◌∙◌, ap, subst, Option, Some, None, IsSome, List, length, arith, Result, Ok, Err, ◌⊎◌, inl, inr}
+use Rattle.std.proofs.Common.{rules, ℕ, refl, ◌≡◌, ◌<◌, Bool, true, false, sym, ◌∙◌, subst, Option, Some, None, IsSome, List, length, Result, Ok, Err, ◌⊎◌, inl, inr}
 use Rattle.hex.specs.Hex.{decode_of}
 use Rattle.hex.specs.declared.error.FromHexError.{FromHexError}
 use Rattle.hex.specs.declared.error.FromHexError.TheVariants.{OutOfMemory}
-use Rattle.bracha.specs.Pieces.{IsMember, IsPiece}
+use Rattle.bracha.specs.Pieces.{IsMember}
 use Rattle.bracha.proofs.Cuts.{no_cut, parts_of}
 use Rattle.bracha.proofs.piece.Piece.parse.Goals as goal
 

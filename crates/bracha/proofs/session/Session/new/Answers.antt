@@ -1,4 +1,4 @@
-use Rattle.std.proofs.Common.{◌≡◌, ◌+◌, ◌∷◌, ◌++◌, [], ap, ◌∙◌, sym, subst, length, arith, List, length-append, Some}
+use Rattle.std.proofs.Common.{◌≡◌, ◌+◌, ◌∷◌, ◌++◌, [], ap, ◌∙◌, subst, length, arith, List, length-append, Some}
 use Rattle.std.specs.Prelude.{slice_get}
 use Rattle.rbc.specs.declared.Broadcasts.{Broadcasts}
 use Rattle.bracha.proofs.Taking.{one_more, start_of}
@@ -9,10 +9,12 @@ loop-2-preserved c =
     let items : c.push-in-loop-2.new.self.items ≡ c.loop-2.broadcasts.items ++ c.new-in-loop-2.result ∷ [] = c.in_ok-push-2.ensures.items in
     let many = c.loop-2.invariant.0 in
     let more = length-append c.loop-2.broadcasts.items (c.new-in-loop-2.result ∷ []) in
-    let len : length c.push-in-loop-2.new.self.items ≡ c.loop-2.counter + 1 = ap (λ (l : List Broadcasts). length l) items ∙ omega (arith, more, many) in
-    (len, λ q b h.
-      one_more c.args.size c.args.me c.loop-2.broadcasts.items c.new-in-loop-2.result c.new-in-loop-2.ensures.size c.new-in-loop-2.ensures.stands
-      c.loop-2.invariant.1 q b (subst (λ (l : List Broadcasts). slice_get l q ≡ Some b) items h))
+    let len : length c.push-in-loop-2.new.self.items ≡ c.loop-2.counter + 1 = ap (λ (l : List Broadcasts). length l) items ∙ omega (arith, more, many) in (
+      len,
+      λ q b h.
+          one_more c.args.size c.args.me c.loop-2.broadcasts.items c.new-in-loop-2.result c.new-in-loop-2.ensures.size c.new-in-loop-2.ensures.stands
+          c.loop-2.invariant.1 q b (subst (λ (l : List Broadcasts). slice_get l q ≡ Some b) items h),
+    )
 
 pub returns-clause-start : goal.returns-clause-start
 returns-clause-start c =

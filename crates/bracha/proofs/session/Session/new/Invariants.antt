@@ -1,4 +1,4 @@
-use Rattle.std.proofs.Common.{ℕ, ◌≡◌, ◌+◌, ◌<◌, ◌≤◌, Some, List, [], length}
+use Rattle.std.proofs.Common.{ℕ, ◌≡◌, Some, [], length}
 use Rattle.std.specs.Prelude.{slice_get}
 use Rattle.terms.specs.Past.{no_past}
 use Rattle.wire.specs.declared.feeder.Feeder.{Feeder}

@@ -10,7 +10,7 @@ use Rattle.terms.specs.Lawful.{round_before, step_before}
 use Rattle.terms.specs.Next.{votes, NextAfterFirst, NextAfterSecond, Next}
 use Rattle.terms.proofs.Count.{count_bound}
 use Rattle.terms.proofs.Next.{votes_two, chosen_gives}
-use Rattle.world.proofs.laws.choosing.Goals as goal
+use Rattle.terms.proofs.laws.choosing.Goals as goal
 
 -- from step 1
 first_one : (size : Size) (set : ℕ → Option Value) (m k : Value) → NextAfterFirst size set m → NextAfterFirst size set k → m ≡ k

@@ -10,8 +10,8 @@ use Rattle.terms.specs.declared.Record.TheVariants.{Said}
 use Rattle.terms.specs.declared.Size.{Size}
 use Rattle.terms.specs.Journal.{said}
 use Rattle.terms.specs.Lawful.{IsLawfulStatement}
-use Rattle.world.proofs.Order.{lawful_stands}
-use Rattle.world.proofs.laws.lawful.Goals as goal
+use Rattle.terms.proofs.Stands.{lawful_stands}
+use Rattle.terms.proofs.laws.lawful.Goals as goal
 
 -- what is lawful to say was not said
 is_first : (size : Size) (me : ℕ) (records : List Record) (heard : List (ℕ × Statement)) (kind : Kind) (place : Place) (m : Value)

@@ -1,5 +1,5 @@
 -- What was heard first counts, and more changes nothing of it.
-use Rattle.std.proofs.Common.{ℕ, ◌≡◌, Bool, true, false, cond, not, ◌&&◌, eqb, refl, Some, List, [], ◌∷◌}
+use Rattle.std.proofs.Common.{ℕ, ◌≡◌, Bool, true, false, cond, not, ◌&&◌, eqb, refl, sym, ap, ◌∙◌, Some, List, [], ◌∷◌}
 use Rattle.std.proofs.lemmas.Bool.{and_parts, eqb-true}
 use Rattle.terms.specs.declared.Kind.TheVariants.{Initial}
 use Rattle.terms.specs.declared.Value.{Value}
@@ -10,7 +10,17 @@ use Rattle.terms.specs.Heard.{got, is_entry, is_foreign}
 use Rattle.terms.proofs.Same.{is_about-true}
 use Rattle.terms.proofs.Heard.{Accepted-one}
 use Rattle.terms.proofs.Lawful.{got-more, Accepted-more, IsLawful-more}
-use Rattle.world.proofs.laws.hearing.Goals as goal
+use Rattle.terms.proofs.laws.hearing.Goals as goal
+
+-- an Initial that isn't foreign is its sender's own
+not_foreign : (sender : ℕ) (s : Statement) → s.kind ≡ Initial → not (is_foreign sender s) ≡ true → sender ≡ s.place.origin
+not_foreign sender s k h =
+    let n : not (kind_eq Initial Initial && not (eqb sender s.place.origin)) ≡ true = rw k at h in
+    eqb-true sender s.place.origin (own (eqb sender s.place.origin) n)
+  where
+    own : (b : Bool) → not (not b) ≡ true → b ≡ true
+    own true g = refl
+    own false g = cc
 
 -- an entry that counts for an Initial is its origin's
 entry_origin : (e : ℕ × Statement) (a : ℕ) (place : Place) → is_entry e a Initial place ≡ true → a ≡ place.origin
@@ -18,15 +28,9 @@ entry_origin e a place h =
     let x = and_parts (eqb e.0 a) _ h in
     let y = and_parts (is_about e.1 Initial place) (not (is_foreign e.0 e.1)) x.1 in
     let z = is_about-true e.1 Initial place y.0 in
-    let k = z.0 in
     let p = z.1 in
-    let s = eqb-true e.0 a x.0 in
-    let n : not (kind_eq Initial Initial && not (eqb a place.origin)) ≡ true = rw (k, p, s) at y.1 in
-    eqb-true a place.origin (own (eqb a place.origin) n)
-  where
-    own : (b : Bool) → not (not b) ≡ true → b ≡ true
-    own true g = refl
-    own false g = cc
+    let o : e.0 ≡ e.1.place.origin = not_foreign e.0 e.1 z.0 y.1 in
+    sym (eqb-true e.0 a x.0) ∙ o ∙ ap (λ (q : Place). q.origin) p
 
 -- so what was got as an Initial was of its origin
 got_origin : (heard : List (ℕ × Statement)) (a : ℕ) (place : Place) (m : Value) → got heard a Initial place ≡ Some m → a ≡ place.origin
