@@ -171,22 +171,22 @@ module _ (size : Size) (H : List (ℕ × Statement)) (place : Place) where
 
 -- what was got after one more entry
 pub got-append_one : (H : List (ℕ × Statement)) (e : ℕ × Statement) (a : ℕ) (kind : Kind) (place : Place)
-  → got (H ++ e ∷ []) a kind place ≡ keep_or (got H a kind place) (given (is_entry e a kind place) e.1.value)
+    → got (H ++ e ∷ []) a kind place ≡ keep_or (got H a kind place) (given (is_entry e a kind place) e.1.value)
 got-append_one [] e a kind place = refl
 got-append_one (d ∷ H) e a kind place = step (is_entry d a kind place) (got-append_one H e a kind place)
   where
     step : (b : Bool) → got (H ++ e ∷ []) a kind place ≡ keep_or (got H a kind place) (given (is_entry e a kind place) e.1.value)
-      → cond b (Some d.1.value) (got (H ++ e ∷ []) a kind place) ≡ keep_or (cond b (Some d.1.value) (got H a kind place)) (given (is_entry e a kind place) e.1.value)
+        → cond b (Some d.1.value) (got (H ++ e ∷ []) a kind place) ≡ keep_or (cond b (Some d.1.value) (got H a kind place)) (given (is_entry e a kind place) e.1.value)
     step true h = refl
     step false h = h
 
 -- an accept set in a front is one in the whole
 pub accept-take : (size : Size) (k : ℕ) (H : List (ℕ × Statement)) (place : Place) (v : Value)
-  → IsAcceptSet size (backs (take k H) Ready place v) → IsAcceptSet size (backs H Ready place v)
+    → IsAcceptSet size (backs (take k H) Ready place v) → IsAcceptSet size (backs H Ready place v)
 accept-take size k H place v h =
     let m : count_below size.n (backs (take k H) Ready place v) ≤ count_below size.n (backs H Ready place v) =
-        count-mono size.n (backs (take k H) Ready place v) (backs H Ready place v)
-        (λ a l t. value_is-from _ v (got-take k H a Ready place v (value_is-true _ v t))) in
+    count-mono size.n (backs (take k H) Ready place v) (backs H Ready place v)
+    (λ a l t. value_is-from _ v (got-take k H a Ready place v (value_is-true _ v t))) in
     omega (arith, h, m)
 
 -- what is accepted has an accept set of Readys

@@ -16,7 +16,10 @@ fn sizes_have_their_first_fault(rt: HostRuntime) {
         (255, 255, 0, SizeFault::TooManyMembers),
         (32, 11, 300, SizeFault::TooManyLiars),
     ] {
-        assert!(rt; Size::new(n, t, questions) == Err(want), "at {n}, {t}, {questions}");
+        assert!(rt;
+            Size::new(n, t, questions) == Err(want),
+            "at {n}, {t}, {questions}"
+        );
     }
 }
 
@@ -42,7 +45,14 @@ fn reads_back_what_it_was_made_of(rt: HostRuntime) -> Result<(), Fail> {
     let size = Size::new(32, 10, 256).ok().ok_or("a size")?;
     assert!(rt; (size.n(), size.t(), size.questions()) == (32, 10, 256));
     let place = Place::new(255, 31, 32, 3).ok_or("a place")?;
-    assert!(rt; (place.question(), place.origin(), place.round(), place.step()) == (255, 31, 32, 3));
+    assert!(rt;
+        (
+            place.question(),
+            place.origin(),
+            place.round(),
+            place.step()
+        ) == (255, 31, 32, 3)
+    );
     let statement = Statement::new(Kind::Ready, place, Value::Unsure).ok_or("a statement")?;
     assert!(rt; (statement.kind(), statement.value()) == (Kind::Ready, Value::Unsure));
     assert!(rt; statement.place() == place);
