@@ -18,9 +18,3 @@ heard_as past from s =
 abbrev pub IsAccepted : Past → Place → Option Value → Type 0
 IsAccepted past place None = (m : Value) → Accepted past.size past.heard place m → ⊥
 IsAccepted past place (Some m) = Accepted past.size past.heard place m
-
--- at most one value is accepted at a place of what was heard
-abbrev pub AcceptsOne : Type 0
-AcceptsOne =
-    (size : Size) (heard : List (ℕ × Statement)) (place : Place) (m k : Value)
-    → Accepted size heard place m → Accepted size heard place k → m ≡ k

@@ -15,7 +15,6 @@
 #![tactic(auto)]
 
 ghost use Rattle.std.specs.Prelude.{◌≡◌, ◌≢◌, ◌<◌, ℕ, IfOk, IfSome, OnOk, OnErr};
-ghost use Rattle.rbc.specs.Answers.{AcceptsOne};
 
 use std::alloc::Global;
 use terms::{Kind, Memory, Place, Size, Statement, Value};
@@ -200,9 +199,3 @@ impl Broadcasts {
         rules::least_due(&self.heard, self.size, place, initial)
     }
 }
-
-/// The law that at most one value is accepted at a place, of any statements heard in any order: so what
-/// [`accepted`](Broadcasts::accepted) answers is the only one. It is a proof and does nothing.
-pub fn one_accepted()
-    ensures { AcceptsOne }
-{}

@@ -1,0 +1,7 @@
+mod Answered
+mod Burning
+pub mod Fuses
+mod Left
+mod Listed
+pub mod Moments
+pub mod Outcomes

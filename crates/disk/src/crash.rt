@@ -1,0 +1,59 @@
+//! What a crash makes of a file in memory.
+ghost use Rattle.std.specs.Prelude.{◌≡◌, ◌≤◌, ◌||◌, ℕ, length, nat_le, if◌then◌else◌, IfOk};
+ghost use Rattle.disk.specs.Model.{State, is_touched};
+ghost use Rattle.disk.specs.Crash.{filled_from};
+
+use std::alloc::{AllocError, Global};
+
+/// Which of the files that a crash may leave it leaves.
+#[derive(Clone, Copy, Debug, PartialEq, Eq)]
+pub enum Pick {
+    /// What reads gave.
+    Kept,
+    /// What reads gave at the last sync that succeeded.
+    Lost,
+    /// What reads gave, with this byte in each place that a write since the last sync that succeeded covered, also one
+    /// that failed, and in each place past the end that the file had then.
+    Fill(u8),
+}
+
+/// What reads give, with one byte wherever a crash may leave any.
+pub(crate) fn filled(
+    alloc: Global,
+    seen: &[u8],
+    synced: &[u8],
+    written: &[(usize, usize)],
+    byte: u8,
+) -> Result<Vec<u8>, AllocError>
+    ensures { let state : State = record { seen = seen.now; synced = synced.now; written = written.now }
+        in IfOk result (λ file. file.items ≡ filled_from state byte 0 seen.now) }
+{
+    let mut file = Vec::new(alloc);
+    for (place, kept) in seen.iter().enumerate() {
+        file.push(left_at(place, *kept, synced.len(), written, byte))?;
+    }
+    Ok(file)
+}
+
+// What is left at a place, where the file had this length at the last sync.
+fn left_at(place: usize, kept: u8, synced: usize, written: &[(usize, usize)], byte: u8) -> u8
+    ensures { result ≡ (if nat_le synced place || is_touched place written.now then byte else kept) }
+{
+    if synced <= place || is_touched(place, written) {
+        byte
+    } else {
+        kept
+    }
+}
+
+// Whether one of the ranges has this place.
+fn is_touched(place: usize, ranges: &[(usize, usize)]) -> bool
+    ensures { result ≡ is_touched place ranges.now }
+{
+    for (at, len) in ranges {
+        if *at <= place && place - *at < *len {
+            return true;
+        }
+    }
+    false
+}
