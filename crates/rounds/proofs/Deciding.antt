@@ -1,0 +1,87 @@
+-- What a tally of step 3 decides.
+use Rattle.std.proofs.Common.{ℕ, zero, suc, ◌≡◌, ◌+◌, ◌*◌, ◌<◌, ◌≤◌, ◌⊎◌, inl, inr, Bool, true, false, refl, sym, ap, subst, arith, Some}
+use Rattle.std.proofs.lemmas.Bool.{cases_lt}
+use Rattle.terms.specs.declared.Value.{Value}
+use Rattle.terms.specs.declared.Value.TheVariants.{SureZero, SureOne}
+use Rattle.terms.specs.declared.Size.{Size}
+use Rattle.terms.specs.Bounds.{IsPlace}
+use Rattle.terms.specs.Count.{count_below, AtLeast}
+use Rattle.terms.specs.Same.{value_is, sure, place_of}
+use Rattle.terms.proofs.Count.{count-mono, Outside, has_outside}
+use Rattle.terms.proofs.Same.{value_is-true, value_is-from}
+use Rattle.validate.specs.declared.follow.Tally.{Tally}
+use Rattle.validate.specs.declared.steps.Steps.{Steps}
+use Rattle.validate.specs.Accepted.{IsSound}
+use Rattle.validate.specs.Tallies.{IsTally}
+use Rattle.validate.specs.Words.{size_by, question_by, taken_by, IsTakenBy, IsValidBy}
+use Rattle.validate.proofs.Validity.{valid_taken}
+use Rattle.rounds.specs.Due.{DecidesBy, NoneBefore, FirstDecisionBy}
+
+module _ (steps : Steps) (size : Size) (same : size ≡ size_by steps) (round : ℕ) (t : Tally) (is : IsTally (size_by steps).n 3 (IsValidBy steps round 3) t) where
+  -- the members that the tally counts are valid
+  at_least : (m : Value) (c k : ℕ) → count_below (size_by steps).n (λ a. value_is (is.set a) m) ≡ k → c ≤ k → AtLeast (size_by steps).n c (λ a. IsValidBy steps round 3 a m)
+  at_least m c k e l =
+      record { set = λ a. value_is (is.set a) m; size = omega arith; each = λ a i h. is.good a m i (value_is-true (is.set a) m h) }
+
+  -- and no others
+  at_most : (m : Value) (c k : ℕ) → count_below (size_by steps).n (λ a. value_is (is.set a) m) ≡ k → k < c → AtLeast (size_by steps).n c (λ a. IsValidBy steps round 3 a m) → ⊥
+  at_most m c k e l h =
+      let f = count-mono (size_by steps).n h.set (λ a. value_is (is.set a) m) (λ a i g. value_is-from (is.set a) m (is.here a m i (h.each a i g))) in
+      let g = h.size in
+      omega arith
+
+  -- the sizes have the same accept set
+  accept_is : 2 * size.t + 1 ≡ 2 * (size_by steps).t + 1
+  accept_is = ap (λ (z : Size). 2 * z.t + 1) same
+
+  -- so many for 0 decide it
+  pub decides_zero : 2 * size.t + 1 ≤ t.zero → DecidesBy steps round false
+  decides_zero l = let e = accept_is in at_least SureZero (2 * (size_by steps).t + 1) t.zero is.counts.zeros (omega arith)
+
+  -- so many for 1 decide it
+  pub decides_one : 2 * size.t + 1 ≤ t.one → DecidesBy steps round true
+  decides_one l = let e = accept_is in at_least SureOne (2 * (size_by steps).t + 1) t.one is.counts.ones (omega arith)
+
+  -- fewer for 0 don't
+  pub not_zero : t.zero < 2 * size.t + 1 → DecidesBy steps round false → ⊥
+  not_zero l = let e = accept_is in at_most SureZero (2 * (size_by steps).t + 1) t.zero is.counts.zeros (omega arith)
+
+  -- fewer for 1 don't
+  pub not_one : t.one < 2 * size.t + 1 → DecidesBy steps round true → ⊥
+  not_one l = let e = accept_is in at_most SureOne (2 * (size_by steps).t + 1) t.one is.counts.ones (omega arith)
+
+  -- fewer for both decide nothing
+  pub not_any : t.zero < 2 * size.t + 1 → t.one < 2 * size.t + 1 → (bit : Bool) → DecidesBy steps round bit → ⊥
+  not_any l k true h = not_one k h
+  not_any l k false h = not_zero l h
+
+-- nobody passes a test that fails
+count-nobody : (n : ℕ) → count_below n (λ a. false) ≡ 0
+count-nobody zero = refl
+count-nobody (suc n) = let e : count_below n (λ a. false) ≡ 0 = count-nobody n in omega arith
+
+-- a round that decides is one of the 32
+pub decides_within : (steps : Steps) → IsSound (taken_by steps) → (round : ℕ) (bit : Bool) → DecidesBy steps round bit → round < 33
+decides_within steps sound round bit h =
+    let z = count-nobody (size_by steps).n in
+    let s = h.size in
+    let o : Outside (size_by steps).n h.set (λ a. false) = has_outside (size_by steps).n h.set (λ a. false) (omega arith) in
+    let p : IsPlace (place_of (question_by steps) o.member round 3) =
+    sound.place (place_of (question_by steps) o.member round 3) (sure bit)
+    (valid_taken (size_by steps) (IsTakenBy steps) (question_by steps) round 3 o.member (sure bit) (h.each o.member o.below o.passes)) in
+    let l = p.to_last in
+    omega arith
+
+-- the first round that is found to decide is the least
+pub first_at : (steps : Steps) (round : ℕ) (bit : Bool) → NoneBefore steps round → DecidesBy steps round bit → (bit ≡ true → DecidesBy steps round false → ⊥)
+    → FirstDecisionBy steps (Some (round, bit))
+first_at steps round bit before here least = (here, λ r b h. order r b h (cases_lt r round) (cases_lt round r))
+  where
+    bit_is : (b : Bool) → DecidesBy steps round b → bit ≡ true → b ≡ true
+    bit_is true h e = refl
+    bit_is false h e = absurd (least e h)
+
+    order : (r : ℕ) (b : Bool) → DecidesBy steps r b → (r < round) ⊎ (round ≤ r) → (round < r) ⊎ (r ≤ round) → (round < r) ⊎ ((round ≡ r) × (bit ≡ true → b ≡ true))
+    order r b h (inl l) k = absurd (before r b l h)
+    order r b h (inr l) (inl k) = inl k
+    order r b h (inr l) (inr k) = let e : round ≡ r = omega arith in inr (e, bit_is b (subst (λ x. DecidesBy steps x b) (sym e) h))

@@ -1,0 +1,227 @@
+//! Worked rows. A call that is refused memory is made again, and is then to answer as with ample memory: so under
+//! `rt try --test --fail-alloc N` the same rows test a refusal of the Nth allocation.
+ghost use Rattle.std.specs.Prelude.{◌≡◌};
+ghost use Rattle.rounds.specs.Words.{size_for, question_for};
+
+use super::*;
+use std::process::Abort;
+use std::test::Fail;
+use terms::Kind::{Echo, Initial, Ready};
+use terms::Value::{One, SureOne, SureZero, Unsure, Zero};
+use terms::{Kind, Memory, Place, Record, Size, Statement, Value};
+
+/// Question 0 at member 0, and the size that it was made for.
+#[derive(Drop)]
+struct Asked {
+    size: Size,
+    question: Question,
+    ghost made_for: { size_for question ≡ size },
+    ghost first: { question_for question ≡ 0 },
+}
+
+/// A statement at a place of question 0.
+fn statement(kind: Kind, origin: u8, round: u8, step: u8, value: Value) -> Result<Statement, Fail> {
+    let place = Place::new(0, origin, round, step).ok_or("a place")?;
+    Ok(Statement::new(kind, place, value).ok_or("a value of the step")?)
+}
+
+impl Asked {
+    /// Of so many members, of which one may lie.
+    fn new(rt: &impl AllocGlobal, n: u8) -> Result<Asked, Fail> {
+        let size = Size::new(n, 1, 1)?;
+        let question = Question::new(rt.alloc(), size, 0, 0);
+        Ok(Asked { size, question })
+    }
+
+    /// Accepts the value at the place of those numbers.
+    fn accept(
+        &mut self,
+        origin: u8,
+        round: u8,
+        step: u8,
+        value: Value,
+    ) -> Result<Result<(), Memory>, Fail> {
+        let place = Place::new(0, origin, round, step).ok_or("a place")?;
+        let said = Statement::new(Initial, place, value).ok_or("a value of the step")?;
+        if origin >= self.size.n() {
+            return Err(Fail::from("an origin"));
+        }
+        Ok(self.question.accept(said.place(), said.value()))
+    }
+
+    /// Accepts a step's values, from origin 0 on. What is refused for memory is accepted again.
+    fn take(&mut self, rt: &impl Abort, round: u8, step: u8, values: &[Value]) -> Result<(), Fail> {
+        for (origin, value) in (0..32).zip(values) {
+            if self.accept(origin, round, step, *value)? == Err(Memory) {
+                assert!(rt; self.accept(origin, round, step, *value)? == Ok(()));
+            }
+        }
+        Ok(())
+    }
+
+    /// Notes that the member said the statement.
+    fn note(&mut self, said: Statement) {
+        self.question.note(&Record::Said(said));
+    }
+
+    /// Notes that the member said that Initial of its own.
+    fn say(&mut self, round: u8, step: u8, value: Value) -> Result<(), Fail> {
+        let said = statement(Initial, 0, round, step, value)?;
+        self.note(said);
+        Ok(())
+    }
+
+    /// Notes a decision.
+    fn decide(&mut self, question: u16, round: u8, bit: bool) {
+        let decided = Record::Decided {
+            question,
+            round,
+            bit,
+        };
+        self.question.note(&decided);
+    }
+
+    /// The place and value of the Initial that is due with the toss.
+    fn next(&self, toss: u64) -> Option<(u8, u8, Value)> {
+        let next = self.question.next(Toss(toss))?;
+        Some((next.place().round(), next.place().step(), next.value()))
+    }
+}
+
+#[test]
+fn first_toss_of_stream_zero(rt: HostRuntime) {
+    let mut tosser = ChaChaTosser::from_seed([0; 32], 0);
+    assert_eq!(rt; tosser.toss(), Toss(0x903d_f1a0_ade0_b876));
+}
+
+#[test]
+fn all_valid_messages_count(rt: HostRuntime) -> Result<(), Fail> {
+    let mut asked = Asked::new(&rt, 5)?;
+    asked.take(&rt, 1, 1, &[Zero, Zero, One])?;
+    assert!(rt; asked.next(0).is_none());
+    asked.say(1, 1, Zero)?;
+    assert!(rt; asked.next(0).is_none());
+    asked.take(&rt, 1, 1, &[Zero, Zero, One, One])?;
+    assert!(rt; asked.next(0) == Some((1, 2, Zero)));
+    asked.take(&rt, 1, 1, &[Zero, Zero, One, One, One])?;
+    assert!(rt; asked.next(0) == Some((1, 2, One)));
+
+    let mut asked = Asked::new(&rt, 4)?;
+    asked.say(1, 1, Zero)?;
+    asked.take(&rt, 1, 1, &[Zero, One, One, One])?;
+    assert!(rt; asked.next(0) == Some((1, 2, One)));
+    Ok(())
+}
+
+/// A question of four members that said its Initials of round 1, with those values of step 3 after ties in step 1.
+fn after_round_one(
+    rt: &(impl Abort + AllocGlobal),
+    second: [Value; 4],
+    third: &[Value],
+) -> Result<Asked, Fail> {
+    let mut asked = Asked::new(rt, 4)?;
+    for (step, value) in [(1, Zero), (2, Zero), (3, Unsure)] {
+        asked.say(1, step, value)?;
+    }
+    asked.take(rt, 1, 1, &[Zero, Zero, One, One])?;
+    asked.take(rt, 1, 2, &second)?;
+    asked.take(rt, 1, 3, third)?;
+    Ok(asked)
+}
+
+#[test]
+fn help_set_outweighs_the_coin(rt: HostRuntime) -> Result<(), Fail> {
+    let zeros = [Zero, Zero, Zero, One];
+    let asked = after_round_one(&rt, zeros, &[SureZero, SureZero, Unsure, Unsure])?;
+    assert!(rt; asked.next(1) == Some((2, 1, Zero)));
+    let asked = after_round_one(&rt, zeros, &[SureZero, Unsure, Unsure, Unsure])?;
+    assert!(rt; asked.next(1) == Some((2, 1, One)));
+    assert!(rt; asked.next(2) == Some((2, 1, Zero)));
+    Ok(())
+}
+
+#[test]
+fn coin_breaks_a_tie(rt: HostRuntime) -> Result<(), Fail> {
+    let asked = after_round_one(&rt, [Zero, Zero, One, One], &[Unsure, Unsure, Unsure])?;
+    assert!(rt; asked.next(2) == Some((2, 1, Zero)));
+    assert!(rt; asked.next(1) == Some((2, 1, One)));
+    assert!(rt; asked.question.decision_due().is_none());
+    Ok(())
+}
+
+#[test]
+fn accept_set_decides_once(rt: HostRuntime) -> Result<(), Fail> {
+    let mut asked = Asked::new(&rt, 4)?;
+    asked.take(&rt, 1, 1, &[One, One, One])?;
+    asked.take(&rt, 1, 2, &[One, One, One])?;
+    asked.take(&rt, 1, 3, &[SureOne, SureOne])?;
+    assert!(rt; asked.question.decision_due().is_none());
+    asked.take(&rt, 1, 3, &[SureOne, SureOne, SureOne])?;
+    assert!(rt; asked.question.decision_due() == Some((1, true)));
+    assert!(rt; asked.question.verdict().is_none());
+    for (question, round, bit) in [(1, 1, false), (0, 1, true), (0, 2, false)] {
+        asked.decide(question, round, bit);
+    }
+    assert!(rt; asked.question.decision_due().is_none());
+    assert!(rt; asked.question.verdict() == Some((1, true)));
+    Ok(())
+}
+
+#[test]
+fn other_records_change_nothing(rt: HostRuntime) -> Result<(), Fail> {
+    let mut asked = Asked::new(&rt, 4)?;
+    asked.take(&rt, 1, 1, &[One, One, One])?;
+    for (kind, origin) in [(Echo, 0), (Ready, 0), (Initial, 1)] {
+        let said = statement(kind, origin, 1, 1, One)?;
+        asked.note(said);
+        assert!(rt; asked.next(0).is_none());
+    }
+    asked.say(1, 1, One)?;
+    assert!(rt; asked.next(0) == Some((1, 2, One)));
+    Ok(())
+}
+
+/// Says all Initials that are due, where each round is a tie that the coin breaks, and gives how many there are.
+fn drive(rt: &impl Abort, asked: &mut Asked, toss: u64) -> Result<u8, Fail> {
+    for code in 5..101_u8 {
+        let Some((round, step, value)) = asked.next(toss) else {
+            return Ok(code - 5);
+        };
+        let want = match step {
+            1 if (toss >> ((code - 5) / 3)) % 2 == 1 => One,
+            3 => Unsure,
+            _ => Zero,
+        };
+        assert!(rt; (round, step) == ((code - 1) / 3, (code - 1) % 3 + 1));
+        assert!(rt; value == want, "in round {round}, step {step}");
+        asked.say(round, step, value)?;
+    }
+    Err(Fail::from("no end"))
+}
+
+/// A question of four members with a tie in all 32 rounds.
+fn all_ties(rt: &(impl Abort + AllocGlobal)) -> Result<Asked, Fail> {
+    let mut asked = Asked::new(rt, 4)?;
+    for round in 1..33 {
+        asked.take(rt, round, 1, &[Zero, Zero, One, One])?;
+        asked.take(rt, round, 2, &[Zero, Zero, One, One])?;
+        asked.take(rt, round, 3, &[Unsure, Unsure, Unsure, Unsure])?;
+    }
+    asked.say(1, 1, Zero)?;
+    Ok(asked)
+}
+
+#[test]
+fn coins_lead_to_round_thirty_two(rt: HostRuntime) -> Result<(), Fail> {
+    let mut asked = all_ties(&rt)?;
+    assert_eq!(rt; drive(&rt, &mut asked, 0x903d_f1a0_ade0_b876)?, 95);
+    Ok(())
+}
+
+#[test]
+fn round_after_the_decision_is_the_last(rt: HostRuntime) -> Result<(), Fail> {
+    let mut asked = all_ties(&rt)?;
+    asked.decide(0, 5, true);
+    assert_eq!(rt; drive(&rt, &mut asked, 0x903d_f1a0_ade0_b876)?, 17);
+    Ok(())
+}
