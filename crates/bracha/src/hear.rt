@@ -1,7 +1,8 @@
 //! The command `hear`: pieces of streams in, broadcast answers out.
 
-ghost use Rattle.std.specs.Prelude.{ℕ, ◌≡◌, ◌≤◌, ◌↔◌, ◌∷◌, ◌++◌, [], List, IfOk, IfSome, OnErr, None, Some};
+ghost use Rattle.std.specs.Prelude.{ℕ, List, ◌≡◌, ◌≢◌, ◌≤◌, ◌↔◌, ◌∷◌, ◌++◌, [], IfOk, None, Some};
 ghost use Rattle.std.specs.Io.KnownBytes.{Appends, Keeps};
+ghost use Rattle.terms.specs.declared.SizeFault.{SizeFault};
 ghost use Rattle.bracha.specs.Pieces.{NoEnd};
 ghost use Rattle.bracha.specs.Hears.{Hears, Writes};
 
@@ -42,6 +43,7 @@ pub fn hear_lines<R: BufRead, W: Write>(
     ensures line { (number : ℕ) → result ≡ Err (Fault.Line number) →
         Writes size me (R.remaining input.old) (Some number) (W.contents output.old) (W.contents output.new) }
     ensures me { (result ≡ Err Fault.Me) ↔ (size.n ≤ me) }
+    ensures no_size_fault { (fault : SizeFault) → result ≢ Err (Fault.Size fault) }
     ensures none { result ≡ Err Fault.Me → Keeps (W.contents output.old) (W.contents output.new) }
 {
     if me >= size.n() {
