@@ -30,12 +30,20 @@ pub fed_fits : (size : Size) (end : End) (piece : List ℕ) (messages : List Mes
 fed_fits size (Rest rest) piece messages last h = subst (λ (l : List Message). AllByRecursion (Fits size) l) (sym h.2) h.1.each
 fed_fits size (Broken fault) piece messages last h = subst (λ (l : List Message). AllByRecursion (Fits size) l) (sym h.0) tt
 
--- answering messages reads no stream further
+-- answering a message reads no stream further
+one_ends_same : (from : ℕ) (before : Hearing) (m : Message) (after : Hearing) (text : List ℕ) → AnswersMessage from before m after text
+    → (a : ℕ) → after.ends a ≡ before.ends a
+one_ends_same from before message.Idle after text h a = ap (λ (x : Hearing). x.ends a) h.0
+one_ends_same from before (message.Hello cluster size dialler dialled) after text h a = ap (λ (x : Hearing). x.ends a) h.0
+one_ends_same from before (message.Welcome next) after text h a = ap (λ (x : Hearing). x.ends a) h.0
+one_ends_same from before (message.Statement s) after text h a = ap (λ (x : Hearing). x.ends a) h.2
+
+-- answering messages in turn reads none further
 ends_same : (from : ℕ) (before : Hearing) (ms : List Message) (after : Hearing) (text : List ℕ) → InTurn (AnswersMessage from) before ms after text
     → (a : ℕ) → after.ends a ≡ before.ends a
 ends_same from before [] after text h a = ap (λ (x : Hearing). x.ends a) h.0
-ends_same from before (message.Statement s ∷ ms) after text h a =
-    ends_same from h.0 ms after h.2 h.4 a ∙ ap (λ (x : Hearing). x.ends a) h.3.2
+ends_same from before (m ∷ ms) after text h a =
+    ends_same from h.0 ms after h.2 h.4 a ∙ one_ends_same from before m h.0 h.1 h.3 a
 
 -- the line that is printed for how the stream ends now
 pub more_line : (end : End) → fed.More ≡ answer_of end → broken_line end ≡ []

@@ -78,65 +78,74 @@ abbrev pub Hears : ℕ → Statement → Broadcasts → Broadcasts → List ℕ 
 Hears from s b c old new =
     (past : Past) → Stands b past → s.place.question ≡ past.question → AllFit past → FitsStep s.place.step s.value → IsAnswered from past s c old new
 
--- the messages before one were answered, and it is heard
-module _ (size : Size) (from : ℕ) (start bs : List Broadcasts) (ms : List Message) (s : Statement) (b c : Broadcasts) (first old new : List ℕ) where
-  pub next_answered : slice_get bs s.place.question ≡ Some b → FitsStep s.place.step s.value → Hears from s b c old new
-      → ((h : Hearing) → AreStanding size start h →
-      (now : Hearing) × (others : List ℕ) × InTurn (AnswersMessage from) h ms now others × AreStanding size bs now × (old ≡ first ++ others))
-      → (h : Hearing) → AreStanding size start h →
-      (now : Hearing) × (others : List ℕ) × InTurn (AnswersMessage from) h (ms ++ message.Statement s ∷ []) now others
-      × AreStanding size (slice_set bs s.place.question c) now × (new ≡ first ++ others)
-  next_answered there fits hears before h at = step (before h at)
-    where
-      step : (now : Hearing) × (others : List ℕ) × InTurn (AnswersMessage from) h ms now others × AreStanding size bs now × (old ≡ first ++ others)
-          → (now : Hearing) × (others : List ℕ) × InTurn (AnswersMessage from) h (ms ++ message.Statement s ∷ []) now others
-          × AreStanding size (slice_set bs s.place.question c) now × (new ≡ first ++ others)
-      step (now, others, answered, standing, text) =
-          let q = s.place.question in
-          let of = standing.pasts q in
-          let r = hears (now.pasts q) (standing.each q b there) (sym of.question_is) of.fits fits in (
-            with_past now q r.0,
-            others ++ r.1,
-            InTurn-snoc (AnswersMessage from) h ms (message.Statement s) now (with_past now q r.0) others r.1 answered (r.0, r.2, refl),
-            stands_still size bs q b c there now r.0 standing (answered_of size q from (now.pasts q) s r.0 r.1 fits r.2 of) r.3,
-            r.4 ∙ (ap (λ t. t ++ r.1) text ∙ append_assoc first others r.1),
-          )
+-- what a message's answer is, whatever happened before it
+abbrev pub IsHeard : Size → ℕ → Message → List Broadcasts → List Broadcasts → List ℕ → List ℕ → Type 0
+IsHeard size from m bs cs old new =
+    (h : Hearing) → AreStanding size bs h →
+    (after : Hearing) × (others : List ℕ) × AnswersMessage from h m after others × AreStanding size cs after × (new ≡ old ++ others)
+
+-- a statement is heard
+module _ (size : Size) (from : ℕ) (bs : List Broadcasts) (m : Message) (s : Statement) (b c : Broadcasts) (old new : List ℕ) where
+  pub statement_heard : (i : ℕ) → m ≡ message.Statement s → Fits size m → i ≡ s.place.question → HasBroadcasts size bs → b ≡ get_or bs i b
+      → Hears from s b c old new → IsHeard size from m bs (slice_set bs i c) old new
+  statement_heard i is fits asked has there hears h standing =
+      let well : IsWellFormed size s = subst (λ (x : Message). Fits size x) is fits in
+      let q = s.place.question in
+      let in_range : i < length bs = (let w = well.question in let k = has.many in omega (arith, asked, w, k)) in
+      let found : slice_get bs i ≡ Some b = slice_get_read bs (length bs) i b refl in_range there in
+      let here : slice_get bs q ≡ Some b = subst (λ k. slice_get bs k ≡ Some b) asked found in
+      let of = standing.pasts q in
+      let r = hears (h.pasts q) (standing.each q b here) (sym of.question_is) of.fits well.value in (
+        with_past h q r.0,
+        r.1,
+        subst (λ (x : Message). AnswersMessage from h x (with_past h q r.0) r.1) (sym is) (r.0, r.2, refl),
+        subst (λ k. AreStanding size (slice_set bs k c) (with_past h q r.0)) (sym asked)
+            (stands_still size bs q b c here h r.0 standing (answered_of size q from (h.pasts q) s r.0 r.1 well.value r.2 of) r.3),
+        r.4,
+      )
+
+  -- each question still has its broadcasts
+  pub statement_has : (i : ℕ) → m ≡ message.Statement s → Fits size m → i ≡ s.place.question → HasBroadcasts size bs → b ≡ get_or bs i b
+      → size_by c ≡ size_by b → HasBroadcasts size (slice_set bs i c)
+  statement_has i is fits asked has there same =
+      let well : IsWellFormed size s = subst (λ (x : Message). Fits size x) is fits in
+      let in_range : i < length bs = (let w = well.question in let k = has.many in omega (arith, asked, w, k)) in
+      has_still size bs i b c (slice_get_read bs (length bs) i b refl in_range there) has same
 
 -- what holds of each element holds of the one at an index
-all_at : {A : Type 0} (P : A → Type 0) (xs : List A) (i : ℕ) (d : A) → AllByRecursion P xs → i < length xs → P (get_or xs i d)
+pub all_at : {A : Type 0} (P : A → Type 0) (xs : List A) (i : ℕ) (d : A) → AllByRecursion P xs → i < length xs → P (get_or xs i d)
 all_at P [] i d all l = absurd (omega arith)
 all_at P (x ∷ xs) zero d all l = all.0
 all_at P (x ∷ xs) (suc i) d all l = all_at P xs i d all.1 (omega arith)
 
--- the state of the loop over the messages, after the first of them
+-- the first messages were answered
 abbrev pub AreAnswered : Size → ℕ → List Broadcasts → List Broadcasts → List Message → List ℕ → List ℕ → Type 0
 AreAnswered size from start bs ms first old =
-    HasBroadcasts size bs
-    × ((h : Hearing) → AreStanding size start h →
-    (now : Hearing) × (others : List ℕ) × InTurn (AnswersMessage from) h ms now others × AreStanding size bs now × (old ≡ first ++ others))
+    (h : Hearing) → AreStanding size start h →
+    (now : Hearing) × (others : List ℕ) × InTurn (AnswersMessage from) h ms now others × AreStanding size bs now × (old ≡ first ++ others)
 
-module _ (size : Size) (from : ℕ) (start bs : List Broadcasts) (ms : List Message) (s : Statement) (b c : Broadcasts) (first old new : List ℕ) where
-  -- one turn of that loop
-  pub turn : (index i : ℕ) (item : Message) → item ≡ message.Statement s → item ≡ get_or ms index item → index < length ms
-      → AllByRecursion (Fits size) ms → i ≡ s.place.question → b ≡ get_or bs i b
-      → size_by c ≡ size_by b → Hears from s b c old new
-      → AreAnswered size from start bs (take index ms) first old
-      → AreAnswered size from start (slice_set bs i c) (take (index + 1) ms) first new
-  turn index i item is at within all asked there same hears (has, before) =
-      let fits : IsWellFormed size s = subst (λ (m : Message). Fits size m) (sym at ∙ is) (all_at (Fits size) ms index item all within) in
-      let in_range : i < length bs = (let q = fits.question in let m = has.many in omega (arith, asked, q, m)) in
-      let found : slice_get bs i ≡ Some b = slice_get_read bs (length bs) i b refl in_range there in
-      let here : slice_get bs s.place.question ≡ Some b = subst (λ k. slice_get bs k ≡ Some b) asked found in
-      let more : take (index + 1) ms ≡ take index ms ++ message.Statement s ∷ [] =
-      subst (λ k. take k ms ≡ take index ms ++ message.Statement s ∷ []) (let e : suc index ≡ index + 1 = omega arith in e)
-      (take-suc ms index item within ∙ ap (λ (m : Message). take index ms ++ m ∷ []) (sym at ∙ is)) in (
-        has_still size bs i b c found has same,
-        λ h standing.
-            let r = next_answered size from start bs (take index ms) s b c first old new here fits.value hears before h standing in (
-              r.0,
-              r.1,
-              subst (λ (l : List Message). InTurn (AnswersMessage from) h l r.0 r.1) (sym more) r.2,
-              subst (λ k. AreStanding size (slice_set bs k c) r.0) (sym asked) r.3,
-              r.4,
-            ),
-      )
+-- one turn of the loop over the messages
+module _ (size : Size) (from : ℕ) (start bs cs : List Broadcasts) (ms : List Message) (first old new : List ℕ) where
+  pub turn : (index : ℕ) (item : Message) → item ≡ get_or ms index item → index < length ms → IsHeard size from item bs cs old new
+      → AreAnswered size from start bs (take index ms) first old → AreAnswered size from start cs (take (index + 1) ms) first new
+  turn index item at within heard before h standing = step (before h standing)
+    where
+      step : (now : Hearing) × (others : List ℕ) × InTurn (AnswersMessage from) h (take index ms) now others × AreStanding size bs now × (old ≡ first ++ others)
+          → (now : Hearing) × (others : List ℕ) × InTurn (AnswersMessage from) h (take (index + 1) ms) now others × AreStanding size cs now × (new ≡ first ++ others)
+      step (now, others, answered, stands, text) =
+          let r = heard now stands in
+          let more : take (index + 1) ms ≡ take index ms ++ item ∷ [] =
+          subst (λ k. take k ms ≡ take index ms ++ item ∷ []) (let e : suc index ≡ index + 1 = omega arith in e)
+          (take-suc ms index item within ∙ ap (λ (m : Message). take index ms ++ m ∷ []) (sym at)) in (
+            r.0,
+            others ++ r.1,
+            subst (λ (l : List Message). InTurn (AnswersMessage from) h l r.0 (others ++ r.1)) (sym more)
+                (InTurn-snoc (AnswersMessage from) h (take index ms) item now r.0 others r.1 answered r.2),
+            r.3,
+            r.4 ∙ (ap (λ t. t ++ r.1) text ∙ append_assoc first others r.1),
+          )
+
+-- a message of those that fit fits
+pub turn_fits : (size : Size) (index : ℕ) (ms : List Message) (item : Message) → item ≡ get_or ms index item → index < length ms
+    → AllByRecursion (Fits size) ms → Fits size item
+turn_fits size index ms item at within all = subst (λ (x : Message). Fits size x) (sym at) (all_at (Fits size) ms index item all within)

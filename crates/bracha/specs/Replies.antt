@@ -13,7 +13,7 @@ use Rattle.terms.specs.Answer.{MaySay, IsLeast, said_if, after_records}
 use Rattle.wire.specs.declared.message.Message.{Message}
 use Rattle.wire.specs.declared.message.Message.TheVariants as message
 use Rattle.wire.specs.declared.message.WireFault.{WireFault}
-use Rattle.wire.specs.declared.message.WireFault.TheVariants.{BadLength, BadType, BadKind, BadPlace, BadValue}
+use Rattle.wire.specs.declared.message.WireFault.TheVariants.{BadLength, BadType, BadKind, BadPlace, BadValue, BadHello}
 use Rattle.wire.specs.Texts.{text}
 use Rattle.wire.specs.Reading.{End, Rest, Broken}
 use Rattle.wire.specs.Feeding.{Feeds}
@@ -40,6 +40,7 @@ name_of BadType = codes "BadType"
 name_of BadKind = codes "BadKind"
 name_of BadPlace = codes "BadPlace"
 name_of BadValue = codes "BadValue"
+name_of BadHello = codes "BadHello"
 
 -- what is said after news: the Echo and the Ready that are then due, each where one is
 pub record SaysDue (past : Past) (place : Place) (after : Past) (text : List ℕ) : Type 0 where
@@ -80,8 +81,12 @@ with_end h from end = record { ends = put h.ends from end; pasts = h.pasts }
 abbrev pub with_past : Hearing → ℕ → Past → Hearing
 with_past h question past = record { ends = h.ends; pasts = put h.pasts question past }
 
--- the sender's message is answered by the text: a statement, from the past of its question
+-- the sender's message is answered by the text: a statement, from the past of its question. The others change nothing
+-- and are answered by none
 abbrev pub AnswersMessage : ℕ → Hearing → Message → Hearing → List ℕ → Type 0
+AnswersMessage from before message.Idle after text = (after ≡ before) × (text ≡ [])
+AnswersMessage from before (message.Hello cluster size dialler dialled) after text = (after ≡ before) × (text ≡ [])
+AnswersMessage from before (message.Welcome next) after text = (after ≡ before) × (text ≡ [])
 AnswersMessage from before (message.Statement s) after text =
     (past : Past) × AnswersStatement from (before.pasts s.place.question) s past text
     × (after ≡ with_past before s.place.question past)

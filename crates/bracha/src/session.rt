@@ -96,12 +96,30 @@ fn hear(
     Ok(())
 }
 
-/// What the message says.
-fn statement_in(message: &Message) -> Statement
-    ensures { message.now ≡ Message.Statement result }
+/// Hears the sender's message, and adds the answer. One that is no statement has none.
+fn hear_message(
+    alloc: Global,
+    size: Size,
+    broadcasts: &mut Vec<Broadcasts>,
+    from: u8,
+    message: &Message,
+    text: &mut Vec<u8>,
+) -> Result<(), Memory>
+    requires has { HasBroadcasts size broadcasts.old.items }
+    requires from { from < size.n }
+    requires fits { Fits size message.now }
+    ensures answers { OnOk result ((h : Hearing) → AreStanding size broadcasts.old.items h →
+        (after : Hearing) × (others : List ℕ) × AnswersMessage from h message.now after others
+        × AreStanding size broadcasts.new.items after × (text.new.items ≡ text.old.items ++ others)) }
+    ensures has { OnOk result (HasBroadcasts size broadcasts.new.items) }
 {
     match *message {
-        Message::Statement(statement) => statement,
+        Message::Statement(statement) => {
+            let question = usize::from(statement.place().question());
+            hear(alloc, &mut broadcasts[question], from, &statement, text)?;
+            Ok(())
+        }
+        Message::Idle | Message::Hello { .. } | Message::Welcome { .. } => Ok(()),
     }
 }
 
@@ -123,9 +141,7 @@ fn hear_all(
     ensures has { OnOk result (HasBroadcasts size broadcasts.new.items) }
 {
     for message in messages {
-        let statement = statement_in(message);
-        let question = usize::from(statement.place().question());
-        hear(alloc, &mut broadcasts[question], from, &statement, text)?;
+        hear_message(alloc, size, broadcasts, from, message, text)?;
     }
     Ok(())
 }
@@ -140,6 +156,7 @@ fn show_fault(fault: WireFault, text: &mut Vec<u8>) -> Result<(), Memory>
         WireFault::BadKind => "BadKind",
         WireFault::BadPlace => "BadPlace",
         WireFault::BadValue => "BadValue",
+        WireFault::BadHello => "BadHello",
     };
     text.extend_from_slice(b"broken ")?;
     text.extend_from_slice(name.as_bytes())?;

@@ -33,6 +33,12 @@ fn answers_line_by_line(rt: HostRuntime) -> Result<(), Fail> {
             "0 0008030100000001010100080301000000010100000803020000000101020000\n0 00\n",
             "news\n00080302000000010101\nrepeat\nbroken BadValue\nbroken BadValue\n",
         ),
+        // An idle, a welcome and a hello print nothing; a hello of another size is a fault.
+        (
+            "0 000100\n0 0009020000000000000001\n0 001001010000000000000007040100010001\n0 00080301000000010101\n",
+            "news\n00080302000000010101\n",
+        ),
+        ("2 00100101000000000000000705\n", "broken BadHello\n"),
         // Digits of either case, leading zeros, a last line without its end, and an input of nothing.
         ("03 FF", "broken BadLength\n"),
         ("3 fF\n", "broken BadLength\n"),

@@ -127,9 +127,9 @@ took_once size bytes old new other end last lawful a b =
     (a.2 ∙ ap (λ (l : List Message). old ++ l) o.0 ∙ sym b.2, o.1)
 
 -- from the beginning of a stream
-pub fed_is_read : (size : Size) (pieces : List (List ℕ)) (old new : List Message) (end : End) → IsSize size
+pub fed_is_read : (size : Size) (pieces : List (List ℕ)) (old new : List Message) (end : End)
     → FeedsAll size (Rest []) pieces old new end → Took size (concat pieces) old new end
-fed_is_read size pieces old new end lawful f = all_read size pieces [] old new end (partial0 size lawful) f
+fed_is_read size pieces old new end f = all_read size pieces [] old new end (partial0 size) f
 
 -- the reading of all pieces is what they give in turn
 pub read_is_fed : (size : Size) (pieces : List (List ℕ)) (old new : List Message) (end : End) → IsSize size
@@ -138,16 +138,16 @@ pub read_is_fed : (size : Size) (pieces : List (List ℕ)) (old new : List Messa
 read_is_fed size pieces old new end lawful are t =
     let g = feeds_all size pieces [] old lawful are in
     let o =
-    took_once size (concat pieces) old g.0 new g.1 end lawful (fed_is_read size pieces old g.0 g.1 lawful g.2) t in
+    took_once size (concat pieces) old g.0 new g.1 end lawful (fed_is_read size pieces old g.0 g.1 g.2) t in
     let P : List Message → Type 0 = λ l. FeedsAll size (Rest []) pieces old l g.1 in
     let Q : End → Type 0 = λ e. FeedsAll size (Rest []) pieces old new e in
     subst Q o.1 (subst P o.0 g.2)
 
 -- the texts of messages read as these messages
-pub written_reads : (size : Size) (messages : List Message) → IsSize size → AllByRecursion (Fits size) messages
+pub written_reads : (size : Size) (messages : List Message) → AllByRecursion (Fits size) messages
     → Reads size (flat_map text messages) messages (Rest [])
-written_reads size messages lawful fits =
-    record { each = fits; others = []; whole = sym (append-nil (flat_map text messages)); ends = (refl, partial0 size lawful) }
+written_reads size messages fits =
+    record { each = fits; others = []; whole = sym (append-nil (flat_map text messages)); ends = (refl, partial0 size) }
 
 -- the texts of messages, fed in any pieces, give these messages and leave no rest
 pub written_is_fed : (size : Size) (messages old new : List Message) (pieces : List (List ℕ)) (end : End)
@@ -156,4 +156,4 @@ pub written_is_fed : (size : Size) (messages old new : List Message) (pieces : L
 written_is_fed size messages old new pieces end lawful fits e f =
     let P : List ℕ → Type 0 = λ b. Took size b old new end in
     took_once size (flat_map text messages) old new (old ++ messages) end (Rest []) lawful
-    (subst P e (fed_is_read size pieces old new end lawful f)) (messages, written_reads size messages lawful fits, refl)
+    (subst P e (fed_is_read size pieces old new end f)) (messages, written_reads size messages fits, refl)

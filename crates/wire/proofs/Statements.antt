@@ -164,9 +164,17 @@ cells_of size s lawful well =
       value = v.1;
     }
 
+-- the second bytes of equal lists
+second : (a b : ℕ) (c : List ℕ) (x y : ℕ) (z : List ℕ) → a ∷ b ∷ c ≡ x ∷ y ∷ z → b ≡ y
+second a b c x y z e = ap (λ (t : List ℕ). get_or t 1 0) e
+
 -- the statement of a text of that length
 is_statement : (size : Size) (m : Message) (c : List ℕ) → Fits size m → text m ≡ 0 ∷ 8 ∷ c
     → (s : Statement) × IsWellFormed size s × (3 ∷ statement_bytes s ≡ c)
+is_statement size message.Idle c fits e = let n = second _ _ _ _ _ _ e in absurd (omega arith)
+is_statement size (message.Hello cluster its from to) c fits e =
+    let n = second _ _ _ _ _ _ e in absurd (omega arith)
+is_statement size (message.Welcome next) c fits e = let n = second _ _ _ _ _ _ e in absurd (omega arith)
 is_statement size (message.Statement s) c fits e = (s, fits, ap (λ (t : List ℕ). drop 2 t) e)
 
 -- what begins a text of that length has the type of a statement

@@ -60,10 +60,16 @@ is_taken size bytes old new rest end s ends =
 
 -- a text has a byte at least
 pub text_long : (m : Message) → 1 ≤ length (text m)
+text_long message.Idle = omega arith
+text_long (message.Hello cluster its from to) = omega arith
+text_long (message.Welcome next) = omega arith
 text_long (message.Statement s) = omega arith
 
 -- a text is no longer than the longest frame
 text_short : (m : Message) → length (text m) ≤ LONGEST_FRAME
+text_short message.Idle = omega arith
+text_short (message.Hello cluster its from to) = omega arith
+text_short (message.Welcome next) = omega arith
 text_short (message.Statement s) = omega arith
 
 -- what begins a text is shorter than the longest frame

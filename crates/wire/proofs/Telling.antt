@@ -1,7 +1,9 @@
 -- That what a reader answers is true of the bytes, byte by byte along a frame.
-use Rattle.std.proofs.Common.{ℕ, suc, ◌≡◌, ◌<◌, ◌≤◌, Bool, true, false, cond, List, [], ◌∷◌, ◌++◌, get_or, Result, Ok, Err, refl, sym, subst, ◌∙◌, append_assoc, arith}
-use Rattle.std.proofs.lemmas.Bool.{leb-true, le-leb, and_parts, and_from, true≢false}
-use Rattle.std.proofs.lemmas.List.{append-nil}
+use Rattle.std.proofs.Common.{ℕ, zero, suc, ◌≡◌, ◌-◌, ◌^◌, ◌<◌, ◌≤◌, Bool, true, false, cond, List, [], ◌∷◌, ◌++◌, length, get_or, take, drop, replicate, Result, Ok, Err, refl, sym, subst, ◌∙◌, append_assoc, arith}
+use Rattle.std.specs.Int.{w64, from_be_bytes, to_be_bytes}
+use Rattle.std.proofs.lemmas.Bool.{leb-true, le-leb, and_parts, and_from, ltb-false, ltb-true, true≢false}
+use Rattle.std.proofs.lemmas.List.{append-nil, take-append-drop, length-append, length-take, length-replicate}
+use Rattle.std.proofs.lemmas.Nat.{be_bytes_8}
 use Rattle.terms.specs.declared.Size.{Size}
 use Rattle.wire.specs.declared.message.Message.{Message}
 use Rattle.wire.specs.declared.message.Stop.{Stop}
@@ -9,7 +11,7 @@ use Rattle.wire.specs.declared.message.Stop.TheVariants.{Partial, Fault}
 use Rattle.wire.specs.declared.message.WireFault.{WireFault}
 use Rattle.wire.specs.Texts.{text, Fits}
 use Rattle.wire.specs.Reading.{AreBytes, Begins, IsPartial, Breaks, fault_after}
-use Rattle.wire.specs.Looking.{◌>>=◌, within, byte_at}
+use Rattle.wire.specs.Looking.{◌>>=◌, within, byte_at, number_at}
 
 -- a list whose places all have bytes is bytes
 pub from_places : (bytes : List ℕ) → ((i : ℕ) → get_or bytes i 0 < 256) → AreBytes bytes
@@ -73,3 +75,51 @@ step_one size front x f k bytes partial one is fits next =
     step size front x x f k bytes partial (λ b h. let e = one b h in (omega arith, omega arith)) is fits
     (λ b rest r fits'. let e : x ≡ b = omega arith in
     let P : ℕ → Type 0 = λ y. Tells size ((front ++ y ∷ []) ++ rest) (k (y, rest)) in subst P e (next rest fits'))
+
+-- each place of bytes has a byte
+at_place : (bytes : List ℕ) → AreBytes bytes → (i : ℕ) → get_or bytes i 0 < 256
+at_place [] h i = omega arith
+at_place (b ∷ bytes) h zero = h.0
+at_place (b ∷ bytes) h (suc i) = at_place bytes h.1 i
+
+-- bytes behind bytes are bytes
+bytes_both : (a b : List ℕ) → AreBytes a → AreBytes b → AreBytes (a ++ b)
+bytes_both [] b h k = k
+bytes_both (x ∷ a) b h k = (h.0, bytes_both a b h.1 k)
+
+-- zeros are bytes
+zeros : (n : ℕ) → AreBytes (replicate n 0)
+zeros zero = tt
+zeros (suc n) = (omega arith, zeros n)
+
+-- eight bytes are those of their number
+pub number_back : (c : List ℕ) → length c ≡ 8 → AreBytes c → to_be_bytes w64 (from_be_bytes w64 c) ≡ c
+number_back c len fits = be_bytes_8 c _ len (at_place c fits) refl
+
+-- the number of eight bytes
+pub number_below : (c : List ℕ) → AreBytes c → from_be_bytes w64 c < 2 ^ 64
+number_below c h = let fits = at_place c h in omega (arith, fits 0, fits 1, fits 2, fits 3, fits 4, fits 5, fits 6, fits 7)
+
+-- a choice by a test
+choice : {A : Type 0} (P : A → Type 0) (v : Bool) (x y : A) → (v ≡ true → P x) → (v ≡ false → P y) → P (cond v x y)
+choice P true x y good bad = good refl
+choice P false x y good bad = bad refl
+
+-- eight bytes further, whichever they are
+pub step_number : (size : Size) (front : List ℕ) (k : ℕ × List ℕ → Result (Message × List ℕ) Stop) (bytes : List ℕ) → AreBytes bytes
+    → ((c : List ℕ) → length c ≡ 8 → AreBytes c → Begins size (front ++ c))
+    → ((c rest : List ℕ) → length c ≡ 8 → AreBytes c → AreBytes rest → Tells size (front ++ (c ++ rest)) (k (from_be_bytes w64 c, rest)))
+    → Tells size (front ++ bytes) (number_at bytes >>= k)
+step_number size front k bytes fits begins next =
+    choice (λ (r : Result (ℕ × List ℕ) Stop). Tells size (front ++ bytes) (r >>= k)) _ (Err Partial) (Ok (from_be_bytes w64 (take 8 bytes), drop 8 bytes))
+    (λ e. let short : length bytes < 8 = ltb-true _ _ e in
+    let n = 7 - length bytes in
+    let c = bytes ++ 0 ∷ replicate n 0 in
+    let len : length c ≡ 8 = omega (arith, length-append bytes (0 ∷ replicate n 0), length-replicate {A = ℕ} n 0) in
+    let b = begins c len (bytes_both bytes (0 ∷ replicate n 0) fits (omega arith, zeros n)) in
+    record { message = b.message; fits = b.fits; next = 0; more = replicate n 0 ++ b.more; whole = b.whole ∙ simp append_assoc })
+    (λ e. let long : 8 ≤ length bytes = ltb-false _ _ e in
+    let parts : take 8 bytes ++ drop 8 bytes ≡ bytes = take-append-drop 8 bytes in
+    let both : AreBytes (take 8 bytes ++ drop 8 bytes) = let P : List ℕ → Type 0 = AreBytes in subst P (sym parts) fits in
+    let P : List ℕ → Type 0 = λ p. Tells size (front ++ p) (k (from_be_bytes w64 (take 8 bytes), drop 8 bytes)) in
+    subst P parts (next (take 8 bytes) (drop 8 bytes) (omega (arith, length-take 8 bytes)) (bytes_front _ _ both) (bytes_back _ _ both)))

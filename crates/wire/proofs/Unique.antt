@@ -1,6 +1,8 @@
 -- No text begins another, and each list of bytes has one reading at most.
-use Rattle.std.proofs.Common.{ℕ, ◌≡◌, ◌+◌, ◌*◌, ◌/◌, ◌%◌, ◌<◌, ◌≤◌, List, [], ◌∷◌, ◌++◌, length, get_or, take, drop, refl, sym, ap, subst, ◌∙◌, ◌⊎◌, inl, inr, append_assoc, arith}
+use Rattle.std.proofs.Common.{if◌then◌else◌, nat_eq, ℕ, ◌≡◌, ◌+◌, ◌*◌, ◌/◌, ◌%◌, ◌<◌, ◌≤◌, List, [], ◌∷◌, ◌++◌, length, get_or, take, drop, refl, sym, ap, subst, ◌∙◌, ◌⊎◌, inl, inr, append_assoc, arith}
 use Rattle.std.specs.List.{flat_map, AllByRecursion}
+use Rattle.std.specs.Int.{w64, from_be_bytes}
+use Rattle.std.proofs.lemmas.Nat.{from_be_bytes-to_be_bytes_8}
 use Rattle.std.proofs.lemmas.List.{append-nil, length-append, take_at, drop_at}
 use Rattle.terms.specs.declared.Kind.{Kind}
 use Rattle.terms.specs.declared.Kind.TheVariants.{Initial, Echo, Ready}
@@ -35,14 +37,14 @@ same_text m n x y e =
     let a = begins_with m in
     let b = begins_with n in
     let e' : 0 ∷ length (body m) ∷ (body m ++ x) ≡ 0 ∷ length (body n) ∷ (body n ++ y) =
-    ap (λ (t : List ℕ). t ++ x) (sym a) ∙ e ∙ ap (λ (t : List ℕ). t ++ y) b in
+    ap (λ (t : List ℕ). t ++ x) (sym a.0) ∙ e ∙ ap (λ (t : List ℕ). t ++ y) b.0 in
     let long : length (body m) ≡ length (body n) = cell 1 _ _ e' in
     let both : body m ++ x ≡ body n ++ y = ap (λ (t : List ℕ). drop 2 t) e' in
     let bodies : body m ≡ body n = sym (take_at (body m) x (length (body n)) long)
     ∙ ap (λ (t : List ℕ). take (length (body n)) t) both ∙ take_at (body n) y (length (body n)) refl in
     let rests : x ≡ y = sym (drop_at (body m) x (length (body n)) long)
     ∙ ap (λ (t : List ℕ). drop (length (body n)) t) both ∙ drop_at (body n) y (length (body n)) refl in
-    (a ∙ ap (λ (t : List ℕ). 0 ∷ length t ∷ t) bodies ∙ sym b, rests)
+    (a.0 ∙ ap (λ (t : List ℕ). 0 ∷ length t ∷ t) bodies ∙ sym b.0, rests)
 
 -- the kind of the byte of a kind
 kind_again : (k : Kind) → kind_of (kind_byte k) ≡ k
@@ -59,12 +61,21 @@ value_again SureOne = refl
 value_again Unsure = refl
 
 -- the message that a text spells, read off its bytes
-abbrev message_of : List ℕ → Message
-message_of t =
-    message.Statement (statement_of (kind_of (get_or t 3 0)) (place_of (256 * get_or t 4 0 + get_or t 5 0) (get_or t 6 0) (get_or t 7 0) (get_or t 8 0)) (value_of (get_or t 9 0)))
+abbrev message_of : Size → List ℕ → Message
+message_of size t =
+    if nat_eq (get_or t 1 0) 1 then message.Idle
+    else (if nat_eq (get_or t 1 0) 8 then message.Statement (statement_of (kind_of (get_or t 3 0)) (place_of (256 * get_or t 4 0 + get_or t 5 0) (get_or t 6 0) (get_or t 7 0) (get_or t 8 0)) (value_of (get_or t 9 0)))
+    else (if nat_eq (get_or t 1 0) 9 then message.Welcome (from_be_bytes w64 (drop 3 t))
+    else message.Hello (from_be_bytes w64 (take 8 (drop 4 t))) size (get_or t 16 0) (get_or t 17 0)))
 
 -- it is the message that was spelled
-message_back : (size : Size) (m : Message) → IsSize size → Fits size m → message_of (text m) ≡ m
+message_back : (size : Size) (m : Message) → IsSize size → Fits size m → message_of size (text m) ≡ m
+message_back size message.Idle lawful fits = refl
+message_back size (message.Hello cluster its from to) lawful fits =
+    ap (λ (n : ℕ). message.Hello n size from to) (from_be_bytes-to_be_bytes_8 cluster fits.0)
+    ∙ ap (λ (s : Size). message.Hello cluster s from to) (sym fits.1)
+message_back size (message.Welcome next) lawful fits =
+    ap (λ (n : ℕ). message.Welcome n) (from_be_bytes-to_be_bytes_8 next fits)
 message_back size (message.Statement s) lawful fits =
     let few : size.questions ≤ 256 = lawful.few in
     let lt : s.place.question < size.questions = fits.question in
@@ -78,7 +89,7 @@ pub no_other : (size : Size) (m n : Message) (x y : List ℕ) → IsSize size �
     → text m ++ x ≡ text n ++ y → (m ≡ n) × (x ≡ y)
 no_other size m n x y lawful fits_m fits_n e =
     let s = same_text m n x y e in
-    (sym (message_back size m lawful fits_m) ∙ ap (λ (t : List ℕ). message_of t) s.0 ∙ message_back size n lawful fits_n, s.1)
+    (sym (message_back size m lawful fits_m) ∙ ap (λ (t : List ℕ). message_of size t) s.0 ∙ message_back size n lawful fits_n, s.1)
 
 -- no text stands in a front of another
 pub not_within : (size : Size) (front z : List ℕ) (m : Message) → IsPartial size front → front ≡ text m ++ z → ⊥

@@ -47,16 +47,16 @@ by_answer size n bytes (Err (Fault f)) told are le next =
     ([], Broken f, record { each = tt; others = bytes; whole = refl; ends = told })
 
 -- no bytes have a reading
-nothing_reads : (size : Size) (bytes : List ℕ) → IsSize size → length bytes ≤ 0 → HasReading size bytes
-nothing_reads size [] lawful le =
-    ([], Rest [], record { each = tt; others = []; whole = refl; ends = (refl, partial0 size lawful) })
-nothing_reads size (b ∷ bytes) lawful le = absurd (omega arith)
+nothing_reads : (size : Size) (bytes : List ℕ) → length bytes ≤ 0 → HasReading size bytes
+nothing_reads size [] le =
+    ([], Rest [], record { each = tt; others = []; whole = refl; ends = (refl, partial0 size) })
+nothing_reads size (b ∷ bytes) le = absurd (omega arith)
 
 -- by induction on a bound of the length
 has_reading : (size : Size) (n : ℕ) (bytes : List ℕ) → IsSize size → length bytes ≤ n → AreBytes bytes
     → HasReading size bytes
 has_reading size zero bytes lawful le are =
-    nothing_reads size bytes lawful le
+    nothing_reads size bytes le
 has_reading size (suc n) bytes lawful le are =
     by_answer size n bytes (frame_at size bytes) (frame_tells size bytes lawful are) are le (λ rest le' are'. has_reading size n rest lawful le' are')
 

@@ -1,11 +1,11 @@
 -- What a list of bytes reads as: messages, and then either a rest that may still become a text, or a fault.
 -- Everything is said of whole lists.
-use Rattle.std.specs.Prelude.{ℕ, ◌≡◌, ◌<◌, nat_lt, List, [], ◌∷◌, ◌++◌, length, if◌then◌else◌}
+use Rattle.std.specs.Prelude.{ℕ, ◌≡◌, ◌<◌, nat_eq, nat_lt, List, [], ◌∷◌, ◌++◌, length, if◌then◌else◌}
 use Rattle.std.specs.List.{flat_map, AllByRecursion}
 use Rattle.terms.specs.declared.Size.{Size}
 use Rattle.wire.specs.declared.message.Message.{Message}
 use Rattle.wire.specs.declared.message.WireFault.{WireFault}
-use Rattle.wire.specs.declared.message.WireFault.TheVariants.{BadLength, BadType, BadKind, BadPlace, BadValue}
+use Rattle.wire.specs.declared.message.WireFault.TheVariants.{BadLength, BadType, BadKind, BadPlace, BadValue, BadHello}
 use Rattle.wire.specs.Texts.{text, Fits}
 
 -- each is a byte
@@ -28,18 +28,19 @@ pub record IsPartial (size : Size) (bytes : List ℕ) : Type 0 where
   pub more : List ℕ
   pub whole : text message ≡ bytes ++ next ∷ more
 
--- the fault of a wrong byte at this position of a frame, counted from 0
-abbrev pub fault_at : ℕ → WireFault
-fault_at position =
-    if nat_lt position 2 then BadLength
-    else (if nat_lt position 3 then BadType
-    else (if nat_lt position 4 then BadKind
-    else (if nat_lt position 9 then BadPlace
-    else BadValue)))
+-- the fault of a wrong byte at this position of a statement, counted from 0 behind its type
+abbrev pub statement_fault : ℕ → WireFault
+statement_fault position =
+    if nat_lt position 1 then BadKind
+    else (if nat_lt position 6 then BadPlace
+    else BadValue)
 
--- the fault of a wrong byte behind this front of a frame
+-- the fault of a wrong byte behind this front of a frame: of an idle and of a welcome no byte behind the type is wrong
 abbrev pub fault_after : List ℕ → WireFault
-fault_after front = fault_at (length front)
+fault_after [] = BadLength
+fault_after (high ∷ []) = BadLength
+fault_after (high ∷ low ∷ []) = BadType
+fault_after (high ∷ low ∷ type ∷ payload) = if nat_eq type 3 then statement_fault (length payload) else BadHello
 
 -- where the bytes stop being a text: a front of some text, and a byte with which it is none
 pub record Breaks (size : Size) (bytes : List ℕ) (fault : WireFault) : Type 0 where

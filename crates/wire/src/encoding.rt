@@ -2,10 +2,11 @@
 
 ghost use Rattle.std.specs.Prelude.{◌≡◌, ◌++◌, OnOk, OnErr};
 ghost use Rattle.wire.specs.Texts.{text, kind_byte};
+ghost use Rattle.wire.specs.declared.message.Message.TheVariants as message;
 ghost use Rattle.terms.specs.Same.{value_code};
 
 use crate::message::Message;
-use terms::{Kind, Memory, Value};
+use terms::{Kind, Memory, Size, Statement, Value};
 
 fn byte_of_kind(kind: Kind) -> u8
     ensures { result ≡ kind_byte kind }
@@ -29,8 +30,72 @@ fn byte_of_value(value: Value) -> u8
     }
 }
 
-/// Appends the message's frame to `out`: ten bytes for a statement. The frame is the same whatever the
-/// cluster; a feeder reads it if the message fits the feeder's size.
+/// Appends the frame of a hello to `out`.
+fn encode_hello(cluster: u64, size: Size, from: u8, to: u8, out: &mut Vec<u8>) -> Result<(), Memory>
+    ensures ok { OnOk result (out.new.items ≡ out.old.items ++ text (message.Hello cluster size from to)) }
+    ensures err { OnErr result (out.new.items ≡ out.old.items) }
+{
+    let cluster = cluster.to_be_bytes();
+    let questions = size.questions().to_be_bytes();
+    out.extend_from_slice(&[
+        0,
+        16,
+        1,
+        1,
+        cluster[0],
+        cluster[1],
+        cluster[2],
+        cluster[3],
+        cluster[4],
+        cluster[5],
+        cluster[6],
+        cluster[7],
+        size.n(),
+        size.t(),
+        questions[0],
+        questions[1],
+        from,
+        to,
+    ])?;
+    Ok(())
+}
+
+/// Appends the frame of a welcome to `out`.
+fn encode_welcome(next: u64, out: &mut Vec<u8>) -> Result<(), Memory>
+    ensures ok { OnOk result (out.new.items ≡ out.old.items ++ text (message.Welcome next)) }
+    ensures err { OnErr result (out.new.items ≡ out.old.items) }
+{
+    let next = next.to_be_bytes();
+    out.extend_from_slice(&[
+        0, 9, 2, next[0], next[1], next[2], next[3], next[4], next[5], next[6], next[7],
+    ])?;
+    Ok(())
+}
+
+/// Appends the frame of a statement to `out`.
+fn encode_statement(statement: Statement, out: &mut Vec<u8>) -> Result<(), Memory>
+    ensures ok { OnOk result (out.new.items ≡ out.old.items ++ text (message.Statement statement)) }
+    ensures err { OnErr result (out.new.items ≡ out.old.items) }
+{
+    let place = statement.place();
+    let question = place.question().to_be_bytes();
+    out.extend_from_slice(&[
+        0,
+        8,
+        3,
+        byte_of_kind(statement.kind()),
+        question[0],
+        question[1],
+        place.origin(),
+        place.round(),
+        place.step(),
+        byte_of_value(statement.value()),
+    ])?;
+    Ok(())
+}
+
+/// Appends the message's frame to `out`: 3 bytes for an idle, 18 for a hello, 11 for a welcome, 10 for a
+/// statement. A feeder reads it if the message fits the feeder's size.
 ///
 /// # Errors
 ///
@@ -40,22 +105,17 @@ pub fn encode(message: &Message, out: &mut Vec<u8>) -> Result<(), Memory>
     ensures err { OnErr result (out.new.items ≡ out.old.items) }
 {
     match *message {
-        Message::Statement(statement) => {
-            let place = statement.place();
-            let question = place.question().to_be_bytes();
-            out.extend_from_slice(&[
-                0,
-                8,
-                3,
-                byte_of_kind(statement.kind()),
-                question[0],
-                question[1],
-                place.origin(),
-                place.round(),
-                place.step(),
-                byte_of_value(statement.value()),
-            ])?;
+        Message::Idle => {
+            out.extend_from_slice(&[0, 1, 0])?;
+            Ok(())
         }
+        Message::Hello {
+            cluster,
+            size,
+            from,
+            to,
+        } => encode_hello(cluster, size, from, to, out),
+        Message::Welcome { next } => encode_welcome(next, out),
+        Message::Statement(statement) => encode_statement(statement, out),
     }
-    Ok(())
 }

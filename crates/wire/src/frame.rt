@@ -3,7 +3,7 @@
 ghost use Rattle.std.specs.Prelude.{◌≡◌, ◌≤◌, ◌++◌, IfOk, IfErr};
 ghost use Rattle.wire.specs.Texts.{text, Fits};
 ghost use Rattle.wire.specs.Feeding.{Stops};
-ghost use Rattle.wire.specs.Looking.{least_value, most_value, most_low, kind_of, value_of, Gives, byte_at, statement_at, frame_at};
+ghost use Rattle.wire.specs.Looking.{least_value, most_value, most_low, kind_of, value_of, Gives, byte_at, number_at, length_at, idle_at, welcome_at, hello_at, statement_at, body_at, frame_at};
 
 use crate::message::{Message, Stop, WireFault};
 use terms::{Kind, Place, Size, Statement, Value};
@@ -23,6 +23,83 @@ fn byte_between(bytes: &[u8], least: u8, most: u8, fault: WireFault) -> Result<(
             }
         }
     }
+}
+
+/// The number in the first eight bytes, and the bytes behind them.
+fn number(bytes: &[u8]) -> Result<(u64, &[u8]), Stop>
+    ensures { Gives (λ x. (x.0, x.1.now)) result (number_at bytes.now) }
+{
+    if bytes.len() < 8 {
+        return Err(Stop::Partial);
+    }
+    let (front, rest) = bytes.split_at(8);
+    let number = u64::from_be_bytes([
+        front[0], front[1], front[2], front[3], front[4], front[5], front[6], front[7],
+    ]);
+    Ok((number, rest))
+}
+
+/// The low byte of a body's length, and the bytes behind it.
+fn length_of_body(bytes: &[u8]) -> Result<(u8, &[u8]), Stop>
+    ensures { Gives (λ x. (x.0, x.1.now)) result (length_at bytes.now) }
+{
+    match bytes {
+        [] => Err(Stop::Partial),
+        [first, rest @ ..] => {
+            if *first == 1 || *first == 8 || *first == 9 || *first == 16 {
+                Ok((*first, rest))
+            } else {
+                Err(Stop::Fault(WireFault::BadLength))
+            }
+        }
+    }
+}
+
+/// The idle whose body the bytes begin with, and the bytes behind it.
+#[tactic(auto, unfolding(crate::specs::Looking::idle_at))]
+fn idle(bytes: &[u8]) -> Result<(Message, &[u8]), Stop>
+    ensures { Gives (λ x. (x.0, x.1.now)) result (idle_at bytes.now) }
+{
+    let (_, rest) = byte_between(bytes, 0, 0, WireFault::BadType)?;
+    Ok((Message::Idle, rest))
+}
+
+/// The welcome whose body the bytes begin with, and the bytes behind it.
+#[tactic(auto, unfolding(crate::specs::Looking::welcome_at))]
+fn welcome(bytes: &[u8]) -> Result<(Message, &[u8]), Stop>
+    ensures { Gives (λ x. (x.0, x.1.now)) result (welcome_at bytes.now) }
+{
+    let (_, rest) = byte_between(bytes, 2, 2, WireFault::BadType)?;
+    let (next, rest) = number(rest)?;
+    Ok((Message::Welcome { next }, rest))
+}
+
+/// The hello whose body the bytes begin with, and the bytes behind it.
+#[tactic(auto, unfolding(crate::specs::Looking::hello_at))]
+fn hello(size: Size, bytes: &[u8]) -> Result<(Message, &[u8]), Stop>
+    ensures { Gives (λ x. (x.0, x.1.now)) result (hello_at size bytes.now) }
+{
+    let high = (size.questions() / 256) as u8;
+    let low = (size.questions() % 256) as u8;
+    let last = size.n() - 1;
+    let (_, rest) = byte_between(bytes, 1, 1, WireFault::BadType)?;
+    let (_, rest) = byte_between(rest, 1, 1, WireFault::BadHello)?;
+    let (cluster, rest) = number(rest)?;
+    let (_, rest) = byte_between(rest, size.n(), size.n(), WireFault::BadHello)?;
+    let (_, rest) = byte_between(rest, size.t(), size.t(), WireFault::BadHello)?;
+    let (_, rest) = byte_between(rest, high, high, WireFault::BadHello)?;
+    let (_, rest) = byte_between(rest, low, low, WireFault::BadHello)?;
+    let (from, rest) = byte_between(rest, 0, last, WireFault::BadHello)?;
+    let (to, rest) = byte_between(rest, 0, last, WireFault::BadHello)?;
+    Ok((
+        Message::Hello {
+            cluster,
+            size,
+            from,
+            to,
+        },
+        rest,
+    ))
 }
 
 /// The kind of that number, 1 to 3.
@@ -100,14 +177,27 @@ fn statement(size: Size, bytes: &[u8]) -> Result<(Message, &[u8]), Stop>
     }
 }
 
+/// The message whose body, of that length, the bytes begin with, and the bytes behind it.
+#[tactic(auto, unfolding(crate::specs::Looking::body_at))]
+fn body(size: Size, length: u8, bytes: &[u8]) -> Result<(Message, &[u8]), Stop>
+    ensures { Gives (λ x. (x.0, x.1.now)) result (body_at size length bytes.now) }
+{
+    match length {
+        1 => idle(bytes),
+        8 => statement(size, bytes),
+        9 => welcome(bytes),
+        _ => hello(size, bytes),
+    }
+}
+
 /// The message whose frame the bytes begin with, and the bytes behind it.
 #[tactic(auto, unfolding(crate::specs::Looking::frame_at))]
 fn frame_by_bytes(size: Size, bytes: &[u8]) -> Result<(Message, &[u8]), Stop>
     ensures { Gives (λ x. (x.0, x.1.now)) result (frame_at size bytes.now) }
 {
     let (_, rest) = byte_between(bytes, 0, 0, WireFault::BadLength)?;
-    let (_, rest) = byte_between(rest, 8, 8, WireFault::BadLength)?;
-    statement(size, rest)
+    let (length, rest) = length_of_body(rest)?;
+    body(size, length, rest)
 }
 
 /// The message whose frame the bytes begin with, and the bytes behind it.

@@ -50,7 +50,7 @@ pub fn the_cut_does_not_matter()
 /// What was written is read: the frames of messages that fit, one after the other and fed in any pieces,
 /// give these messages and leave no rest.
 pub fn the_written_is_read()
-    ensures reads { (size : Size) (messages : List Message) → IsSize size
+    ensures reads { (size : Size) (messages : List Message)
         → AllByRecursion (Fits size) messages
         → Reads size (flat_map text messages) messages (Rest []) }
     ensures fed { (size : Size) (messages old new : List Message) (pieces : List (List ℕ)) (end : End)

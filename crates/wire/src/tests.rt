@@ -87,6 +87,66 @@ fn encodes(rt: HostRuntime) -> Result<(), Fail> {
     Ok(())
 }
 
+/// A hello of cluster 7 from 0 to 1, a welcome to statement 1, and an idle, with their frames.
+fn greetings() -> Result<[(Message, &'static [u8]); 3], Fail> {
+    let hello = Message::Hello {
+        cluster: 7,
+        size: size()?,
+        from: 0,
+        to: 1,
+    };
+    Ok([
+        (
+            hello,
+            &[0, 16, 1, 1, 0, 0, 0, 0, 0, 0, 0, 7, 4, 1, 0, 1, 0, 1],
+        ),
+        (
+            Message::Welcome { next: 1 },
+            &[0, 9, 2, 0, 0, 0, 0, 0, 0, 0, 1],
+        ),
+        (Message::Idle, &[0, 1, 0]),
+    ])
+}
+
+#[test]
+fn greets(rt: HostRuntime) -> Result<(), Fail> {
+    for (message, frame) in greetings()? {
+        let mut bytes = Vec::new(rt.alloc());
+        encode_again(&rt, &message, &mut bytes)?;
+        assert_eq!(rt; bytes.as_slice(), frame);
+        for cut in 0..=frame.len() {
+            let mut feeder = Feeder::new(size()?);
+            let mut out = Vec::new(rt.alloc());
+            assert!(rt; feed(&rt, &mut feeder, &frame[..cut], &mut out)? == Fed::More);
+            assert_eq!(rt; out.len() == 1, cut == frame.len(), "cut at {cut}");
+            assert!(rt; feed(&rt, &mut feeder, &frame[cut..], &mut out)? == Fed::More);
+            assert_eq!(rt; out.as_slice(), [message].as_slice(), "cut at {cut}");
+        }
+    }
+    Ok(())
+}
+
+#[test]
+fn takes_any_cluster_and_any_next(rt: HostRuntime) -> Result<(), Fail> {
+    let mut feeder = Feeder::new(size()?);
+    let mut out = Vec::new(rt.alloc());
+    let frame = [
+        0, 16, 1, 1, 255, 254, 253, 252, 251, 250, 249, 248, 4, 1, 0, 1, 3, 3,
+    ];
+    assert!(rt; feed(&rt, &mut feeder, &frame, &mut out)? == Fed::More);
+    let frame = [0, 9, 2, 255, 255, 255, 255, 255, 255, 255, 255];
+    assert!(rt; feed(&rt, &mut feeder, &frame, &mut out)? == Fed::More);
+    let hello = Message::Hello {
+        cluster: 0xfffe_fdfc_fbfa_f9f8,
+        size: size()?,
+        from: 3,
+        to: 3,
+    };
+    let welcome = Message::Welcome { next: u64::MAX };
+    assert_eq!(rt; out.as_slice(), [hello, welcome].as_slice());
+    Ok(())
+}
+
 #[test]
 fn reads_a_frame_cut_anywhere(rt: HostRuntime) -> Result<(), Fail> {
     for cut in 0..=FIRST.len() {
@@ -132,11 +192,42 @@ fn gives_the_messages_before_a_fault(rt: HostRuntime) -> Result<(), Fail> {
 }
 
 /// Bytes of which the last is the first wrong one, for the size (4, 1, 1).
-const WRONG_BYTES: [(&[u8], WireFault); 16] = [
+const WRONG_BYTES: [(&[u8], WireFault); 29] = [
     (&[1], WireFault::BadLength),
-    (&[0, 1], WireFault::BadLength),
-    (&[0, 9], WireFault::BadLength),
+    (&[0, 0], WireFault::BadLength),
+    (&[0, 2], WireFault::BadLength),
+    (&[0, 7], WireFault::BadLength),
+    (&[0, 10], WireFault::BadLength),
+    (&[0, 17], WireFault::BadLength),
+    (&[0, 1, 3], WireFault::BadType),
     (&[0, 8, 2], WireFault::BadType),
+    (&[0, 9, 1], WireFault::BadType),
+    (&[0, 16, 0], WireFault::BadType),
+    (&[0, 16, 1, 2], WireFault::BadHello),
+    (
+        &[0, 16, 1, 1, 9, 9, 9, 9, 9, 9, 9, 9, 5],
+        WireFault::BadHello,
+    ),
+    (
+        &[0, 16, 1, 1, 0, 0, 0, 0, 0, 0, 0, 7, 4, 0],
+        WireFault::BadHello,
+    ),
+    (
+        &[0, 16, 1, 1, 0, 0, 0, 0, 0, 0, 0, 7, 4, 1, 1],
+        WireFault::BadHello,
+    ),
+    (
+        &[0, 16, 1, 1, 0, 0, 0, 0, 0, 0, 0, 7, 4, 1, 0, 2],
+        WireFault::BadHello,
+    ),
+    (
+        &[0, 16, 1, 1, 0, 0, 0, 0, 0, 0, 0, 7, 4, 1, 0, 1, 4],
+        WireFault::BadHello,
+    ),
+    (
+        &[0, 16, 1, 1, 0, 0, 0, 0, 0, 0, 0, 7, 4, 1, 0, 1, 0, 4],
+        WireFault::BadHello,
+    ),
     (&[0, 8, 3, 0], WireFault::BadKind),
     (&[0, 8, 3, 4], WireFault::BadKind),
     (&[0, 8, 3, 1, 1], WireFault::BadPlace),
@@ -191,6 +282,7 @@ fn names_each_fault(rt: HostRuntime) -> Result<(), Fail> {
         (WireFault::BadKind, "BadKind"),
         (WireFault::BadPlace, "BadPlace"),
         (WireFault::BadValue, "BadValue"),
+        (WireFault::BadHello, "BadHello"),
     ];
     for (fault, name) in rows {
         let text = match format!(in rt.alloc(); "{fault}") {
