@@ -48,6 +48,13 @@ impl MemDisk {
         self.fuse.is_some()
     }
 
+    /// Whether its file is empty: reads give no byte. This is no call of the device, and takes no memory.
+    pub fn is_empty(&self) -> bool
+        ensures { IsTrue result ↔ (length (memory_state self.now).seen ≡ 0) }
+    {
+        self.log.seen().is_empty()
+    }
+
     /// The disk after a crash, which leaves one of the files that it may: the one that the pick names. All of it is on
     /// the disk, no call was made of it, and the fuse is out. Where memory is refused the disk is gone.
     pub fn crash(self, pick: Pick) -> Result<MemDisk, AllocError>

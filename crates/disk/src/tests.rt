@@ -155,6 +155,7 @@ fn case(
         left = left.map(|calls| calls.saturating_sub(1));
     }
     assert_eq!(rt; disk.is_fused(), fuse.is_some());
+    assert_eq!(rt; disk.is_empty(), rule.seen == [None; ROOM]);
     let mut crashed = disk.crash(pick)?;
     assert!(rt; !crashed.is_fused(), "the fuse is out after a crash");
     let file = rule.left(pick);
