@@ -1,0 +1,12 @@
+mod Append
+mod Crash
+pub mod Headers
+pub mod Held
+pub mod One
+mod Opened
+pub mod Parsed
+pub mod Records
+pub mod Refused
+mod Steps
+mod Telling
+pub mod Texts

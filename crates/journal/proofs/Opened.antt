@@ -1,0 +1,85 @@
+-- A file that is read, and one that is made.
+use Rattle.std.proofs.Common.{◌≡◌, ℕ, ◌+◌, ◌≤◌, List, [], ◌∷◌, ◌++◌, length, take, drop, refl, sym, ◌∙◌, ap, arith, append_assoc, length-append, take-append-drop}
+use Rattle.std.proofs.lemmas.List.{append-nil, drop_all, length-take-le, take_at}
+use Rattle.terms.specs.declared.Record.{Record}
+use Rattle.terms.specs.declared.Header.{Header}
+use Rattle.disk.specs.Model.{State, at_rest}
+use Rattle.journal.specs.declared.fault.JournalFault.{JournalFault}
+use Rattle.journal.specs.declared.fault.JournalFault.TheVariants.{NotEmpty, BadHeader, OtherHeader, BadRecord, CutShort, Device, Memory, Stopped, Full}
+use Rattle.journal.specs.Texts.{header_text, texts}
+use Rattle.journal.specs.WellFormed.{IsHeader}
+use Rattle.journal.specs.File.{HasHeader, GoesWrong, Refuses, IsHeld}
+use Rattle.journal.specs.Faults.{IsOfFile}
+use Rattle.journal.specs.Reading.{Reads, Stumbles, Breaks}
+use Rattle.journal.proofs.Texts.{length-header_text}
+
+-- a file that begins with a header has its bytes in front
+pub front_of : (h : Header) (file : List ℕ) → HasHeader h file → take 24 file ≡ header_text h
+front_of h file has =
+    ap (λ (l : List ℕ). take 24 l) has.begins.1 ∙ take_at (header_text h) has.begins.0 24 (length-header_text h)
+
+-- and 24 of them at least
+pub header_long : (h : Header) (file : List ℕ) → HasHeader h file → 24 ≤ length file
+header_long h file has =
+    omega (arith, ap (λ (l : List ℕ). length l) has.begins.1, length-append (header_text h) has.begins.0, length-header_text h)
+
+-- bytes in front that are a header's
+pub begins_with : (h : Header) (front file : List ℕ) → IsHeader h → front ≡ header_text h → front ≡ take 24 file → HasHeader h file
+begins_with h front file lawful text is = record {
+  lawful = lawful;
+  begins = (drop 24 file, sym (take-append-drop 24 file) ∙ ap (λ (l : List ℕ). l ++ drop 24 file) (sym is ∙ text));
+}
+
+-- what was read behind the header is held
+pub held_from : (file behind : List ℕ) (header : Header) (gate : ℕ) (records : List Record) → HasHeader header file → behind ≡ drop 24 file → Reads header behind gate records → IsHeld (at_rest file) header (24 + gate) records
+held_from file behind header gate records has is reads = record {
+  lawful = has.lawful;
+  batches = reads.batches;
+  rest = reads.rest;
+  good = reads.good;
+  on_disk = refl;
+  is = sym (take-append-drop 24 file) ∙ (λ i. front_of header file has i ++ (sym is ∙ reads.is) i) ∙ sym (append_assoc (header_text header) (texts reads.batches) (0 ∷ reads.rest));
+  gate = omega (arith, length-header_text header, reads.gate_is, length-append (header_text header) (texts reads.batches));
+  records_are = reads.records_are;
+}
+
+-- what went wrong behind the header goes wrong in the file
+wrong_from : (file behind : List ℕ) (header : Header) (IsWrong : List ℕ → Type 0) → HasHeader header file → behind ≡ drop 24 file → Stumbles header IsWrong behind → GoesWrong header IsWrong file
+wrong_from file behind header IsWrong has is stumbles = record {
+  lawful = has.lawful;
+  batches = stumbles.batches;
+  rest = stumbles.rest;
+  good = stumbles.good;
+  is = sym (take-append-drop 24 file) ∙ (λ i. front_of header file has i ++ (sym is ∙ stumbles.is) i) ∙ sym (append_assoc (header_text header) (texts stumbles.batches) stumbles.rest);
+  wrong = stumbles.wrong;
+}
+
+pub refused_from : (file behind : List ℕ) (header : Header) (fault : JournalFault) → HasHeader header file → behind ≡ drop 24 file → Breaks header fault behind → IsOfFile fault → Refuses header fault file
+refused_from file behind header NotEmpty has is breaks of_file = absurd breaks
+refused_from file behind header BadHeader has is breaks of_file = absurd breaks
+refused_from file behind header OtherHeader has is breaks of_file = absurd breaks
+refused_from file behind header BadRecord has is breaks of_file = wrong_from file behind header _ has is breaks
+refused_from file behind header CutShort has is breaks of_file = wrong_from file behind header _ has is breaks
+refused_from file behind header Device has is breaks of_file = absurd breaks
+refused_from file behind header Memory has is breaks of_file = absurd of_file
+refused_from file behind header Stopped has is breaks of_file = absurd breaks
+refused_from file behind header Full has is breaks of_file = absurd breaks
+
+-- a file of a header and a closed gate holds no record
+pub made : (new : State) (header : Header) → IsHeader header → new ≡ at_rest (header_text header ++ 0 ∷ []) → IsHeld new header (length (header_text header)) []
+made new header lawful is = record {
+  lawful = lawful;
+  batches = [];
+  rest = [];
+  good = tt;
+  on_disk = is ∙ ap (λ (s : State). at_rest s.seen) (sym is);
+  is = ap (λ (s : State). s.seen) is ∙ ap (λ (l : List ℕ). l ++ 0 ∷ []) (sym (append-nil (header_text header)));
+  gate = ap (λ (l : List ℕ). length l) (sym (append-nil (header_text header)));
+  records_are = refl;
+}
+
+-- a buffer of 24 bytes that was filled from the front of a file
+pub filled : (zeros buf seen file : List ℕ) (n : ℕ) → length zeros ≡ 24 → n ≡ 24 → buf ≡ take (length (take n zeros)) seen → seen ≡ file → buf ++ drop n zeros ≡ take 24 file
+filled zeros buf seen file n long all read same =
+    let size : length (take n zeros) ≡ 24 = ap (λ (m : ℕ). length (take m zeros)) all ∙ length-take-le 24 zeros (omega (arith, long)) in
+    ap (λ (l : List ℕ). buf ++ l) (drop_all n zeros (omega (arith, long, all))) ∙ append-nil buf ∙ read ∙ (λ i. take (size i) (same i))

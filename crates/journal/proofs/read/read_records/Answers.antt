@@ -1,0 +1,15 @@
+use Rattle.std.proofs.Common.{inr, refl}
+use Rattle.journal.proofs.Steps.{record_added, all_added, odd_record}
+use Rattle.journal.proofs.read.read_records.Goals as goal
+
+pub loop-rest-preserved : goal.loop-rest-preserved
+loop-rest-preserved c =
+    record_added c.args.header.now c.args.bytes.now c.loop-rest.rest.now c.args.records.now.items c.loop-rest.records.items _ c.in-Some.record c.loop-rest.invariant c.in-len7-up.len_at_least c.in-Some.ensures.some.0 c.in-Some.ensures.some.1 c.in_ok-push.ensures.items
+
+pub returns-in_default-record_of-clause-refused : goal.returns-in_default-record_of-clause-refused
+returns-in_default-record_of-clause-refused c =
+    inr (refl, odd_record c.args.header.now c.args.bytes.now c.loop-rest.rest.now c.args.records.now.items c.loop-rest.records.items c.args.count c.loop-rest.invariant c.requires c.in-len7-up.len_at_least (c.in_default-record_of.ensures.none refl))
+
+pub returns-clause-added : goal.returns-clause-added
+returns-clause-added c =
+    all_added c.args.header.now c.args.bytes.now c.loop-rest.rest.now c.args.records.now.items c.loop-rest.records.items c.args.count c.loop-rest.invariant c.requires c.in_default.len_below

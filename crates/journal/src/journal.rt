@@ -1,0 +1,257 @@
+//! Batches of records, each whole on the disk or not there.
+ghost use Rattle.std.specs.Prelude.{◌≡◌, ◌↔◌, ◌⊎◌, ℕ, ◌+◌, ◌*◌, ◌<◌, ◌≤◌, ◌^◌, List, [], ◌∷◌, ◌++◌, length, true, false, IsOk, IsErr, IsErrOf, IfOk, IfErr, OnOk};
+ghost use Rattle.terms.specs.declared.Record.{Record};
+ghost use Rattle.terms.specs.declared.Header.{Header};
+ghost use Rattle.disk.specs.Model.{MayLeave, LeavesOnly, at_rest};
+ghost use Rattle.disk.specs.Memory.{memory_state, with_fuse};
+ghost use Rattle.journal.specs.Texts.{body};
+ghost use Rattle.journal.specs.WellFormed.{AreWellFormedFor};
+ghost use Rattle.journal.specs.File.{Holds, Refuses};
+ghost use Rattle.journal.specs.Faults.{IsFaultOfOpening, IsFaultOfAppend, IsOfFile};
+ghost use Rattle.journal.specs.Words.{disk_by, header_by, gate_by, is_stopped, IsSettled};
+
+use crate::JournalFault;
+use crate::commit::commit;
+use crate::open::load;
+use crate::record::{RECORD, record_bytes};
+use disk::{Disk, MemDisk};
+use std::alloc::{AllocError, Global};
+use terms::{Header, Record};
+
+/// The last place at which a closed gate may stand.
+const LAST_GATE: usize = 1 << 31;
+
+/// An open journal: its records are those that opening it gave, and all that were appended since.
+#[derive(Drop)]
+pub struct Journal<D: Disk> {
+    alloc: Global,
+    disk: D,
+    header: Header,
+    gate: usize,
+    stopped: bool,
+}
+
+impl<D: Disk> Journal<D> {
+    /// Adds a batch, by four calls of the device: a write of the count, the records and a closed gate behind the closed
+    /// gate that stands, `sync`, a write of 01 over that gate, and `sync`. An empty batch makes no call. At Ok each file
+    /// that a crash can leave from then on has the batch.
+    ///
+    /// The records are at most 65,535, and well formed for the journal's header: the caller sees to it.
+    ///
+    /// - `Stopped`: the journal answered `Device` before. This is looked at first. Nothing was written.
+    /// - `Full`: the closed gate behind the batch would stand past byte 2^31. Nothing was written.
+    /// - `Memory`: there was none for the bytes. Nothing was written, and the journal goes on.
+    /// - `Device`: the disk failed. A crash may leave the records from before, or those and the whole batch. The journal
+    ///   is stopped.
+    #[tactic(auto, unfolding(crate::specs::Words::disk_by, crate::specs::Words::header_by, crate::specs::Words::gate_by, crate::specs::Words::is_stopped))]
+    pub fn append(&mut self, records: &[Record]) -> Result<(), JournalFault>
+        requires count { length records.now ≤ 65535 }
+        requires well_formed { AreWellFormedFor (header_by self.old) records.now }
+        requires settled { D.keeps (disk_by self.old) → is_stopped self.old ≡ false →
+            (header : Header) × (all : List Record) × IsSettled D.state header all self.old }
+
+        ensures settled { D.keeps (disk_by self.old) → (header : Header) (all : List Record) →
+            IsSettled D.state header all self.old → OnOk result (IsSettled D.state header (all ++ records.now) self.new) }
+        ensures acknowledged { D.keeps (disk_by self.old) → (header : Header) (all : List Record) →
+            IsSettled D.state header all self.old → OnOk result ((file : List ℕ) →
+            MayLeave (D.state (disk_by self.new)) file → Holds header (all ++ records.now) file) }
+
+        // A crash at any moment of the call leaves the records from before it, or those and the whole batch.
+        ensures any_moment { D.keeps (disk_by self.old) → (header : Header) (all : List Record) →
+            IsSettled D.state header all self.old → LeavesOnly D.moment D.since (disk_by self.old) (disk_by self.new)
+            (λ file. Holds header all file ⊎ Holds header (all ++ records.now) file) }
+
+        ensures four_calls { D.keeps (disk_by self.old) → 0 < length records.now →
+            OnOk result (D.moment (disk_by self.new) ≡ D.moment (disk_by self.old) + 4) }
+        ensures gate { 0 < length records.now →
+            OnOk result (gate_by self.new ≡ gate_by self.old + 3 + 7 * length records.now) }
+        ensures empty_is_no_call { length records.now ≡ 0 → self.new ≡ self.old }
+        ensures empty_is_ok { length records.now ≡ 0 → is_stopped self.old ≡ false → IsOk result }
+
+        // Each refusal has its cause, and all but `Device` leave the journal as it was.
+        ensures stopped { IsErrOf result JournalFault.Stopped ↔ (is_stopped self.old ≡ true) }
+        ensures full { is_stopped self.old ≡ false → 0 < length records.now →
+            (IsErrOf result JournalFault.Full ↔ (2 ^ 31 < gate_by self.old + 3 + 7 * length records.now)) }
+        ensures device { IsErrOf result JournalFault.Device →
+            D.failures (disk_by self.old) < D.failures (disk_by self.new) }
+        ensures stops { (is_stopped self.new ≡ true) ↔ ((is_stopped self.old ≡ true) ⊎ IsErrOf result JournalFault.Device) }
+        ensures only { IfErr result IsFaultOfAppend }
+        ensures same { (IsErrOf result JournalFault.Device → ⊥) → IsErr result → self.new ≡ self.old }
+
+        ensures header { header_by self.new ≡ header_by self.old }
+        ensures later { D.failures (disk_by self.old) ≤ D.failures (disk_by self.new) }
+        ensures kept { D.keeps (disk_by self.old) ↔ D.keeps (disk_by self.new) }
+    {
+        if self.stopped {
+            return Err(JournalFault::Stopped);
+        }
+        if records.is_empty() {
+            return Ok(());
+        }
+        let len = 3 + RECORD * records.len();
+        if self.gate > LAST_GATE - len {
+            return Err(JournalFault::Full);
+        }
+        let bytes = encode(self.alloc, records)?;
+        if commit(&mut self.disk, self.gate, &bytes).is_err() {
+            self.stopped = true;
+            return Err(JournalFault::Device);
+        }
+        self.gate += len;
+        Ok(())
+    }
+
+    /// Opens a journal's file, which a crash may have left, and gives the records that it holds: [`adopt`](Journal::adopt)
+    /// where the disk isn't wanted back after a fault.
+    pub fn open(
+        alloc: Global,
+        disk: D,
+        header: &Header,
+    ) -> Result<(Journal<D>, Vec<Record>), JournalFault>
+    where
+        D: Drop,
+        ensures settled { D.keeps disk → IfOk result (λ opened. IsSettled D.state header.now opened.1.items opened.0) }
+        ensures held { D.keeps disk → IfOk result (λ opened. Holds header.now opened.1.items (D.state disk).seen) }
+        ensures durable { D.keeps disk → IfOk result (λ opened. (file : List ℕ) →
+            MayLeave (D.state (disk_by opened.0)) file → Holds header.now opened.1.items file) }
+        ensures on_disk { D.keeps disk → IfOk result (λ opened. D.state (disk_by opened.0) ≡ at_rest (D.state disk).seen) }
+        ensures any_moment { D.keeps disk → IfOk result (λ opened.
+            LeavesOnly D.moment D.since disk (disk_by opened.0) (MayLeave (D.state disk))) }
+        ensures three_calls { D.keeps disk → IfOk result (λ opened. D.moment (disk_by opened.0) ≡ D.moment disk + 3) }
+
+        ensures refused { D.keeps disk → IfErr result (λ fault. IsOfFile fault → Refuses header.now fault (D.state disk).seen) }
+        ensures only { IfErr result IsFaultOfOpening }
+        // The disk is gone; it had failed once more.
+        ensures device { IsErrOf result JournalFault.Device → (after : D) × (D.failures disk < D.failures after) }
+
+        ensures running { IfOk result (λ opened. is_stopped opened.0 ≡ false) }
+        ensures header { IfOk result (λ opened. header_by opened.0 ≡ header.now) }
+        ensures later { IfOk result (λ opened. D.failures disk ≤ D.failures (disk_by opened.0)) }
+        ensures kept { IfOk result (λ opened. D.keeps disk ↔ D.keeps (disk_by opened.0)) }
+    {
+        match Journal::adopt(alloc, disk, header) {
+            Ok(opened) => Ok(opened),
+            Err((fault, _)) => Err(fault),
+        }
+    }
+
+    /// Opens a journal's file, which a crash may have left, and gives the records that it holds, by three calls of the
+    /// device: `sync`, `len` and one read of all bytes. From then on each file that a crash can leave holds these.
+    ///
+    /// A fault hands the disk back; no byte of its file was changed:
+    /// - `BadHeader`, `OtherHeader`, `CutShort` or `BadRecord`: the first thing that is wrong with the file.
+    /// - `Memory`: there was none for the bytes or the records.
+    /// - `Device`: the disk failed.
+    #[tactic(auto, unfolding(crate::specs::Words::disk_by, crate::specs::Words::header_by, crate::specs::Words::gate_by, crate::specs::Words::is_stopped))]
+    pub fn adopt(
+        alloc: Global,
+        mut disk: D,
+        header: &Header,
+    ) -> Result<(Journal<D>, Vec<Record>), (JournalFault, D)>
+        ensures settled { D.keeps disk → IfOk result (λ opened. IsSettled D.state header.now opened.1.items opened.0) }
+        // It gives the records that the file holds.
+        ensures held { D.keeps disk → IfOk result (λ opened. Holds header.now opened.1.items (D.state disk).seen) }
+        // From then on each file that a crash can leave holds exactly these.
+        ensures durable { D.keeps disk → IfOk result (λ opened. (file : List ℕ) →
+            MayLeave (D.state (disk_by opened.0)) file → Holds header.now opened.1.items file) }
+        ensures on_disk { D.keeps disk → IfOk result (λ opened. D.state (disk_by opened.0) ≡ at_rest (D.state disk).seen) }
+        // A crash at any moment leaves nothing but what it might have left before.
+        ensures any_moment { D.keeps disk → IfOk result (λ opened.
+            LeavesOnly D.moment D.since disk (disk_by opened.0) (MayLeave (D.state disk))) }
+        ensures any_moment_err { D.keeps disk → IfErr result (λ refused.
+            LeavesOnly D.moment D.since disk refused.1 (MayLeave (D.state disk))) }
+        ensures three_calls { D.keeps disk → IfOk result (λ opened. D.moment (disk_by opened.0) ≡ D.moment disk + 3) }
+        ensures three_calls_err { D.keeps disk → IfErr result (λ refused.
+            IsOfFile refused.0 → D.moment refused.1 ≡ D.moment disk + 3) }
+
+        // A fault of the file is the one that it has, and no byte was changed.
+        ensures refused { D.keeps disk → IfErr result (λ refused.
+            IsOfFile refused.0 → Refuses header.now refused.0 (D.state disk).seen) }
+        ensures same_err { D.keeps disk → IfErr result (λ refused. (D.state refused.1).seen ≡ (D.state disk).seen) }
+        ensures only { IfErr result (λ refused. IsFaultOfOpening refused.0) }
+        ensures device { IfErr result (λ refused. refused.0 ≡ JournalFault.Device → D.failures disk < D.failures refused.1) }
+
+        ensures running { IfOk result (λ opened. is_stopped opened.0 ≡ false) }
+        ensures header { IfOk result (λ opened. header_by opened.0 ≡ header.now) }
+        ensures later { IfOk result (λ opened. D.failures disk ≤ D.failures (disk_by opened.0)) }
+        ensures later_err { IfErr result (λ refused. D.failures disk ≤ D.failures refused.1) }
+        ensures kept { IfOk result (λ opened. D.keeps disk ↔ D.keeps (disk_by opened.0)) }
+        ensures kept_err { IfErr result (λ refused. D.keeps disk ↔ D.keeps refused.1) }
+    {
+        match load(alloc, &mut disk, header) {
+            Ok((gate, records)) => Ok((
+                Journal {
+                    alloc,
+                    disk,
+                    header: *header,
+                    gate,
+                    stopped: false,
+                },
+                records,
+            )),
+            Err(fault) => Err((fault, disk)),
+        }
+    }
+
+    /// Whose journal it is.
+    #[tactic(auto, unfolding(crate::specs::Words::header_by))]
+    pub fn header(&self) -> Header
+        ensures { result ≡ header_by self.now }
+    {
+        self.header
+    }
+
+    /// Whether a fault of the device stopped it: then each append answers `Stopped`.
+    #[tactic(auto, unfolding(crate::specs::Words::is_stopped))]
+    pub fn is_stopped(&self) -> bool
+        ensures { result ≡ is_stopped self.now }
+    {
+        self.stopped
+    }
+
+    /// The disk with its file, and the journal is closed. It takes no memory and makes no call of the device.
+    #[tactic(auto, unfolding(crate::specs::Words::disk_by))]
+    pub fn into_disk(self) -> D
+        ensures { result ≡ disk_by self }
+    {
+        let Journal {
+            alloc: _,
+            disk,
+            header: _,
+            gate: _,
+            stopped: _,
+        } = self;
+        disk
+    }
+}
+
+// The bytes behind a batch's gate, and the closed gate behind them.
+fn encode(alloc: Global, records: &[Record]) -> Result<Vec<u8>, AllocError>
+    requires { length records.now ≤ 65535 }
+    ensures { IfOk result (λ bytes. bytes.items ≡ body records.now ++ 0 ∷ []) }
+{
+    let count = records.len() as u16;
+    let mut bytes = Vec::new(alloc);
+    bytes.extend_from_slice(&count.to_be_bytes())?;
+    for entry in records {
+        bytes.extend_from_slice(&record_bytes(entry))?;
+    }
+    bytes.push(0)?;
+    Ok(bytes)
+}
+
+impl Journal<MemDisk> {
+    /// Sets the fuse of its disk, and changes nothing else: the next calls of the device pass, as many as this, and all
+    /// after them fail. None takes the fuse out. This is no call of the device, and takes no memory.
+    #[tactic(auto, unfolding(crate::specs::Words::disk_by, crate::specs::Words::header_by, crate::specs::Words::gate_by, crate::specs::Words::is_stopped))]
+    pub fn fuse(&mut self, calls: Option<u64>)
+        ensures disk { disk_by self.new ≡ with_fuse (disk_by self.old) calls }
+        ensures settled { (header : Header) (all : List Record) →
+            IsSettled memory_state header all self.old → IsSettled memory_state header all self.new }
+        ensures header { header_by self.new ≡ header_by self.old }
+        ensures gate { gate_by self.new ≡ gate_by self.old }
+        ensures stopped { is_stopped self.new ≡ is_stopped self.old }
+    {
+        self.disk.fuse(calls);
+    }
+}

@@ -1,0 +1,142 @@
+//! Making a journal's file, and reading it.
+ghost use Rattle.std.specs.Prelude.{◌≡◌, ◌≢◌, ◌↔◌, ◌⊎◌, ◌+◌, ◌<◌, ◌≤◌, ℕ, List, [], ◌∷◌, ◌++◌, length, IsErr, IsErrOf, IfOk, IfErr, OnOk, OnErr};
+ghost use Rattle.terms.specs.declared.Header.{Header};
+ghost use Rattle.disk.specs.Model.{State, MayLeave, LeavesOnly, at_rest, after_write};
+ghost use Rattle.journal.specs.Texts.{header_text};
+ghost use Rattle.journal.specs.File.{HasHeader, Holds, Refuses, IsHeld};
+ghost use Rattle.journal.specs.Faults.{IsFaultOfCreate, IsFaultOfPeek, IsFaultOfOpening, IsOfFile};
+ghost use Rattle.journal.specs.declared.fault.JournalFault.TheVariants.{Device, Memory};
+
+use crate::JournalFault;
+use crate::header::{HEADER, header_of, new_file};
+use crate::read::read;
+use disk::Disk;
+use std::alloc::Global;
+use terms::{Header, Record};
+
+/// Writes a journal of no records into an empty file, by three calls of the device: `len`, one write of 25 bytes, and
+/// `sync`. It takes no memory.
+///
+/// - `NotEmpty`: the file has bytes already. Nothing was written.
+/// - `Device`: the disk failed. The file may have any of the bytes.
+pub fn create<D: Disk>(disk: &mut D, header: &Header) -> Result<(), JournalFault>
+    ensures file { D.keeps disk.old → OnOk result (D.state disk.new ≡ at_rest (header_text header.now ++ 0 ∷ [])) }
+    ensures created { D.keeps disk.old → OnOk result (Holds header.now [] (D.state disk.new).seen) }
+    ensures durable { D.keeps disk.old → OnOk result (
+        (file : List ℕ) → MayLeave (D.state disk.new) file → Holds header.now [] file) }
+
+    // A crash at any moment leaves nothing but what it might have left before, or might leave after the one write.
+    ensures any_moment { D.keeps disk.old → LeavesOnly D.moment D.since disk.old disk.new
+        (MayLeave (after_write (D.state disk.old) 0 (header_text header.now ++ 0 ∷ []))) }
+    ensures three_calls { D.keeps disk.old → OnOk result (D.moment disk.new ≡ D.moment disk.old + 3) }
+
+    ensures was_empty { D.keeps disk.old → OnOk result (length (D.state disk.old).seen ≡ 0) }
+    ensures not_empty { D.keeps disk.old → IsErrOf result JournalFault.NotEmpty → 0 < length (D.state disk.old).seen }
+    ensures not_empty_same { D.keeps disk.old → IsErrOf result JournalFault.NotEmpty →
+        D.state disk.new ≡ D.state disk.old }
+    ensures device { IsErrOf result JournalFault.Device → D.failures disk.old < D.failures disk.new }
+    ensures only { IfErr result IsFaultOfCreate }
+    ensures later { D.failures disk.old ≤ D.failures disk.new }
+    ensures kept { D.keeps disk.old ↔ D.keeps disk.new }
+{
+    if disk.len()? != 0 {
+        return Err(JournalFault::NotEmpty);
+    }
+    disk.write_at(0, &new_file(header))?;
+    Ok(disk.sync()?)
+}
+
+/// The header that a file begins with, by two calls of the device: `len`, and one read of the first 24 bytes, or of all
+/// where there are fewer. It takes no memory, and changes no byte.
+///
+/// - `BadHeader`: the file begins with no header.
+/// - `Device`: the disk failed.
+pub fn peek<D: Disk>(disk: &mut D) -> Result<Header, JournalFault>
+    ensures header { D.keeps disk.old → IfOk result (λ header. HasHeader header (D.state disk.old).seen) }
+    ensures bad_header { D.keeps disk.old → IsErrOf result JournalFault.BadHeader →
+        (header : Header) → HasHeader header (D.state disk.old).seen → ⊥ }
+    ensures same { D.keeps disk.old → D.state disk.new ≡ D.state disk.old }
+    ensures any_moment { D.keeps disk.old → LeavesOnly D.moment D.since disk.old disk.new (MayLeave (D.state disk.old)) }
+    ensures two_calls { D.keeps disk.old → IsErrOf result JournalFault.Device ⊎ (D.moment disk.new ≡ D.moment disk.old + 2) }
+
+    ensures device { IsErrOf result JournalFault.Device → D.failures disk.old < D.failures disk.new }
+    ensures only { IfErr result IsFaultOfPeek }
+    ensures later { D.failures disk.old ≤ D.failures disk.new }
+    ensures kept { D.keeps disk.old ↔ D.keeps disk.new }
+{
+    let len = disk.len()?;
+    let mut bytes = [0; HEADER];
+    disk.read_at(0, &mut bytes[..len.min(HEADER)])?;
+    if len < HEADER {
+        return Err(JournalFault::BadHeader);
+    }
+    match header_of(&bytes) {
+        Some(header) => Ok(header),
+        None => Err(JournalFault::BadHeader),
+    }
+}
+
+/// The place of the closed gate, and the records before it, of a file all of which is on the disk from then on.
+pub(crate) fn load<D: Disk>(
+    alloc: Global,
+    disk: &mut D,
+    header: &Header,
+) -> Result<(usize, Vec<Record>), JournalFault>
+    ensures held { D.keeps disk.old → IfOk result (λ held. IsHeld (D.state disk.new) header.now held.0 held.1.items) }
+    ensures on_disk { D.keeps disk.old → OnOk result (D.state disk.new ≡ at_rest (D.state disk.old).seen) }
+    ensures refused { D.keeps disk.old → IfErr result (λ fault. IsOfFile fault → Refuses header.now fault (D.state disk.old).seen) }
+    ensures same { D.keeps disk.old → (D.state disk.new).seen ≡ (D.state disk.old).seen }
+    ensures any_moment { D.keeps disk.old → LeavesOnly D.moment D.since disk.old disk.new (MayLeave (D.state disk.old)) }
+    ensures three_calls { D.keeps disk.old → OnOk result (D.moment disk.new ≡ D.moment disk.old + 3) }
+    ensures three_calls_err { D.keeps disk.old → IfErr result (λ fault. IsOfFile fault → D.moment disk.new ≡ D.moment disk.old + 3) }
+
+    ensures device { IsErrOf result JournalFault.Device → D.failures disk.old < D.failures disk.new }
+    ensures only { IfErr result IsFaultOfOpening }
+    ensures later { D.failures disk.old ≤ D.failures disk.new }
+    ensures kept { D.keeps disk.old ↔ D.keeps disk.new }
+{
+    let bytes = fetch(alloc, disk)?;
+    read_file(alloc, header, &bytes)
+}
+
+// All the bytes, once they are on the disk.
+fn fetch<D: Disk>(alloc: Global, disk: &mut D) -> Result<Vec<u8>, JournalFault>
+    ensures bytes { D.keeps disk.old → IfOk result (λ bytes. bytes.items ≡ (D.state disk.old).seen) }
+    ensures on_disk { D.keeps disk.old → OnOk result (D.state disk.new ≡ at_rest (D.state disk.old).seen) }
+    ensures same { D.keeps disk.old → (D.state disk.new).seen ≡ (D.state disk.old).seen }
+    ensures any_moment { D.keeps disk.old → LeavesOnly D.moment D.since disk.old disk.new (MayLeave (D.state disk.old)) }
+    ensures three_calls { D.keeps disk.old → OnOk result (D.moment disk.new ≡ D.moment disk.old + 3) }
+    ensures only { IfErr result (λ fault. (fault ≡ Device) ⊎ (fault ≡ Memory)) }
+    ensures device { IsErrOf result JournalFault.Device → D.failures disk.old < D.failures disk.new }
+    ensures later { D.failures disk.old ≤ D.failures disk.new }
+    ensures kept { D.keeps disk.old ↔ D.keeps disk.new }
+{
+    disk.sync()?;
+    let len = disk.len()?;
+    let mut bytes = vec![in alloc; 0; len]?;
+    disk.read_at(0, &mut bytes)?;
+    Ok(bytes)
+}
+
+// The place of the closed gate, and the records before it.
+fn read_file(
+    alloc: Global,
+    header: &Header,
+    bytes: &[u8],
+) -> Result<(usize, Vec<Record>), JournalFault>
+    ensures held { IfOk result (λ held. IsHeld (at_rest bytes.now) header.now held.0 held.1.items) }
+    ensures refused { IfErr result (λ fault. IsOfFile fault → Refuses header.now fault bytes.now) }
+    ensures only { IfErr result (λ fault. IsOfFile fault ⊎ (fault ≡ Memory)) }
+{
+    let Some((front, behind)) = bytes.split_first_chunk::<HEADER>() else {
+        return Err(JournalFault::BadHeader);
+    };
+    match header_of(front) {
+        Some(found) if found == *header => {
+            let (gate, records) = read(alloc, header, behind)?;
+            Ok((HEADER + gate, records))
+        }
+        Some(_) => Err(JournalFault::OtherHeader),
+        None => Err(JournalFault::BadHeader),
+    }
+}
