@@ -1,0 +1,67 @@
+use Rattle.std.proofs.Common.{◌≡◌, Some, sym, ap, ◌∙◌, [], ◌∷◌}
+use Rattle.std.specs.Prelude.{slice_get}
+use Rattle.terms.specs.declared.Place.{Place}
+use Rattle.terms.specs.Past.{past_of}
+use Rattle.terms.specs.Reply.Event.{Hearing}
+use Rattle.questions.specs.Replies.{reply_of}
+use Rattle.questions.specs.Cores.{size_of, me_of}
+use Rattle.questions.proofs.Knowing.{found_at, stood, event_known}
+use Rattle.questions.proofs.Slots.{are_still}
+use Rattle.questions.proofs.Core.hear.Goals as goal
+
+pub hear-requires-clause-question : goal.hear-requires-clause-question
+hear-requires-clause-question c =
+    let i = c.self.inside in
+    let one = c.index_mut.result.now in
+    let there : slice_get i.instances.items c.from.result ≡ Some one =
+    found_at i.size i.me i.instances.items i.failed c.args.self.now c.from.result c.question-question.result (c.args.from ∷ c.origin.result ∷ []) one c.self.view_is c.self.invariant c.in_default.ensures c.from.ensures c.index_mut.ensures.value in
+    let asked : c.from.result ≡ c.args.s.now.place.question = c.from.ensures ∙ c.question-question.ensures ∙ ap (λ (p : Place). p.question) c.place.ensures in
+    sym ((c.self.invariant.each c.from.result one there).its_question ∙ asked)
+
+pub invariant_of-self : goal.invariant_of-self
+invariant_of-self c =
+    let i = c.self.inside in
+    let one = c.index_mut.result.now in
+    let there : slice_get i.instances.items c.from.result ≡ Some one =
+    found_at i.size i.me i.instances.items i.failed c.args.self.now c.from.result c.question-question.result (c.args.from ∷ c.origin.result ∷ []) one c.self.view_is c.self.invariant c.in_default.ensures c.from.ensures c.index_mut.ensures.value in
+    let e = c.in-Ok.ensures in
+    are_still i.size i.me c.from.result i.instances.items one c.hear.new.self there c.self.invariant e.size e.me e.question
+
+pub invariant_of-self-in-Err : goal.invariant_of-self-in-Err
+invariant_of-self-in-Err c =
+    let i = c.self.inside in
+    let one = c.index_mut.result.now in
+    let there : slice_get i.instances.items c.from.result ≡ Some one =
+    found_at i.size i.me i.instances.items i.failed c.args.self.now c.from.result c.question-question.result (c.args.from ∷ c.origin.result ∷ []) one c.self.view_is c.self.invariant c.in_default.ensures c.from.ensures c.index_mut.ensures.value in
+    let e = c.in-Err.ensures in
+    are_still i.size i.me c.from.result i.instances.items one c.hear.new.self there c.self.invariant e.size e.me e.question
+
+pub returns-in-Ok-clause-reply : goal.returns-in-Ok-clause-reply
+returns-in-Ok-clause-reply c records heard knows =
+    let i = c.self.inside in
+    let one = c.index_mut.result.now in
+    let there : slice_get i.instances.items c.from.result ≡ Some one =
+    found_at i.size i.me i.instances.items i.failed c.args.self.now c.from.result c.question-question.result (c.args.from ∷ c.origin.result ∷ []) one c.self.view_is c.self.invariant c.in_default.ensures c.from.ensures c.index_mut.ensures.value in
+    let asked : c.from.result ≡ c.args.s.now.place.question = c.from.ensures ∙ c.question-question.ensures ∙ ap (λ (p : Place). p.question) c.place.ensures in
+    c.in-Ok.ensures.reply (past_of (size_of c.args.self.now) (me_of c.args.self.now) c.args.s.now.place.question records heard)
+    (stood c.args.self.now i.size i.me i.instances.items i.failed c.from.result c.args.s.now.place.question one records heard c.self.view_is there asked knows)
+
+pub returns-in-Ok-clause-knows : goal.returns-in-Ok-clause-knows
+returns-in-Ok-clause-knows c records heard knows =
+    let i = c.self.inside in
+    let one = c.index_mut.result.now in
+    let there : slice_get i.instances.items c.from.result ≡ Some one =
+    found_at i.size i.me i.instances.items i.failed c.args.self.now c.from.result c.question-question.result (c.args.from ∷ c.origin.result ∷ []) one c.self.view_is c.self.invariant c.in_default.ensures c.from.ensures c.index_mut.ensures.value in
+    let asked : c.from.result ≡ c.args.s.now.place.question = c.from.ensures ∙ c.question-question.ensures ∙ ap (λ (p : Place). p.question) c.place.ensures in
+    event_known c.args.self.now i.size i.me i.instances.items i.failed c.from.result one c.hear.new.self records heard
+    c.args.toss.0 (Hearing c.args.from c.args.s.now) (reply_of c.in-Ok.answer) c.self.view_is there asked c.in-Ok.ensures.reply c.in-Ok.ensures.stands knows
+
+pub returns-in-Err-clause-memory_only_at_news : goal.returns-in-Err-clause-memory_only_at_news
+returns-in-Err-clause-memory_only_at_news c is records heard knows =
+    let i = c.self.inside in
+    let one = c.index_mut.result.now in
+    let there : slice_get i.instances.items c.from.result ≡ Some one =
+    found_at i.size i.me i.instances.items i.failed c.args.self.now c.from.result c.question-question.result (c.args.from ∷ c.origin.result ∷ []) one c.self.view_is c.self.invariant c.in_default.ensures c.from.ensures c.index_mut.ensures.value in
+    let asked : c.from.result ≡ c.args.s.now.place.question = c.from.ensures ∙ c.question-question.ensures ∙ ap (λ (p : Place). p.question) c.place.ensures in
+    c.in-Err.ensures.err_only_at_news (past_of (size_of c.args.self.now) (me_of c.args.self.now) c.args.s.now.place.question records heard)
+    (stood c.args.self.now i.size i.me i.instances.items i.failed c.from.result c.args.s.now.place.question one records heard c.self.view_is there asked knows)

@@ -1,0 +1,12 @@
+pub mod Rows
+pub mod Keeping
+pub mod Taking
+pub mod Beginning
+pub mod Quiet
+pub mod Replying
+pub mod Others
+pub mod Replies
+pub mod Once
+pub mod Replays
+pub mod Slots
+pub mod Knowing

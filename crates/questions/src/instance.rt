@@ -1,0 +1,381 @@
+//! One question at one member: an instance of the agreement.
+ghost use Rattle.std.specs.Prelude.{◌≡◌, ◌<◌, ◌≤◌, ◌++◌, ℕ, Bool, false, List, [], None, Some, IfOk, IfSome, OnOk, OnErr, length};
+ghost use Rattle.terms.specs.declared.Kind.TheVariants.{Initial};
+ghost use Rattle.terms.specs.Past.{Past, after_record};
+ghost use Rattle.terms.specs.Answer.{question_of};
+ghost use Rattle.terms.specs.Same.{place_of, statement_of, plain, is_about};
+ghost use Rattle.rbc.specs.Words.{size_by};
+ghost use Rattle.rbc.specs.Stands.{Stands as HasBroadcasts};
+ghost use Rattle.rounds.specs.Words.{size_for, question_for};
+ghost use Rattle.questions.specs.Parts.{IsFrom, if_there, plain_if, initial_in, IsQuietElsewhere, Decides, Begins};
+
+use crate::answer::Answer;
+use rbc::{Broadcasts, Heard};
+use rounds::{Question, Toss};
+use std::alloc::Global;
+use terms::{Kind, Memory, Place, Record, Size, Statement, Value};
+
+/// How many places of one origin there are: three of each of 32 rounds.
+const PLACES: u8 = 96;
+
+/// One question, as one member takes part in it.
+#[derive(Drop)]
+pub(crate) struct Instance {
+    alloc: Global,
+    me: u8,
+    question: u16,
+    /// The bit that was proposed first.
+    proposed: Option<bool>,
+    broadcasts: Broadcasts,
+    rounds: Question,
+    ghost sizes: { size_for rounds ≡ size_by broadcasts },
+    ghost asked: { question_for rounds ≡ question },
+}
+
+impl Instance {
+    ghost use Rattle.terms.specs.declared.Kind.{Kind};
+    ghost use Rattle.terms.specs.declared.Kind.TheVariants.{Initial};
+    ghost use Rattle.terms.specs.Answer.{AreDue, after_records, said_if};
+    ghost use Rattle.terms.specs.Fit.{AllFit, FitsIf};
+    ghost use Rattle.terms.specs.Heard.{got, is_foreign};
+    ghost use Rattle.terms.specs.Journal.{said, decided};
+    ghost use Rattle.terms.specs.Past.{no_past, after_hearing};
+    ghost use Rattle.terms.specs.Reply.{IsReply, after_reply, records_of};
+    ghost use Rattle.terms.specs.Reply.Event.{Hearing, Proposal};
+    ghost use Rattle.rbc.specs.Answers.{heard_as};
+    ghost use Rattle.rbc.specs.declared.Heard.TheVariants.{News};
+    ghost use Rattle.questions.specs.Replies.{reply_of};
+    ghost use Rattle.questions.specs.Instances.{
+      size_at,
+      me_at,
+      question_at,
+      Has,
+      HasOwn,
+      StandsFor,
+    };
+
+    /// That question at the member `me`, of which it heard and said nothing yet. It takes no memory: `alloc` is kept
+    /// for what comes.
+    pub(crate) fn new(alloc: Global, size: Size, me: u8, question: u16) -> Instance
+        ensures stands { StandsFor result (no_past size me question) }
+        ensures size { size_at result ≡ size }
+        ensures me { me_at result ≡ me }
+        ensures question { question_at result ≡ question }
+    {
+        let _members = size.n();
+        Instance {
+            alloc,
+            me,
+            question,
+            proposed: None,
+            broadcasts: Broadcasts::new(alloc, size, me),
+            rounds: Question::new(alloc, size, me, question),
+        }
+    }
+
+    /// Takes a record of an earlier life, before anything is heard.
+    ///
+    /// [`Memory`]: there was no memory. The instance is of no use from then on.
+    pub(crate) fn recall(&mut self, noted: &Record) -> Result<(), Memory>
+        requires origin { IsFrom (size_at self.old) noted.now }
+        requires question { question_of noted.now ≡ question_at self.old }
+
+        ensures stands { OnOk result (
+            (past : Past) → past.heard ≡ [] → StandsFor self.old past → StandsFor self.new (after_record past noted.now)) }
+
+        ensures size { size_at self.new ≡ size_at self.old }
+        ensures me { me_at self.new ≡ me_at self.old }
+        ensures question { question_at self.new ≡ question_at self.old }
+    {
+        self.note(noted)
+    }
+
+    /// Answers to a statement from the member `from`.
+    ///
+    /// [`Memory`]: the statement is news, and there was no memory. The instance is of no use from then on.
+    pub(crate) fn hear(&mut self, from: u8, s: &Statement, toss: Toss) -> Result<Answer, Memory>
+        requires from { from < (size_at self.old).n }
+        requires origin { s.now.place.origin < (size_at self.old).n }
+        requires question { s.now.place.question ≡ question_at self.old }
+
+        ensures reply { IfOk result (λ answer.
+            (past : Past) → StandsFor self.old past → IsReply past toss.0 (Hearing from s.now) (reply_of answer)) }
+        ensures stands { IfOk result (λ answer.
+            (past : Past) → StandsFor self.old past →
+            StandsFor self.new (after_reply past (Hearing from s.now) (reply_of answer))) }
+        ensures few { IfOk result (λ answer. length (records_of (reply_of answer)) ≤ 99) }
+
+        ensures err_only_at_news { OnErr result (
+            (past : Past) → StandsFor self.old past →
+            (is_foreign from s.now ≡ false) × (got past.heard from s.now.kind s.now.place ≡ None)) }
+        ensures size { size_at self.new ≡ size_at self.old }
+        ensures me { me_at self.new ≡ me_at self.old }
+        ensures question { question_at self.new ≡ question_at self.old }
+    {
+        let _value = s.value();
+        match self.take(from, s)? {
+            Heard::Foreign => Ok(Answer::Foreign),
+            Heard::Repeat => Ok(Answer::Repeat),
+            Heard::News => {
+                let records = self.say_all(s.place(), toss)?;
+                Ok(Answer::Taken(records))
+            }
+        }
+    }
+
+    /// Answers to a bit that is proposed.
+    ///
+    /// [`Memory`]: it is the first, and there was no memory. The instance is of no use from then on.
+    pub(crate) fn propose(&mut self, bit: bool, toss: Toss) -> Result<Answer, Memory>
+        ensures reply { IfOk result (λ answer.
+            (past : Past) → StandsFor self.old past →
+            IsReply past toss.0 (Proposal (question_at self.old) bit) (reply_of answer)) }
+        ensures stands { IfOk result (λ answer.
+            (past : Past) → StandsFor self.old past →
+            StandsFor self.new (after_reply past (Proposal (question_at self.old) bit) (reply_of answer))) }
+        ensures few { IfOk result (λ answer. length (records_of (reply_of answer)) ≤ 99) }
+
+        ensures err_only_at_first { OnErr result (
+            (past : Past) → StandsFor self.old past →
+            said past.records Initial (place_of (question_at self.old) past.me 1 1) ≡ None) }
+        ensures size { size_at self.new ≡ size_at self.old }
+        ensures me { me_at self.new ≡ me_at self.old }
+        ensures question { question_at self.new ≡ question_at self.old }
+    {
+        if let Some(first) = self.proposed {
+            return Ok(Answer::Have(first));
+        }
+        let proposal = Record::Said(first_initial(self.question, self.me, bit));
+        self.note_own(&proposal);
+        let begun = self.begin(toss)?;
+        let records = gather(self.alloc, Some(proposal), None, None, &begun)?;
+        Ok(Answer::Taken(records))
+    }
+
+    /// The first decision, its round and bit. None where there is none yet.
+    pub(crate) fn verdict(&self) -> Option<(u8, bool)>
+        ensures { (past : Past) → StandsFor self.now past → result ≡ decided past.records past.question }
+    {
+        self.rounds.verdict()
+    }
+
+    /// Hears the statement, and takes the value that is then accepted at its place.
+    fn take(&mut self, from: u8, s: &Statement) -> Result<Heard, Memory>
+        requires from { from < (size_at self.old).n }
+        requires origin { s.now.place.origin < (size_at self.old).n }
+        requires question { s.now.place.question ≡ question_at self.old }
+
+        ensures heard { IfOk result (λ heard. (past : Past) → Has self.old past → heard ≡ heard_as past from s.now) }
+        ensures has { OnOk result (
+            (past : Past) → Has self.old past → Has self.new (after_hearing past from s.now)) }
+
+        ensures err { OnErr result ((past : Past) → Has self.old past → heard_as past from s.now ≡ News) }
+        ensures size { size_at self.new ≡ size_at self.old }
+        ensures me { me_at self.new ≡ me_at self.old }
+        ensures question { question_at self.new ≡ question_at self.old }
+    {
+        match self.broadcasts.hear(from, s)? {
+            Heard::News => {
+                let place = s.place();
+                if let Some(value) = self.broadcasts.accepted(place) {
+                    self.rounds.accept(place, value)?;
+                }
+                Ok(Heard::News)
+            }
+            known => Ok(known),
+        }
+    }
+
+    /// Says all that is due, once a statement of that place was heard.
+    fn say_all(&mut self, place: Place, toss: Toss) -> Result<Vec<Record>, Memory>
+        requires origin { place.origin < (size_at self.old).n }
+        requires question { place.question ≡ question_at self.old }
+
+        ensures due { IfOk result (λ records.
+            (past : Past) → Has self.old past → AllFit past → IsQuietElsewhere past place →
+            AreDue past place toss.0 records.items) }
+        ensures has { IfOk result (λ records.
+            (past : Past) → Has self.old past → AllFit past → Has self.new (after_records past records.items)) }
+        ensures few { IfOk result (λ records. length records.items ≤ 99) }
+
+        ensures size { size_at self.new ≡ size_at self.old }
+        ensures me { me_at self.new ≡ me_at self.old }
+        ensures question { question_at self.new ≡ question_at self.old }
+    {
+        let due = self.broadcasts.due(place);
+        let echo = self.say(Kind::Echo, place, due.echo)?;
+        let ready = self.say(Kind::Ready, place, due.ready)?;
+        let decided = self.decide();
+        let begun = self.begin(toss)?;
+        let records = gather(self.alloc, echo, ready, decided, &begun)?;
+        Ok(records)
+    }
+
+    /// Says what is due of that kind.
+    fn say(
+        &mut self,
+        kind: Kind,
+        place: Place,
+        due: Option<Value>,
+    ) -> Result<Option<Record>, Memory>
+        requires origin { place.origin < (size_at self.old).n }
+        requires question { place.question ≡ question_at self.old }
+
+        ensures said { IfOk result (λ said. FitsIf place due → if_there said ≡ said_if kind place due) }
+        ensures has { IfOk result (λ said.
+            (past : Past) → Has self.old past → Has self.new (after_records past (if_there said))) }
+
+        ensures size { size_at self.new ≡ size_at self.old }
+        ensures me { me_at self.new ≡ me_at self.old }
+        ensures question { question_at self.new ≡ question_at self.old }
+    {
+        let Some(value) = due else { return Ok(None) };
+        let Some(statement) = Statement::new(kind, place, value) else {
+            return Ok(None)
+        };
+        let said = Record::Said(statement);
+        self.note(&said)?;
+        Ok(Some(said))
+    }
+
+    /// Notes the decision that is due, and gives its record.
+    fn decide(&mut self) -> Option<Record>
+        ensures decides { (past : Past) → Has self.old past → Decides past (if_there result) }
+        ensures has { (past : Past) → Has self.old past → Has self.new (after_records past (if_there result)) }
+
+        ensures size { size_at self.new ≡ size_at self.old }
+        ensures me { me_at self.new ≡ me_at self.old }
+        ensures question { question_at self.new ≡ question_at self.old }
+    {
+        let (round, bit) = self.rounds.decision_due()?;
+        let decided = Record::Decided {
+            question: self.question,
+            round,
+            bit,
+        };
+        self.note_own(&decided);
+        Some(decided)
+    }
+
+    /// Notes its own Initials that are due, upwards, and gives their records.
+    fn begin(&mut self, toss: Toss) -> Result<Vec<Record>, Memory>
+        ensures begins { IfOk result (λ records. (past : Past) → Has self.old past → Begins past toss.0 records.items) }
+        ensures has { IfOk result (λ records.
+            (past : Past) → Has self.old past → Has self.new (after_records past records.items)) }
+        ensures few { IfOk result (λ records. length records.items ≤ 96) }
+
+        ensures size { size_at self.new ≡ size_at self.old }
+        ensures me { me_at self.new ≡ me_at self.old }
+        ensures question { question_at self.new ≡ question_at self.old }
+    {
+        let mut records = Vec::new(self.alloc);
+        for turn in 0..PLACES {
+            let Some(statement) = self.rounds.next(toss) else {
+                break
+            };
+            let begun = Record::Said(statement);
+            records.push(begun)?;
+            self.note_own(&begun);
+        }
+        Ok(records)
+    }
+
+    /// Notes a record of the member's own.
+    fn note(&mut self, noted: &Record) -> Result<(), Memory>
+        requires origin { IsFrom (size_at self.old) noted.now }
+        requires question { question_of noted.now ≡ question_at self.old }
+
+        ensures has { OnOk result (
+            (past : Past) → Has self.old past → Has self.new (after_record past noted.now)) }
+
+        ensures size { size_at self.new ≡ size_at self.old }
+        ensures me { me_at self.new ≡ me_at self.old }
+        ensures question { question_at self.new ≡ question_at self.old }
+    {
+        note_relay(&mut self.broadcasts, noted)?;
+        self.note_own(noted);
+        Ok(())
+    }
+
+    /// Notes a record that the broadcasts don't look at: an own Initial or a decision.
+    fn note_own(&mut self, noted: &Record)
+        ensures own { (past : Past) → HasOwn self.old past → HasOwn self.new (after_record past noted.now) }
+        ensures broadcasts { self.new.broadcasts ≡ self.old.broadcasts }
+        ensures me { me_at self.new ≡ me_at self.old }
+        ensures question { question_at self.new ≡ question_at self.old }
+    {
+        self.rounds.note(noted);
+        self.proposed = self.proposed.or(proposed_by(self.question, self.me, noted));
+    }
+}
+
+/// Notes a record in the broadcasts, which look at Echos and Readys.
+fn note_relay(broadcasts: &mut Broadcasts, noted: &Record) -> Result<(), Memory>
+    requires { IsFrom (size_by broadcasts.old) noted.now }
+    ensures stands { OnOk result (
+        (past : Past) → HasBroadcasts broadcasts.old past → question_of noted.now ≡ past.question →
+        HasBroadcasts broadcasts.new (after_record past noted.now)) }
+    ensures size { size_by broadcasts.new ≡ size_by broadcasts.old }
+{
+    match noted {
+        Record::Said(statement) => broadcasts.say(statement),
+        Record::Decided { .. } => Ok(()),
+    }
+}
+
+/// The bit of the record, if it is the member's own Initial of round 1 step 1.
+fn proposed_by(question: u16, me: u8, noted: &Record) -> Option<bool>
+    ensures { plain_if result ≡ initial_in noted.now (place_of question me 1 1) }
+{
+    match noted {
+        Record::Said(statement) if is_first_initial(question, me, statement) => {
+            Some(statement.value() == Value::One)
+        }
+        _ => None,
+    }
+}
+
+/// Whether the statement is the member's own Initial of round 1 step 1.
+fn is_first_initial(question: u16, me: u8, statement: &Statement) -> bool
+    ensures { result ≡ is_about statement.now Initial (place_of question me 1 1) }
+{
+    let place = statement.place();
+    statement.kind() == Kind::Initial
+        && place.question() == question
+        && place.origin() == me
+        && place.round() == 1
+        && place.step() == 1
+}
+
+/// The member's own Initial of round 1 step 1.
+fn first_initial(question: u16, me: u8, bit: bool) -> Statement
+    ensures { result ≡ statement_of Initial (place_of question me 1 1) (plain bit) }
+{
+    let place = Place::new(question, me, 1, 1).unwrap();
+    let value = if bit { Value::One } else { Value::Zero };
+    Statement::new(Kind::Initial, place, value).unwrap()
+}
+
+/// All that is said, in order.
+fn gather(
+    alloc: Global,
+    echo: Option<Record>,
+    ready: Option<Record>,
+    decided: Option<Record>,
+    begun: &[Record],
+) -> Result<Vec<Record>, Memory>
+    ensures { IfOk result (λ records. records.items ≡ if_there echo ++ if_there ready ++ if_there decided ++ begun.now) }
+{
+    let mut records = Vec::new(alloc);
+    if let Some(record) = echo {
+        records.push(record)?;
+    }
+    if let Some(record) = ready {
+        records.push(record)?;
+    }
+    if let Some(record) = decided {
+        records.push(record)?;
+    }
+    records.extend_from_slice(begun)?;
+    Ok(records)
+}
