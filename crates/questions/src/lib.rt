@@ -20,7 +20,7 @@
 //! replay of a history is fixed by the opening records.
 #![tactic(auto)]
 
-ghost use Rattle.std.specs.Prelude.{◌≡◌, ◌≢◌, ◌<◌, ◌≤◌, ◌++◌, ℕ, Bool, true, false, List, [], ◌∷◌, None, IfOk, IfErr, OnOk, unwrap_or, length};
+ghost use Rattle.std.specs.Prelude.{◌≡◌, ◌≢◌, ◌<◌, ◌≤◌, ◌++◌, ℕ, true, false, List, [], ◌∷◌, None, IfOk, IfErr, OnOk, unwrap_or, length};
 
 use rounds::Toss;
 use std::alloc::Global;
