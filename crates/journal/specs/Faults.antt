@@ -2,6 +2,7 @@
 use Rattle.journal.specs.declared.fault.JournalFault.{JournalFault}
 use Rattle.journal.specs.declared.fault.JournalFault.TheVariants.{NotEmpty, BadHeader, OtherHeader, BadRecord, CutShort, Device, Memory, Stopped, Full}
 
+-- what `create` answers
 abbrev pub IsFaultOfCreate : JournalFault → Type 0
 IsFaultOfCreate NotEmpty = Unit {0}
 IsFaultOfCreate BadHeader = ⊥
@@ -13,6 +14,7 @@ IsFaultOfCreate Memory = ⊥
 IsFaultOfCreate Stopped = ⊥
 IsFaultOfCreate Full = ⊥
 
+-- what `peek` answers
 abbrev pub IsFaultOfPeek : JournalFault → Type 0
 IsFaultOfPeek NotEmpty = ⊥
 IsFaultOfPeek BadHeader = Unit {0}
@@ -24,6 +26,7 @@ IsFaultOfPeek Memory = ⊥
 IsFaultOfPeek Stopped = ⊥
 IsFaultOfPeek Full = ⊥
 
+-- what an opening answers
 abbrev pub IsFaultOfOpening : JournalFault → Type 0
 IsFaultOfOpening NotEmpty = ⊥
 IsFaultOfOpening BadHeader = Unit {0}
@@ -35,6 +38,7 @@ IsFaultOfOpening Memory = Unit {0}
 IsFaultOfOpening Stopped = ⊥
 IsFaultOfOpening Full = ⊥
 
+-- what `append` answers
 abbrev pub IsFaultOfAppend : JournalFault → Type 0
 IsFaultOfAppend NotEmpty = ⊥
 IsFaultOfAppend BadHeader = ⊥

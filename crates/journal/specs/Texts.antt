@@ -51,6 +51,7 @@ pub record Batch : Type 0 where
 abbrev pub body : List Record → List ℕ
 body records = to_be_bytes w16 (length records) ++ flat_map record_text records
 
+-- the bytes of a batch
 abbrev pub batch_text : Batch → List ℕ
 batch_text batch = batch.gate ∷ body batch.records
 

@@ -32,7 +32,7 @@ abbrev pub IsWellFormedFor : Header → Record → Type 0
 IsWellFormedFor header (Said s) = IsStatementFor header s
 IsWellFormedFor header (Decided question round bit) = IsDecisionFor header question round
 
--- each is
+-- each of the records is
 abbrev pub AreWellFormedFor : Header → List Record → Type 0
 AreWellFormedFor header = AllByRecursion (IsWellFormedFor header)
 
@@ -43,5 +43,6 @@ pub record IsBatch (header : Header) (batch : Batch) : Type 0 where
   pub few : length batch.records ≤ 65535
   pub good : AreWellFormedFor header batch.records
 
+-- each is a batch
 abbrev pub AreBatches : Header → List Batch → Type 0
 AreBatches header = AllByRecursion (IsBatch header)
