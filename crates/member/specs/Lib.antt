@@ -1,0 +1,10 @@
+pub mod Fields
+pub mod Sealed
+pub mod Words
+pub mod Answers
+pub mod Faults
+pub mod Stands
+pub mod Sound
+pub mod Life
+pub mod Laws
+pub mod Memory

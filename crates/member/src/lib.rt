@@ -1,0 +1,18 @@
+//! One member of a cluster: the pure core over its journal, over all its lives. What it says is saved before it leaves
+//! the member, so that no crash makes it say two things.
+//!
+//! A call takes the core's answer, saves its records, and only then lengthens the outbox. A fault of the device, of
+//! memory or of the journal's room stops the member; opened again from its disk it goes on with what it saved.
+#![tactic(auto)]
+
+mod fault;
+pub mod laws;
+mod member;
+mod save;
+mod sealed;
+#[cfg(test)]
+mod tests;
+
+pub use fault::MemberFault;
+pub use member::Member;
+pub use sealed::Sealed;

@@ -1,0 +1,526 @@
+//! A member over its journal.
+ghost use Rattle.std.specs.Prelude.{◌≡◌, ◌⊎◌, ◌↔◌, ◌+◌, ◌*◌, ◌^◌, ◌<◌, ◌≤◌, ℕ, Bool, true, false, Option, Some, None, List, [], ◌∷◌, ◌++◌, length, Ok, IsOk, IsErr, IsErrOf, IfOk, IfErr, OnOk, OnErr};
+ghost use Rattle.terms.specs.declared.Record.{Record};
+ghost use Rattle.terms.specs.declared.Statement.{Statement};
+ghost use Rattle.terms.specs.Heard.{got, is_foreign};
+ghost use Rattle.terms.specs.Journal.{said, sayings, decisions};
+ghost use Rattle.terms.specs.declared.Kind.{Kind};
+ghost use Rattle.terms.specs.declared.Place.{Place};
+ghost use Rattle.terms.specs.Reply.{records_of};
+ghost use Rattle.terms.specs.Reply.Event.{Hearing, Proposal};
+ghost use Rattle.terms.specs.Same.{place_of};
+ghost use Rattle.terms.specs.declared.Kind.TheVariants.{Initial};
+ghost use Rattle.disk.specs.Model.{MayLeave, LeavesOnly, at_rest};
+ghost use Rattle.disk.specs.Memory.{with_fuse};
+ghost use Rattle.journal.specs.Faults.{IsOfFile, IsFaultOfOpening};
+ghost use Rattle.journal.specs.File.{Holds, Refuses};
+ghost use Rattle.journal.specs.WellFormed.{AreWellFormedFor};
+ghost use Rattle.questions.specs.Cores.{Knows, size_of, me_of};
+ghost use Rattle.questions.specs.Faults.{records_fault};
+ghost use Rattle.terms.specs.Bounds.{IsSize};
+ghost use Rattle.questions.specs.Replies.{reply_of};
+ghost use Rattle.questions.specs.declared.answer.Answer.{Answer};
+ghost use Rattle.world.specs.World.{World, Step, IsCorrect, start, after_all};
+ghost use Rattle.world.specs.World.Step.{Hears, Restart};
+ghost use Rattle.member.specs.Answers.{IsAnswer, StandsAfter, IsFull, gate_after, verdict_of};
+ghost use Rattle.member.specs.Faults.{refusal, told, IsFaultOf, Stops};
+ghost use Rattle.member.specs.Life.{IsReached, IsAt, Goes, Lives, Comes};
+ghost use Rattle.member.specs.Sealed.{sealed_from};
+ghost use Rattle.member.specs.Sound.{IsSound, IsFiled};
+ghost use Rattle.member.specs.Stands.{Stands, IsLeft};
+ghost use Rattle.member.specs.Words.{disk_of, header_of, gate_of, saved_of, outbox_of, is_stopped_of, StandsFor};
+
+use crate::fault::MemberFault;
+use crate::save::save;
+use crate::sealed::{Sealed, seal};
+use disk::{Disk, MemDisk};
+use journal::{Journal, JournalFault};
+use questions::{Answer, Core, CoreFault};
+use rounds::Toss;
+use std::alloc::Global;
+use terms::{Header, Record, Statement};
+
+/// One member of a cluster, over its journal. What it says is saved before it is in the outbox.
+///
+/// It is of its last life alone: what it heard before it was opened is forgotten, and what it saved is not.
+#[derive(Drop)]
+pub struct Member<D: Disk> {
+    alloc: Global,
+    core: Core,
+    journal: Journal<D>,
+    records: Vec<Record>,
+    outbox: Vec<Sealed>,
+    stopped: bool,
+}
+
+impl<D: Disk> Member<D> {
+    /// Opens a member's journal, which a crash may have left: [`adopt`](Member::adopt) where the disk isn't wanted back
+    /// after a fault.
+    pub fn open(alloc: Global, disk: D, header: &Header) -> Result<Member<D>, JournalFault>
+    where
+        D: Drop,
+        ensures sound { IfOk result (λ m. IsSound D.Disk m) }
+        ensures up { IfOk result (λ m. is_stopped_of m ≡ false) }
+        ensures header { IfOk result (λ m. header_of m ≡ header.now) }
+        ensures stands_for { IfOk result (λ m. StandsFor m (saved_of m) []) }
+        ensures held { D.keeps disk → IfOk result (λ m. Holds header.now (saved_of m) (D.state disk).seen) }
+
+        // It is a restart, which keeps what was in doubt or loses all of it; the first opening is no step.
+        ensures restart { (liars : ℕ → Bool) (w : World) → IsCorrect header.now.size liars header.now.me → D.keeps disk →
+            IsLeft (D.state disk) header.now (w.journal header.now.me) (w.doubt header.now.me) →
+            IfOk result (λ m. (kept : Bool) × Goes D.Disk header.now liars w (Restart header.now.me kept) m) }
+        ensures first { D.keeps disk → IsLeft (D.state disk) header.now [] None → IfOk result (λ m. IsAt D.Disk header.now start m) }
+
+        // What stood on the disk stands, and is at the front of its records, all of which stand from now on.
+        ensures later { D.keeps disk → IfOk result (λ m. D.moment disk ≤ D.moment (disk_of m)) }
+        ensures stands { D.keeps disk → (moment : ℕ) (front : List Record) → moment ≤ D.moment disk →
+            Stands (D.since disk) header.now moment front →
+            IfOk result (λ m. Stands (D.since (disk_of m)) header.now moment front
+            × ((others : List Record) × (front ++ others ≡ saved_of m))) }
+        ensures acknowledged { D.keeps disk → IfOk result (λ m.
+            Stands (D.since (disk_of m)) header.now (D.moment (disk_of m)) (saved_of m)) }
+
+        ensures three_calls { D.keeps disk → IfOk result (λ m. D.moment (disk_of m) ≡ D.moment disk + 3) }
+
+        ensures only { IfErr result IsFaultOfOpening }
+        ensures refused { D.keeps disk → IfErr result (λ fault. IsOfFile fault → Refuses header.now fault (D.state disk).seen) }
+        // The disk is gone; it had failed once more.
+        ensures device { IsErrOf result JournalFault.Device → (after : D) × (D.failures disk < D.failures after) }
+        ensures failures { IfOk result (λ m. D.failures disk ≤ D.failures (disk_of m)) }
+        ensures kept { IfOk result (λ m. D.keeps disk ↔ D.keeps (disk_of m)) }
+    {
+        match Member::adopt(alloc, disk, header) {
+            Ok(opened) => Ok(opened),
+            Err((fault, _)) => Err(fault),
+        }
+    }
+
+    /// Opens a member's journal, which a crash may have left, by the calls of [`Journal::adopt`]. The member has its
+    /// records and hands out their statements; it heard nothing yet.
+    ///
+    /// A fault hands the disk back; no byte of its file was changed. The faults are those of the journal's opening:
+    /// `BadHeader`, `OtherHeader`, `CutShort` and `BadRecord` for what is wrong with the file, `Memory` and `Device`.
+    #[tactic(auto, unfolding(crate::specs::Words::disk_of, crate::specs::Words::header_of, crate::specs::Words::gate_of, crate::specs::Words::saved_of, crate::specs::Words::outbox_of, crate::specs::Words::is_stopped_of, crate::specs::Words::StandsFor))]
+    pub fn adopt(alloc: Global, disk: D, header: &Header) -> Result<Member<D>, (JournalFault, D)>
+        ensures sound { IfOk result (λ m. IsSound D.Disk m) }
+        ensures up { IfOk result (λ m. is_stopped_of m ≡ false) }
+        ensures header { IfOk result (λ m. header_of m ≡ header.now) }
+        ensures stands_for { IfOk result (λ m. StandsFor m (saved_of m) []) }
+        // Its records are those that the file holds.
+        ensures held { D.keeps disk → IfOk result (λ m. Holds header.now (saved_of m) (D.state disk).seen) }
+
+        // It is a restart, which keeps what was in doubt or loses all of it; the first opening is no step.
+        ensures restart { (liars : ℕ → Bool) (w : World) → IsCorrect header.now.size liars header.now.me → D.keeps disk →
+            IsLeft (D.state disk) header.now (w.journal header.now.me) (w.doubt header.now.me) →
+            IfOk result (λ m. (kept : Bool) × Goes D.Disk header.now liars w (Restart header.now.me kept) m) }
+        ensures first { D.keeps disk → IsLeft (D.state disk) header.now [] None →
+            IfOk result (λ m. IsAt D.Disk header.now start m) }
+        // One that fails leaves what might be left.
+        ensures left { D.keeps disk → (saved : List Record) (doubt : Option (List Record)) →
+            IsLeft (D.state disk) header.now saved doubt →
+            IfErr result (λ refused. IsLeft (D.state refused.1) header.now saved doubt) }
+
+        // What stood on the disk stands, and is at the front of its records, all of which stand from now on.
+        ensures later { D.keeps disk → IfOk result (λ m. D.moment disk ≤ D.moment (disk_of m)) }
+        ensures later_err { D.keeps disk → IfErr result (λ refused. D.moment disk ≤ D.moment refused.1) }
+        ensures stands { D.keeps disk → (moment : ℕ) (front : List Record) → moment ≤ D.moment disk →
+            Stands (D.since disk) header.now moment front →
+            IfOk result (λ m. Stands (D.since (disk_of m)) header.now moment front
+            × ((others : List Record) × (front ++ others ≡ saved_of m))) }
+        ensures stands_err { D.keeps disk → (moment : ℕ) (front : List Record) → moment ≤ D.moment disk →
+            Stands (D.since disk) header.now moment front →
+            IfErr result (λ refused. Stands (D.since refused.1) header.now moment front) }
+        ensures acknowledged { D.keeps disk → IfOk result (λ m.
+            Stands (D.since (disk_of m)) header.now (D.moment (disk_of m)) (saved_of m)) }
+
+        ensures three_calls { D.keeps disk → IfOk result (λ m. D.moment (disk_of m) ≡ D.moment disk + 3) }
+
+        // A fault of the file is the one that it has, and no byte was changed.
+        ensures only { IfErr result (λ refused. IsFaultOfOpening refused.0) }
+        ensures refused { D.keeps disk → IfErr result (λ refused.
+            IsOfFile refused.0 → Refuses header.now refused.0 (D.state disk).seen) }
+        ensures same_err { D.keeps disk → IfErr result (λ refused. (D.state refused.1).seen ≡ (D.state disk).seen) }
+        ensures device { IfErr result (λ refused. refused.0 ≡ JournalFault.Device → D.failures disk < D.failures refused.1) }
+        ensures failures { IfOk result (λ m. D.failures disk ≤ D.failures (disk_of m)) }
+        ensures failures_err { IfErr result (λ refused. D.failures disk ≤ D.failures refused.1) }
+        ensures kept { IfOk result (λ m. D.keeps disk ↔ D.keeps (disk_of m)) }
+        ensures kept_err { IfErr result (λ refused. D.keeps disk ↔ D.keeps refused.1) }
+    {
+        match Journal::adopt(alloc, disk, header) {
+            Ok((journal, records)) => match begin(alloc, header, &records) {
+                Ok((core, outbox)) => Ok(Member {
+                    alloc,
+                    core,
+                    journal,
+                    records,
+                    outbox,
+                    stopped: false,
+                }),
+                Err(fault) => Err((fault, journal.into_disk())),
+            },
+            Err(refused) => Err(refused),
+        }
+    }
+
+    /// Answers to a statement from the member `from`, with this toss. The records of the answer are saved, and then their
+    /// statements are in the outbox. An answer of no records makes no call of the device.
+    ///
+    /// Of all faults the first in this order: [`MemberFault::Stopped`]; [`MemberFault::NoSuchQuestion`], the statement's;
+    /// [`MemberFault::NoSuchMember`], the sender or the statement's origin. These change nothing. Then
+    /// [`MemberFault::Memory`], [`MemberFault::JournalFull`] and [`MemberFault::Device`], which stop the member; only
+    /// `Device` comes after a call of the device was made.
+    #[tactic(auto, unfolding(crate::specs::Words::disk_of, crate::specs::Words::header_of, crate::specs::Words::gate_of, crate::specs::Words::saved_of, crate::specs::Words::outbox_of, crate::specs::Words::is_stopped_of, crate::specs::Words::StandsFor))]
+    pub fn hear(&mut self, from: u8, s: &Statement, toss: Toss) -> Result<Answer, MemberFault>
+        requires sound { IsSound D.Disk self.old }
+        ensures sound { IsSound D.Disk self.new }
+
+        // It answers what the definitions say, and saves the records of its answer.
+        ensures reply { IfOk result (λ answer. IsAnswer self.old toss.0 (Hearing from s.now) (reply_of answer)) }
+        ensures stands_for { IfOk result (λ answer. StandsAfter self.old (Hearing from s.now) (reply_of answer) self.new) }
+        ensures grows { IfOk result (λ answer. saved_of self.new ≡ saved_of self.old ++ records_of (reply_of answer)) }
+        ensures few { IfOk result (λ answer. length (records_of (reply_of answer)) ≤ 99) }
+        ensures goes_on { OnOk result (is_stopped_of self.new ≡ false) }
+        ensures no_call { IfOk result (λ answer.
+            length (records_of (reply_of answer)) ≡ 0 → disk_of self.new ≡ disk_of self.old) }
+
+        // What it does is an event of the world.
+        ensures life { (header : Header) (liars : ℕ → Bool) (w : World) → IsCorrect header.size liars header.me →
+            IsAt D.Disk header w self.old → Comes w (Hearing from s.now) →
+            Lives D.Disk header liars w toss.0 (Hearing from s.now) result self.old self.new }
+
+        // What stood on the disk stands, and once it answered Ok all that it saved stands from then on.
+        ensures later { D.keeps (disk_of self.old) → D.moment (disk_of self.old) ≤ D.moment (disk_of self.new) }
+        ensures stands { D.keeps (disk_of self.old) → (moment : ℕ) (front : List Record) →
+            moment ≤ D.moment (disk_of self.old) → Stands (D.since (disk_of self.old)) (header_of self.old) moment front →
+            Stands (D.since (disk_of self.new)) (header_of self.old) moment front }
+        ensures acknowledged { D.keeps (disk_of self.old) → OnOk result (
+            Stands (D.since (disk_of self.new)) (header_of self.old) (D.moment (disk_of self.new)) (saved_of self.new)) }
+
+        // Each refusal has its cause, and leaves what was saved and handed out.
+        ensures ok { OnOk result (refusal self.old (Hearing from s.now) ≡ None) }
+        ensures err { IfErr result (λ fault. IsFaultOf (refusal self.old (Hearing from s.now)) fault) }
+        ensures refused { IfErr result (λ fault. (Stops fault → ⊥) → self.new ≡ self.old) }
+        ensures stops { IfErr result (λ fault. Stops fault → is_stopped_of self.new ≡ true) }
+        ensures same { OnErr result (saved_of self.new ≡ saved_of self.old) }
+        ensures same_disk { IsErrOf result MemberFault.Memory ⊎ IsErrOf result MemberFault.JournalFull →
+            disk_of self.new ≡ disk_of self.old }
+        ensures device { IsErrOf result MemberFault.Device →
+            D.failures (disk_of self.old) < D.failures (disk_of self.new) }
+        ensures full { IsErrOf result MemberFault.JournalFull → IsFull self.old toss.0 (Hearing from s.now) }
+        ensures room { IfOk result (λ answer. 0 < length (records_of (reply_of answer)) →
+            gate_of self.new ≡ gate_after self.old (length (records_of (reply_of answer)))) }
+        ensures within { IfOk result (λ answer. 0 < length (records_of (reply_of answer)) → gate_of self.new ≤ 2 ^ 31) }
+        ensures memory_only_at_news { IsErrOf result MemberFault.Memory →
+            (records : List Record) (heard : List (ℕ × Statement)) → StandsFor self.old records heard →
+            (is_foreign from s.now ≡ false) × (got heard from s.now.kind s.now.place ≡ None) }
+
+        ensures header { header_of self.new ≡ header_of self.old }
+        ensures failures { D.failures (disk_of self.old) ≤ D.failures (disk_of self.new) }
+        ensures kept { D.keeps (disk_of self.old) ↔ D.keeps (disk_of self.new) }
+    {
+        if self.stopped {
+            return Err(MemberFault::Stopped);
+        }
+        let _round = s.place().round();
+        let _value = s.value();
+        let answer = self.core.hear(from, s, toss);
+        self.keep(answer)
+    }
+
+    /// Answers to a bit that is proposed for the question, with this toss. The bit that was proposed first stands, in this
+    /// life or in an earlier one. The records of the answer are saved, and then their statements are in the outbox.
+    ///
+    /// Of all faults the first in this order: [`MemberFault::Stopped`]; [`MemberFault::NoSuchQuestion`]. These change
+    /// nothing. Then [`MemberFault::Memory`], [`MemberFault::JournalFull`] and [`MemberFault::Device`], which stop the
+    /// member; only `Device` comes after a call of the device was made.
+    #[tactic(auto, unfolding(crate::specs::Words::disk_of, crate::specs::Words::header_of, crate::specs::Words::gate_of, crate::specs::Words::saved_of, crate::specs::Words::outbox_of, crate::specs::Words::is_stopped_of, crate::specs::Words::StandsFor))]
+    pub fn propose(&mut self, question: u16, bit: bool, toss: Toss) -> Result<Answer, MemberFault>
+        requires sound { IsSound D.Disk self.old }
+        ensures sound { IsSound D.Disk self.new }
+
+        // It answers what the definitions say, and saves the records of its answer.
+        ensures reply { IfOk result (λ answer. IsAnswer self.old toss.0 (Proposal question bit) (reply_of answer)) }
+        ensures stands_for { IfOk result (λ answer. StandsAfter self.old (Proposal question bit) (reply_of answer) self.new) }
+        ensures grows { IfOk result (λ answer. saved_of self.new ≡ saved_of self.old ++ records_of (reply_of answer)) }
+        ensures few { IfOk result (λ answer. length (records_of (reply_of answer)) ≤ 99) }
+        ensures goes_on { OnOk result (is_stopped_of self.new ≡ false) }
+        ensures no_call { IfOk result (λ answer.
+            length (records_of (reply_of answer)) ≡ 0 → disk_of self.new ≡ disk_of self.old) }
+
+        // What it does is an event of the world.
+        ensures life { (header : Header) (liars : ℕ → Bool) (w : World) → IsCorrect header.size liars header.me →
+            IsAt D.Disk header w self.old → Comes w (Proposal question bit) →
+            Lives D.Disk header liars w toss.0 (Proposal question bit) result self.old self.new }
+
+        // What stood on the disk stands, and once it answered Ok all that it saved stands from then on.
+        ensures later { D.keeps (disk_of self.old) → D.moment (disk_of self.old) ≤ D.moment (disk_of self.new) }
+        ensures stands { D.keeps (disk_of self.old) → (moment : ℕ) (front : List Record) →
+            moment ≤ D.moment (disk_of self.old) → Stands (D.since (disk_of self.old)) (header_of self.old) moment front →
+            Stands (D.since (disk_of self.new)) (header_of self.old) moment front }
+        ensures acknowledged { D.keeps (disk_of self.old) → OnOk result (
+            Stands (D.since (disk_of self.new)) (header_of self.old) (D.moment (disk_of self.new)) (saved_of self.new)) }
+
+        // Each refusal has its cause, and leaves what was saved and handed out.
+        ensures ok { OnOk result (refusal self.old (Proposal question bit) ≡ None) }
+        ensures err { IfErr result (λ fault. IsFaultOf (refusal self.old (Proposal question bit)) fault) }
+        ensures refused { IfErr result (λ fault. (Stops fault → ⊥) → self.new ≡ self.old) }
+        ensures stops { IfErr result (λ fault. Stops fault → is_stopped_of self.new ≡ true) }
+        ensures same { OnErr result (saved_of self.new ≡ saved_of self.old) }
+        ensures same_disk { IsErrOf result MemberFault.Memory ⊎ IsErrOf result MemberFault.JournalFull →
+            disk_of self.new ≡ disk_of self.old }
+        ensures device { IsErrOf result MemberFault.Device →
+            D.failures (disk_of self.old) < D.failures (disk_of self.new) }
+        ensures full { IsErrOf result MemberFault.JournalFull → IsFull self.old toss.0 (Proposal question bit) }
+        ensures room { IfOk result (λ answer. 0 < length (records_of (reply_of answer)) →
+            gate_of self.new ≡ gate_after self.old (length (records_of (reply_of answer)))) }
+        ensures within { IfOk result (λ answer. 0 < length (records_of (reply_of answer)) → gate_of self.new ≤ 2 ^ 31) }
+        ensures memory_only_at_first { IsErrOf result MemberFault.Memory →
+            (records : List Record) (heard : List (ℕ × Statement)) → StandsFor self.old records heard →
+            said records Initial (place_of question (header_of self.old).me 1 1) ≡ None }
+
+        ensures header { header_of self.new ≡ header_of self.old }
+        ensures failures { D.failures (disk_of self.old) ≤ D.failures (disk_of self.new) }
+        ensures kept { D.keeps (disk_of self.old) ↔ D.keeps (disk_of self.new) }
+    {
+        if self.stopped {
+            return Err(MemberFault::Stopped);
+        }
+        let answer = self.core.propose(question, bit, toss);
+        self.keep(answer)
+    }
+
+    /// Stops the member: no call answers from then on. Nothing else changes.
+    #[tactic(auto, unfolding(crate::specs::Words::disk_of, crate::specs::Words::header_of, crate::specs::Words::gate_of, crate::specs::Words::saved_of, crate::specs::Words::outbox_of, crate::specs::Words::is_stopped_of, crate::specs::Words::StandsFor))]
+    pub fn stop(&mut self)
+        requires sound { IsSound D.Disk self.old }
+        ensures sound { IsSound D.Disk self.new }
+        ensures stopped { is_stopped_of self.new ≡ true }
+        ensures saved { saved_of self.new ≡ saved_of self.old }
+        ensures disk { disk_of self.new ≡ disk_of self.old }
+        ensures header { header_of self.new ≡ header_of self.old }
+        ensures gate { gate_of self.new ≡ gate_of self.old }
+        // In the world a member that is up hears nothing and goes down, with no record in doubt.
+        ensures life { (header : Header) (liars : ℕ → Bool) (w : World) → IsCorrect header.size liars header.me →
+            IsAt D.Disk header w self.old → is_stopped_of self.old ≡ false →
+            Goes D.Disk header liars w (Hears header.me [] [] false) self.new }
+    {
+        self.stopped = true;
+    }
+
+    /// Whether the member is stopped, by [`stop`](Member::stop) or by a fault.
+    #[tactic(auto, unfolding(crate::specs::Words::is_stopped_of))]
+    pub fn is_stopped(&self) -> bool
+        ensures { result ≡ is_stopped_of self.now }
+    {
+        self.stopped
+    }
+
+    /// Whose journal it is.
+    #[tactic(auto, unfolding(crate::specs::Words::header_of))]
+    pub fn header(&self) -> Header
+        ensures { result ≡ header_of self.now }
+    {
+        self.journal.header()
+    }
+
+    /// The saved records, in order. It takes no memory.
+    ///
+    /// Of a correct member they hold, over all its lives, at most one statement of a kind at a place, and at most one
+    /// decision of a question.
+    #[tactic(auto, unfolding(crate::specs::Words::saved_of))]
+    pub fn records(&self) -> &[Record]
+        ensures all { result.now ≡ saved_of self.now }
+        ensures says_once { (header : Header) (liars : ℕ → Bool) (steps : List Step) → IsReached header.size liars steps →
+            IsCorrect header.size liars header.me → IsAt D.Disk header (after_all start steps) self.now →
+            (kind : Kind) (place : Place) → sayings (saved_of self.now) kind place ≤ 1 }
+        ensures decides_once { (header : Header) (liars : ℕ → Bool) (steps : List Step) → IsReached header.size liars steps →
+            IsCorrect header.size liars header.me → IsAt D.Disk header (after_all start steps) self.now →
+            (question : ℕ) → decisions (saved_of self.now) question ≤ 1 }
+    {
+        self.records.as_slice()
+    }
+
+    /// Their statements, numbered from 0. It takes no memory.
+    #[tactic(auto, unfolding(crate::specs::Words::saved_of, crate::specs::Words::outbox_of))]
+    pub fn outbox(&self) -> &[Sealed]
+        requires { IsSound D.Disk self.now }
+        ensures { result.now ≡ sealed_from 0 (saved_of self.now) }
+    {
+        self.outbox.as_slice()
+    }
+
+    /// The bit that the question was decided for: that of the first decision among the saved records. None where there is
+    /// none, and where there is no such question. It takes no memory.
+    #[tactic(auto, unfolding(crate::specs::Words::saved_of, crate::specs::Words::header_of))]
+    pub fn verdict(&self, question: u16) -> Option<bool>
+        requires sound { IsSound D.Disk self.now }
+        ensures first { result ≡ verdict_of (saved_of self.now) question }
+        ensures asked { (header_of self.now).size.questions ≤ question → result ≡ None }
+    {
+        verdict_in(&self.records, question)
+    }
+
+    /// Its disk. The member is gone; no call of the device is made. A crash leaves what the world has of the member.
+    #[tactic(auto, unfolding(crate::specs::Words::disk_of))]
+    pub fn into_disk(self) -> D
+        ensures disk { result ≡ disk_of self }
+        ensures left { IsSound D.Disk self → (header : Header) (w : World) → IsAt D.Disk header w self →
+            IsLeft (D.state result) header (w.journal header.me) (w.doubt header.me) }
+    {
+        self.into_parts().0
+    }
+
+    /// Its disk, and what it saved.
+    #[tactic(auto, unfolding(crate::specs::Words::disk_of, crate::specs::Words::saved_of))]
+    pub fn into_parts(self) -> (D, Vec<Record>)
+        ensures disk { result.0 ≡ disk_of self }
+        ensures left { IsSound D.Disk self → (header : Header) (w : World) → IsAt D.Disk header w self →
+            IsLeft (D.state result.0) header (w.journal header.me) (w.doubt header.me) }
+        ensures records { result.1.items ≡ saved_of self }
+    {
+        let Member {
+            alloc: _,
+            core: _,
+            journal,
+            records,
+            outbox: _,
+            stopped: _,
+        } = self;
+        (journal.into_disk(), records)
+    }
+
+    /// Saves what the core answered, or stops.
+    #[tactic(auto, unfolding(crate::specs::Words::disk_of, crate::specs::Words::header_of, crate::specs::Words::gate_of, crate::specs::Words::saved_of, crate::specs::Words::outbox_of, crate::specs::Words::is_stopped_of, crate::specs::Words::StandsFor))]
+    fn keep(&mut self, answer: Result<Answer, CoreFault>) -> Result<Answer, MemberFault>
+        requires few { IfOk answer (λ a. length (records_of (reply_of a)) ≤ 99) }
+        requires well_formed { IfOk answer (λ a. AreWellFormedFor (header_of self.old) (records_of (reply_of a))) }
+        requires going { is_stopped_of self.old ≡ false }
+        requires filed { IsFiled D.Disk self.old }
+        ensures filed { IsFiled D.Disk self.new }
+        ensures answer { IfOk result (λ a. answer ≡ Ok a) }
+        ensures saved { IfOk result (λ a. saved_of self.new ≡ saved_of self.old ++ records_of (reply_of a)) }
+        ensures same { OnErr result (saved_of self.new ≡ saved_of self.old) }
+        ensures core { self.new.core ≡ self.old.core }
+        ensures header { header_of self.new ≡ header_of self.old }
+        ensures going { OnOk result (is_stopped_of self.new ≡ false) }
+        ensures any_moment { D.keeps (disk_of self.old) → IfOk answer (λ a.
+            LeavesOnly D.moment D.since (disk_of self.old) (disk_of self.new)
+            (λ file. Holds (header_of self.old) (saved_of self.old) file
+            ⊎ Holds (header_of self.old) (saved_of self.old ++ records_of (reply_of a)) file)) }
+        ensures refused { IfErr answer (λ _. disk_of self.new ≡ disk_of self.old) }
+        ensures no_call { IfOk result (λ a. length (records_of (reply_of a)) ≡ 0 → disk_of self.new ≡ disk_of self.old) }
+
+        ensures told { IfErr answer (λ fault. IsErrOf result (told fault)) }
+        ensures stopping { IfOk answer (λ _. IfErr result Stops) }
+        ensures unchanged { IfErr result (λ fault. (Stops fault → ⊥) → self.new ≡ self.old) }
+        ensures stops { IfErr result (λ fault. Stops fault → is_stopped_of self.new ≡ true) }
+        ensures same_disk { IsErrOf result MemberFault.Memory ⊎ IsErrOf result MemberFault.JournalFull →
+            disk_of self.new ≡ disk_of self.old }
+        ensures memory { IsErrOf result MemberFault.Memory → IfOk answer (λ a. 0 < length (records_of (reply_of a))) }
+        ensures full { IsErrOf result MemberFault.JournalFull →
+            (a : Answer) × (answer ≡ Ok a) × (2 ^ 31 < gate_after self.old (length (records_of (reply_of a)))) }
+        ensures room { IfOk result (λ a. 0 < length (records_of (reply_of a)) →
+            gate_of self.new ≡ gate_after self.old (length (records_of (reply_of a)))) }
+        ensures within { IfOk result (λ a. 0 < length (records_of (reply_of a)) → gate_of self.new ≤ 2 ^ 31) }
+
+        ensures device { IsErrOf result MemberFault.Device →
+            D.failures (disk_of self.old) < D.failures (disk_of self.new) }
+        ensures failures { D.failures (disk_of self.old) ≤ D.failures (disk_of self.new) }
+        ensures kept { D.keeps (disk_of self.old) ↔ D.keeps (disk_of self.new) }
+    {
+        let fault = match answer {
+            Ok(answer) => {
+                match save(
+                    self.alloc,
+                    &mut self.journal,
+                    &mut self.records,
+                    &mut self.outbox,
+                    records_in(&answer),
+                ) {
+                    Ok(()) => return Ok(answer),
+                    Err(JournalFault::Device) => MemberFault::Device,
+                    Err(JournalFault::Full) => MemberFault::JournalFull,
+                    Err(_) => MemberFault::Memory,
+                }
+            }
+            Err(CoreFault::NoSuchQuestion) => return Err(MemberFault::NoSuchQuestion),
+            Err(CoreFault::NoSuchMember) => return Err(MemberFault::NoSuchMember),
+            Err(_) => MemberFault::Memory,
+        };
+        self.stopped = true;
+        Err(fault)
+    }
+}
+
+impl Member<MemDisk> {
+    ghost use Rattle.member.specs.Memory.{memory_disk};
+
+    /// Sets the fuse of its disk, and changes nothing else: the next calls of the device pass, as many as this, and all
+    /// after them fail. None takes the fuse out. This is no call of the device, and takes no memory.
+    #[tactic(auto, unfolding(crate::specs::Words::disk_of, crate::specs::Words::header_of, crate::specs::Words::gate_of, crate::specs::Words::saved_of, crate::specs::Words::outbox_of, crate::specs::Words::is_stopped_of, crate::specs::Words::StandsFor))]
+    pub fn fuse(&mut self, calls: Option<u64>)
+        requires sound { IsSound memory_disk self.old }
+        ensures sound { IsSound memory_disk self.new }
+        ensures stands_for { (records : List Record) (heard : List (ℕ × Statement)) →
+            StandsFor self.old records heard → StandsFor self.new records heard }
+        ensures life { (header : Header) (w : World) → IsAt memory_disk header w self.old → IsAt memory_disk header w self.new }
+        ensures disk { disk_of self.new ≡ with_fuse (disk_of self.old) calls }
+        ensures saved { saved_of self.new ≡ saved_of self.old }
+        ensures header { header_of self.new ≡ header_of self.old }
+        ensures gate { gate_of self.new ≡ gate_of self.old }
+        ensures stopped { is_stopped_of self.new ≡ is_stopped_of self.old }
+    {
+        self.journal.fuse(calls);
+    }
+}
+
+// The bit of the first decision of the question among the records.
+fn verdict_in(records: &[Record], question: u16) -> Option<bool>
+    ensures { result ≡ verdict_of records.now question }
+{
+    for noted in records {
+        if let Record::Decided {
+            question: of,
+            bit,
+            ..
+        } = *noted
+            && of == question
+        {
+            return Some(bit);
+        }
+    }
+    None
+}
+
+// The records of the answer.
+fn records_in(answer: &Answer) -> &[Record]
+    ensures { result.now ≡ records_of (reply_of answer.now) }
+{
+    match answer {
+        Answer::Taken(records) => records.as_slice(),
+        _ => &[],
+    }
+}
+
+// The core of these records, and the outbox of their statements.
+fn begin(
+    alloc: Global,
+    header: &Header,
+    records: &[Record],
+) -> Result<(Core, Vec<Sealed>), JournalFault>
+    ensures knows { IfOk result (λ begun. Knows begun.0 records.now []) }
+    ensures size { IfOk result (λ begun. size_of begun.0 ≡ header.now.size) }
+    ensures me { IfOk result (λ begun. me_of begun.0 ≡ header.now.me) }
+    ensures outbox { IfOk result (λ begun. begun.1.items ≡ sealed_from 0 records.now) }
+    ensures lawful { OnOk result (IsSize header.now.size) }
+    ensures asked { OnOk result (records_fault header.now.size records.now ≡ None) }
+    ensures memory { IfErr result (λ fault. records_fault header.now.size records.now ≡ None → fault ≡ JournalFault.Memory) }
+    ensures only { IfErr result (λ fault. (fault ≡ JournalFault.Memory) ⊎ (fault ≡ JournalFault.BadRecord)) }
+{
+    let _members = header.size().n();
+    match Core::new(alloc, header.size(), header.me(), records) {
+        Ok(core) => Ok((core, seal(alloc, 0, records)?)),
+        Err(CoreFault::Memory) => Err(JournalFault::Memory),
+        Err(_) => Err(JournalFault::BadRecord),
+    }
+}

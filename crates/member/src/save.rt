@@ -1,0 +1,68 @@
+//! Saving a batch.
+ghost use Rattle.std.specs.Prelude.{◌≡◌, ◌⊎◌, ◌↔◌, ℕ, ◌+◌, ◌*◌, ◌^◌, ◌<◌, ◌≤◌, false, List, ◌++◌, length, IsErr, IsErrOf, IfErr, OnOk, OnErr};
+ghost use Rattle.disk.specs.Model.{LeavesOnly};
+ghost use Rattle.terms.specs.declared.Header.{Header};
+ghost use Rattle.journal.specs.File.{Holds};
+ghost use Rattle.journal.specs.Faults.{IsFaultOfAppend};
+ghost use Rattle.journal.specs.WellFormed.{AreWellFormedFor};
+ghost use Rattle.journal.specs.Words.{disk_by, header_by, gate_by, is_stopped, IsSettled};
+ghost use Rattle.member.specs.Sealed.{sealed_from};
+
+use crate::Sealed;
+use crate::sealed::seal;
+use disk::Disk;
+use journal::{Journal, JournalFault};
+use std::alloc::Global;
+use terms::Record;
+
+/// Adds the batch to the journal, and then its records and statements to these. All room is made before the first call of
+/// the device. An empty batch makes none, and takes no memory.
+pub(crate) fn save<D: Disk>(
+    alloc: Global,
+    journal: &mut Journal<D>,
+    records: &mut Vec<Record>,
+    outbox: &mut Vec<Sealed>,
+    batch: &[Record],
+) -> Result<(), JournalFault>
+    requires few { length batch.now ≤ 99 }
+    requires running { is_stopped journal.old ≡ false }
+    requires well_formed { AreWellFormedFor (header_by journal.old) batch.now }
+    requires settled { D.keeps (disk_by journal.old) → IsSettled D.state (header_by journal.old) records.old.items journal.old }
+    requires sealed { outbox.old.items ≡ sealed_from 0 records.old.items }
+
+    ensures records { OnOk result (records.new.items ≡ records.old.items ++ batch.now) }
+    ensures same { OnErr result (records.new.items ≡ records.old.items) }
+    ensures sealed { outbox.new.items ≡ sealed_from 0 records.new.items }
+    ensures same_outbox { OnErr result (outbox.new.items ≡ outbox.old.items) }
+    ensures running { OnOk result (is_stopped journal.new ≡ false) }
+    ensures settled { D.keeps (disk_by journal.old) →
+        OnOk result (IsSettled D.state (header_by journal.old) (records.old.items ++ batch.now) journal.new) }
+    ensures any_moment { D.keeps (disk_by journal.old) → LeavesOnly D.moment D.since (disk_by journal.old) (disk_by journal.new)
+        (λ file. Holds (header_by journal.old) records.old.items file
+        ⊎ Holds (header_by journal.old) (records.old.items ++ batch.now) file) }
+    ensures gate { 0 < length batch.now → OnOk result (gate_by journal.new ≡ gate_by journal.old + 3 + 7 * length batch.now) }
+
+    ensures nothing { length batch.now ≡ 0 → OnOk result (journal.new ≡ journal.old) }
+    ensures some { IfErr result (λ _. 0 < length batch.now) }
+    ensures full { IsErrOf result JournalFault.Full → 2 ^ 31 < gate_by journal.old + 3 + 7 * length batch.now }
+    ensures room { 0 < length batch.now → OnOk result (gate_by journal.old + 3 + 7 * length batch.now ≤ 2 ^ 31) }
+    ensures device { IsErrOf result JournalFault.Device → D.failures (disk_by journal.old) < D.failures (disk_by journal.new) }
+    ensures not_stopped { IsErrOf result JournalFault.Stopped → ⊥ }
+    ensures only { IfErr result IsFaultOfAppend }
+    ensures same_journal { (IsErrOf result JournalFault.Device → ⊥) → IsErr result → journal.new ≡ journal.old }
+
+    ensures header { header_by journal.new ≡ header_by journal.old }
+    ensures later { D.failures (disk_by journal.old) ≤ D.failures (disk_by journal.new) }
+    ensures kept { D.keeps (disk_by journal.old) ↔ D.keeps (disk_by journal.new) }
+{
+    if batch.is_empty() {
+        return Ok(());
+    }
+    records.reserve(batch.len())?;
+    outbox.reserve(batch.len())?;
+    let sealed = seal(alloc, outbox.len(), batch)?;
+    journal.append(batch)?;
+    let _ = records.extend_from_slice(batch);
+    let _ = outbox.extend_from_slice(&sealed);
+    Ok(())
+}

@@ -1,0 +1,249 @@
+//! Worked rows over a disk in memory. Under `rt try --test --fail-alloc N` a member that is refused memory is to answer so
+//! and then to be stopped; its test ends there.
+ghost use Rattle.std.specs.Prelude.{IfOk};
+ghost use Rattle.member.specs.Memory.{memory_disk};
+ghost use Rattle.member.specs.Sound.{IsSound};
+
+use super::*;
+use disk::{Disk, MemDisk, Pick};
+use journal::JournalFault;
+use questions::Answer;
+use rounds::Toss;
+use std::process::Abort;
+use std::test::Fail;
+use terms::Kind::{Echo, Initial, Ready};
+use terms::Value::{One, SureOne, Zero};
+use terms::{Header, Kind, Place, Record, Size, Statement, Value};
+
+/// The header of the member `me` of the cluster 7, of `n` members of whom `t` may lie, with one question.
+fn header(n: u8, t: u8, me: u8) -> Result<Header, Fail> {
+    Ok(Header::new(7, Size::new(n, t, 1)?, me).ok_or("a header")?)
+}
+
+/// A statement at question 0, origin 0, and this round and step.
+fn at(kind: Kind, round: u8, step: u8, value: Value) -> Result<Statement, Fail> {
+    let place = Place::new(0, 0, round, step).ok_or("a place")?;
+    Ok(Statement::new(kind, place, value).ok_or("a value of the step")?)
+}
+
+/// A statement at the place of most rows.
+fn of(kind: Kind, value: Value) -> Result<Statement, Fail> {
+    at(kind, 1, 1, value)
+}
+
+/// A member on a new disk.
+fn start(rt: &impl AllocGlobal, header: &Header) -> Result<Member<MemDisk>, Fail>
+    ensures { IfOk result (λ m. IsSound memory_disk m) }
+{
+    let mut disk = MemDisk::new(rt.alloc());
+    journal::create(&mut disk, header)?;
+    Ok(Member::open(rt.alloc(), disk, header)?)
+}
+
+/// Whether these records are answered.
+fn takes(answer: &Answer, records: &[Record]) -> bool {
+    matches!(answer, Answer::Taken(taken) if taken.as_slice() == records)
+}
+
+/// Whether it hands out these statements, numbered from 0.
+fn hands_out(member: &Member<MemDisk>, statements: &[Statement]) -> bool
+    requires { IsSound memory_disk member.now }
+{
+    let outbox = member.outbox();
+    outbox.len() == statements.len()
+        && outbox.iter().zip(statements).enumerate().all(|(number, (sealed, said))| {
+            sealed.number() == number as u64 && sealed.statement() == *said
+        })
+}
+
+/// The answer to a statement. One that is refused memory has made no call of the device, and stops the member.
+fn hear(
+    rt: &impl Abort,
+    member: &mut Member<MemDisk>,
+    from: u8,
+    said: &Statement,
+) -> Result<Answer, Fail>
+    requires { IsSound memory_disk member.old }
+    ensures { IsSound memory_disk member.new }
+{
+    let answer = member.hear(from, said, Toss(0));
+    if answer == Err(MemberFault::Memory) {
+        assert!(rt; member.is_stopped());
+        assert!(rt; member.hear(from, said, Toss(0)) == Err(MemberFault::Stopped));
+    }
+    Ok(answer?)
+}
+
+#[test]
+fn an_initial_is_echoed_once(rt: HostRuntime) -> Result<(), Fail> {
+    let mut member = start(&rt, &header(4, 1, 1)?)?;
+    let answer = hear(&rt, &mut member, 0, &of(Initial, One)?)?;
+    assert!(rt; takes(&answer, &[Record::Said(of(Echo, One)?)]));
+    assert!(rt; hands_out(&member, &[of(Echo, One)?]));
+    let again = hear(&rt, &mut member, 0, &of(Initial, One)?)?;
+    assert!(rt; again == Answer::Repeat);
+    Ok(())
+}
+
+/// The member 1 hears the Initial One from 0 where so many calls of the device pass, and is opened again on its disk with no
+/// crash. Gives it, after it was answered `Device`, was stopped and handed nothing out.
+fn reopened(rt: &(impl AllocGlobal + Abort), calls: u64) -> Result<Member<MemDisk>, Fail>
+    ensures { IfOk result (λ m. IsSound memory_disk m) }
+{
+    let header = header(4, 1, 1)?;
+    let mut member = start(rt, &header)?;
+    member.fuse(Some(calls));
+    let answer = member.hear(0, &of(Initial, One)?, Toss(0));
+    assert!(rt; hands_out(&member, &[]));
+    assert!(rt; member.hear(0, &of(Initial, One)?, Toss(0)) == Err(MemberFault::Stopped));
+    assert!(rt; member.propose(0, true, Toss(0)) == Err(MemberFault::Stopped));
+    if answer != Err(MemberFault::Device) {
+        answer?;
+        return Err(Fail::from("an answer where the device failed"));
+    }
+    member.fuse(None);
+    Ok(Member::open(rt.alloc(), member.into_disk(), &header)?)
+}
+
+/// The same where only the last sync fails. A disk that is refused memory fails in an earlier call: then once more.
+fn reopened_with_its_batch(rt: &(impl AllocGlobal + Abort)) -> Result<Member<MemDisk>, Fail>
+    ensures { IfOk result (λ m. IsSound memory_disk m) }
+{
+    let member = reopened(rt, 3)?;
+    if hands_out(&member, &[of(Echo, One)?]) {
+        return Ok(member);
+    }
+    Ok(reopened(rt, 3)?)
+}
+
+#[test]
+fn a_batch_that_failed_in_its_first_write_is_gone(rt: HostRuntime) -> Result<(), Fail> {
+    let mut member = reopened(&rt, 1)?;
+    assert!(rt; hands_out(&member, &[]));
+    let answer = hear(&rt, &mut member, 0, &of(Initial, Zero)?)?;
+    assert!(rt; takes(&answer, &[Record::Said(of(Echo, Zero)?)]));
+    Ok(())
+}
+
+#[test]
+fn a_batch_that_failed_in_its_last_sync_is_kept(rt: HostRuntime) -> Result<(), Fail> {
+    let mut member = reopened_with_its_batch(&rt)?;
+    assert!(rt; hands_out(&member, &[of(Echo, One)?]));
+    let answer = hear(&rt, &mut member, 0, &of(Initial, Zero)?)?;
+    assert!(rt; takes(&answer, &[]));
+    assert!(rt; hands_out(&member, &[of(Echo, One)?]));
+    Ok(())
+}
+
+#[test]
+fn a_single_member_settles_its_question(rt: HostRuntime) -> Result<(), Fail> {
+    let mut member = start(&rt, &header(1, 0, 0)?)?;
+    let answer = member.propose(0, true, Toss(0))?;
+    assert!(rt; takes(&answer, &[Record::Said(of(Initial, One)?)]));
+    assert!(rt; member.propose(0, false, Toss(0)) == Ok(Answer::Have(true)));
+    let decided = Record::Decided {
+        question: 0,
+        round: 1,
+        bit: true,
+    };
+    let next = Record::Said(at(Initial, 2, 1, One)?);
+    for number in 0..18 {
+        let Some(sealed) = member.outbox().get(number) else {
+            return Err(Fail::from("a statement of that number"));
+        };
+        let said = sealed.statement();
+        let answer = hear(&rt, &mut member, 0, &said)?;
+        match number {
+            8 => {
+                assert!(rt; said == at(Ready, 1, 3, SureOne)?);
+                assert!(rt; takes(&answer, &[decided, next]));
+            }
+            17 => assert!(rt; takes(&answer, &[])),
+            _ => assert!(rt; !takes(&answer, &[])),
+        }
+    }
+    assert!(rt; member.outbox().len() == 18);
+    assert!(rt; member.records().len() == 19);
+    assert!(rt; member.verdict(0) == Some(true));
+    assert!(rt; member.into_disk().len() == Ok(212));
+    Ok(())
+}
+
+#[test]
+fn what_was_said_is_not_said_again(rt: HostRuntime) -> Result<(), Fail> {
+    let header = header(4, 1, 1)?;
+    let mut member = start(&rt, &header)?;
+    let said = [of(Echo, One)?, of(Ready, One)?];
+    let ready = of(Ready, One)?;
+    assert!(rt; takes(&hear(&rt, &mut member, 0, &ready)?, &[]));
+    let answer = hear(&rt, &mut member, 2, &ready)?;
+    assert!(rt; takes(&answer, &[Record::Said(said[0]), Record::Said(said[1])]));
+    assert!(rt; takes(&hear(&rt, &mut member, 3, &ready)?, &[]));
+
+    let (disk, records) = member.into_parts();
+    assert!(rt; records.len() == 2);
+    let mut member = match Member::adopt(rt.alloc(), disk.crash(Pick::Lost)?, &header) {
+        Ok(member) => member,
+        Err((fault, _)) => return Err(Fail::from(fault)),
+    };
+    assert!(rt; takes(&hear(&rt, &mut member, 3, &of(Ready, Zero)?)?, &[]));
+    assert!(rt; takes(&hear(&rt, &mut member, 0, &ready)?, &[]));
+    assert!(rt; takes(&hear(&rt, &mut member, 2, &ready)?, &[]));
+    assert!(rt; takes(&hear(&rt, &mut member, 1, &ready)?, &[]));
+    assert!(rt; hands_out(&member, &said));
+    Ok(())
+}
+
+/// Whether an opening was refused so, where memory wasn't.
+fn is_refused(answered: Option<JournalFault>, wanted: JournalFault) -> Result<bool, Fail> {
+    match answered {
+        Some(fault @ (JournalFault::Memory | JournalFault::Device)) => Err(Fail::from(fault)),
+        other => Ok(other == Some(wanted)),
+    }
+}
+
+#[test]
+fn refusals(rt: HostRuntime) -> Result<(), Fail> {
+    let header = header(4, 1, 1)?;
+    let mut member = start(&rt, &header)?;
+    assert!(rt; member.header() == header);
+    let elsewhere = Place::new(1, 0, 1, 1).ok_or("a place")?;
+    let other = Statement::new(Initial, elsewhere, One).ok_or("a statement")?;
+    assert!(rt; member.hear(0, &other, Toss(0)) == Err(MemberFault::NoSuchQuestion));
+    assert!(rt; member.hear(4, &of(Initial, One)?, Toss(0)) == Err(MemberFault::NoSuchMember));
+    assert!(rt; member.hear(3, &of(Initial, One)?, Toss(0)) == Ok(Answer::Foreign));
+    assert!(rt; member.propose(1, true, Toss(0)) == Err(MemberFault::NoSuchQuestion));
+    assert!(rt; member.verdict(0).is_none() && member.verdict(1).is_none());
+    assert!(rt; member.records().is_empty() && !member.is_stopped());
+    member.stop();
+    assert!(rt; member.is_stopped());
+    assert!(rt; member.hear(4, &other, Toss(0)) == Err(MemberFault::Stopped));
+
+    let another = Header::new(8, header.size(), 1).ok_or("a header")?;
+    let opened = Member::open(rt.alloc(), member.into_disk(), &another);
+    assert!(rt; is_refused(opened.err(), JournalFault::OtherHeader)?);
+    let opened = Member::adopt(rt.alloc(), MemDisk::new(rt.alloc()), &header);
+    assert!(rt;
+        is_refused(
+            opened.err().map(|(fault, _)| fault),
+            JournalFault::BadHeader
+        )?
+    );
+    Ok(())
+}
+
+#[test]
+fn the_text_of_a_fault_is_its_name(rt: HostRuntime) -> Result<(), Fail> {
+    let names = [
+        (MemberFault::Stopped, "Stopped"),
+        (MemberFault::Device, "Device"),
+        (MemberFault::Memory, "Memory"),
+        (MemberFault::JournalFull, "JournalFull"),
+        (MemberFault::NoSuchQuestion, "NoSuchQuestion"),
+        (MemberFault::NoSuchMember, "NoSuchMember"),
+    ];
+    for (fault, name) in names {
+        assert_eq!(rt; format!(in rt.alloc(); "{fault}")?.as_str(), name);
+    }
+    Ok(())
+}
