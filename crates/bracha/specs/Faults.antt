@@ -1,7 +1,67 @@
--- Which faults a command has from its streams and from memory.
+-- Which faults a command ends with.
 use Rattle.std.specs.Prelude.{◌≡◌, ◌⊎◌}
 use Rattle.bracha.specs.declared.fault.Fault.{Fault}
 use Rattle.bracha.specs.declared.fault.Fault.TheVariants as fault
+use Rattle.bracha.specs.declared.settings.SettingsFault.{SettingsFault}
+use Rattle.bracha.specs.declared.settings.SettingsFault.TheVariants.{Text, Key, Size, Memory as SettingsMemory}
+use Rattle.journal.specs.Faults.{IsFaultOfCreate, IsFaultOfOpening}
+use Rattle.journal.specs.declared.fault.JournalFault.{JournalFault}
+use Rattle.journal.specs.declared.fault.JournalFault.TheVariants as unheld
 
 abbrev pub IsOfStream : Fault → Type 0
 IsOfStream ends = (ends ≡ fault.Memory) ⊎ (ends ≡ fault.Stream)
+
+-- the fault of a command that reads the settings
+abbrev pub of_settings : SettingsFault → Fault
+of_settings Text = fault.SettingsText
+of_settings (Key key) = fault.Setting key
+of_settings (Size size) = fault.Size size
+of_settings SettingsMemory = fault.Memory
+
+-- and of one that has to do with a journal
+abbrev pub of_journal : JournalFault → Fault
+of_journal unheld.Memory = fault.Memory
+of_journal unheld.NotEmpty = fault.Journal unheld.NotEmpty
+of_journal unheld.BadHeader = fault.Journal unheld.BadHeader
+of_journal unheld.OtherHeader = fault.Journal unheld.OtherHeader
+of_journal unheld.BadRecord = fault.Journal unheld.BadRecord
+of_journal unheld.CutShort = fault.Journal unheld.CutShort
+of_journal unheld.Device = fault.Journal unheld.Device
+of_journal unheld.Stopped = fault.Journal unheld.Stopped
+of_journal unheld.Full = fault.Journal unheld.Full
+
+-- memory, the streams, a line or the member
+abbrev pub IsOfHear : Fault → Type 0
+IsOfHear fault.Me = Unit {0}
+IsOfHear (fault.Line number) = Unit {0}
+IsOfHear fault.Stream = Unit {0}
+IsOfHear fault.Memory = Unit {0}
+IsOfHear (fault.Size size) = ⊥
+IsOfHear fault.File = ⊥
+IsOfHear fault.SettingsText = ⊥
+IsOfHear (fault.Setting key) = ⊥
+IsOfHear (fault.Journal why) = ⊥
+
+-- the file isn't empty, or the disk failed
+abbrev pub IsOfInit : Fault → Type 0
+IsOfInit fault.Me = ⊥
+IsOfInit (fault.Line number) = ⊥
+IsOfInit fault.Stream = ⊥
+IsOfInit fault.Memory = ⊥
+IsOfInit (fault.Size size) = ⊥
+IsOfInit fault.File = ⊥
+IsOfInit fault.SettingsText = ⊥
+IsOfInit (fault.Setting key) = ⊥
+IsOfInit (fault.Journal why) = IsFaultOfCreate why
+
+-- memory, the streams, or what is wrong with a journal that is only read
+abbrev pub IsOfDump : Fault → Type 0
+IsOfDump fault.Me = ⊥
+IsOfDump (fault.Line number) = ⊥
+IsOfDump fault.Stream = Unit {0}
+IsOfDump fault.Memory = Unit {0}
+IsOfDump (fault.Size size) = ⊥
+IsOfDump fault.File = ⊥
+IsOfDump fault.SettingsText = ⊥
+IsOfDump (fault.Setting key) = ⊥
+IsOfDump (fault.Journal why) = IsFaultOfOpening why

@@ -11,13 +11,21 @@ use terms::{Size, SizeFault};
 
 /// What the program is asked to do.
 #[derive(Clone, Copy, Debug, PartialEq, Eq)]
-pub enum Task {
+pub enum Task<'a> {
     /// Reads pieces of streams and prints the broadcasts' answers, as member `me` of a cluster of that size.
     Hear {
         n: u16,
         t: u16,
         questions: u16,
         me: u8,
+    },
+    /// Makes the journal that the settings in this file name.
+    Init {
+        settings: &'a str,
+    },
+    /// Prints the journal in this file.
+    Dump {
+        journal: &'a str,
     },
 }
 
@@ -72,17 +80,56 @@ fn hear<'a>(alloc: Global) -> Result<clap::Command<'a>, Error> {
     Ok(command.arg(me.value_parser(value_parser!(u8)))?)
 }
 
+/// A command with one word, the path of a file.
+fn with_path<'a>(
+    alloc: Global,
+    name: &'a str,
+    about: &'a str,
+    id: &'a str,
+    value: &'a str,
+    help: &'a str,
+) -> Result<clap::Command<'a>, Error> {
+    let path = Arg::new(alloc, id)
+        .value_name(value)
+        .required(true)
+        .help(help);
+    Ok(clap::Command::new(alloc, name).about(about).arg(path)?)
+}
+
+fn init<'a>(alloc: Global) -> Result<clap::Command<'a>, Error> {
+    let about = "Makes the journal of a member, with no records";
+    let help = "The file of the member's settings, which names the journal";
+    with_path(alloc, "init", about, "settings", "SETTINGS", help)
+}
+
+fn dump<'a>(alloc: Global) -> Result<clap::Command<'a>, Error> {
+    let about = "Prints whose journal it is, and its records";
+    with_path(
+        alloc,
+        "dump",
+        about,
+        "journal",
+        "JOURNAL",
+        "The file of the journal",
+    )
+}
+
 fn program<'a>(alloc: Global) -> Result<clap::Command<'a>, Error> {
     let program = clap::Command::new(alloc, "bracha")
         .version("0.1.0")
         .about("A cluster that settles yes-or-no questions while some of its members lie")
         .subcommand_required(true)
         .arg_required_else_help(true);
-    Ok(program.subcommand(hear(alloc)?)?)
+    Ok(
+        program
+            .subcommand(hear(alloc)?)?
+            .subcommand(init(alloc)?)?
+            .subcommand(dump(alloc)?)?,
+    )
 }
 
 /// The values of `hear`'s options, each of which the parser has demanded.
-fn hear_of(options: &ArgMatches) -> Option<Task> {
+fn hear_of<'a>(options: &ArgMatches<'a>) -> Option<Task<'a>> {
     Some(Task::Hear {
         n: options.get_one::<u16>("n")?,
         t: options.get_one::<u16>("t")?,
@@ -91,12 +138,28 @@ fn hear_of(options: &ArgMatches) -> Option<Task> {
     })
 }
 
+/// The task of the command that was given, each of whose values the parser has demanded.
+fn task_of<'a>(matches: &ArgMatches<'a>) -> Option<Task<'a>> {
+    if let Some(options) = matches.subcommand_matches("hear") {
+        hear_of(options)
+    } else if let Some(options) = matches.subcommand_matches("init") {
+        Some(Task::Init {
+            settings: options.get_str("settings")?,
+        })
+    } else {
+        let options = matches.subcommand_matches("dump")?;
+        Some(Task::Dump {
+            journal: options.get_str("journal")?,
+        })
+    }
+}
+
 /// The task that the words ask for, the program's name first among them. An `Err` is to be printed: it is a fault of
 /// the words, the help or the version.
-pub fn command<'a, S: AsStr>(alloc: Global, words: &'a [S]) -> Result<Task, Error> {
+pub fn command<'a, S: AsStr>(alloc: Global, words: &'a [S]) -> Result<Task<'a>, Error> {
     let mut program = program(alloc)?;
     let matches = program.try_get_matches_from_mut(words)?;
-    match matches.subcommand_matches("hear").and_then(hear_of) {
+    match task_of(&matches) {
         Some(task) => Ok(task),
         None => Err(program.error(ErrorKind::MissingSubcommand, "no command")?),
     }

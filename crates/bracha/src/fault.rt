@@ -3,6 +3,8 @@
 ghost use Rattle.std.specs.Prelude.{◌≡◌, ◌⊎◌};
 ghost use Rattle.bracha.specs.declared.fault.Fault.TheVariants as fault;
 
+use crate::settings::{Key, SettingsFault};
+use journal::JournalFault;
 use std::alloc::{AllocError, AllocFailed};
 use std::io;
 use terms::{Memory, SizeFault};
@@ -24,14 +26,65 @@ pub enum Fault {
     /// A read of the input or a write of the output failed.
     #[error("stream")]
     Stream,
+    /// A file couldn't be opened or read.
+    #[error("file")]
+    File,
+    /// The settings aren't TOML.
+    #[error("settings text")]
+    SettingsText,
+    /// A key of the settings is missing, or its value is of another type, out of its range or doesn't fit the others.
+    #[error("settings {0}")]
+    Setting(Key),
+    /// The journal couldn't be made, opened or read.
+    #[error("journal {0}")]
+    Journal(JournalFault),
     /// Memory was refused.
     #[error("memory")]
     Memory,
 }
 
+impl Fault {
+    /// The fault of a file that couldn't be opened or read: [`Fault::File`], but for want of memory.
+    pub fn of_file(error: io::Error) -> Fault {
+        if error.kind() == io::ErrorKind::OutOfMemory {
+            Fault::Memory
+        } else {
+            Fault::File
+        }
+    }
+}
+
 impl From<SizeFault> for Fault {
     fn from(fault: SizeFault) -> Fault {
         Fault::Size(fault)
+    }
+}
+
+impl From<SettingsFault> for Fault {
+    ghost use Rattle.bracha.specs.Faults.{of_settings};
+
+    ghost from_gives = { λ fault ends. ends ≡ of_settings fault };
+
+    fn from(fault: SettingsFault) -> Fault {
+        match fault {
+            SettingsFault::Text => Fault::SettingsText,
+            SettingsFault::Key(key) => Fault::Setting(key),
+            SettingsFault::Size(size) => Fault::Size(size),
+            SettingsFault::Memory => Fault::Memory,
+        }
+    }
+}
+
+impl From<JournalFault> for Fault {
+    ghost use Rattle.bracha.specs.Faults.{of_journal};
+
+    ghost from_gives = { λ fault ends. ends ≡ of_journal fault };
+
+    fn from(fault: JournalFault) -> Fault {
+        match fault {
+            JournalFault::Memory => Fault::Memory,
+            other => Fault::Journal(other),
+        }
     }
 }
 
@@ -44,12 +97,16 @@ impl From<Memory> for Fault {
 }
 
 impl From<AllocError> for Fault {
+    ghost from_gives = { λ _ ends. ends ≡ fault.Memory };
+
     fn from(_refused: AllocError) -> Fault {
         Fault::Memory
     }
 }
 
 impl<T: Drop> From<AllocFailed<T>> for Fault {
+    ghost from_gives = { λ _ ends. ends ≡ fault.Memory };
+
     fn from(_refused: AllocFailed<T>) -> Fault {
         Fault::Memory
     }

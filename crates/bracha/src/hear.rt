@@ -1,10 +1,10 @@
 //! The command `hear`: pieces of streams in, broadcast answers out.
 
-ghost use Rattle.std.specs.Prelude.{ℕ, List, ◌≡◌, ◌≢◌, ◌≤◌, ◌↔◌, ◌∷◌, ◌++◌, [], IfOk, None, Some};
-ghost use Rattle.std.specs.Io.KnownBytes.{Appends, Keeps};
-ghost use Rattle.terms.specs.declared.SizeFault.{SizeFault};
+ghost use Rattle.std.specs.Prelude.{ℕ, List, ◌≡◌, ◌≤◌, ◌↔◌, ◌∷◌, ◌++◌, [], IfOk, IfErr, None, Some};
+ghost use Rattle.std.specs.Io.KnownBytes.{Keeps};
+ghost use Rattle.bracha.specs.Faults.{IsOfHear};
 ghost use Rattle.bracha.specs.Pieces.{NoEnd};
-ghost use Rattle.bracha.specs.Hears.{Hears, Writes};
+ghost use Rattle.bracha.specs.Hears.{Writes};
 
 use crate::fault::Fault;
 use crate::session::Session;
@@ -43,7 +43,7 @@ pub fn hear_lines<R: BufRead, W: Write>(
     ensures line { (number : ℕ) → result ≡ Err (Fault.Line number) →
         Writes size me (R.remaining input.old) (Some number) (W.contents output.old) (W.contents output.new) }
     ensures me { (result ≡ Err Fault.Me) ↔ (size.n ≤ me) }
-    ensures no_size_fault { (fault : SizeFault) → result ≢ Err (Fault.Size fault) }
+    ensures only { IfErr result IsOfHear }
     ensures none { result ≡ Err Fault.Me → Keeps (W.contents output.old) (W.contents output.new) }
 {
     if me >= size.n() {

@@ -1,33 +1,63 @@
 //! The program `bracha`: reads its words, does the command's work, and prints what is wrong.
 #![tactic(auto)]
 
+mod address;
 mod command;
+mod dump;
+mod entries;
 mod fault;
 mod hear;
+mod init;
 mod piece;
 mod session;
+mod settings;
 
 use clap::error::ErrorKind;
 use command::{Task, command, size_from};
+use disk::FileDisk;
+use dump::dump_lines;
 use fault::Fault;
-use std::env;
+use hear::hear_lines;
+use init::init_disk;
+use settings::Settings;
 use std::io::{self, LineWriter};
 use std::process::ExitCode;
+use std::{env, fs};
+use terms::Size;
+
+/// Reads lines from the standard input, and answers them.
+fn hear_input(rt: &HostRuntime, size: Size, me: u8) -> Result<u8, Fault> {
+    let mut input = rt.reader();
+    let mut output = LineWriter::new(rt.alloc(), io::writer(rt))?;
+    hear_lines(rt.alloc(), size, me, &mut input, &mut output)
+}
+
+/// Makes the journal that the settings in the file name.
+fn init_file(rt: &HostRuntime, path: &str) -> Result<u8, Fault> {
+    let bytes = fs::read(rt, path).map_err(Fault::of_file)?;
+    let text = str::from_utf8(&bytes).map_err(|_| Fault::SettingsText)?;
+    let settings = Settings::parse(rt.alloc(), text)?;
+    let mut disk = FileDisk::open(rt, settings.journal.as_str(), true).map_err(Fault::of_file)?;
+    init_disk(&mut disk, &settings)
+}
+
+/// Prints the journal in the file.
+fn dump_file(rt: &HostRuntime, path: &str) -> Result<u8, Fault> {
+    let disk = FileDisk::open(rt, path, false).map_err(Fault::of_file)?;
+    dump_lines(rt.alloc(), disk, &mut io::writer(rt))
+}
 
 /// Does the task, and gives the status to end with.
-fn work(rt: &HostRuntime, task: &Task) -> Result<u8, Fault> {
+fn work(rt: &HostRuntime, task: Task) -> Result<u8, Fault> {
     match task {
         Task::Hear {
             n,
             t,
             questions,
             me,
-        } => {
-            let size = size_from(*n, *t, *questions)?;
-            let mut input = rt.reader();
-            let mut output = LineWriter::new(rt.alloc(), io::writer(rt))?;
-            hear::hear_lines(rt.alloc(), size, *me, &mut input, &mut output)
-        }
+        } => hear_input(rt, size_from(n, t, questions)?, me),
+        Task::Init { settings } => init_file(rt, settings),
+        Task::Dump { journal } => dump_file(rt, journal),
     }
 }
 
@@ -35,7 +65,7 @@ fn work(rt: &HostRuntime, task: &Task) -> Result<u8, Fault> {
 fn run(rt: &HostRuntime) -> Result<u8, Fault> {
     let words: Vec<String> = env::args(rt)?.collect(rt.alloc())?;
     match command(rt.alloc(), words.as_slice()) {
-        Ok(task) => work(rt, &task),
+        Ok(task) => work(rt, task),
         Err(error) if error.kind() == ErrorKind::OutOfMemory => Err(Fault::Memory),
         Err(error) => {
             error.print(rt)?;

@@ -2,6 +2,8 @@
 
 use super::*;
 use crate::hear::hear_lines;
+use crate::settings::{Key, SettingsFault};
+use journal::JournalFault;
 use std::io::{BufRead, Read, Write};
 use std::test::Fail;
 use terms::{Size, SizeFault};
@@ -206,8 +208,29 @@ fn reads_the_words(rt: HostRuntime) -> Result<(), Fail> {
         me: 3,
     };
     assert!(rt; task == want);
+    for (words, want) in [
+        (
+            ["bracha", "init", "a.toml"],
+            Task::Init { settings: "a.toml" },
+        ),
+        (
+            ["bracha", "dump", "x.journal"],
+            Task::Dump {
+                journal: "x.journal",
+            },
+        ),
+    ] {
+        let task = command(rt.alloc(), words.as_slice()).ok().ok_or("a task")?;
+        assert!(rt; task == want, "at {words:?}");
+    }
     for (words, status) in [
         (["bracha", "--help"].as_slice(), 0),
+        (["bracha", "init", "--help"].as_slice(), 0),
+        (["bracha", "dump", "--help"].as_slice(), 0),
+        (["bracha", "init"].as_slice(), 2),
+        (["bracha", "dump"].as_slice(), 2),
+        (["bracha", "init", "a.toml", "b.toml"].as_slice(), 2),
+        (["bracha", "dump", "--journal", "x"].as_slice(), 2),
         (["bracha", "--version"].as_slice(), 0),
         (["bracha", "hear", "--help"].as_slice(), 0),
         (["bracha"].as_slice(), 2),
@@ -277,6 +300,18 @@ fn faults_print_so(rt: HostRuntime) -> Result<(), Fail> {
         (Fault::Me, "me"),
         (Fault::Line(7), "line 7"),
         (Fault::Stream, "stream"),
+        (Fault::File, "file"),
+        (Fault::SettingsText, "settings text"),
+        (Fault::Setting(Key::Cluster), "settings cluster"),
+        (Fault::Journal(JournalFault::NotEmpty), "journal NotEmpty"),
+        (Fault::from(JournalFault::Memory), "memory"),
+        (Fault::from(SettingsFault::Text), "settings text"),
+        (Fault::from(SettingsFault::Key(Key::N)), "settings n"),
+        (
+            Fault::from(SettingsFault::Size(SizeFault::NoMembers)),
+            "size NoMembers",
+        ),
+        (Fault::from(SettingsFault::Memory), "memory"),
         (Fault::Memory, "memory"),
     ] {
         let text = format!(in rt.alloc(); "{fault}")?;
