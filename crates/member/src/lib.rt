@@ -10,6 +10,7 @@ pub mod laws;
 mod member;
 mod save;
 mod sealed;
+mod state;
 #[cfg(test)]
 mod tests;
 

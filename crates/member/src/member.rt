@@ -1,17 +1,14 @@
 //! A member over its journal.
-ghost use Rattle.std.specs.Prelude.{◌≡◌, ◌⊎◌, ◌↔◌, ◌+◌, ◌*◌, ◌^◌, ◌<◌, ◌≤◌, ℕ, Bool, true, false, Option, Some, None, List, [], ◌∷◌, ◌++◌, length, Ok, IsOk, IsErr, IsErrOf, IfOk, IfErr, OnOk, OnErr};
+ghost use Rattle.std.specs.Prelude.{◌≡◌, ◌⊎◌, ◌↔◌, ◌+◌, ◌^◌, ◌<◌, ◌≤◌, ℕ, Bool, true, false, Option, None, List, [], ◌++◌, length, Ok, IsErrOf, IfOk, IfErr, OnOk, OnErr};
 ghost use Rattle.terms.specs.declared.Record.{Record};
 ghost use Rattle.terms.specs.declared.Statement.{Statement};
 ghost use Rattle.terms.specs.Heard.{got, is_foreign};
-ghost use Rattle.terms.specs.Journal.{said, sayings, decisions};
-ghost use Rattle.terms.specs.declared.Kind.{Kind};
-ghost use Rattle.terms.specs.declared.Place.{Place};
+ghost use Rattle.terms.specs.Journal.{said};
 ghost use Rattle.terms.specs.Reply.{records_of};
 ghost use Rattle.terms.specs.Reply.Event.{Hearing, Proposal};
 ghost use Rattle.terms.specs.Same.{place_of};
 ghost use Rattle.terms.specs.declared.Kind.TheVariants.{Initial};
-ghost use Rattle.disk.specs.Model.{MayLeave, LeavesOnly, at_rest};
-ghost use Rattle.disk.specs.Memory.{with_fuse};
+ghost use Rattle.disk.specs.Model.{LeavesOnly};
 ghost use Rattle.journal.specs.Faults.{IsOfFile, IsFaultOfOpening};
 ghost use Rattle.journal.specs.File.{Holds, Refuses};
 ghost use Rattle.journal.specs.WellFormed.{AreWellFormedFor};
@@ -20,11 +17,11 @@ ghost use Rattle.questions.specs.Faults.{records_fault};
 ghost use Rattle.terms.specs.Bounds.{IsSize};
 ghost use Rattle.questions.specs.Replies.{reply_of};
 ghost use Rattle.questions.specs.declared.answer.Answer.{Answer};
-ghost use Rattle.world.specs.World.{World, Step, IsCorrect, start, after_all};
-ghost use Rattle.world.specs.World.Step.{Hears, Restart};
-ghost use Rattle.member.specs.Answers.{IsAnswer, StandsAfter, IsFull, gate_after, verdict_of};
+ghost use Rattle.world.specs.World.{World, IsCorrect, start};
+ghost use Rattle.world.specs.World.Step.{Restart};
+ghost use Rattle.member.specs.Answers.{IsAnswer, StandsAfter, IsFull, gate_after};
 ghost use Rattle.member.specs.Faults.{refusal, told, IsFaultOf, Stops};
-ghost use Rattle.member.specs.Life.{IsReached, IsAt, Goes, Lives, Comes};
+ghost use Rattle.member.specs.Life.{IsAt, Goes, Lives, Comes};
 ghost use Rattle.member.specs.Sealed.{sealed_from};
 ghost use Rattle.member.specs.Sound.{IsSound, IsFiled};
 ghost use Rattle.member.specs.Stands.{Stands, IsLeft};
@@ -33,7 +30,7 @@ ghost use Rattle.member.specs.Words.{disk_of, header_of, gate_of, saved_of, outb
 use crate::fault::MemberFault;
 use crate::save::save;
 use crate::sealed::{Sealed, seal};
-use disk::{Disk, MemDisk};
+use disk::Disk;
 use journal::{Journal, JournalFault};
 use questions::{Answer, Core, CoreFault};
 use rounds::Toss;
@@ -45,12 +42,12 @@ use terms::{Header, Record, Statement};
 /// It is of its last life alone: what it heard before it was opened is forgotten, and what it saved is not.
 #[derive(Drop)]
 pub struct Member<D: Disk> {
-    alloc: Global,
-    core: Core,
-    journal: Journal<D>,
-    records: Vec<Record>,
-    outbox: Vec<Sealed>,
-    stopped: bool,
+    pub(crate) alloc: Global,
+    pub(crate) core: Core,
+    pub(crate) journal: Journal<D>,
+    pub(crate) records: Vec<Record>,
+    pub(crate) outbox: Vec<Sealed>,
+    pub(crate) stopped: bool,
 }
 
 impl<D: Disk> Member<D> {
@@ -282,111 +279,11 @@ impl<D: Disk> Member<D> {
         ensures failures { D.failures (disk_of self.old) ≤ D.failures (disk_of self.new) }
         ensures kept { D.keeps (disk_of self.old) ↔ D.keeps (disk_of self.new) }
     {
-        if self.stopped {
+        if self.is_stopped() {
             return Err(MemberFault::Stopped);
         }
         let answer = self.core.propose(question, bit, toss);
         self.keep(answer)
-    }
-
-    /// Stops the member: no call answers from then on. Nothing else changes.
-    #[tactic(auto, unfolding(crate::specs::Words::disk_of, crate::specs::Words::header_of, crate::specs::Words::gate_of, crate::specs::Words::saved_of, crate::specs::Words::outbox_of, crate::specs::Words::is_stopped_of, crate::specs::Words::StandsFor))]
-    pub fn stop(&mut self)
-        requires sound { IsSound D.Disk self.old }
-        ensures sound { IsSound D.Disk self.new }
-        ensures stopped { is_stopped_of self.new ≡ true }
-        ensures saved { saved_of self.new ≡ saved_of self.old }
-        ensures disk { disk_of self.new ≡ disk_of self.old }
-        ensures header { header_of self.new ≡ header_of self.old }
-        ensures gate { gate_of self.new ≡ gate_of self.old }
-        // In the world a member that is up hears nothing and goes down, with no record in doubt.
-        ensures life { (header : Header) (liars : ℕ → Bool) (w : World) → IsCorrect header.size liars header.me →
-            IsAt D.Disk header w self.old → is_stopped_of self.old ≡ false →
-            Goes D.Disk header liars w (Hears header.me [] [] false) self.new }
-    {
-        self.stopped = true;
-    }
-
-    /// Whether the member is stopped, by [`stop`](Member::stop) or by a fault.
-    #[tactic(auto, unfolding(crate::specs::Words::is_stopped_of))]
-    pub fn is_stopped(&self) -> bool
-        ensures { result ≡ is_stopped_of self.now }
-    {
-        self.stopped
-    }
-
-    /// Whose journal it is.
-    #[tactic(auto, unfolding(crate::specs::Words::header_of))]
-    pub fn header(&self) -> Header
-        ensures { result ≡ header_of self.now }
-    {
-        self.journal.header()
-    }
-
-    /// The saved records, in order. It takes no memory.
-    ///
-    /// Of a correct member they hold, over all its lives, at most one statement of a kind at a place, and at most one
-    /// decision of a question.
-    #[tactic(auto, unfolding(crate::specs::Words::saved_of))]
-    pub fn records(&self) -> &[Record]
-        ensures all { result.now ≡ saved_of self.now }
-        ensures says_once { (header : Header) (liars : ℕ → Bool) (steps : List Step) → IsReached header.size liars steps →
-            IsCorrect header.size liars header.me → IsAt D.Disk header (after_all start steps) self.now →
-            (kind : Kind) (place : Place) → sayings (saved_of self.now) kind place ≤ 1 }
-        ensures decides_once { (header : Header) (liars : ℕ → Bool) (steps : List Step) → IsReached header.size liars steps →
-            IsCorrect header.size liars header.me → IsAt D.Disk header (after_all start steps) self.now →
-            (question : ℕ) → decisions (saved_of self.now) question ≤ 1 }
-    {
-        self.records.as_slice()
-    }
-
-    /// Their statements, numbered from 0. It takes no memory.
-    #[tactic(auto, unfolding(crate::specs::Words::saved_of, crate::specs::Words::outbox_of))]
-    pub fn outbox(&self) -> &[Sealed]
-        requires { IsSound D.Disk self.now }
-        ensures { result.now ≡ sealed_from 0 (saved_of self.now) }
-    {
-        self.outbox.as_slice()
-    }
-
-    /// The bit that the question was decided for: that of the first decision among the saved records. None where there is
-    /// none, and where there is no such question. It takes no memory.
-    #[tactic(auto, unfolding(crate::specs::Words::saved_of, crate::specs::Words::header_of))]
-    pub fn verdict(&self, question: u16) -> Option<bool>
-        requires sound { IsSound D.Disk self.now }
-        ensures first { result ≡ verdict_of (saved_of self.now) question }
-        ensures asked { (header_of self.now).size.questions ≤ question → result ≡ None }
-    {
-        verdict_in(&self.records, question)
-    }
-
-    /// Its disk. The member is gone; no call of the device is made. A crash leaves what the world has of the member.
-    #[tactic(auto, unfolding(crate::specs::Words::disk_of))]
-    pub fn into_disk(self) -> D
-        ensures disk { result ≡ disk_of self }
-        ensures left { IsSound D.Disk self → (header : Header) (w : World) → IsAt D.Disk header w self →
-            IsLeft (D.state result) header (w.journal header.me) (w.doubt header.me) }
-    {
-        self.into_parts().0
-    }
-
-    /// Its disk, and what it saved.
-    #[tactic(auto, unfolding(crate::specs::Words::disk_of, crate::specs::Words::saved_of))]
-    pub fn into_parts(self) -> (D, Vec<Record>)
-        ensures disk { result.0 ≡ disk_of self }
-        ensures left { IsSound D.Disk self → (header : Header) (w : World) → IsAt D.Disk header w self →
-            IsLeft (D.state result.0) header (w.journal header.me) (w.doubt header.me) }
-        ensures records { result.1.items ≡ saved_of self }
-    {
-        let Member {
-            alloc: _,
-            core: _,
-            journal,
-            records,
-            outbox: _,
-            stopped: _,
-        } = self;
-        (journal.into_disk(), records)
     }
 
     /// Saves what the core answered, or stops.
@@ -450,46 +347,6 @@ impl<D: Disk> Member<D> {
         self.stopped = true;
         Err(fault)
     }
-}
-
-impl Member<MemDisk> {
-    ghost use Rattle.member.specs.Memory.{memory_disk};
-
-    /// Sets the fuse of its disk, and changes nothing else: the next calls of the device pass, as many as this, and all
-    /// after them fail. None takes the fuse out. This is no call of the device, and takes no memory.
-    #[tactic(auto, unfolding(crate::specs::Words::disk_of, crate::specs::Words::header_of, crate::specs::Words::gate_of, crate::specs::Words::saved_of, crate::specs::Words::outbox_of, crate::specs::Words::is_stopped_of, crate::specs::Words::StandsFor))]
-    pub fn fuse(&mut self, calls: Option<u64>)
-        requires sound { IsSound memory_disk self.old }
-        ensures sound { IsSound memory_disk self.new }
-        ensures stands_for { (records : List Record) (heard : List (ℕ × Statement)) →
-            StandsFor self.old records heard → StandsFor self.new records heard }
-        ensures life { (header : Header) (w : World) → IsAt memory_disk header w self.old → IsAt memory_disk header w self.new }
-        ensures disk { disk_of self.new ≡ with_fuse (disk_of self.old) calls }
-        ensures saved { saved_of self.new ≡ saved_of self.old }
-        ensures header { header_of self.new ≡ header_of self.old }
-        ensures gate { gate_of self.new ≡ gate_of self.old }
-        ensures stopped { is_stopped_of self.new ≡ is_stopped_of self.old }
-    {
-        self.journal.fuse(calls);
-    }
-}
-
-// The bit of the first decision of the question among the records.
-fn verdict_in(records: &[Record], question: u16) -> Option<bool>
-    ensures { result ≡ verdict_of records.now question }
-{
-    for noted in records {
-        if let Record::Decided {
-            question: of,
-            bit,
-            ..
-        } = *noted
-            && of == question
-        {
-            return Some(bit);
-        }
-    }
-    None
 }
 
 // The records of the answer.

@@ -1,4 +1,4 @@
-use Rattle.std.proofs.Common.{[]}
+use Rattle.std.proofs.Common.{sym, ◌∙◌, []}
 use Rattle.terms.specs.Reply.Event.{Proposal}
 use Rattle.member.specs.Words.{disk_of, header_of, gate_of, saved_of, is_stopped_of}
 use Rattle.member.proofs.Calls.{Called, Kept, well_formed, sounds, replies, stands_for, fulls, news}
@@ -42,53 +42,53 @@ pub keep-requires-clause-well_formed : goal.keep-requires-clause-well_formed
 unfolding header_of is_stopped_of
 keep-requires-clause-well_formed g c =
     let k = c.propose-answer.ensures in
-    well_formed g.D.Disk c.args.toss.0 (Proposal c.args.question c.args.bit) c.args.self.now c.propose-answer.new.self c.propose-answer.result c.requires.sound c.if-self.false
+    well_formed g.D.Disk c.args.toss.0 (Proposal c.args.question c.args.bit) c.args.self.now c.propose-answer.new.self c.propose-answer.result c.requires.sound (sym c.is_stopped.ensures ∙ c.if-is_stopped.false)
     (record { ok = k.ok; reply = k.reply; knows = k.knows; err = k.err; refused = k.refused; news = k.memory_only_at_first; size = k.size; me = k.me }) (there_is (header_of c.args.self.now).size c.args.question [])
 
 pub returns-clause-sound : goal.returns-clause-sound
 unfolding is_stopped_of
 returns-clause-sound g c =
-    sounds g.D.Disk c.args.toss.0 (Proposal c.args.question c.args.bit) c.args.self.now c.propose-answer.new.self c.propose-answer.result c.requires.sound c.if-self.false (called g c) (there_is (header_of c.args.self.now).size c.args.question [])
+    sounds g.D.Disk c.args.toss.0 (Proposal c.args.question c.args.bit) c.args.self.now c.propose-answer.new.self c.propose-answer.result c.requires.sound (sym c.is_stopped.ensures ∙ c.if-is_stopped.false) (called g c) (there_is (header_of c.args.self.now).size c.args.question [])
     c.keep.new.self c.keep.result (kept g c)
 
 pub returns-clause-reply : goal.returns-clause-reply
 unfolding is_stopped_of
 returns-clause-reply g c =
-    replies g.D.Disk c.args.toss.0 (Proposal c.args.question c.args.bit) c.args.self.now c.propose-answer.new.self c.propose-answer.result c.requires.sound c.if-self.false (called g c) (there_is (header_of c.args.self.now).size c.args.question [])
+    replies g.D.Disk c.args.toss.0 (Proposal c.args.question c.args.bit) c.args.self.now c.propose-answer.new.self c.propose-answer.result c.requires.sound (sym c.is_stopped.ensures ∙ c.if-is_stopped.false) (called g c) (there_is (header_of c.args.self.now).size c.args.question [])
     c.keep.new.self c.keep.result (kept g c)
 
 pub returns-clause-stands_for : goal.returns-clause-stands_for
 unfolding is_stopped_of
 returns-clause-stands_for g c =
-    stands_for g.D.Disk c.args.toss.0 (Proposal c.args.question c.args.bit) c.args.self.now c.propose-answer.new.self c.propose-answer.result c.requires.sound c.if-self.false (called g c) (there_is (header_of c.args.self.now).size c.args.question [])
+    stands_for g.D.Disk c.args.toss.0 (Proposal c.args.question c.args.bit) c.args.self.now c.propose-answer.new.self c.propose-answer.result c.requires.sound (sym c.is_stopped.ensures ∙ c.if-is_stopped.false) (called g c) (there_is (header_of c.args.self.now).size c.args.question [])
     c.keep.new.self c.keep.result (kept g c)
 
 pub returns-clause-life : goal.returns-clause-life
 unfolding is_stopped_of
 returns-clause-life g c header liars w correct at comes =
     lives g.D.Disk g.met.D.Disk.counts_now g.met.D.Disk.only_now g.met.D.Disk.may_leave_seen c.args.toss.0 (Proposal c.args.question c.args.bit) c.args.self.now c.propose-answer.new.self c.propose-answer.result
-    c.requires.sound c.if-self.false (called g c) (there_is (header_of c.args.self.now).size c.args.question []) c.keep.new.self c.keep.result (kept g c) header liars w correct at comes
+    c.requires.sound (sym c.is_stopped.ensures ∙ c.if-is_stopped.false) (called g c) (there_is (header_of c.args.self.now).size c.args.question []) c.keep.new.self c.keep.result (kept g c) header liars w correct at comes
 
 pub returns-clause-stands : goal.returns-clause-stands
 unfolding is_stopped_of
 returns-clause-stands g c =
     standing g.D.Disk g.met.D.Disk.counts_now g.met.D.Disk.only_now g.met.D.Disk.may_leave_seen c.args.toss.0 (Proposal c.args.question c.args.bit) c.args.self.now c.propose-answer.new.self c.propose-answer.result
-    c.requires.sound c.if-self.false (called g c) (there_is (header_of c.args.self.now).size c.args.question []) c.keep.new.self c.keep.result (kept g c)
+    c.requires.sound (sym c.is_stopped.ensures ∙ c.if-is_stopped.false) (called g c) (there_is (header_of c.args.self.now).size c.args.question []) c.keep.new.self c.keep.result (kept g c)
 
 pub returns-clause-acknowledged : goal.returns-clause-acknowledged
 unfolding is_stopped_of
 returns-clause-acknowledged g c =
     acknowledged g.D.Disk g.met.D.Disk.counts_now g.met.D.Disk.only_now g.met.D.Disk.may_leave_seen c.args.toss.0 (Proposal c.args.question c.args.bit) c.args.self.now c.propose-answer.new.self c.propose-answer.result
-    c.requires.sound c.if-self.false (called g c) (there_is (header_of c.args.self.now).size c.args.question []) c.keep.new.self c.keep.result (kept g c)
+    c.requires.sound (sym c.is_stopped.ensures ∙ c.if-is_stopped.false) (called g c) (there_is (header_of c.args.self.now).size c.args.question []) c.keep.new.self c.keep.result (kept g c)
 
 pub returns-clause-full : goal.returns-clause-full
 unfolding is_stopped_of
 returns-clause-full g c =
-    fulls g.D.Disk c.args.toss.0 (Proposal c.args.question c.args.bit) c.args.self.now c.propose-answer.new.self c.propose-answer.result c.requires.sound c.if-self.false (called g c) (there_is (header_of c.args.self.now).size c.args.question [])
+    fulls g.D.Disk c.args.toss.0 (Proposal c.args.question c.args.bit) c.args.self.now c.propose-answer.new.self c.propose-answer.result c.requires.sound (sym c.is_stopped.ensures ∙ c.if-is_stopped.false) (called g c) (there_is (header_of c.args.self.now).size c.args.question [])
     c.keep.new.self c.keep.result (kept g c)
 
 pub returns-clause-memory_only_at_first : goal.returns-clause-memory_only_at_first
 unfolding is_stopped_of
 returns-clause-memory_only_at_first g c =
-    news g.D.Disk c.args.toss.0 (Proposal c.args.question c.args.bit) c.args.self.now c.propose-answer.new.self c.propose-answer.result c.requires.sound c.if-self.false (called g c) (there_is (header_of c.args.self.now).size c.args.question [])
+    news g.D.Disk c.args.toss.0 (Proposal c.args.question c.args.bit) c.args.self.now c.propose-answer.new.self c.propose-answer.result c.requires.sound (sym c.is_stopped.ensures ∙ c.if-is_stopped.false) (called g c) (there_is (header_of c.args.self.now).size c.args.question [])
     c.keep.new.self c.keep.result (kept g c)
