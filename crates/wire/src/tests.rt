@@ -4,6 +4,7 @@
 //! on with the same call again.
 
 use super::*;
+use std::alloc::AllocGlobal;
 use std::process::Abort;
 use std::test::Fail;
 use terms::{Kind, Place, Size, Statement, Value};
@@ -87,43 +88,39 @@ fn encodes(rt: HostRuntime) -> Result<(), Fail> {
     Ok(())
 }
 
-/// A hello of cluster 7 from 0 to 1, a welcome to statement 1, and an idle, with their frames.
-fn greetings() -> Result<[(Message, &'static [u8]); 3], Fail> {
+/// The message has that frame, and is read from it however it is cut.
+fn is_spelled(
+    rt: &(impl AllocGlobal + Abort),
+    message: &Message,
+    frame: &[u8],
+) -> Result<(), Fail> {
+    let mut bytes = Vec::new(rt.alloc());
+    encode_again(rt, message, &mut bytes)?;
+    assert!(rt; bytes.as_slice() == frame);
+    for cut in 0..=frame.len() {
+        let mut feeder = Feeder::new(size()?);
+        let mut out = Vec::new(rt.alloc());
+        assert!(rt; feed(rt, &mut feeder, &frame[..cut], &mut out)? == Fed::More);
+        assert_eq!(rt; out.len() == 1, cut == frame.len(), "cut at {cut}");
+        assert!(rt; feed(rt, &mut feeder, &frame[cut..], &mut out)? == Fed::More);
+        assert_eq!(rt; out.as_slice(), [*message].as_slice(), "cut at {cut}");
+    }
+    Ok(())
+}
+
+#[test]
+fn greets(rt: HostRuntime) -> Result<(), Fail> {
     let hello = Message::Hello {
         cluster: 7,
         size: size()?,
         from: 0,
         to: 1,
     };
-    Ok([
-        (
-            hello,
-            &[0, 16, 1, 1, 0, 0, 0, 0, 0, 0, 0, 7, 4, 1, 0, 1, 0, 1],
-        ),
-        (
-            Message::Welcome { next: 1 },
-            &[0, 9, 2, 0, 0, 0, 0, 0, 0, 0, 1],
-        ),
-        (Message::Idle, &[0, 1, 0]),
-    ])
-}
-
-#[test]
-fn greets(rt: HostRuntime) -> Result<(), Fail> {
-    for (message, frame) in greetings()? {
-        let mut bytes = Vec::new(rt.alloc());
-        encode_again(&rt, &message, &mut bytes)?;
-        assert_eq!(rt; bytes.as_slice(), frame);
-        for cut in 0..=frame.len() {
-            let mut feeder = Feeder::new(size()?);
-            let mut out = Vec::new(rt.alloc());
-            assert!(rt; feed(&rt, &mut feeder, &frame[..cut], &mut out)? == Fed::More);
-            assert_eq!(rt; out.len() == 1, cut == frame.len(), "cut at {cut}");
-            assert!(rt; feed(&rt, &mut feeder, &frame[cut..], &mut out)? == Fed::More);
-            assert_eq!(rt; out.as_slice(), [message].as_slice(), "cut at {cut}");
-        }
-    }
-    Ok(())
+    let frame = [0, 16, 1, 1, 0, 0, 0, 0, 0, 0, 0, 7, 4, 1, 0, 1, 0, 1];
+    is_spelled(&rt, &hello, &frame)?;
+    let frame = [0, 9, 2, 0, 0, 0, 0, 0, 0, 0, 1];
+    is_spelled(&rt, &Message::Welcome { next: 1 }, &frame)?;
+    is_spelled(&rt, &Message::Idle, &[0, 1, 0])
 }
 
 #[test]
