@@ -45,7 +45,9 @@ pub enum Fault {
 
 impl Fault {
     /// The fault of a file that couldn't be opened or read: [`Fault::File`], but for want of memory.
-    pub fn of_file(error: io::Error) -> Fault {
+    pub fn of_file(error: io::Error) -> Fault
+        ensures { (result ≡ Fault.Memory) ⊎ (result ≡ Fault.File) }
+    {
         if error.kind() == io::ErrorKind::OutOfMemory {
             Fault::Memory
         } else {
