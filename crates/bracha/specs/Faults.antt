@@ -7,6 +7,10 @@ use Rattle.bracha.specs.declared.settings.SettingsFault.TheVariants.{Text, Key, 
 use Rattle.journal.specs.Faults.{IsFaultOfCreate, IsFaultOfOpening}
 use Rattle.journal.specs.declared.fault.JournalFault.{JournalFault}
 use Rattle.journal.specs.declared.fault.JournalFault.TheVariants as unheld
+use Rattle.script.specs.declared.fault.ScriptFault.{ScriptFault}
+use Rattle.script.specs.declared.fault.ScriptFault.TheVariants as unread
+use Rattle.sim.specs.declared.faults.SimFault.{SimFault}
+use Rattle.sim.specs.declared.faults.SimFault.TheVariants as unrun
 
 abbrev pub IsOfStream : Fault → Type 0
 IsOfStream ends = (ends ≡ fault.Memory) ⊎ (ends ≡ fault.Stream)
@@ -39,6 +43,8 @@ IsOfHear fault.Memory = Unit {0}
 IsOfHear (fault.Size size) = ⊥
 IsOfHear fault.File = ⊥
 IsOfHear fault.SettingsText = ⊥
+IsOfHear fault.Events = ⊥
+IsOfHear (fault.Sim why) = ⊥
 IsOfHear (fault.Setting key) = ⊥
 IsOfHear (fault.Journal why) = ⊥
 
@@ -51,6 +57,8 @@ IsOfInit fault.Memory = ⊥
 IsOfInit (fault.Size size) = ⊥
 IsOfInit fault.File = ⊥
 IsOfInit fault.SettingsText = ⊥
+IsOfInit fault.Events = ⊥
+IsOfInit (fault.Sim why) = ⊥
 IsOfInit (fault.Setting key) = ⊥
 IsOfInit (fault.Journal why) = IsFaultOfCreate why
 
@@ -63,5 +71,36 @@ IsOfDump fault.Memory = Unit {0}
 IsOfDump (fault.Size size) = ⊥
 IsOfDump fault.File = ⊥
 IsOfDump fault.SettingsText = ⊥
+IsOfDump fault.Events = ⊥
+IsOfDump (fault.Sim why) = ⊥
 IsOfDump (fault.Setting key) = ⊥
 IsOfDump (fault.Journal why) = IsFaultOfOpening why
+
+-- the fault of a text that is no script
+abbrev pub of_script : ScriptFault → Fault
+of_script (unread.Line number) = fault.Line number
+of_script unread.Events = fault.Events
+of_script (unread.Size size) = fault.Size size
+of_script unread.Memory = fault.Memory
+
+-- and of a script that can't be run
+abbrev pub of_sim : SimFault → Fault
+of_sim unrun.BadLiars = fault.Sim unrun.BadLiars
+of_sim unrun.BadDisks = fault.Sim unrun.BadDisks
+of_sim unrun.Device = fault.Sim unrun.Device
+of_sim unrun.Memory = fault.Memory
+of_sim unrun.Full = fault.Sim unrun.Full
+
+-- memory, the output, or what is wrong with a script
+abbrev pub IsOfSimulate : Fault → Type 0
+IsOfSimulate fault.Me = ⊥
+IsOfSimulate (fault.Line number) = Unit {0}
+IsOfSimulate fault.Stream = Unit {0}
+IsOfSimulate fault.Memory = Unit {0}
+IsOfSimulate (fault.Size size) = Unit {0}
+IsOfSimulate fault.File = ⊥
+IsOfSimulate fault.SettingsText = ⊥
+IsOfSimulate fault.Events = Unit {0}
+IsOfSimulate (fault.Sim why) = Unit {0}
+IsOfSimulate (fault.Setting key) = ⊥
+IsOfSimulate (fault.Journal why) = ⊥

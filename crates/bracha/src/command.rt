@@ -23,6 +23,10 @@ pub enum Task<'a> {
     Init {
         settings: &'a str,
     },
+    /// Runs the script in this file.
+    Simulate {
+        script: &'a str,
+    },
     /// Prints the journal in this file.
     Dump {
         journal: &'a str,
@@ -114,6 +118,17 @@ fn dump<'a>(alloc: Global) -> Result<clap::Command<'a>, Error> {
     )
 }
 
+fn simulate<'a>(alloc: Global) -> Result<clap::Command<'a>, Error> {
+    with_path(
+        alloc,
+        "simulate",
+        "Runs a script of a whole cluster in memory, and prints what was decided",
+        "script",
+        "SCRIPT",
+        "The file of the script",
+    )
+}
+
 fn program<'a>(alloc: Global) -> Result<clap::Command<'a>, Error> {
     let program = clap::Command::new(alloc, "bracha")
         .version("0.1.0")
@@ -124,7 +139,8 @@ fn program<'a>(alloc: Global) -> Result<clap::Command<'a>, Error> {
         program
             .subcommand(hear(alloc)?)?
             .subcommand(init(alloc)?)?
-            .subcommand(dump(alloc)?)?,
+            .subcommand(dump(alloc)?)?
+            .subcommand(simulate(alloc)?)?,
     )
 }
 
@@ -146,10 +162,14 @@ fn task_of<'a>(matches: &ArgMatches<'a>) -> Option<Task<'a>> {
         Some(Task::Init {
             settings: options.get_str("settings")?,
         })
-    } else {
-        let options = matches.subcommand_matches("dump")?;
+    } else if let Some(options) = matches.subcommand_matches("dump") {
         Some(Task::Dump {
             journal: options.get_str("journal")?,
+        })
+    } else {
+        let options = matches.subcommand_matches("simulate")?;
+        Some(Task::Simulate {
+            script: options.get_str("script")?,
         })
     }
 }

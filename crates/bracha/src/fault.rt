@@ -5,6 +5,8 @@ ghost use Rattle.bracha.specs.declared.fault.Fault.TheVariants as fault;
 
 use crate::settings::{Key, SettingsFault};
 use journal::JournalFault;
+use script::ScriptFault;
+use sim::SimFault;
 use std::alloc::{AllocError, AllocFailed};
 use std::io;
 use terms::{Memory, SizeFault};
@@ -38,6 +40,12 @@ pub enum Fault {
     /// The journal couldn't be made, opened or read.
     #[error("journal {0}")]
     Journal(JournalFault),
+    /// A script has too many events.
+    #[error("events")]
+    Events,
+    /// A script can't be run.
+    #[error("sim {0}")]
+    Sim(SimFault),
     /// Memory was refused.
     #[error("memory")]
     Memory,
@@ -86,6 +94,34 @@ impl From<JournalFault> for Fault {
         match fault {
             JournalFault::Memory => Fault::Memory,
             other => Fault::Journal(other),
+        }
+    }
+}
+
+impl From<ScriptFault> for Fault {
+    ghost use Rattle.bracha.specs.Faults.{of_script};
+
+    ghost from_gives = { λ fault ends. ends ≡ of_script fault };
+
+    fn from(fault: ScriptFault) -> Fault {
+        match fault {
+            ScriptFault::Line(number) => Fault::Line(number),
+            ScriptFault::Events => Fault::Events,
+            ScriptFault::Size(size) => Fault::Size(size),
+            ScriptFault::Memory => Fault::Memory,
+        }
+    }
+}
+
+impl From<SimFault> for Fault {
+    ghost use Rattle.bracha.specs.Faults.{of_sim};
+
+    ghost from_gives = { λ fault ends. ends ≡ of_sim fault };
+
+    fn from(fault: SimFault) -> Fault {
+        match fault {
+            SimFault::Memory => Fault::Memory,
+            other => Fault::Sim(other),
         }
     }
 }

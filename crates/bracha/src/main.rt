@@ -11,6 +11,7 @@ mod init;
 mod piece;
 mod session;
 mod settings;
+mod simulate;
 
 use clap::error::ErrorKind;
 use command::{Task, command, size_from};
@@ -20,6 +21,7 @@ use fault::Fault;
 use hear::hear_lines;
 use init::init_disk;
 use settings::Settings;
+use simulate::simulate_text;
 use std::io::{self, LineWriter};
 use std::process::ExitCode;
 use std::{env, fs};
@@ -47,6 +49,12 @@ fn dump_file(rt: &HostRuntime, path: &str) -> Result<u8, Fault> {
     dump_lines(rt.alloc(), disk, &mut io::writer(rt))
 }
 
+/// Runs the script in the file.
+fn simulate_file(rt: &HostRuntime, path: &str) -> Result<u8, Fault> {
+    let text = fs::read(rt, path).map_err(Fault::of_file)?;
+    simulate_text(rt.alloc(), &text, &mut io::writer(rt))
+}
+
 /// Does the task, and gives the status to end with.
 fn work(rt: &HostRuntime, task: Task) -> Result<u8, Fault> {
     match task {
@@ -58,6 +66,7 @@ fn work(rt: &HostRuntime, task: Task) -> Result<u8, Fault> {
         } => hear_input(rt, size_from(n, t, questions)?, me),
         Task::Init { settings } => init_file(rt, settings),
         Task::Dump { journal } => dump_file(rt, journal),
+        Task::Simulate { script } => simulate_file(rt, script),
     }
 }
 

@@ -4,6 +4,8 @@ use super::*;
 use crate::hear::hear_lines;
 use crate::settings::{Key, SettingsFault};
 use journal::JournalFault;
+use script::ScriptFault;
+use sim::SimFault;
 use std::io::{BufRead, Read, Write};
 use std::test::Fail;
 use terms::{Size, SizeFault};
@@ -219,6 +221,10 @@ fn reads_the_words(rt: HostRuntime) -> Result<(), Fail> {
                 journal: "x.journal",
             },
         ),
+        (
+            ["bracha", "simulate", "a.script"],
+            Task::Simulate { script: "a.script" },
+        ),
     ] {
         let task = command(rt.alloc(), words.as_slice()).ok().ok_or("a task")?;
         assert!(rt; task == want, "at {words:?}");
@@ -305,6 +311,12 @@ fn faults_print_so(rt: HostRuntime) -> Result<(), Fail> {
         (Fault::Setting(Key::Cluster), "settings cluster"),
         (Fault::Journal(JournalFault::NotEmpty), "journal NotEmpty"),
         (Fault::from(JournalFault::Memory), "memory"),
+        (Fault::Events, "events"),
+        (Fault::Sim(SimFault::BadLiars), "sim BadLiars"),
+        (Fault::from(SimFault::Memory), "memory"),
+        (Fault::from(ScriptFault::Line(3)), "line 3"),
+        (Fault::from(ScriptFault::Events), "events"),
+        (Fault::from(ScriptFault::Memory), "memory"),
         (Fault::from(SettingsFault::Text), "settings text"),
         (Fault::from(SettingsFault::Key(Key::N)), "settings n"),
         (

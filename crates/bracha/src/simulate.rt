@@ -1,0 +1,106 @@
+//! The command `simulate`: a script's cluster, run in memory.
+
+ghost use Rattle.std.specs.Prelude.{◌≡◌, IfOk, IfErr, OnOk, string_bytes};
+ghost use Rattle.std.specs.List.{flat_map};
+ghost use Rattle.std.specs.Io.KnownBytes.{Appends};
+ghost use Rattle.sim.specs.declared.cluster.Outcome.{Outcome};
+ghost use Rattle.bracha.specs.Faults.{IsOfSimulate};
+ghost use Rattle.bracha.specs.Simulations.{verdict_line, count_line, simulation_text, is_skipped, skipped};
+
+use crate::fault::Fault;
+use disk::MemDisk;
+use sim::{Mark, Outcome};
+use std::alloc::{AllocError, Global};
+use std::io::Write;
+use terms::{Memory, Size};
+
+/// The line of a verdict: member, question, round and bit.
+fn verdict_line(alloc: Global, verdict: &(u8, u16, u8, bool)) -> Result<String, AllocError>
+    ensures { IfOk result (λ text. string_bytes text ≡ verdict_line verdict.now) }
+{
+    let (member, question, round, bit) = *verdict;
+    format!(in alloc;
+        "member {member} question {question} round {round} bit {}\n",
+        u8::from(bit)
+    )
+}
+
+/// Whether the event was skipped.
+fn is_skipped(mark: &Mark) -> bool
+    ensures { result ≡ is_skipped mark.now }
+{
+    match mark {
+        Mark::Skipped(_) => true,
+        Mark::Done | Mark::Failed => false,
+    }
+}
+
+/// How many of the marks are of events that were skipped.
+fn skipped(marks: &[Mark]) -> usize
+    ensures { result ≡ skipped marks.now }
+{
+    let mut count = 0;
+    for mark in marks {
+        count += usize::from(is_skipped(mark));
+    }
+    count
+}
+
+/// The line that counts the events.
+fn count_line(alloc: Global, marks: &[Mark]) -> Result<String, AllocError>
+    ensures { IfOk result (λ text. string_bytes text ≡ count_line marks.now) }
+{
+    format!(in alloc; "events {} skipped {}\n", marks.len(), skipped(marks))
+}
+
+/// The lines of the verdicts.
+fn verdict_lines(alloc: Global, verdicts: &[(u8, u16, u8, bool)]) -> Result<String, AllocError>
+    ensures { IfOk result (λ text. string_bytes text ≡ flat_map verdict_line verdicts.now) }
+{
+    let mut text = String::new(alloc);
+    for verdict in verdicts {
+        text.push_str(verdict_line(alloc, verdict)?.as_str())?;
+    }
+    Ok(text)
+}
+
+/// The text of an outcome: a line for each verdict, and one that counts the events.
+fn simulation_text(alloc: Global, outcome: &Outcome) -> Result<String, AllocError>
+    ensures { IfOk result (λ text. string_bytes text ≡ simulation_text outcome.now) }
+{
+    let mut text = verdict_lines(alloc, &outcome.verdicts)?;
+    text.push_str(count_line(alloc, &outcome.marks)?.as_str())?;
+    Ok(text)
+}
+
+/// An empty disk for each member.
+fn empty_disks(alloc: Global, size: Size) -> Result<Vec<MemDisk>, Memory> {
+    let mut disks = Vec::new(alloc);
+    for _ in 0..size.n() {
+        disks.push(MemDisk::new(alloc))?;
+    }
+    Ok(disks)
+}
+
+/// Runs the script over empty disks in memory, and writes its outcome: for each verdict, by member and then by question,
+/// `member M question Q round R bit B`, and last `events E skipped S`. The status is 0.
+///
+/// [`Fault::Line`], [`Fault::Size`] and [`Fault::Events`] for a text that is no script, [`Fault::Sim`] for a script that
+/// can't be run: nothing was written. [`Fault::Stream`] and [`Fault::Memory`]: the write or a growth failed.
+pub fn simulate_text<W: Write>(alloc: Global, text: &[u8], output: &mut W) -> Result<u8, Fault>
+    ensures status { IfOk result (λ status. status ≡ 0) }
+    ensures all { OnOk result ((outcome : Outcome)
+        × Appends (W.contents output.old) (W.contents output.new) (simulation_text outcome)) }
+    ensures only { IfErr result IsOfSimulate }
+{
+    let script = script::read(alloc, text)?;
+    let disks = empty_disks(alloc, script.size)?;
+    let outcome = sim::run(alloc, script.size, &script.liars, disks, &script.events)?;
+    let shown = simulation_text(alloc, &outcome)?;
+    output.write_all(shown.as_bytes())?;
+    output.flush()?;
+    Ok(0)
+}
+
+#[cfg(test)]
+mod tests;

@@ -1,0 +1,342 @@
+-- Tasks of one post as steps of the world.
+use Rattle.std.proofs.Common.{◌≡◌, ◌<◌, ◌+◌, ℕ, ◌⊎◌, inl, inr, Bool, true, false, cond, eqb, eq-eqb, Option, Some, None, Result, Ok, Err, IfOk, List, [], ◌∷◌, ◌++◌, length, get_or, set, get_or-set_same, get_or-set_other, refl, sym, ap, subst, ◌∙◌, arith}
+use Rattle.std.specs.Prelude.{is_some}
+use Rattle.std.specs.List.{AllByRecursion}
+use Rattle.std.proofs.lemmas.Bool.{eqb-true, eqb-false}
+use Rattle.terms.specs.declared.Size.{Size}
+use Rattle.terms.specs.declared.Statement.{Statement}
+use Rattle.terms.specs.declared.Record.{Record}
+use Rattle.terms.specs.Bounds.{IsSize}
+use Rattle.terms.specs.WellFormed.{IsWellFormed}
+use Rattle.terms.specs.Reply.Event.{Hearing, Proposal}
+use Rattle.rounds.specs.declared.tosses.Toss.{Toss}
+use Rattle.disk.specs.declared.crash.Pick.{Pick}
+use Rattle.wire.specs.declared.message.Message.{Message}
+use Rattle.wire.specs.Reading.{End, Rest, Broken, Reads}
+use Rattle.wire.specs.Feeding.{Feeds}
+use Rattle.wire.proofs.Cutting.{written_reads}
+use Rattle.wire.proofs.Unique.{reads_once}
+use Rattle.wire.proofs.Whole.{joins}
+use Rattle.world.specs.World.{World, Step, IsCorrect, IsRun, has_sent, after, after_all, put}
+use Rattle.world.specs.World.Step.{Lie, Crash as CrashStep}
+use Rattle.world.proofs.Runs.{put-here}
+use Rattle.sim.specs.declared.events.Mark.{Mark}
+use Rattle.sim.specs.declared.events.Mark.TheVariants.{Done, Failed, Skipped}
+use Rattle.sim.specs.declared.events.Reason.{Reason}
+use Rattle.sim.specs.declared.events.Reason.TheVariants.{Nothing}
+use Rattle.sim.specs.declared.links.Link.{Link}
+use Rattle.sim.specs.declared.posts.Post.{Post}
+use Rattle.sim.specs.declared.seats.Seat.{Seat}
+use Rattle.sim.specs.declared.tasks.Task.{Task}
+use Rattle.sim.specs.declared.tasks.Task.TheVariants as task
+use Rattle.sim.specs.Links.{statements_in, is_broken_at, Takes}
+use Rattle.sim.specs.Seats.{IsSeat, IsMove, Answers, AreLies, GoesOn, Reopens, is_liar, mine}
+use Rattle.sim.specs.Scene.{Scene, Does, HearsLies, put_at, cleared, scene_after}
+use Rattle.sim.specs.Posts.{IsPost, IsLink, IsNewLink, IsDone, Runs, Fits}
+use Rattle.sim.proofs.Reading.{all_formed}
+
+pub mapped : {A E : Type 0} (P Q : A → Type 0) (r : Result A E) → IfOk r P → ((x : A) → P x → Q x) → IfOk r Q
+mapped P Q (Ok x) h f = f x h
+mapped P Q (Err e) h f = tt
+
+pub put_at-here : {A : Type 0} (table : ℕ → ℕ → A) (p q : ℕ) (x : A) → put_at table p q x p q ≡ x
+put_at-here table p q x = rw (eq-eqb q q refl, eq-eqb p p refl) refl
+
+pub put_at-row : {A : Type 0} (table : ℕ → ℕ → A) (p q : ℕ) (x : A) (a : ℕ) → eqb a p ≡ false → put_at table p q x a q ≡ table a q
+put_at-row table p q x a ne = rw (eq-eqb q q refl, ne) refl
+
+pub put_at-other : {A : Type 0} (table : ℕ → ℕ → A) (p q : ℕ) (x : A) (a b : ℕ) → eqb b q ≡ false → put_at table p q x a b ≡ table a b
+put_at-other table p q x a b ne = rw ne refl
+
+pub cleared-here : {A : Type 0} (table : ℕ → ℕ → A) (q : ℕ) (x : A) (a : ℕ) → cleared table q x a q ≡ x
+cleared-here table q x a = rw (eq-eqb q q refl) refl
+
+pub cleared-other : {A : Type 0} (table : ℕ → ℕ → A) (q : ℕ) (x : A) (a b : ℕ) → eqb b q ≡ false → cleared table q x a b ≡ table a b
+cleared-other table q x a b ne = rw ne refl
+
+-- the same link at an equal place that read equal bytes
+pub link_same : (size : Size) (liar : Bool) (place other : ℕ) (fed bytes : List ℕ) (link : Link) → other ≡ place → bytes ≡ fed → IsLink size liar place fed link → IsLink size liar other bytes link
+link_same size liar place other fed bytes link e f l = record {
+  place_is = l.place_is ∙ sym e;
+  size_is = l.size_is;
+  messages = l.messages;
+  read = subst (λ (b : List ℕ). Reads size b l.messages link.end) (sym f) l.read;
+  whole = l.whole;
+}
+
+-- a new link
+pub link_new : (size : Size) (liar : Bool) (place : ℕ) (fed : List ℕ) (link : Link) → place ≡ 0 → fed ≡ [] → link.place ≡ 0 → link.size ≡ size → link.end ≡ Rest []
+    → IsLink size liar place fed link
+link_new size liar place fed link e f at is end = record {
+  place_is = at ∙ sym e;
+  size_is = is;
+  messages = [];
+  read = subst (λ (b : List ℕ). Reads size b [] link.end) (sym f) (subst (λ (x : End). Reads size [] [] x) (sym end) (written_reads size [] tt));
+  whole = λ honest. end;
+}
+
+-- one link changed
+pub link_set : (size : Size) (liars : ℕ → Bool) (c d : Scene) (p from i : ℕ) (items : List Link) (link : Link) → length items ≡ size.n → from < size.n → i ≡ from
+    → ((a : ℕ) (x : Link) → a < size.n → IsLink size (liars a) (c.place a p) (c.fed a p) (get_or items a x))
+    → IsLink size (liars from) (d.place from p) (d.fed from p) link
+    → ((a : ℕ) → eqb a from ≡ false → d.place a p ≡ c.place a p) → ((a : ℕ) → eqb a from ≡ false → d.fed a p ≡ c.fed a p)
+    → (a : ℕ) (x : Link) → a < size.n → IsLink size (liars a) (d.place a p) (d.fed a p) (get_or (set items i link) a x)
+link_set size liars c d p from i items link len lt e links here places feds a x la =
+    subst (λ (j : ℕ). IsLink size (liars a) (d.place a p) (d.fed a p) (get_or (set items j link) a x)) (sym e) (go (eqb a from) refl)
+  where
+    go : (b : Bool) → eqb a from ≡ b → IsLink size (liars a) (d.place a p) (d.fed a p) (get_or (set items from link) a x)
+    go true q =
+        let g : a ≡ from = eqb-true a from q in
+        let l : from < length items = omega arith in
+        rw (g, get_or-set_same items from link x l) here
+    go false q =
+        rw (get_or-set_other items from a link x (eqb-false a from q))
+        (link_same size (liars a) (c.place a p) (d.place a p) (c.fed a p) (d.fed a p) (get_or items a x) (places a q) (feds a q) (links a x la))
+
+-- statements of a liar that were read are heard
+pub never_skipped : (size : Size) (p : ℕ) (w : World) (fused : Bool) (liar toss : ℕ) (statements : List Statement) (reason : Reason) (steps : List Step)
+    → AreLies size p w fused liar toss statements (Skipped reason) steps → ⊥
+never_skipped size p w fused liar toss [] reason steps h = let e : ◌≡◌ {A = Mark} (Skipped reason) Done = h.0 in cc
+never_skipped size p w fused liar toss (s ∷ ss) reason steps (one, heard, others, is, answers, goes) =
+    go (λ g. never_skipped size p (after_all w (Lie liar s ∷ heard)) fused liar toss ss reason others g) one goes
+  where
+    go : (AreLies size p (after_all w (Lie liar s ∷ heard)) fused liar toss ss (Skipped reason) others → ⊥) → (k : Mark) → GoesOn k (λ more. AreLies size p (after_all w (Lie liar s ∷ heard)) fused liar toss ss (Skipped reason) more) (Skipped reason) others → ⊥
+    go later Done g = later g
+    go later Failed g = let e : ◌≡◌ {A = Mark} (Skipped reason) Failed = g.0 in cc
+    go later (Skipped other) g = g
+
+module _ (size : Size) (liars : ℕ → Bool) (c : Scene) (p : ℕ) (old : Post) (post : IsPost size liars c p old) (below : p < size.n) where
+  -- a proposal
+  pub proposed : (question : ℕ) (bit : Bool) (toss : Toss) (bytes : List ℕ) (mark : Mark) (seat : Seat) → liars p ≡ false → is_liar seat ≡ is_liar old.seat
+      → IsMove size liars p c.world (Answers size p c.world old.fused toss.0 (Proposal question bit) mark) seat
+      → IsDone size liars c p (task.Propose question bit toss) bytes mark (record old { seat = seat })
+  proposed question bit toss bytes mark seat honest side move =
+      go mark (subst (λ (f : Bool). IsMove size liars p c.world (Answers size p c.world f toss.0 (Proposal question bit) mark) seat) (post.fused honest) move)
+    where
+      go : (k : Mark) → IsMove size liars p c.world (Answers size p c.world (c.fused p) toss.0 (Proposal question bit) k) seat
+          → IsDone size liars c p (task.Propose question bit toss) bytes k (record old { seat = seat })
+      go Done m = record {
+        steps = m.steps;
+        does = m.is;
+        is_run = m.is_run;
+        at = record { header = post.header; side = side ∙ post.side; at = λ h. m.at; fused = post.fused; links = post.links };
+      }
+      go Failed m = record {
+        steps = m.steps;
+        does = m.is;
+        is_run = m.is_run;
+        at = record { header = post.header; side = side ∙ post.side; at = λ h. m.at; fused = post.fused; links = post.links };
+      }
+      go (Skipped reason) m = absurd m.is
+
+  -- a delivery
+  pub delivered : (from : ℕ) (s : Statement) (place : ℕ) (toss : Toss) (bytes : List ℕ) (mark : Mark) (new : Post) (i : ℕ) (link : Link) → length old.incoming.items ≡ size.n
+      → Fits size liars c p (task.Deliver from s place toss) → i ≡ from → link.place ≡ place → link.size ≡ size → link.end ≡ Rest []
+      → new.header ≡ old.header → is_liar new.seat ≡ is_liar old.seat → new.fused ≡ old.fused → new.incoming.items ≡ set old.incoming.items i link
+      → IsMove size liars p c.world (Answers size p c.world old.fused toss.0 (Hearing from s) mark) new.seat
+      → IsDone size liars c p (task.Deliver from s place toss) bytes mark new
+  delivered from s place toss bytes mark new i link len fits ei at is end h side f items move =
+      go mark (subst (λ (f : Bool). IsMove size liars p c.world (Answers size p c.world f toss.0 (Hearing from s) mark) new.seat) (post.fused fits.0.0) move)
+    where
+      after_that : World → Scene
+      after_that w = record c { world = w; place = put_at c.place from p place }
+
+      links : (w : World) (a : ℕ) (x : Link) → a < size.n → IsLink size (liars a) (put_at c.place from p place a p) (c.fed a p) (get_or new.incoming.items a x)
+      links w a x la =
+          let honest : liars from ≡ false = fits.1 in
+          let member : from < size.n = fits.2 in
+          let first = post.links from link member in
+          let ended : get_or old.incoming.items from link ≡ get_or old.incoming.items from link = refl in
+          let here : IsLink size (liars from) (put_at c.place from p place from p) (c.fed from p) link = record {
+            place_is = at ∙ sym (put_at-here c.place from p place);
+            size_is = is;
+            messages = first.messages;
+            read = subst (λ (x : End). Reads size (c.fed from p) first.messages x) (first.whole honest ∙ sym end) first.read;
+            whole = λ h. end;
+          } in
+          subst (λ (l : List Link). IsLink size (liars a) (put_at c.place from p place a p) (c.fed a p) (get_or l a x)) (sym items)
+          (link_set size liars c (record c { world = w; place = put_at c.place from p place }) p from i old.incoming.items link len member ei post.links here
+          (λ b ne. put_at-row c.place from p place b ne) (λ b ne. refl) a x la)
+
+      go : (k : Mark) → IsMove size liars p c.world (Answers size p c.world (c.fused p) toss.0 (Hearing from s) k) new.seat
+          → IsDone size liars c p (task.Deliver from s place toss) bytes k new
+      go Done m = record {
+        steps = m.steps;
+        does = m.is;
+        is_run = m.is_run;
+        at = record { header = h ∙ post.header; side = side ∙ post.side; at = λ h. m.at; fused = λ h. f ∙ post.fused h; links = links (after_all c.world m.steps) };
+      }
+      go Failed m = record {
+        steps = m.steps;
+        does = m.is;
+        is_run = m.is_run;
+        at = record { header = h ∙ post.header; side = side ∙ post.side; at = λ h. m.at; fused = λ h. f ∙ post.fused h; links = links (after_all c.world m.steps) };
+      }
+      go (Skipped reason) m = absurd m.is
+
+  -- bytes of a liar over a link that is broken
+  pub broken : (liar : ℕ) (toss : Toss) (bytes : List ℕ) (new : Post) (i : ℕ) → length old.incoming.items ≡ size.n → liar < size.n → i ≡ liar → (link : Link)
+      → link ≡ get_or old.incoming.items i link → is_broken_at link.end ≡ true
+      → new.header ≡ old.header → new.seat ≡ old.seat → new.fused ≡ old.fused → new.incoming.items ≡ set old.incoming.items i link
+      → IsDone size liars c p (task.Lie liar toss) bytes (Skipped Nothing) new
+  broken liar toss bytes new i len member ei link at is h s f items = record {
+    steps = [];
+    does = (first.messages, link.end, subst (λ (x : End). Reads size (c.fed liar p) first.messages x) same first.read, hears link.end is);
+    is_run = tt;
+    at = record {
+      header = h ∙ post.header;
+      side = ap is_liar s ∙ post.side;
+      at = λ honest. subst (λ (x : Seat). IsSeat (mine size p) c.world x) (sym s) (post.at honest);
+      fused = λ honest. f ∙ post.fused honest;
+      links = λ a x la. subst (λ (l : List Link). IsLink size (liars a) (c.place a p) (c.fed a p) (get_or l a x)) (sym items)
+          (link_set size liars c c p liar i old.incoming.items link len member ei post.links
+          (subst (λ (y : Link). IsLink size (liars liar) (c.place liar p) (c.fed liar p) y) (sym there) first) (λ b ne. refl) (λ b ne. refl) a x la);
+    };
+  }
+    where
+      first : IsLink size (liars liar) (c.place liar p) (c.fed liar p) (get_or old.incoming.items liar link)
+      first = post.links liar link member
+
+      there : link ≡ get_or old.incoming.items liar link
+      there = at ∙ ap (λ (j : ℕ). get_or old.incoming.items j link) ei
+
+      same : (get_or old.incoming.items liar link).end ≡ link.end
+      same = ap (λ (l : Link). l.end) (sym there)
+
+      hears : (e : End) → is_broken_at e ≡ true → HearsLies size c p liar bytes toss.0 first.messages e (Skipped Nothing) []
+      hears (Rest rest) h = cc
+      hears (Broken fault) h = (refl, refl)
+
+  -- the fuse
+  pub fuse_set : (calls : Option ℕ) (bytes : List ℕ) (seat : Seat) (fused : Bool) → is_liar seat ≡ is_liar old.seat → fused ≡ is_some calls
+      → (liars p ≡ false → IsSeat (mine size p) c.world seat)
+      → IsDone size liars c p (task.Fuse calls) bytes Done (record old { seat = seat; fused = fused })
+  fuse_set calls bytes seat fused side f at = record {
+    steps = [];
+    does = (refl, refl);
+    is_run = tt;
+    at = record {
+      header = post.header;
+      side = side ∙ post.side;
+      at = at;
+      fused = λ honest. f ∙ sym (put-here c.fused p (is_some calls));
+      links = post.links;
+    };
+  }
+
+  -- a crash
+  pub crash_done : (pick : Pick) (bytes : List ℕ) (seat : Seat) → is_liar seat ≡ is_liar old.seat → liars p ≡ false
+      → IsSeat (mine size p) (after c.world (CrashStep p)) seat
+      → IsDone size liars c p (task.Crash pick) bytes Done (record old { seat = seat; fused = false })
+  crash_done pick bytes seat side honest at = record {
+    steps = CrashStep p ∷ [];
+    does = (refl, refl);
+    is_run = (record { member = below; honest = honest }, tt);
+    at = record {
+      header = post.header;
+      side = side ∙ post.side;
+      at = λ h. at;
+      fused = λ h. sym (put-here c.fused p false);
+      links = post.links;
+    };
+  }
+
+  -- an opening again that failed
+  pub reopen_failed : (bytes : List ℕ) (mark : Mark) (seat : Seat) → (mark ≡ Done → ⊥) → is_liar seat ≡ is_liar old.seat → liars p ≡ false
+      → IsMove size liars p c.world (Reopens p old.fused mark) seat
+      → IsDone size liars c p task.Restart bytes mark (record old { seat = seat })
+  reopen_failed bytes mark seat undone side honest move =
+      go mark refl (subst (λ (f : Bool). IsMove size liars p c.world (Reopens p f mark) seat) (post.fused honest) move)
+    where
+      go : (k : Mark) → mark ≡ k → IsMove size liars p c.world (Reopens p (c.fused p) k) seat → IsDone size liars c p task.Restart bytes k (record old { seat = seat })
+      go Done e m = absurd (undone e)
+      go Failed e m = record {
+        steps = m.steps;
+        does = m.is;
+        is_run = m.is_run;
+        at = record { header = post.header; side = side ∙ post.side; at = λ h. m.at; fused = post.fused; links = post.links };
+      }
+      go (Skipped reason) e m = absurd m.is
+
+  -- an opening again, with new links
+  pub reopen_done : (bytes : List ℕ) (mark : Mark) (new : Post) → mark ≡ Done → new.header ≡ old.header → is_liar new.seat ≡ is_liar old.seat → new.fused ≡ old.fused → liars p ≡ false
+      → IsMove size liars p c.world (Reopens p old.fused mark) new.seat
+      → ((a : ℕ) (x : Link) → a < size.n → IsNewLink size (get_or new.incoming.items a x))
+      → IsDone size liars c p task.Restart bytes Done new
+  reopen_done bytes mark new e h side f honest move links =
+      let m = subst (λ (k : Mark). IsMove size liars p c.world (Reopens p old.fused k) new.seat) e move in
+      record {
+        steps = m.steps;
+        does = m.is;
+        is_run = m.is_run;
+        at = record {
+          header = h ∙ post.header;
+          side = side ∙ post.side;
+          at = λ honest. m.at;
+          fused = λ honest. f ∙ post.fused honest;
+          links = λ a x la.
+              let l = links a x la in
+              link_new size (liars a) _ _ (get_or new.incoming.items a x) (cleared-here c.place p 0 a) (cleared-here c.fed p [] a) l.place_is l.size_is l.end_is;
+        };
+      }
+
+  -- bytes of a liar over a link that isn't broken
+  module _ (liar : ℕ) (toss : Toss) (bytes : List ℕ) (i : ℕ) (len : length old.incoming.items ≡ size.n) (lies : liars liar ≡ true) (member : liar < size.n) (ei : i ≡ liar) (link now : Link)
+      (at : link ≡ get_or old.incoming.items i link) (whole : is_broken_at link.end ≡ false) (statements : List Statement) (place_is : now.place ≡ link.place) (size_is : now.size ≡ link.size)
+      (takes : Takes link.size link.end bytes statements now.end) where
+    first : IsLink size (liars liar) (c.place liar p) (c.fed liar p) link
+    first = subst (λ (y : Link). IsLink size (liars liar) (c.place liar p) (c.fed liar p) y)
+        (sym (at ∙ ap (λ (j : ℕ). get_or old.incoming.items j link) ei)) (post.links liar link member)
+
+    taken : Takes size link.end bytes statements now.end
+    taken = subst (λ (x : Size). Takes x link.end bytes statements now.end) first.size_is takes
+
+    pub lies_formed : AllByRecursion (IsWellFormed size) statements
+    lies_formed = go link.end whole taken
+      where
+        go : (e : End) → is_broken_at e ≡ false → Takes size e bytes statements now.end → AllByRecursion (IsWellFormed size) statements
+        go (Broken fault) h t = cc
+        go (Rest rest) h t = subst (λ (l : List Statement). AllByRecursion (IsWellFormed size) l) (sym (t.2 ∙ ap statements_in t.1.2)) (all_formed size t.1.0 t.1.1.each)
+
+    pub lies_done : (mark : Mark) (new : Post) → liars p ≡ false → new.header ≡ old.header → is_liar new.seat ≡ is_liar old.seat → new.fused ≡ old.fused → new.incoming.items ≡ set old.incoming.items i now
+        → IsMove size liars p c.world (AreLies size p c.world old.fused liar toss.0 statements mark) new.seat
+        → IsDone size liars c p (task.Lie liar toss) bytes mark new
+    lies_done mark new honest h side f items move =
+        go link.end refl whole taken mark (subst (λ (x : Bool). IsMove size liars p c.world (AreLies size p c.world x liar toss.0 statements mark) new.seat) (post.fused honest) move)
+      where
+        post_after : (w : World) (more : List Message) → Reads size (c.fed liar p ++ bytes) (first.messages ++ more) now.end → IsSeat (mine size p) w new.seat
+            → IsPost size liars (record c { world = w; fed = put_at c.fed liar p (c.fed liar p ++ bytes) }) p new
+        post_after w more reads seat = record {
+          header = h ∙ post.header;
+          side = side ∙ post.side;
+          at = λ honest. seat;
+          fused = λ honest. f ∙ post.fused honest;
+          links = λ a x la. subst (λ (l : List Link). IsLink size (liars a) (c.place a p) (put_at c.fed liar p (c.fed liar p ++ bytes) a p) (get_or l a x)) (sym items)
+              (link_set size liars c (record c { world = w; fed = put_at c.fed liar p (c.fed liar p ++ bytes) }) p liar i old.incoming.items now len member ei post.links
+              (record {
+                place_is = place_is ∙ first.place_is;
+                size_is = size_is ∙ first.size_is;
+                messages = first.messages ++ more;
+                read = subst (λ (b : List ℕ). Reads size b (first.messages ++ more) now.end) (sym (put_at-here c.fed liar p (c.fed liar p ++ bytes))) reads;
+                whole = λ no_liar. let clash : true ≡ false = sym lies ∙ no_liar in cc;
+              })
+              (λ b ne. refl) (λ b ne. put_at-row c.fed liar p (c.fed liar p ++ bytes) b ne) a x la);
+        }
+
+        does_rest : (k : Mark) (steps : List Step) (rest : List ℕ) → link.end ≡ Rest rest → (more : List Message) → Reads size (c.fed liar p ++ bytes) (first.messages ++ more) now.end
+            → AreLies size p c.world (c.fused p) liar toss.0 (statements_in more) k steps → Does size c p (task.Lie liar toss) bytes k steps
+        does_rest k steps rest e more reads are =
+            (first.messages, Rest rest, subst (λ (x : End). Reads size (c.fed liar p) first.messages x) e first.read, (more, now.end, reads, are))
+
+        go : (e : End) → link.end ≡ e → is_broken_at e ≡ false → Takes size e bytes statements now.end → (k : Mark) → IsMove size liars p c.world (AreLies size p c.world (c.fused p) liar toss.0 statements k) new.seat
+            → IsDone size liars c p (task.Lie liar toss) bytes k new
+        go (Broken fault) e w t k m = cc
+        go (Rest rest) e w t (Skipped reason) m = absurd (never_skipped size p c.world (c.fused p) liar toss.0 statements reason m.steps m.is)
+        go (Rest rest) e w t Done m =
+            let reads = joins size (c.fed liar p) bytes rest first.messages t.1.0 now.end (subst (λ (x : End). Reads size (c.fed liar p) first.messages x) e first.read) t.1.1 in
+            let are = subst (λ (l : List Statement). AreLies size p c.world (c.fused p) liar toss.0 l Done m.steps) (t.2 ∙ ap statements_in t.1.2) m.is in
+            record { steps = m.steps; does = does_rest Done m.steps rest e t.1.0 reads are; is_run = m.is_run; at = post_after (after_all c.world m.steps) t.1.0 reads m.at }
+        go (Rest rest) e w t Failed m =
+            let reads = joins size (c.fed liar p) bytes rest first.messages t.1.0 now.end (subst (λ (x : End). Reads size (c.fed liar p) first.messages x) e first.read) t.1.1 in
+            let are = subst (λ (l : List Statement). AreLies size p c.world (c.fused p) liar toss.0 l Failed m.steps) (t.2 ∙ ap statements_in t.1.2) m.is in
+            record { steps = m.steps; does = does_rest Failed m.steps rest e t.1.0 reads are; is_run = m.is_run; at = post_after (after_all c.world m.steps) t.1.0 reads m.at }

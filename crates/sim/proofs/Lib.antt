@@ -1,0 +1,13 @@
+pub mod Rising
+pub mod Reading
+pub mod Kept
+pub mod Numbers
+pub mod Moves
+pub mod Lies
+pub mod Done
+pub mod Planned
+pub mod Turn
+pub mod Loop
+pub mod Opening
+pub mod Verdicts
+pub mod Simulations

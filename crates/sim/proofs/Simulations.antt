@@ -1,0 +1,38 @@
+-- What a simulation promises.
+use Rattle.std.proofs.Common.{◌≡◌, ◌≤◌, ℕ, Bool, List, length, sym, subst, arith}
+use Rattle.terms.specs.declared.Size.{Size}
+use Rattle.terms.specs.Bounds.{IsSize}
+use Rattle.terms.specs.Count.{count_below}
+use Rattle.world.specs.World.{World, start, after_all}
+use Rattle.world.specs.Claims.{Agree}
+use Rattle.world.proofs.Keeps.{reached_ok}
+use Rattle.world.proofs.Rounds.{agree}
+use Rattle.sim.specs.declared.events.Event.{Event}
+use Rattle.sim.specs.declared.events.Mark.{Mark}
+use Rattle.sim.specs.declared.posts.Post.{Post}
+use Rattle.sim.specs.Scene.{Scene, opening}
+use Rattle.sim.specs.Posts.{IsCluster}
+use Rattle.sim.specs.Runs.{IsFollowed}
+use Rattle.sim.specs.Outcomes.{AreLiars, IsSimulation, HaveOneBit, Verdict, among, verdicts_of}
+use Rattle.sim.proofs.Rising.{few_among}
+use Rattle.sim.proofs.Verdicts.{verdicts_agree}
+
+pub few_lie : (size : Size) (liars : List ℕ) → AreLiars size liars → count_below size.n (among liars) ≤ size.t
+few_lie size liars are = let many = few_among size.n liars in omega (arith, many, are.1)
+
+pub simulated : (size : Size) (liars fused : ℕ → Bool) (script : List Event) (marks : List Mark) (old new : List Post) (verdicts : List Verdict)
+    → IsCluster size liars (opening fused) old
+    → (IsCluster size liars (opening fused) old → IsFollowed size liars (opening fused) script marks new)
+    → ((c : Scene) → IsCluster size liars c new → verdicts ≡ verdicts_of size liars c.world)
+    → IsSimulation size liars fused script marks verdicts
+simulated size liars fused script marks old new verdicts cluster run are =
+    let f = run cluster in
+    record { steps = f.steps; last = f.last; run = f.run; world_is = f.world_is; is_run = f.is_run; verdicts_are = are f.last f.at }
+
+module _ (size : Size) (liars fused : ℕ → Bool) (script : List Event) (marks : List Mark) (verdicts : List Verdict) (ok : IsSize size) (few : count_below size.n liars ≤ size.t)
+    (s : IsSimulation size liars fused script marks verdicts) where
+  pub simulations_agree : HaveOneBit verdicts
+  simulations_agree =
+      verdicts_agree size liars s.last.world verdicts
+      (subst (λ (w : World). Agree size liars w) (sym s.world_is) (agree size liars ok few (after_all start s.steps) (reached_ok size liars ok few s.steps s.is_run)))
+      s.verdicts_are

@@ -1,0 +1,41 @@
+use Rattle.std.proofs.Common.{◌≡◌, ◌<◌, ◌++◌, ℕ, List, length, get_or, take, drop, refl, sym, ap, subst, ◌∙◌, arith, rules, false, true, Err, IsErrOf}
+use Rattle.std.proofs.lemmas.List.{take_at}
+use Rattle.terms.specs.declared.Header.{Header}
+use Rattle.sim.specs.declared.posts.Post.{Post}
+use Rattle.sim.specs.declared.faults.SimFault.TheVariants as faults
+use Rattle.sim.specs.Scene.{opening}
+use Rattle.sim.specs.Posts.{IsReady, IsCreated, IsPost, IsCluster, Opens}
+use Rattle.sim.specs.Outcomes.{among, fused_in}
+use Rattle.sim.specs.Seats.{mine, is_liar}
+use Rattle.sim.proofs.Opening.{opens_post, some_of}
+use Rattle.sim.proofs.cluster.opened.Goals as goal
+
+pub returns-clause-cluster : goal.returns-clause-cluster
+returns-clause-cluster c =
+    let slice : c.as_mut_slice.result.now ≡ c.in_ok-posts.posts.items = c.as_mut_slice.ensures.value in
+    let same = ap (λ (l : List Post). length l) slice in
+    let cluster : IsCluster c.args.size (among c.args.liars.now) (opening (fused_in c.args.disks.items)) c.begin.new.posts = λ p d l.
+    let within : p < length c.in_ok-posts.posts.items = omega (arith, c.in_ok-posts.ensures.count, c.requires.count, l) in
+    let opens = subst (λ (x : List Post). Opens (get_or x p d) (get_or c.begin.new.posts p d)) slice (c.in_ok-begin.ensures.opened p d (omega (arith, same, within))) in
+    opens_post c.args.size (among c.args.liars.now) (fused_in c.args.disks.items) p _ _ (c.in_ok-posts.ensures.each p d within).1 opens in
+    let len : length c.begin.new.posts ≡ c.in_ok-posts.posts.len = omega (arith, c.begin.ensures.count, c.as_mut_slice.ensures.len) in
+    subst (λ (l : List Post). IsCluster c.args.size (among c.args.liars.now) (opening (fused_in c.args.disks.items)) l)
+    (sym (take_at c.begin.new.posts (drop (length c.begin.new.posts) c.in_ok-posts.posts.items) c.in_ok-posts.posts.len len)) cluster
+
+pub returns-in_err-begin-clause-device : goal.returns-in_err-begin-clause-device
+returns-in_err-begin-clause-device c h =
+    let slice : c.as_mut_slice.result.now ≡ c.in_ok-posts.posts.items = c.as_mut_slice.ensures.value in
+    let same = ap (λ (l : List Post). length l) slice in
+    let device : IsErrOf {T = Unit {0}} (Err c.in_err-begin.field-0.0) faults.Device = search (rules, h) in
+    let stopped = c.in_err-begin.ensures.device device in
+    let p = stopped.0 in
+    let within : p < length c.in_ok-posts.posts.items = omega (arith, same, stopped.1) in
+    let d : Post = some_of c.in_ok-posts.posts.items p within in
+    let created = (c.in_ok-posts.ensures.each p d within).1 in
+    let told = stopped.2 d in
+    let x = ap (λ (l : List Post). get_or l p d) slice in (
+      p,
+      omega (arith, within, c.in_ok-posts.ensures.count),
+      sym created.side ∙ ap (λ (y : Post). is_liar y.seat) (sym x) ∙ told.0,
+      sym created.fused_is ∙ ap (λ (y : Post). y.fused) (sym x) ∙ told.1,
+    )

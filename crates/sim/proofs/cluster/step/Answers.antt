@@ -1,0 +1,18 @@
+use Rattle.std.proofs.Common.{◌≡◌, ◌∙◌, sym}
+use Rattle.sim.proofs.Planned.{plan_right}
+use Rattle.sim.proofs.Turn.{turned, skipped_turn}
+use Rattle.sim.proofs.cluster.step.Goals as goal
+
+pub plan-requires : goal.plan-requires
+plan-requires c = record { ready = c.requires.ready }
+
+pub returns-in-Ok-clause-turn : goal.returns-in-Ok-clause-turn
+returns-in-Ok-clause-turn c liars s lawful steady cluster =
+    let plan = sym (c.plan.ensures.plan liars s cluster) ∙ c.in-Ok.is in
+    turned c.args.size liars s c.args.event.now c.in-Ok.to c.in-Ok.task c.bytes_in.result.now c.from.result c.carry.result c.args.posts.now c.index-posts-from.result c.carry.new.self
+    lawful c.from.ensures c.bytes_in.ensures c.requires.ready.count plan (plan_right c.args.size liars s steady c.in-Ok.to c.in-Ok.task c.args.event.now plan) cluster
+    (c.carry.ensures.done c.args.size liars s c.in-Ok.to)
+
+pub returns-in-Err-clause-turn : goal.returns-in-Err-clause-turn
+returns-in-Err-clause-turn c liars s lawful steady cluster =
+    skipped_turn c.args.size liars s c.args.event.now c.in-Err.reason c.args.posts.now (sym (c.plan.ensures.plan liars s cluster) ∙ c.in-Err.is) cluster

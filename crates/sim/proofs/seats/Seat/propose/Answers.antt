@@ -1,0 +1,13 @@
+use Rattle.std.proofs.Common.{◌≡◌}
+use Rattle.terms.specs.Reply.Event.{Proposal}
+use Rattle.member.specs.Life.{IsAt}
+use Rattle.member.specs.Memory.{memory_disk}
+use Rattle.sim.specs.Seats.{mine}
+use Rattle.sim.proofs.Moves.{told_ok}
+use Rattle.sim.proofs.seats.Seat.propose.Goals as goal
+
+pub returns-clause-moved : goal.returns-clause-moved
+returns-clause-moved c size liars p w correct free at =
+    let here : IsAt memory_disk (mine size p) w c.in-Here.member = rw c.in-Here.is at at in
+    told_ok size liars p w c.args.toss.0 c.args.fused (Proposal c.args.question c.args.bit) c.in-Here.member c.propose-answer.new.self
+    c.propose-answer.result c.mark_of.result c.mark_of.ensures.mark (c.propose-answer.ensures.life (mine size p) liars w correct here tt)

@@ -1,0 +1,6 @@
+pub mod Links
+pub mod Seats
+pub mod Scene
+pub mod Posts
+pub mod Runs
+pub mod Outcomes

@@ -1,0 +1,149 @@
+-- Where a member is, and what it does in the world.
+use Rattle.std.specs.Prelude.{ℕ, zero, suc, ◌≡◌, Bool, true, false, not, Option, Some, None, Result, Ok, Err, List, [], ◌∷◌, ◌++◌}
+use Rattle.std.specs.Global.{Vec}
+use Rattle.terms.specs.declared.Size.{Size}
+use Rattle.terms.specs.declared.Statement.{Statement}
+use Rattle.terms.specs.declared.Record.{Record}
+use Rattle.terms.specs.declared.Record.TheVariants.{Said, Decided}
+use Rattle.terms.specs.declared.Header.{Header}
+use Rattle.terms.specs.Headers.{header_of}
+use Rattle.terms.specs.Reply.{Event as Happening, Reply, records_of}
+use Rattle.terms.specs.Reply.Event.{Hearing}
+use Rattle.disk.specs.declared.memory.MemDisk.{MemDisk}
+use Rattle.disk.specs.Memory.{memory_state}
+use Rattle.questions.specs.declared.answer.Answer.{Answer}
+use Rattle.world.specs.World.{World, Step, IsRun, start, after, after_all}
+use Rattle.world.specs.World.Step.{Lie, Restart as RestartStep}
+use Rattle.member.specs.declared.fault.MemberFault.{MemberFault}
+use Rattle.member.specs.declared.fault.MemberFault.TheVariants.{Stopped, Device, Memory, JournalFull, NoSuchQuestion, NoSuchMember}
+use Rattle.member.specs.Words.{saved_of, is_stopped_of}
+use Rattle.member.specs.Sound.{IsSound}
+use Rattle.member.specs.Memory.{memory_disk}
+use Rattle.member.specs.Stands.{IsLeft}
+use Rattle.member.specs.Life.{IsAt, Replies, step_of}
+use Rattle.sim.specs.declared.events.Mark.{Mark}
+use Rattle.sim.specs.declared.events.Mark.TheVariants.{Done, Failed, Skipped}
+use Rattle.sim.specs.declared.seats.Seat.{Seat}
+use Rattle.sim.specs.declared.seats.Seat.TheVariants.{Here, Down, Liar}
+
+-- the header of a member's journal: the cluster has the number 0
+abbrev pub mine : Size → ℕ → Header
+mine size p = header_of 0 size p
+
+-- its calls may be made
+abbrev pub IsOneSound : Seat → Type 0
+IsOneSound (Here m) = IsSound memory_disk m
+IsOneSound (Down disk records) = Unit {0}
+IsOneSound Liar = Unit {0}
+
+abbrev pub is_liar : Seat → Bool
+is_liar (Here m) = false
+is_liar (Down disk records) = false
+is_liar Liar = true
+
+-- its member runs
+abbrev pub is_up : Seat → Bool
+is_up (Here m) = not (is_stopped_of m)
+is_up (Down disk records) = false
+is_up Liar = false
+
+-- what its member has saved
+abbrev pub saved_in : Seat → List Record
+saved_in (Here m) = saved_of m
+saved_in (Down disk records) = records.items
+saved_in Liar = []
+
+-- the statement of that number, decisions not counted
+abbrev pub nth_said : List Record → ℕ → Option Statement
+nth_said [] number = None
+nth_said (Said s ∷ records) zero = Some s
+nth_said (Said s ∷ records) (suc number) = nth_said records number
+nth_said (Decided question round bit ∷ records) number = nth_said records number
+
+-- a disk and records are what the world has of a member that is down: a batch is in doubt, perhaps an empty one, and a
+-- crash may keep it or lose it
+pub record IsDown (header : Header) (w : World) (disk : MemDisk) (records : List Record) : Type 0 where
+  pub batch : List Record
+  pub doubt : w.doubt header.me ≡ Some batch
+  pub saved : records ≡ w.journal header.me
+  pub left : IsLeft (memory_state disk) header (w.journal header.me) (w.doubt header.me)
+
+-- the seat is what the world has of the correct member of that header
+abbrev pub IsSeat : Header → World → Seat → Type 0
+IsSeat header w (Here m) = IsAt memory_disk header w m
+IsSeat header w (Down disk records) = IsDown header w disk records.items
+IsSeat header w Liar = ⊥
+
+-- its journal was created, and nothing was saved
+abbrev pub IsFresh : Header → Seat → Type 0
+IsFresh header (Here m) = ⊥
+IsFresh header (Down disk records) = IsLeft (memory_state disk) header [] None
+IsFresh header Liar = ⊥
+
+-- the disk and the records of a member, as the world has them, whether it is up or down
+abbrev pub AreParts : Header → World → Option (MemDisk × Vec Record) → Type 0
+AreParts header w None = ⊥
+AreParts header w (Some parts) =
+    (parts.1.items ≡ w.journal header.me)
+    × IsLeft (memory_state parts.0) header (w.journal header.me) (w.doubt header.me)
+
+-- the disk of a journal that was created, on which nothing was saved
+abbrev pub AreFresh : Header → Option (MemDisk × Vec Record) → Type 0
+AreFresh header None = ⊥
+AreFresh header (Some parts) = IsLeft (memory_state parts.0) header [] None
+
+-- what becomes of an event that a member answered so: it failed only where a fuse is in its disk
+abbrev pub IsMarkOf : Bool → Result Answer MemberFault → Mark → Type 0
+IsMarkOf fused (Ok answer) mark = mark ≡ Done
+IsMarkOf fused (Err Device) mark = (fused ≡ true) × (mark ≡ Failed)
+IsMarkOf fused (Err Stopped) mark = ⊥
+IsMarkOf fused (Err Memory) mark = ⊥
+IsMarkOf fused (Err JournalFull) mark = ⊥
+IsMarkOf fused (Err NoSuchQuestion) mark = ⊥
+IsMarkOf fused (Err NoSuchMember) mark = ⊥
+
+-- The step is that event at the member, with all records of the definitions' reply for the member and the toss.
+pub record IsEventStep (size : Size) (p : ℕ) (w : World) (toss : ℕ) (event : Happening) (kept : Bool) (steps : List Step) : Type 0 where
+  pub reply : Reply
+  pub replies : Replies (mine size p) w toss event reply
+  pub is : steps ≡ step_of p event (records_of reply) kept ∷ []
+
+-- the steps of an event at a member with that mark: kept, or, where it failed, a fuse is in and the batch is in doubt
+abbrev pub Answers : Size → ℕ → World → Bool → ℕ → Happening → Mark → List Step → Type 0
+Answers size p w fused toss event Done steps = IsEventStep size p w toss event true steps
+Answers size p w fused toss event Failed steps = (fused ≡ true) × IsEventStep size p w toss event false steps
+Answers size p w fused toss event (Skipped reason) steps = ⊥
+
+-- after one statement of several: the others where it was done, nothing more where it failed
+abbrev pub GoesOn : Mark → (List Step → Type 0) → Mark → List Step → Type 0
+GoesOn Done Others mark steps = Others steps
+GoesOn Failed Others mark steps = (mark ≡ Failed) × (steps ≡ [])
+GoesOn (Skipped reason) Others mark steps = ⊥
+
+-- for each statement in turn the liar says it and the member hears it, until the member's disk fails
+abbrev pub AreLies : Size → ℕ → World → Bool → ℕ → ℕ → List Statement → Mark → List Step → Type 0
+AreLies size p w fused liar toss [] mark steps = (mark ≡ Done) × (steps ≡ [])
+AreLies size p w fused liar toss (s ∷ statements) mark steps =
+    (one : Mark) × (heard : List Step) × (others : List Step)
+    × (steps ≡ Lie liar s ∷ (heard ++ others))
+    × Answers size p (after w (Lie liar s)) fused toss (Hearing liar s) one heard
+    × GoesOn one (λ more. AreLies size p (after_all w (Lie liar s ∷ heard)) fused liar toss statements mark more) mark others
+
+-- an opening again: a restart, or nothing where the disk failed by its fuse
+abbrev pub Reopens : ℕ → Bool → Mark → List Step → Type 0
+Reopens p fused Done steps = (kept : Bool) × (steps ≡ RestartStep p kept ∷ [])
+Reopens p fused Failed steps = (fused ≡ true) × (steps ≡ [])
+Reopens p fused (Skipped reason) steps = ⊥
+
+-- These steps may happen now, they are what the mark says, and then the seat is what the world has of the member.
+pub record IsMove (size : Size) (liars : ℕ → Bool) (p : ℕ) (w : World) (Is : List Step → Type 0) (seat : Seat) : Type 0 where
+  pub steps : List Step
+  pub is : Is steps
+  pub is_run : IsRun size liars w steps
+  pub at : IsSeat (mine size p) (after_all w steps) seat
+
+-- after the first opening the seat is what the world has at its start; it failed only where a fuse is in the disk
+abbrev pub IsBegun : Header → Bool → Mark → Seat → Type 0
+IsBegun header fused Done seat = IsSeat header start seat
+IsBegun header fused Failed seat = fused ≡ true
+IsBegun header fused (Skipped reason) seat = ⊥

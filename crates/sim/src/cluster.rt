@@ -1,0 +1,230 @@
+//! Whole simulations.
+
+ghost use Rattle.std.specs.Prelude.{◌≡◌, ◌++◌, ◌<◌, ◌≤◌, ℕ, Bool, List, length, get_or, false, true, IfOk, IfErr, OnOk, IsErrOf, IsTrue, ◌↔◌, ◌≢◌};
+ghost use Rattle.terms.specs.Bounds.{IsSize};
+ghost use Rattle.terms.specs.Count.{count_below};
+ghost use Rattle.sim.specs.Scene.{Scene, opening};
+ghost use Rattle.sim.specs.Posts.{IsCluster, AreReady, IsReady, IsCreated, IsOfRun, IsOfOpening, Opens};
+ghost use Rattle.sim.specs.Outcomes.{AreLiars, AreDisks, HasFuse, IsSimulation, HaveOneBit, among, fused_in, verdicts_below, verdicts_of};
+ghost use Rattle.sim.specs.declared.faults.SimFault.TheVariants as faults;
+ghost use Rattle.sim.specs.declared.posts.Post.{Post};
+ghost use Rattle.sim.specs.Seats.{is_liar, mine};
+ghost use Rattle.sim.specs.Runs.{IsTurn, IsSteady, IsFollowed};
+ghost use Rattle.terms.specs.Journal.{decided};
+ghost use Rattle.world.specs.World.{start};
+
+use crate::posts::Post;
+use crate::tasks::{bytes_in, plan};
+use crate::{Event, Mark, SimFault};
+use disk::MemDisk;
+use std::alloc::Global;
+use terms::{Header, Record, Size};
+
+/// What became of a script.
+#[derive(Debug, PartialEq, Eq, Drop)]
+pub struct Outcome {
+    /// What became of each event, in order.
+    pub marks: Vec<Mark>,
+    /// Every decision that a correct member has saved: the member, the question, the round (1 to 32) and the bit. They
+    /// stand by member, and then by question.
+    pub verdicts: Vec<(u8, u16, u8, bool)>,
+}
+
+/// Runs a script.
+pub fn run(
+    alloc: Global,
+    size: Size,
+    liars: &[u8],
+    disks: Vec<MemDisk>,
+    script: &[Event],
+) -> Result<Outcome, SimFault>
+    ensures bad_liars { IsErrOf result faults.BadLiars ↔ (AreLiars size liars.now → ⊥) }
+    ensures bad_disks { IsErrOf result faults.BadDisks ↔ (AreLiars size liars.now × (AreDisks size disks.items → ⊥)) }
+    ensures device { IsErrOf result faults.Device → HasFuse liars.now disks.items }
+    ensures run { IfOk result (λ outcome. IsSimulation size (among liars.now) (fused_in disks.items) script.now
+        outcome.marks.items outcome.verdicts.items) }
+    ensures agree { IfOk result (λ outcome. HaveOneBit outcome.verdicts.items) }
+{
+    if !are_liars(size, liars) {
+        return Err(SimFault::BadLiars);
+    }
+    if !are_disks(size, &disks) {
+        return Err(SimFault::BadDisks);
+    }
+    let _members = size.n();
+    let mut posts = opened(alloc, size, liars, disks)?;
+    let all = posts.as_mut_slice();
+    let marks = follow(alloc, size, all, script)?;
+    let verdicts = verdicts(alloc, size, all)?;
+    Ok(Outcome { marks, verdicts })
+}
+
+/// Whether these may be the liars' numbers: they rise, are below n, and at most t.
+fn are_liars(size: Size, liars: &[u8]) -> bool
+    ensures { IsTrue result ↔ AreLiars size liars.now }
+{
+    let mut least = 0;
+    for liar in liars {
+        if *liar < least || *liar >= size.n() {
+            return false;
+        }
+        least = *liar + 1;
+    }
+    liars.len() <= usize::from(size.t())
+}
+
+/// Whether there is one disk for each member, and each is empty.
+fn are_disks(size: Size, disks: &[MemDisk]) -> bool
+    ensures { IsTrue result ↔ AreDisks size disks.now }
+{
+    disks.len() == usize::from(size.n()) && disks.iter().all(|disk| disk.is_empty())
+}
+
+/// The posts of all members, the journals created and then opened.
+fn opened(
+    alloc: Global,
+    size: Size,
+    liars: &[u8],
+    disks: Vec<MemDisk>,
+) -> Result<Vec<Post>, SimFault>
+    requires count { length disks.items ≡ size.n }
+    ensures ready { IfOk result (λ posts. AreReady size posts.items) }
+    ensures cluster { IfOk result (λ posts.
+        IsCluster size (among liars.now) (opening (fused_in disks.items)) posts.items) }
+    ensures device { IsErrOf result faults.Device → HasFuse liars.now disks.items }
+    ensures only { IfErr result IsOfOpening }
+{
+    let mut posts = posts(alloc, size, liars, disks)?;
+    begin(alloc, posts.as_mut_slice())?;
+    Ok(posts)
+}
+
+/// The posts of all members, the journals created and not yet opened.
+fn posts(
+    alloc: Global,
+    size: Size,
+    liars: &[u8],
+    disks: Vec<MemDisk>,
+) -> Result<Vec<Post>, SimFault>
+    requires count { length disks.items ≡ size.n }
+    ensures count { IfOk result (λ posts. length posts.items ≡ length disks.items) }
+    ensures each { IfOk result (λ posts. (p : ℕ) (d : Post) → p < length posts.items → IsReady (get_or posts.items p d)
+        × IsCreated (mine size p) (among liars.now p) (fused_in disks.items p) (get_or posts.items p d)) }
+    ensures device { IsErrOf result faults.Device → HasFuse liars.now disks.items }
+    ensures only { IfErr result IsOfOpening }
+{
+    let mut posts = Vec::with_capacity(alloc, disks.len())?;
+    let mut me = 0;
+    for disk in disks {
+        let Some(header) = Header::new(0, size, me) else {
+            return Err(SimFault::BadDisks);
+        };
+        posts.push(Post::new(alloc, header, liars.contains(&me), disk)?)?;
+        me += 1;
+    }
+    Ok(posts)
+}
+
+/// Opens all journals, upwards.
+fn begin(alloc: Global, posts: &mut [Post]) -> Result<(), SimFault>
+    requires ready { (p : ℕ) (d : Post) → p < length posts.old → IsReady (get_or posts.old p d) }
+    ensures count { length posts.new ≡ length posts.old }
+    ensures opened { OnOk result ((p : ℕ) (d : Post) → p < length posts.old →
+        Opens (get_or posts.old p d) (get_or posts.new p d)) }
+    ensures only { IfErr result IsOfOpening }
+    ensures device { IsErrOf result faults.Device → (p : ℕ) × (p < length posts.old) × ((d : Post) →
+        (is_liar (get_or posts.old p d).seat ≡ false) × ((get_or posts.old p d).fused ≡ true)) }
+{
+    for post in posts.iter_mut() {
+        post.begin(alloc)?;
+    }
+    Ok(())
+}
+
+/// Carries all events out.
+fn follow(
+    alloc: Global,
+    size: Size,
+    posts: &mut [Post],
+    script: &[Event],
+) -> Result<Vec<Mark>, SimFault>
+    requires ready { AreReady size posts.old }
+    ensures ready { AreReady size posts.new }
+    ensures only { IfErr result IsOfRun }
+    ensures run { (liars : ℕ → Bool) (c : Scene) → IsSize size → count_below size.n liars ≤ size.t → c.world ≡ start →
+        IsCluster size liars c posts.old → IfOk result (λ marks. IsFollowed size liars c script.now marks.items posts.new) }
+{
+    let mut marks = Vec::with_capacity(alloc, script.len())?;
+    for event in script {
+        let mark = step(alloc, size, posts, event)?;
+        marks.push(mark)?;
+    }
+    Ok(marks)
+}
+
+/// Carries one event out.
+fn step(alloc: Global, size: Size, posts: &mut [Post], event: &Event) -> Result<Mark, SimFault>
+    requires ready { AreReady size posts.old }
+    ensures ready { AreReady size posts.new }
+    ensures only { IfErr result IsOfRun }
+    ensures turn { (liars : ℕ → Bool) (c : Scene) → IsSize size → IsSteady size liars c → IsCluster size liars c posts.old →
+        IfOk result (λ mark. IsTurn size liars c event.now mark posts.new) }
+{
+    match plan(size, posts, event) {
+        Ok((to, task)) => {
+            let post = &mut posts[usize::from(to)];
+            post.carry(alloc, task, bytes_in(event))
+        }
+        Err(reason) => Ok(Mark::Skipped(reason)),
+    }
+}
+
+/// The decisions that correct members have saved, by member and then by question.
+fn verdicts(alloc: Global, size: Size, posts: &[Post]) -> Result<Vec<(u8, u16, u8, bool)>, SimFault>
+    requires count { length posts.now ≡ size.n }
+    ensures are { (liars : ℕ → Bool) (c : Scene) → IsCluster size liars c posts.now →
+        IfOk result (λ verdicts. verdicts.items ≡ verdicts_of size liars c.world) }
+    ensures only { IfErr result (λ fault. fault ≡ faults.Memory) }
+{
+    let mut verdicts = Vec::new(alloc);
+    for post in posts {
+        append_decisions(&mut verdicts, post.me(), size.questions(), post.records())?;
+    }
+    Ok(verdicts)
+}
+
+/// Appends the first decision of each question, by question.
+fn append_decisions(
+    verdicts: &mut Vec<(u8, u16, u8, bool)>,
+    me: u8,
+    questions: u16,
+    records: &[Record],
+) -> Result<(), SimFault>
+    ensures appended { OnOk result (verdicts.new.items ≡ verdicts.old.items ++ verdicts_below questions me records.now) }
+    ensures only { IfErr result (λ fault. fault ≡ faults.Memory) }
+{
+    for question in 0..questions {
+        if let Some((round, bit)) = decision(records, question) {
+            verdicts.push((me, question, round, bit))?;
+        }
+    }
+    Ok(())
+}
+
+/// The first decision of that question among the records: its round and bit.
+fn decision(records: &[Record], question: u16) -> Option<(u8, bool)>
+    ensures { result ≡ decided records.now question }
+{
+    for item in records {
+        if let Record::Decided {
+            question: of,
+            round,
+            bit,
+        } = *item
+            && of == question
+        {
+            return Some((round, bit));
+        }
+    }
+    None
+}

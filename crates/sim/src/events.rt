@@ -1,0 +1,162 @@
+//! What happens in a simulation, and what became of it.
+
+use disk::Pick;
+use rounds::Toss;
+use std::fmt;
+
+/// One event of a script. Members are numbered from 0; a number that names none makes the event be skipped.
+#[derive(Debug, PartialEq, Eq, Drop)]
+pub enum Event {
+    /// A bit is proposed to a correct member.
+    Propose {
+        /// The member.
+        member: u8,
+        /// The question.
+        question: u16,
+        /// The bit.
+        bit: bool,
+        /// The coins of what the member then says.
+        toss: Toss,
+    },
+    /// A correct member's statement comes to a correct member, as a frame.
+    Deliver {
+        /// The sender.
+        from: u8,
+        /// The receiver.
+        to: u8,
+        /// Which of the sender's statements.
+        which: Which,
+        /// The coins of what the receiver then says.
+        toss: Toss,
+    },
+    /// A liar's bytes come to a correct member. Each statement that they complete is heard in turn.
+    LieBytes {
+        /// The liar.
+        liar: u8,
+        /// The receiver.
+        to: u8,
+        /// The next bytes of that link, cut anywhere.
+        bytes: Vec<u8>,
+        /// The coins of what the receiver then says, the same for each statement.
+        toss: Toss,
+    },
+    /// The fuse of a correct member's disk is set, or taken out.
+    Fuse {
+        /// The member.
+        member: u8,
+        /// How many further device calls pass before all fail; none takes the fuse out.
+        calls: Option<u64>,
+    },
+    /// A correct member goes down, and its disk crashes. The fuse is out then.
+    Crash {
+        /// The member.
+        member: u8,
+        /// What the crash leaves of its file.
+        pick: Pick,
+    },
+    /// A correct member that is down or stopped is opened again from its disk. Its incoming links start anew.
+    Restart {
+        /// The member.
+        member: u8,
+    },
+    /// A link starts anew: its next statement is the sender's first, and no byte of it was read.
+    Reset {
+        /// The sender.
+        from: u8,
+        /// The receiver.
+        to: u8,
+    },
+}
+
+/// Which statement of a sender is delivered, of all that were ever in its outbox.
+#[derive(Clone, Copy, Debug, PartialEq, Eq)]
+pub enum Which {
+    /// The one at the link's place, which then goes one further.
+    Next,
+    /// The one of this number, counted from 0. The link's place stays.
+    At(u64),
+}
+
+/// What became of an event.
+#[derive(Clone, Copy, Debug, PartialEq, Eq)]
+pub enum Mark {
+    /// It happened.
+    Done,
+    /// A member's disk failed in it, by its fuse: the member is stopped, or still down where it was to be opened. Of
+    /// a liar's bytes the rest was dropped.
+    Failed,
+    /// It couldn't happen, for this reason, and changed nothing.
+    Skipped(Reason),
+}
+
+/// Why an event was skipped: the first of these that holds.
+#[derive(Clone, Copy, Debug, PartialEq, Eq)]
+pub enum Reason {
+    /// There is no such member, or no such question.
+    NoSuch,
+    /// A liar stands where a correct member is wanted, or the reverse.
+    WrongSide,
+    /// The member that is to act is down or stopped.
+    NotUp,
+    /// The member that is to be opened runs.
+    Running,
+    /// There is no statement at that place of the outbox, or the link is broken.
+    Nothing,
+}
+
+impl fmt::Display for Event {
+    /// The line of a script that says the event.
+    fn fmt<W: fmt::Write>(&self, f: &mut fmt::Formatter<W>) -> fmt::Result {
+        match self {
+            Event::Propose {
+                member,
+                question,
+                bit,
+                toss: _,
+            } => write!(f, "propose {member} {question} {}", u8::from(*bit)),
+            Event::Deliver {
+                from,
+                to,
+                which,
+                toss: _,
+            } => write!(f, "deliver {from} {to} {which}"),
+            Event::LieBytes {
+                liar,
+                to,
+                bytes,
+                toss: _,
+            } => {
+                write!(f, "lie {liar} {to} ")?;
+                show_bytes(bytes, f)
+            }
+            Event::Fuse { member, calls } => match calls {
+                Some(calls) => write!(f, "fuse {member} {calls}"),
+                None => write!(f, "fuse {member} off"),
+            },
+            Event::Crash { member, pick } => match pick {
+                Pick::Kept => write!(f, "crash {member} kept"),
+                Pick::Lost => write!(f, "crash {member} lost"),
+                Pick::Fill(byte) => write!(f, "crash {member} fill {byte:02x}"),
+            },
+            Event::Restart { member } => write!(f, "restart {member}"),
+            Event::Reset { from, to } => write!(f, "reset {from} {to}"),
+        }
+    }
+}
+
+impl fmt::Display for Which {
+    fn fmt<W: fmt::Write>(&self, f: &mut fmt::Formatter<W>) -> fmt::Result {
+        match self {
+            Which::Next => write!(f, "next"),
+            Which::At(number) => write!(f, "{number}"),
+        }
+    }
+}
+
+/// Writes bytes in lower case hexadecimal digits.
+fn show_bytes<W: fmt::Write>(bytes: &[u8], f: &mut fmt::Formatter<W>) -> fmt::Result {
+    for byte in bytes {
+        write!(f, "{byte:02x}")?;
+    }
+    Ok(())
+}

@@ -1,0 +1,114 @@
+//! A link from one member to another: how far it has come in the sender's outbox, and what it reads.
+
+ghost use Rattle.std.specs.Prelude.{◌≡◌, ◌++◌, [], ◌∷◌, Some, IfOk};
+ghost use Rattle.terms.specs.Bounds.{IsSize};
+ghost use Rattle.terms.specs.WellFormed.{IsWellFormed};
+ghost use Rattle.wire.specs.Reading.{End, Rest};
+ghost use Rattle.sim.specs.Links.{statements_in, is_broken_at, Takes};
+
+use std::alloc::Global;
+use std::marker::Model;
+use terms::{Memory, Size, Statement};
+use wire::{Fed, Feeder, Message, encode};
+
+/// A link, as its receiver has it. In contracts it is its place, its size, and how the bytes ended that it was fed.
+#[derive(Drop)]
+pub(crate) struct Link {
+    place: u64,
+    feeder: Feeder,
+    broken: bool,
+}
+
+impl Model for Link {
+    ghost use Rattle.std.specs.Prelude.{◌≡◌};
+    ghost use Rattle.sim.specs.Links.{LinkFields, is_broken_at};
+
+    ghost Value = { LinkFields };
+
+    ghost view = { λ a. record { place = a.place; size = a.feeder.size; end = a.feeder.end } };
+
+    ghost invariant = { λ a. a.broken ≡ is_broken_at a.feeder.end };
+}
+
+impl Link {
+    /// A link at its start: its next statement is the sender's first, and it has read nothing.
+    pub(crate) fn new(size: Size) -> Link
+        ensures place { result.place ≡ 0 }
+        ensures size { result.size ≡ size }
+        ensures end { result.end ≡ Rest [] }
+    {
+        Link {
+            place: 0,
+            feeder: Feeder::new(size),
+            broken: false,
+        }
+    }
+
+    /// How many of the sender's statements it has delivered in order.
+    pub(crate) fn place(&self) -> u64
+        ensures { result ≡ self.now.place }
+    {
+        self.place
+    }
+
+    /// Its next statement is the one of this number.
+    pub(crate) fn go_to(&mut self, place: u64)
+        ensures place { self.new.place ≡ place }
+        ensures size { self.new.size ≡ self.old.size }
+        ensures end { self.new.end ≡ self.old.end }
+    {
+        self.place = place;
+    }
+
+    /// Whether it has read a byte that no frame has there: then it reads nothing more.
+    pub(crate) fn is_broken(&self) -> bool
+        ensures { result ≡ is_broken_at self.now.end }
+    {
+        self.broken
+    }
+
+    /// Reads the next bytes, and gives the statements that they complete.
+    pub(crate) fn take(&mut self, alloc: Global, bytes: &[u8]) -> Result<Vec<Statement>, Memory>
+        ensures takes { IfOk result (λ statements.
+            Takes self.old.size self.old.end bytes.now statements.items self.new.end) }
+        ensures place { self.new.place ≡ self.old.place }
+        ensures size { self.new.size ≡ self.old.size }
+    {
+        let mut messages = Vec::new(alloc);
+        let fed = self.feeder.feed(bytes, &mut messages)?;
+        self.broken = matches!(fed, Fed::Broken(_));
+        statements_among(alloc, &messages)
+    }
+
+    /// Carries a statement as a frame, and gives what comes out at the other end.
+    pub(crate) fn carry(
+        &mut self,
+        alloc: Global,
+        statement: &Statement,
+    ) -> Result<Option<Statement>, Memory>
+        ensures arrives { IsSize self.old.size → IsWellFormed self.old.size statement.now → self.old.end ≡ Rest [] →
+            IfOk result (λ arrived. arrived ≡ Some statement.now) }
+        ensures end { IsSize self.old.size → IsWellFormed self.old.size statement.now → self.old.end ≡ Rest [] →
+            IfOk result (λ _. self.new.end ≡ Rest []) }
+        ensures place { self.new.place ≡ self.old.place }
+        ensures size { self.new.size ≡ self.old.size }
+    {
+        let mut frame = Vec::new(alloc);
+        encode(&Message::Statement(*statement), &mut frame)?;
+        let arrived = self.take(alloc, &frame)?;
+        Ok(arrived.first().copied())
+    }
+}
+
+/// The statements among the messages, in order.
+fn statements_among(alloc: Global, messages: &[Message]) -> Result<Vec<Statement>, Memory>
+    ensures { IfOk result (λ statements. statements.items ≡ statements_in messages.now) }
+{
+    let mut statements = Vec::new(alloc);
+    for message in messages {
+        if let Message::Statement(statement) = *message {
+            statements.push(statement)?;
+        }
+    }
+    Ok(statements)
+}

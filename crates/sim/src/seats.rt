@@ -1,0 +1,269 @@
+//! Where a member of a simulated cluster is.
+
+ghost use Rattle.std.specs.Prelude.{◌≡◌, ◌<◌, ◌+◌, ◌^◌, ℕ, Bool, true, false, None, Some, List, [], IfOk, IfErr, IfSome, OnOk, MatchOption};
+ghost use Rattle.std.specs.List.{AllByRecursion};
+ghost use Rattle.terms.specs.declared.Header.{Header};
+ghost use Rattle.terms.specs.declared.Size.{Size};
+ghost use Rattle.terms.specs.declared.Record.{Record};
+ghost use Rattle.terms.specs.Reply.Event.{Hearing, Proposal};
+ghost use Rattle.terms.specs.WellFormed.{IsWellFormed};
+ghost use Rattle.world.specs.World.{World, IsCorrect, has_sent, after};
+ghost use Rattle.world.specs.World.Step.{Crash};
+ghost use Rattle.sim.specs.Posts.{IsOfRun};
+ghost use Rattle.sim.specs.declared.faults.SimFault.TheVariants as faults;
+ghost use Rattle.sim.specs.declared.events.Mark.TheVariants as marks;
+ghost use Rattle.sim.specs.Seats.{IsOneSound, IsSeat, IsFresh, IsMarkOf, IsMove, IsBegun, Answers, AreLies, Reopens, AreParts, AreFresh, mine, is_liar, is_up, saved_in, nth_said};
+
+use crate::{Mark, Reason, SimFault};
+use disk::{MemDisk, Pick};
+use journal::JournalFault;
+use member::{Member, MemberFault};
+use questions::Answer;
+use rounds::Toss;
+use std::alloc::Global;
+use std::mem;
+use terms::{Header, Record, Statement};
+
+/// Where a number's member is.
+#[derive(Drop)]
+pub(crate) enum Seat {
+    /// It runs, or has stopped.
+    Here(Member<MemDisk>),
+    /// It is down: its disk, and what it has saved.
+    Down(MemDisk, Vec<Record>),
+    /// The number is a liar's.
+    Liar,
+}
+
+impl Seat {
+    /// Whether the number is a liar's.
+    pub(crate) fn is_liar(&self) -> bool
+        ensures { result ≡ is_liar self.now }
+    {
+        matches!(self, Seat::Liar)
+    }
+
+    /// Whether its member runs.
+    pub(crate) fn is_up(&self) -> bool
+        ensures { result ≡ is_up self.now }
+    {
+        match self {
+            Seat::Here(member) => !member.is_stopped(),
+            _ => false,
+        }
+    }
+
+    /// What its member has saved.
+    pub(crate) fn records(&self) -> &[Record]
+        ensures { result.now ≡ saved_in self.now }
+    {
+        match self {
+            Seat::Here(member) => member.records(),
+            Seat::Down(_, records) => records.as_slice(),
+            Seat::Liar => &[],
+        }
+    }
+
+    /// The statement of that number, of all that it has saved.
+    pub(crate) fn statement(&self, number: u64) -> Option<Statement>
+        requires sound { IsOneSound self.now }
+        ensures said { result ≡ nth_said (saved_in self.now) number }
+        ensures room { IfSome result (λ _. number + 1 < 2 ^ 64) }
+    {
+        match self {
+            Seat::Here(member) => {
+                let outbox = member.outbox();
+                let index = number as usize;
+                if index < outbox.len() {
+                    Some(outbox[index].statement())
+                } else {
+                    None
+                }
+            }
+            _ => statement_at(self.records(), number),
+        }
+    }
+
+    /// Hands a proposal in.
+    pub(crate) fn propose(
+        &mut self,
+        fused: bool,
+        question: u16,
+        bit: bool,
+        toss: Toss,
+    ) -> Result<Mark, SimFault>
+        requires sound { IsOneSound self.old }
+        ensures sound { IsOneSound self.new }
+        ensures only { IfErr result IsOfRun }
+        ensures side { is_liar self.new ≡ is_liar self.old }
+        ensures moved { (size : Size) (liars : ℕ → Bool) (p : ℕ) (w : World) → IsCorrect size liars p → w.doubt p ≡ None →
+            IsSeat (mine size p) w self.old → IfOk result (λ mark.
+            IsMove size liars p w (Answers size p w fused toss.0 (Proposal question bit) mark) self.new) }
+    {
+        let Seat::Here(member) = self else {
+            return Ok(Mark::Skipped(Reason::NotUp));
+        };
+        let answer = member.propose(question, bit, toss);
+        mark_of(answer, fused)
+    }
+
+    /// Lets it hear a statement.
+    pub(crate) fn hear(
+        &mut self,
+        fused: bool,
+        from: u8,
+        statement: &Statement,
+        toss: Toss,
+    ) -> Result<Mark, SimFault>
+        requires sound { IsOneSound self.old }
+        ensures sound { IsOneSound self.new }
+        ensures only { IfErr result IsOfRun }
+        ensures side { is_liar self.new ≡ is_liar self.old }
+        ensures moved { (size : Size) (liars : ℕ → Bool) (p : ℕ) (w : World) → IsCorrect size liars p → w.doubt p ≡ None →
+            IsSeat (mine size p) w self.old → has_sent w.sent from statement.now ≡ true → IfOk result (λ mark.
+            IsMove size liars p w (Answers size p w fused toss.0 (Hearing from statement.now) mark) self.new) }
+    {
+        let Seat::Here(member) = self else {
+            return Ok(Mark::Skipped(Reason::NotUp));
+        };
+        let answer = member.hear(from, statement, toss);
+        mark_of(answer, fused)
+    }
+
+    /// Lets it hear statements in turn, until its disk fails.
+    pub(crate) fn hear_each(
+        &mut self,
+        fused: bool,
+        from: u8,
+        statements: &[Statement],
+        toss: Toss,
+    ) -> Result<Mark, SimFault>
+        requires sound { IsOneSound self.old }
+        ensures sound { IsOneSound self.new }
+        ensures only { IfErr result IsOfRun }
+        ensures side { is_liar self.new ≡ is_liar self.old }
+        ensures moved { (size : Size) (liars : ℕ → Bool) (p : ℕ) (w : World) → IsCorrect size liars p → w.doubt p ≡ None →
+            IsSeat (mine size p) w self.old → from < size.n → liars from ≡ true → AllByRecursion (IsWellFormed size) statements.now →
+            IfOk result (λ mark. IsMove size liars p w (AreLies size p w fused from toss.0 statements.now mark) self.new) }
+    {
+        for statement in statements {
+            let mark = self.hear(fused, from, statement, toss)?;
+            match mark {
+                Mark::Done => {}
+                _ => return Ok(mark),
+            }
+        }
+        Ok(Mark::Done)
+    }
+
+    /// Sets the fuse of its disk.
+    pub(crate) fn fuse(&mut self, calls: Option<u64>)
+        requires sound { IsOneSound self.old }
+        ensures sound { IsOneSound self.new }
+        ensures side { is_liar self.new ≡ is_liar self.old }
+        ensures at { (header : Header) (w : World) → IsSeat header w self.old → IsSeat header w self.new }
+    {
+        match self {
+            Seat::Here(member) => member.fuse(calls),
+            Seat::Down(disk, _) => disk.fuse(calls),
+            Seat::Liar => {}
+        }
+    }
+
+    /// It goes down, and its disk crashes.
+    pub(crate) fn crash(&mut self, pick: Pick) -> Result<(), SimFault>
+        requires sound { IsOneSound self.old }
+        ensures sound { IsOneSound self.new }
+        ensures only { IfErr result IsOfRun }
+        ensures side { OnOk result (is_liar self.new ≡ is_liar self.old) }
+        ensures at { (header : Header) (w : World) → IsSeat header w self.old →
+            OnOk result (IsSeat header (after w (Crash header.me)) self.new) }
+    {
+        match mem::replace(self, Seat::Liar).into_parts() {
+            Some((disk, records)) => {
+                *self = Seat::Down(disk.crash(pick)?, records);
+                Ok(())
+            }
+            None => Ok(()),
+        }
+    }
+
+    /// It is opened from its disk. Where the disk fails by its fuse it is down.
+    pub(crate) fn open(
+        &mut self,
+        alloc: Global,
+        fused: bool,
+        header: &Header,
+    ) -> Result<Mark, SimFault>
+        requires sound { IsOneSound self.old }
+        ensures sound { IsOneSound self.new }
+        ensures only { IfErr result (λ fault. fault ≡ faults.Memory) }
+        ensures failed { IfOk result (λ mark. mark ≡ marks.Failed → fused ≡ true) }
+        ensures side { OnOk result (is_liar self.new ≡ is_liar self.old) }
+        ensures moved { (size : Size) (liars : ℕ → Bool) (p : ℕ) (w : World) (batch : List Record) → IsCorrect size liars p →
+            header.now ≡ mine size p → w.doubt p ≡ Some batch → IsSeat (mine size p) w self.old →
+            IfOk result (λ mark. IsMove size liars p w (Reopens p fused mark) self.new) }
+        ensures begun { IsFresh header.now self.old → IfOk result (λ mark. IsBegun header.now fused mark self.new) }
+    {
+        let (disk, records) = match mem::replace(self, Seat::Liar).into_parts() {
+            Some(parts) => parts,
+            None => return Ok(Mark::Skipped(Reason::WrongSide)),
+        };
+        match Member::adopt(alloc, disk, header) {
+            Ok(member) => {
+                *self = Seat::Here(member);
+                Ok(Mark::Done)
+            }
+            Err((JournalFault::Device, disk)) if fused => {
+                *self = Seat::Down(disk, records);
+                Ok(Mark::Failed)
+            }
+            Err(_) => Err(SimFault::Memory),
+        }
+    }
+
+    /// Its disk, and what its member has saved.
+    fn into_parts(self) -> Option<(MemDisk, Vec<Record>)>
+        requires sound { IsOneSound self }
+        ensures parts { (header : Header) (w : World) → IsSeat header w self → AreParts header w result }
+        ensures fresh { (header : Header) → IsFresh header self → AreFresh header result }
+        ensures side { MatchOption result (is_liar self ≡ true) (λ _. is_liar self ≡ false) }
+    {
+        match self {
+            Seat::Here(member) => Some(member.into_parts()),
+            Seat::Down(disk, records) => Some((disk, records)),
+            Seat::Liar => None,
+        }
+    }
+}
+
+/// The statement of that number among the records, decisions not counted.
+fn statement_at(records: &[Record], number: u64) -> Option<Statement>
+    ensures said { result ≡ nth_said records.now number }
+    ensures room { IfSome result (λ _. number + 1 < 2 ^ 64) }
+{
+    let _count = records.len();
+    let mut left = number;
+    for item in records {
+        if let Record::Said(statement) = *item {
+            if left == 0 {
+                return Some(statement);
+            }
+            left -= 1;
+        }
+    }
+    None
+}
+
+/// What becomes of an event that a member answered so.
+fn mark_of(answer: Result<Answer, MemberFault>, fused: bool) -> Result<Mark, SimFault>
+    ensures mark { IfOk result (λ mark. IsMarkOf fused answer mark) }
+    ensures only { IfErr result IsOfRun }
+{
+    match answer {
+        Ok(_) => Ok(Mark::Done),
+        Err(MemberFault::Device) if fused => Ok(Mark::Failed),
+        Err(MemberFault::JournalFull) => Err(SimFault::Full),
+        Err(_) => Err(SimFault::Memory),
+    }
+}
