@@ -1,23 +1,19 @@
 -- Tasks of one post as steps of the world.
-use Rattle.std.proofs.Common.{◌≡◌, ◌<◌, ◌+◌, ℕ, ◌⊎◌, inl, inr, Bool, true, false, cond, eqb, eq-eqb, Option, Some, None, Result, Ok, Err, IfOk, List, [], ◌∷◌, ◌++◌, length, get_or, set, get_or-set_same, get_or-set_other, refl, sym, ap, subst, ◌∙◌, arith}
+use Rattle.std.proofs.Common.{◌≡◌, ◌<◌, ℕ, Bool, true, false, eqb, eq-eqb, Option, Result, Ok, Err, IfOk, List, [], ◌∷◌, ◌++◌, length, get_or, set, get_or-set_same, get_or-set_other, refl, sym, ap, subst, ◌∙◌, arith}
 use Rattle.std.specs.Prelude.{is_some}
 use Rattle.std.specs.List.{AllByRecursion}
 use Rattle.std.proofs.lemmas.Bool.{eqb-true, eqb-false}
 use Rattle.terms.specs.declared.Size.{Size}
 use Rattle.terms.specs.declared.Statement.{Statement}
-use Rattle.terms.specs.declared.Record.{Record}
-use Rattle.terms.specs.Bounds.{IsSize}
 use Rattle.terms.specs.WellFormed.{IsWellFormed}
 use Rattle.terms.specs.Reply.Event.{Hearing, Proposal}
 use Rattle.rounds.specs.declared.tosses.Toss.{Toss}
 use Rattle.disk.specs.declared.crash.Pick.{Pick}
 use Rattle.wire.specs.declared.message.Message.{Message}
 use Rattle.wire.specs.Reading.{End, Rest, Broken, Reads}
-use Rattle.wire.specs.Feeding.{Feeds}
 use Rattle.wire.proofs.Cutting.{written_reads}
-use Rattle.wire.proofs.Unique.{reads_once}
 use Rattle.wire.proofs.Whole.{joins}
-use Rattle.world.specs.World.{World, Step, IsCorrect, IsRun, has_sent, after, after_all, put}
+use Rattle.world.specs.World.{World, Step, after, after_all}
 use Rattle.world.specs.World.Step.{Lie, Crash as CrashStep}
 use Rattle.world.proofs.Runs.{put-here}
 use Rattle.sim.specs.declared.events.Mark.{Mark}
@@ -27,12 +23,11 @@ use Rattle.sim.specs.declared.events.Reason.TheVariants.{Nothing}
 use Rattle.sim.specs.declared.links.Link.{Link}
 use Rattle.sim.specs.declared.posts.Post.{Post}
 use Rattle.sim.specs.declared.seats.Seat.{Seat}
-use Rattle.sim.specs.declared.tasks.Task.{Task}
 use Rattle.sim.specs.declared.tasks.Task.TheVariants as task
 use Rattle.sim.specs.Links.{statements_in, is_broken_at, Takes}
 use Rattle.sim.specs.Seats.{IsSeat, IsMove, Answers, AreLies, GoesOn, Reopens, is_liar, mine}
-use Rattle.sim.specs.Scene.{Scene, Does, HearsLies, put_at, cleared, scene_after}
-use Rattle.sim.specs.Posts.{IsPost, IsLink, IsNewLink, IsDone, Runs, Fits}
+use Rattle.sim.specs.Scene.{Scene, Does, HearsLies, put_at, cleared}
+use Rattle.sim.specs.Posts.{IsPost, IsLink, IsNewLink, IsDone, Fits}
 use Rattle.sim.proofs.Reading.{all_formed}
 
 pub mapped : {A E : Type 0} (P Q : A → Type 0) (r : Result A E) → IfOk r P → ((x : A) → P x → Q x) → IfOk r Q

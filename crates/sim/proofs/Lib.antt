@@ -10,4 +10,5 @@ pub mod Turn
 pub mod Loop
 pub mod Opening
 pub mod Verdicts
+pub mod Proposals
 pub mod Simulations

@@ -1,5 +1,5 @@
 -- A liar's statements, heard in turn.
-use Rattle.std.proofs.Common.{◌≡◌, ◌<◌, ◌+◌, ℕ, ◌⊎◌, inl, Bool, true, false, Option, Some, None, Result, Ok, Err, List, [], ◌∷◌, ◌++◌, length, get_or, suc, drop, eqb, eq-eqb, refl, sym, ap, subst, ◌∙◌, append-nil, append_assoc, ◌||◌, ◌&&◌, add-one}
+use Rattle.std.proofs.Common.{◌≡◌, ◌<◌, ◌+◌, ℕ, Bool, true, None, List, [], ◌∷◌, ◌++◌, length, get_or, suc, drop, eqb, eq-eqb, refl, sym, ap, subst, ◌∙◌, append-nil, append_assoc, ◌||◌, add-one}
 use Rattle.std.specs.List.{AllByRecursion}
 use Rattle.std.proofs.Math.Seq.{drop-cons}
 use Rattle.std.proofs.lemmas.Bool.{and_from}
@@ -11,7 +11,7 @@ use Rattle.terms.specs.Reply.{Event as Happening, records_of}
 use Rattle.terms.specs.Reply.Event.{Hearing, Proposal}
 use Rattle.terms.specs.Same.{statement_eq}
 use Rattle.terms.proofs.Same.{statement_eq-same}
-use Rattle.world.specs.World.{World, Step, IsCorrect, IsRun, IsAllowed, has_sent, after, after_all}
+use Rattle.world.specs.World.{World, Step, IsCorrect, IsRun, has_sent, after, after_all}
 use Rattle.world.specs.World.Step.{Lie}
 use Rattle.world.proofs.Runs.{IsRun-append, after_all-append}
 use Rattle.member.specs.Life.{step_of}

@@ -1,15 +1,9 @@
 -- What a member does, as steps of the world.
-use Rattle.std.proofs.Common.{◌≡◌, ◌<◌, ◌+◌, ℕ, ◌⊎◌, inl, inr, Bool, true, false, not, Option, Some, None, Result, Ok, Err, IfOk, List, [], ◌∷◌, ◌++◌, drop, refl, sym, ap, subst, ◌∙◌, append-nil, append_assoc}
-use Rattle.std.specs.List.{AllByRecursion}
+use Rattle.std.proofs.Common.{◌≡◌, ℕ, ◌⊎◌, inl, inr, Bool, true, false, Option, Some, Result, Ok, Err, IfOk, List, [], ◌∷◌, ◌++◌, refl, sym, ap, subst, ◌∙◌, append_assoc}
 use Rattle.terms.specs.declared.Size.{Size}
-use Rattle.terms.specs.declared.Statement.{Statement}
 use Rattle.terms.specs.declared.Record.{Record}
 use Rattle.terms.specs.declared.Header.{Header}
-use Rattle.terms.specs.WellFormed.{IsWellFormed}
 use Rattle.terms.specs.Reply.{Event as Happening, records_of}
-use Rattle.terms.specs.Reply.Event.{Hearing, Proposal}
-use Rattle.terms.specs.Same.{statement_eq}
-use Rattle.terms.proofs.Same.{statement_eq-same}
 use Rattle.disk.specs.declared.memory.MemDisk.{MemDisk}
 use Rattle.disk.specs.Memory.{memory_state}
 use Rattle.disk.specs.Model.{State, MayLeave, at_rest}
@@ -19,9 +13,9 @@ use Rattle.sim.proofs.Kept.{begins_kept}
 use Rattle.journal.proofs.Held.{left_holds}
 use Rattle.questions.specs.declared.answer.Answer.{Answer}
 use Rattle.questions.specs.Replies.{reply_of}
-use Rattle.world.specs.World.{World, Step, IsCorrect, IsRun, IsAllowed, has_sent, in_doubt, after, after_all}
-use Rattle.world.specs.World.Step.{Lie, Crash, Restart}
-use Rattle.world.proofs.Runs.{IsRun-append, after_all-append, put-here}
+use Rattle.world.specs.World.{World, in_doubt, after}
+use Rattle.world.specs.World.Step.{Crash, Restart}
+use Rattle.world.proofs.Runs.{put-here}
 use Rattle.member.specs.declared.fault.MemberFault.{MemberFault}
 use Rattle.member.specs.declared.fault.MemberFault.TheVariants.{Stopped, Device, Memory, JournalFull, NoSuchQuestion, NoSuchMember}
 use Rattle.member.specs.declared.member.Member.{Member}
@@ -31,10 +25,9 @@ use Rattle.member.specs.Memory.{memory_disk}
 use Rattle.member.specs.Stands.{IsLeft}
 use Rattle.member.specs.Life.{IsAt, Goes, Lives, step_of}
 use Rattle.sim.specs.declared.events.Mark.{Mark}
-use Rattle.sim.specs.declared.events.Mark.TheVariants.{Done, Failed, Skipped}
-use Rattle.sim.specs.declared.seats.Seat.{Seat}
-use Rattle.sim.specs.declared.seats.Seat.TheVariants.{Here, Down, Liar}
-use Rattle.sim.specs.Seats.{IsSeat, IsMarkOf, IsMove, IsDown, Answers, AreLies, Reopens, mine}
+use Rattle.sim.specs.declared.events.Mark.TheVariants.{Done}
+use Rattle.sim.specs.declared.seats.Seat.TheVariants.{Here}
+use Rattle.sim.specs.Seats.{IsMarkOf, IsMove, IsDown, Answers, Reopens, mine}
 
 -- an event that a member answered
 pub told : (size : Size) (liars : ℕ → Bool) (p : ℕ) (w : World) (toss : ℕ) (fused : Bool) (event : Happening) (old new : Member MemDisk)

@@ -1,19 +1,19 @@
 -- All journals are opened, one after the other.
-use Rattle.std.proofs.Common.{◌≡◌, ◌<◌, ◌≤◌, ◌+◌, ℕ, zero, suc, [], ◌∷◌, ◌++◌, Bool, true, false, eqb, List, length, get_or, set, get_or-set_same, get_or-set_other, refl, sym, subst, ◌∙◌, arith}
+use Rattle.std.proofs.Common.{ap, ◌≡◌, ◌<◌, ◌≤◌, ◌+◌, ℕ, zero, suc, [], ◌∷◌, ◌++◌, Bool, true, false, eqb, List, length, get_or, set, get_or-set_same, get_or-set_other, refl, sym, subst, ◌∙◌, arith}
 use Rattle.std.proofs.lemmas.Bool.{eqb-true, eqb-false}
 use Rattle.std.proofs.lemmas.List.{get_or_default}
 use Rattle.std.specs.Prelude.{is_some}
 use Rattle.disk.specs.declared.memory.MemDisk.{MemDisk}
 use Rattle.disk.specs.Memory.{fuse_left}
 use Rattle.sim.specs.declared.posts.Post.{Post}
-use Rattle.sim.specs.Outcomes.{fused_in}
+use Rattle.sim.specs.Outcomes.{HasFuse, among, fused_in}
 use Rattle.terms.specs.declared.Size.{Size}
 use Rattle.terms.specs.declared.Header.{Header}
 use Rattle.sim.proofs.Done.{link_new}
 use Rattle.sim.specs.declared.links.Link.{Link}
-use Rattle.sim.specs.Seats.{mine}
+use Rattle.sim.specs.Seats.{mine, is_liar}
 use Rattle.sim.specs.Scene.{opening}
-use Rattle.sim.specs.Posts.{Opens, IsCreated, IsOpened, IsNewLink, IsLink, IsPost}
+use Rattle.sim.specs.Posts.{Opens, IsReady, IsCreated, IsOpened, IsNewLink, IsLink, IsPost}
 
 module _ (initial posts : List Post) (i : ℕ) (x new : Post) (l : i < length posts) (at : x ≡ get_or posts i x) (one : Opens x new)
     (done : (p : ℕ) (d : Post) → p < i → Opens (get_or initial p d) (get_or posts p d))
@@ -83,6 +83,18 @@ opens_post size liars fused p old new created opens =
     (opens.opened (liars p) (fused p) (subst (λ (h : Header). IsCreated h (liars p) (fused p) old) (sym created.header_is) created)))
 
 -- a list with a place has something in it
-pub some_of : {X : Type 0} (xs : List X) (p : ℕ) → p < length xs → X
+some_of : {X : Type 0} (xs : List X) (p : ℕ) → p < length xs → X
 some_of [] p l = absurd (omega arith)
 some_of (x ∷ xs) p l = x
+
+-- where a correct member's first opening was stopped, a fuse is in its disk
+pub fuse_there : (size : Size) (liars : List ℕ) (disks : List MemDisk) (shown items : List Post) → shown ≡ items → length items ≡ length disks
+    → ((p : ℕ) (d : Post) → p < length items → IsReady (get_or items p d) × IsCreated (mine size p) (among liars p) (fused_in disks p) (get_or items p d))
+    → (p : ℕ) × (p < length shown) × ((d : Post) → (is_liar (get_or shown p d).seat ≡ false) × ((get_or shown p d).fused ≡ true)) → HasFuse liars disks
+fuse_there size liars disks shown items is count each (p, l, told) =
+    let within : p < length items = omega (arith, l, ap (λ (x : List Post). length x) is) in
+    let d = some_of items p within in
+    let created = (each p d within).1 in
+    let here : (is_liar (get_or items p d).seat ≡ false) × ((get_or items p d).fused ≡ true) =
+    subst (λ (x : List Post). (is_liar (get_or x p d).seat ≡ false) × ((get_or x p d).fused ≡ true)) is (told d) in
+    (p, omega (arith, within, count), sym created.side ∙ here.0, sym created.fused_is ∙ here.1)

@@ -17,7 +17,6 @@ use Rattle.sim.specs.declared.events.Which.TheVariants.{Next, At}
 use Rattle.sim.specs.declared.events.Event.{Event}
 use Rattle.sim.specs.declared.events.Event.TheVariants as events
 use Rattle.sim.specs.declared.events.Reason.{Reason}
-use Rattle.sim.specs.declared.links.Link.{Link}
 use Rattle.sim.specs.declared.posts.Post.{Post}
 use Rattle.sim.specs.declared.tasks.Task.{Task}
 use Rattle.sim.specs.declared.tasks.Task.TheVariants as tasks

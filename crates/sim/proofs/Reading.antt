@@ -1,6 +1,6 @@
 -- What a link gives of what it is fed.
-use Rattle.std.proofs.Common.{◌≡◌, ◌+◌, ◌<◌, ℕ, Bool, true, false, List, [], ◌∷◌, ◌++◌, length, get_or, take, refl, sym, ap, subst, ◌∙◌, append-nil}
-use Rattle.std.specs.List.{AllByRecursion, flat_map, concat}
+use Rattle.std.proofs.Common.{◌≡◌, ◌+◌, ◌<◌, ℕ, List, [], ◌∷◌, ◌++◌, length, get_or, take, refl, ap, subst, ◌∙◌, append-nil}
+use Rattle.std.specs.List.{AllByRecursion}
 use Rattle.std.proofs.lemmas.List.{take_more}
 use Rattle.terms.specs.declared.Size.{Size}
 use Rattle.terms.specs.declared.Statement.{Statement}
@@ -9,10 +9,9 @@ use Rattle.terms.specs.WellFormed.{IsWellFormed}
 use Rattle.wire.specs.declared.message.Message.{Message}
 use Rattle.wire.specs.declared.message.Message.TheVariants as message
 use Rattle.wire.specs.Texts.{text, Fits}
-use Rattle.wire.specs.Reading.{End, Rest, Broken, Reads}
+use Rattle.wire.specs.Reading.{End, Rest}
 use Rattle.wire.specs.Feeding.{Feeds}
 use Rattle.wire.proofs.Cutting.{written_is_fed}
-use Rattle.wire.proofs.Whole.{joins}
 use Rattle.sim.specs.Links.{statements_in, Takes}
 
 pub statements-append : (xs ys : List Message) → statements_in (xs ++ ys) ≡ statements_in xs ++ statements_in ys

@@ -1,21 +1,22 @@
 -- What a simulation promises.
-use Rattle.std.proofs.Common.{◌≡◌, ◌≤◌, ℕ, Bool, List, length, sym, subst, arith}
+use Rattle.std.proofs.Common.{◌≡◌, ◌≤◌, ℕ, Bool, List, sym, subst, arith}
 use Rattle.terms.specs.declared.Size.{Size}
 use Rattle.terms.specs.Bounds.{IsSize}
 use Rattle.terms.specs.Count.{count_below}
 use Rattle.world.specs.World.{World, start, after_all}
-use Rattle.world.specs.Claims.{Agree}
+use Rattle.world.specs.Claims.{Agree, Unanimous}
 use Rattle.world.proofs.Keeps.{reached_ok}
-use Rattle.world.proofs.Rounds.{agree}
+use Rattle.world.proofs.Rounds.{agree, unanimous}
 use Rattle.sim.specs.declared.events.Event.{Event}
 use Rattle.sim.specs.declared.events.Mark.{Mark}
 use Rattle.sim.specs.declared.posts.Post.{Post}
 use Rattle.sim.specs.Scene.{Scene, opening}
 use Rattle.sim.specs.Posts.{IsCluster}
 use Rattle.sim.specs.Runs.{IsFollowed}
-use Rattle.sim.specs.Outcomes.{AreLiars, IsSimulation, HaveOneBit, Verdict, among, verdicts_of}
+use Rattle.sim.specs.Outcomes.{AreLiars, IsSimulation, HaveOneBit, AreUnanimous, Verdict, among, verdicts_of}
 use Rattle.sim.proofs.Rising.{few_among}
-use Rattle.sim.proofs.Verdicts.{verdicts_agree}
+use Rattle.sim.proofs.Verdicts.{verdicts_agree, verdicts_unanimous}
+use Rattle.sim.proofs.Proposals.{script_on}
 
 pub few_lie : (size : Size) (liars : List ℕ) → AreLiars size liars → count_below size.n (among liars) ≤ size.t
 few_lie size liars are = let many = few_among size.n liars in omega (arith, many, are.1)
@@ -35,4 +36,11 @@ module _ (size : Size) (liars fused : ℕ → Bool) (script : List Event) (marks
   simulations_agree =
       verdicts_agree size liars s.last.world verdicts
       (subst (λ (w : World). Agree size liars w) (sym s.world_is) (agree size liars ok few (after_all start s.steps) (reached_ok size liars ok few s.steps s.is_run)))
+      s.verdicts_are
+
+  pub simulations_unanimous : AreUnanimous script marks verdicts
+  simulations_unanimous question v only =
+      verdicts_unanimous size liars s.last.world verdicts question v
+      (subst (λ (w : World). Unanimous size liars w) (sym s.world_is) (unanimous size liars ok few (after_all start s.steps) (reached_ok size liars ok few s.steps s.is_run)))
+      (script_on question v size liars (opening fused) script marks s.steps s.last only s.run (λ a b h. cc))
       s.verdicts_are

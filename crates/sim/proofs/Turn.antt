@@ -1,5 +1,5 @@
 -- A task of one post as a turn of the cluster.
-use Rattle.std.proofs.Common.{◌≡◌, ◌<◌, ℕ, zero, suc, Bool, true, false, cond, eqb, nat_lt, Option, Some, None, Result, Ok, Err, IfOk, List, [], ◌∷◌, ◌++◌, length, get_or, set, get_or-set_same, get_or-set_other, refl, sym, ap, subst, ◌∙◌, arith, ◌||◌}
+use Rattle.std.proofs.Common.{◌≡◌, ◌<◌, ℕ, Bool, true, false, eqb, Result, Ok, Err, IfOk, List, [], ◌∷◌, ◌++◌, length, get_or, set, get_or-set_same, get_or-set_other, refl, sym, ap, subst, ◌∙◌, arith}
 use Rattle.std.proofs.lemmas.Bool.{eqb-true, eqb-false}
 use Rattle.terms.specs.declared.Size.{Size}
 use Rattle.terms.specs.declared.Statement.{Statement}
@@ -9,13 +9,12 @@ use Rattle.terms.specs.Reply.Event.{Hearing, Proposal}
 use Rattle.wire.specs.declared.message.Message.{Message}
 use Rattle.sim.specs.declared.events.Reason.{Reason}
 use Rattle.wire.specs.Reading.{End, Rest, Broken}
-use Rattle.world.specs.World.{World, Step, after, after_all, put}
-use Rattle.world.specs.World.Step.{Lie, Crash as CrashStep, Restart as RestartStep}
+use Rattle.world.specs.World.{World, Step, after, after_all}
+use Rattle.world.specs.World.Step.{Lie}
 use Rattle.world.proofs.Runs.{put-there, after_all-append}
 use Rattle.member.specs.Life.{step_of}
 use Rattle.sim.specs.declared.events.Mark.{Mark}
 use Rattle.sim.specs.declared.events.Mark.TheVariants.{Done, Failed, Skipped}
-use Rattle.sim.specs.declared.links.Link.{Link}
 use Rattle.sim.specs.declared.posts.Post.{Post}
 use Rattle.sim.specs.declared.seats.Seat.{Seat}
 use Rattle.sim.specs.declared.seats.Seat.TheVariants.{Here, Down, Liar}
@@ -23,7 +22,7 @@ use Rattle.sim.specs.declared.tasks.Task.{Task}
 use Rattle.sim.specs.declared.tasks.Task.TheVariants as task
 use Rattle.sim.specs.Seats.{IsSeat, Answers, AreLies, GoesOn, mine}
 use Rattle.sim.specs.Scene.{Scene, Does, HearsLies, moved, scene_after, plan_of, bytes_in}
-use Rattle.sim.specs.Posts.{IsPost, IsLink, IsDone, IsCluster, Fits}
+use Rattle.sim.specs.Posts.{IsPost, IsDone, IsCluster, Fits}
 use Rattle.sim.specs.Runs.{IsTurn, IsPlanned}
 use Rattle.sim.specs.declared.events.Event.{Event}
 use Rattle.terms.specs.Bounds.{IsSize}

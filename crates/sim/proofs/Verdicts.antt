@@ -9,16 +9,16 @@ use Rattle.sim.specs.declared.seats.Seat.TheVariants.{Here, Down, Liar}
 use Rattle.sim.specs.Seats.{is_liar, saved_in}
 use Rattle.sim.specs.Scene.{Scene}
 use Rattle.sim.specs.Posts.{IsPost}
-use Rattle.std.specs.Prelude.{◌≤◌, ◌&&◌, ◌||◌, ◌==◌, ◌⊎◌, Option, Some, None}
+use Rattle.std.specs.Prelude.{◌&&◌, ◌||◌, ◌==◌, ◌⊎◌, Option, Some, None}
 use Rattle.std.specs.Bool.{beq}
 use Rattle.std.specs.List.{Contains}
 use Rattle.std.proofs.Common.{arith, inl, inr}
-use Rattle.std.proofs.lemmas.Bool.{eqb-true, eq-eqb}
+use Rattle.std.proofs.lemmas.Bool.{eq-eqb}
 use Rattle.std.proofs.lemmas.List.Elements.{Contains-append_cases}
 use Rattle.terms.specs.declared.Record.TheVariants.{Said, Decided}
 use Rattle.terms.specs.Journal.{decided, has_decided}
-use Rattle.world.specs.World.{World, IsCorrect}
-use Rattle.world.specs.Claims.{Agree}
+use Rattle.world.specs.World.{World}
+use Rattle.world.specs.Claims.{Agree, Unanimous, AllPropose}
 use Rattle.sim.specs.Outcomes.{Verdict, verdict_in, verdicts_below, verdicts_of_below, verdicts_of, HaveOneBit}
 use Rattle.sim.proofs.Planned.{saved_is}
 
@@ -123,3 +123,9 @@ verdicts_agree size liars w verdicts agree are a b question round later v u has 
     let two = each_says size.n size.questions liars w (b, question, later, u) (subst (λ (l : List Verdict). Contains l (b, question, later, u)) are other) in
     agree a b question round later v u (record { member = one.member; honest = one.honest }) (record { member = two.member; honest = two.honest })
     (is_decided (w.journal a) question round v one.decision) (is_decided (w.journal b) question later u two.decision)
+
+pub verdicts_unanimous : (size : Size) (liars : ℕ → Bool) (w : World) (verdicts : List Verdict) (question : ℕ) (v : Bool) → Unanimous size liars w → AllPropose w question v
+    → verdicts ≡ verdicts_of size liars w → (a round : ℕ) (u : Bool) → Contains verdicts (a, question, round, u) → u ≡ v
+verdicts_unanimous size liars w verdicts question v unanimous all are a round u has =
+    let one = each_says size.n size.questions liars w (a, question, round, u) (subst (λ (l : List Verdict). Contains l (a, question, round, u)) are has) in
+    unanimous question v all a round u (record { member = one.member; honest = one.honest }) (is_decided (w.journal a) question round u one.decision)

@@ -8,7 +8,9 @@ use Rattle.disk.specs.declared.memory.MemDisk.{MemDisk}
 use Rattle.disk.specs.Memory.{fuse_left, memory_state}
 use Rattle.world.specs.World.{World, Step, IsRun, start, after_all}
 use Rattle.sim.specs.declared.events.Event.{Event}
+use Rattle.sim.specs.declared.events.Event.TheVariants.{Propose, Deliver, LieBytes, Fuse, Crash, Restart, Reset}
 use Rattle.sim.specs.declared.events.Mark.{Mark}
+use Rattle.sim.specs.declared.events.Mark.TheVariants.{Done, Failed, Skipped}
 use Rattle.sim.specs.Scene.{Scene, opening}
 use Rattle.sim.specs.Runs.{IsRunOf}
 
@@ -80,3 +82,31 @@ pub record IsSimulation (size : Size) (liars : ℕ → Bool) (fused : ℕ → Bo
 abbrev pub HaveOneBit : List Verdict → Type 0
 HaveOneBit verdicts = (a b question round later : ℕ) (v u : Bool)
     → Contains verdicts (a, question, round, v) → Contains verdicts (b, question, later, u) → v ≡ u
+
+-- if the event is a proposal of the question, it is of this bit
+abbrev pub ProposesOnly : ℕ → Bool → Event → Type 0
+ProposesOnly question v (Propose member of bit toss) = of ≡ question → bit ≡ v
+ProposesOnly question v (Deliver from to which toss) = Unit {0}
+ProposesOnly question v (LieBytes liar to bytes toss) = Unit {0}
+ProposesOnly question v (Fuse member calls) = Unit {0}
+ProposesOnly question v (Crash member pick) = Unit {0}
+ProposesOnly question v (Restart member) = Unit {0}
+ProposesOnly question v (Reset from to) = Unit {0}
+
+-- so it is, where the event wasn't skipped
+abbrev pub ProposedOnly : ℕ → Bool → Event → Mark → Type 0
+ProposedOnly question v event Done = ProposesOnly question v event
+ProposedOnly question v event Failed = ProposesOnly question v event
+ProposedOnly question v event (Skipped reason) = Unit {0}
+
+-- each proposal of the question that wasn't skipped is of this bit
+abbrev pub AllProposedOnly : ℕ → Bool → List Event → List Mark → Type 0
+AllProposedOnly question v [] marks = Unit {0}
+AllProposedOnly question v (event ∷ events) [] = Unit {0}
+AllProposedOnly question v (event ∷ events) (mark ∷ marks) =
+    ProposedOnly question v event mark × AllProposedOnly question v events marks
+
+-- where all proposals of a question that weren't skipped are of one bit, so is each verdict of it
+abbrev pub AreUnanimous : List Event → List Mark → List Verdict → Type 0
+AreUnanimous script marks verdicts = (question : ℕ) (v : Bool) → AllProposedOnly question v script marks
+    → (a round : ℕ) (u : Bool) → Contains verdicts (a, question, round, u) → u ≡ v

@@ -1,12 +1,12 @@
 -- What a post has of the scene, and what a task does to it.
-use Rattle.std.specs.Prelude.{ℕ, ◌≡◌, ◌<◌, Bool, true, false, Option, Some, None, List, [], length, get_or}
+use Rattle.std.specs.Prelude.{ℕ, ◌≡◌, ◌<◌, Bool, true, false, Some, None, List, [], length, get_or}
 use Rattle.terms.specs.declared.Size.{Size}
 use Rattle.terms.specs.declared.Record.{Record}
 use Rattle.terms.specs.declared.Header.{Header}
 use Rattle.terms.specs.WellFormed.{IsWellFormed}
 use Rattle.wire.specs.declared.message.Message.{Message}
 use Rattle.wire.specs.Reading.{Rest, Reads}
-use Rattle.world.specs.World.{World, Step, IsRun, has_sent, start, after_all}
+use Rattle.world.specs.World.{Step, IsRun, has_sent, start, after_all}
 use Rattle.sim.specs.declared.events.Mark.{Mark}
 use Rattle.sim.specs.declared.links.Link.{Link}
 use Rattle.sim.specs.declared.posts.Post.{Post}

@@ -1,10 +1,10 @@
 -- A script and its marks as a run of the world.
-use Rattle.std.specs.Prelude.{ℕ, ◌≡◌, Bool, true, false, Result, Ok, Err, List, [], ◌∷◌, ◌++◌}
+use Rattle.std.specs.Prelude.{ℕ, ◌≡◌, Bool, true, Result, Ok, Err, List, [], ◌∷◌, ◌++◌}
 use Rattle.terms.specs.declared.Size.{Size}
 use Rattle.terms.specs.declared.Statement.{Statement}
 use Rattle.terms.specs.Journal.{has_said}
 use Rattle.terms.specs.WellFormed.{IsWellFormed}
-use Rattle.world.specs.World.{World, Step, IsCorrect, IsRun, has_sent, after_all}
+use Rattle.world.specs.World.{Step, IsCorrect, IsRun, has_sent, after_all}
 use Rattle.sim.specs.declared.events.Event.{Event}
 use Rattle.sim.specs.declared.events.Mark.{Mark}
 use Rattle.sim.specs.declared.events.Mark.TheVariants.{Skipped}

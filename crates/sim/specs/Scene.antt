@@ -1,5 +1,5 @@
 -- Which runs of the world a script and its marks are.
-use Rattle.std.specs.Prelude.{ℕ, ◌≡◌, ◌<◌, ◌+◌, Bool, true, false, cond, ◌==◌, nat_lt, is_some, Option, Some, None, Result, Ok, Err, List, [], ◌∷◌, ◌++◌, get_or}
+use Rattle.std.specs.Prelude.{ℕ, ◌≡◌, ◌+◌, Bool, false, cond, ◌==◌, nat_lt, is_some, Option, Some, None, Result, Ok, Err, List, [], ◌∷◌, ◌++◌}
 use Rattle.terms.specs.declared.Size.{Size}
 use Rattle.terms.specs.declared.Statement.{Statement}
 use Rattle.terms.specs.declared.Record.{Record}
@@ -8,7 +8,7 @@ use Rattle.terms.specs.Reply.Event.{Hearing, Proposal}
 use Rattle.wire.specs.declared.message.Message.{Message}
 use Rattle.wire.specs.Reading.{End, Rest, Broken, Reads}
 use Rattle.rounds.specs.declared.tosses.Toss.{Toss}
-use Rattle.world.specs.World.{World, Step, IsCorrect, IsRun, start, after_all, put}
+use Rattle.world.specs.World.{World, Step, start, put}
 use Rattle.world.specs.World.Step.{Crash as CrashStep}
 use Rattle.sim.specs.declared.events.Event.{Event}
 use Rattle.sim.specs.declared.events.Event.TheVariants.{Propose, Deliver, LieBytes, Fuse, Crash, Restart, Reset}

@@ -5,7 +5,7 @@ ghost use Rattle.terms.specs.Bounds.{IsSize};
 ghost use Rattle.terms.specs.Count.{count_below};
 ghost use Rattle.sim.specs.Scene.{Scene, opening};
 ghost use Rattle.sim.specs.Posts.{IsCluster, AreReady, IsReady, IsCreated, IsOfRun, IsOfOpening, Opens};
-ghost use Rattle.sim.specs.Outcomes.{AreLiars, AreDisks, HasFuse, IsSimulation, HaveOneBit, among, fused_in, verdicts_below, verdicts_of};
+ghost use Rattle.sim.specs.Outcomes.{AreLiars, AreDisks, HasFuse, IsSimulation, HaveOneBit, AreUnanimous, among, fused_in, verdicts_below, verdicts_of};
 ghost use Rattle.sim.specs.declared.faults.SimFault.TheVariants as faults;
 ghost use Rattle.sim.specs.declared.posts.Post.{Post};
 ghost use Rattle.sim.specs.Seats.{is_liar, mine};
@@ -30,7 +30,23 @@ pub struct Outcome {
     pub verdicts: Vec<(u8, u16, u8, bool)>,
 }
 
-/// Runs a script.
+/// Runs a script against a whole cluster, the one of number 0. The script, what was marked and what was decided are a
+/// run of the crate `world`; so its promises hold of them (the properties have the names of Cachin, Guerraoui and
+/// Rodrigues, chapter 5).
+///
+/// The liars are numbers of members, upwards. Each member has its disk, by number; a journal is created on the disks of
+/// correct members alone, on all of them before the first is opened. On an error nothing is left of the cluster.
+///
+/// - `bad_liars`: `BadLiars` exactly where the liars' numbers don't rise, one is not below n, or they are more than t.
+/// - `bad_disks`: `BadDisks` exactly where the liars are right, and there are not n disks or one is not empty.
+/// - `device`: `Device` only where a fuse is in the disk of a correct member; it comes before the first event.
+/// - `run`: the events with their marks are steps of the world from its start, event by event; each mark is the one
+///   that the event has there, and the verdicts are all decisions that correct members have saved in the end, by
+///   member and then by question.
+/// - `agree`: two verdicts of one question have one bit.
+/// - `unanimous`: where all proposals of a question that weren't skipped are of one bit, so is each verdict of it.
+///
+/// `Memory` comes where there is no memory, and `Full` where a member's journal has no room.
 pub fn run(
     alloc: Global,
     size: Size,
@@ -44,6 +60,7 @@ pub fn run(
     ensures run { IfOk result (λ outcome. IsSimulation size (among liars.now) (fused_in disks.items) script.now
         outcome.marks.items outcome.verdicts.items) }
     ensures agree { IfOk result (λ outcome. HaveOneBit outcome.verdicts.items) }
+    ensures unanimous { IfOk result (λ outcome. AreUnanimous script.now outcome.marks.items outcome.verdicts.items) }
 {
     if !are_liars(size, liars) {
         return Err(SimFault::BadLiars);

@@ -1,5 +1,4 @@
-use Rattle.std.proofs.Common.{◌≡◌, ◌<◌, ◌≤◌, ℕ, List, length, drop, get_or, arith, ◌∙◌, sym, rules}
-use Rattle.sim.specs.Outcomes.{RiseFrom}
+use Rattle.std.proofs.Common.{◌<◌, get_or, arith, rules}
 use Rattle.sim.proofs.Rising.{head_rises, rises_on}
 use Rattle.sim.proofs.cluster.are_liars.Goals.{then-liar-least-via-then-liar-least, then-liar-least-via-else-liar-least+then-liar-n}
 use Rattle.sim.proofs.cluster.are_liars.Goals as goal

@@ -1,4 +1,4 @@
-use Rattle.std.proofs.Common.{◌≡◌, ◌<◌, ◌≤◌, ℕ, List, length, drop}
+use Rattle.std.proofs.Common.{drop}
 use Rattle.sim.specs.Outcomes.{RiseFrom}
 use Rattle.sim.proofs.cluster.are_liars.Given as goal
 

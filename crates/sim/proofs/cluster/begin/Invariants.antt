@@ -1,4 +1,4 @@
-use Rattle.std.proofs.Common.{◌≡◌, ◌<◌, ◌≤◌, ℕ, length, get_or}
+use Rattle.std.proofs.Common.{◌≡◌, ◌<◌, ◌≤◌, ℕ, get_or}
 use Rattle.sim.specs.declared.posts.Post.{Post}
 use Rattle.sim.specs.Posts.{Opens}
 use Rattle.sim.proofs.cluster.begin.Given as goal

@@ -1,13 +1,11 @@
-use Rattle.std.proofs.Common.{◌≡◌, ◌<◌, ◌++◌, ℕ, List, length, get_or, take, drop, refl, sym, ap, subst, ◌∙◌, arith, rules, false, true, Err, IsErrOf}
+use Rattle.std.proofs.Common.{◌≡◌, ◌<◌, List, length, get_or, drop, sym, ap, subst, arith, rules, Err, IsErrOf}
 use Rattle.std.proofs.lemmas.List.{take_at}
-use Rattle.terms.specs.declared.Header.{Header}
 use Rattle.sim.specs.declared.posts.Post.{Post}
 use Rattle.sim.specs.declared.faults.SimFault.TheVariants as faults
 use Rattle.sim.specs.Scene.{opening}
-use Rattle.sim.specs.Posts.{IsReady, IsCreated, IsPost, IsCluster, Opens}
+use Rattle.sim.specs.Posts.{IsCluster, Opens}
 use Rattle.sim.specs.Outcomes.{among, fused_in}
-use Rattle.sim.specs.Seats.{mine, is_liar}
-use Rattle.sim.proofs.Opening.{opens_post, some_of}
+use Rattle.sim.proofs.Opening.{opens_post, fuse_there}
 use Rattle.sim.proofs.cluster.opened.Goals as goal
 
 pub returns-clause-cluster : goal.returns-clause-cluster
@@ -24,18 +22,6 @@ returns-clause-cluster c =
 
 pub returns-in_err-begin-clause-device : goal.returns-in_err-begin-clause-device
 returns-in_err-begin-clause-device c h =
-    let slice : c.as_mut_slice.result.now ≡ c.in_ok-posts.posts.items = c.as_mut_slice.ensures.value in
-    let same = ap (λ (l : List Post). length l) slice in
     let device : IsErrOf {T = Unit {0}} (Err c.in_err-begin.field-0.0) faults.Device = search (rules, h) in
-    let stopped = c.in_err-begin.ensures.device device in
-    let p = stopped.0 in
-    let within : p < length c.in_ok-posts.posts.items = omega (arith, same, stopped.1) in
-    let d : Post = some_of c.in_ok-posts.posts.items p within in
-    let created = (c.in_ok-posts.ensures.each p d within).1 in
-    let told = stopped.2 d in
-    let x = ap (λ (l : List Post). get_or l p d) slice in (
-      p,
-      omega (arith, within, c.in_ok-posts.ensures.count),
-      sym created.side ∙ ap (λ (y : Post). is_liar y.seat) (sym x) ∙ told.0,
-      sym created.fused_is ∙ ap (λ (y : Post). y.fused) (sym x) ∙ told.1,
-    )
+    fuse_there c.args.size c.args.liars.now c.args.disks.items c.as_mut_slice.result.now c.in_ok-posts.posts.items c.as_mut_slice.ensures.value c.in_ok-posts.ensures.count
+    c.in_ok-posts.ensures.each (c.in_err-begin.ensures.device device)

@@ -1,5 +1,5 @@
-use Rattle.std.proofs.Common.{◌≡◌, ◌<◌, ◌++◌, ◌∷◌, [], ℕ, Bool, List, length, get_or, refl, sym, ap, subst, ◌∙◌, arith, length-append, append_assoc, append-nil, rules, false, true, Err, IsErrOf}
-use Rattle.std.specs.Vec.Iter.{into_iter_items, into_iter_len}
+use Rattle.std.proofs.Common.{◌≡◌, ◌<◌, ◌++◌, ◌∷◌, [], ℕ, Bool, List, length, get_or, sym, ap, subst, ◌∙◌, arith, length-append, append_assoc, append-nil, rules, false, true, Err, IsErrOf}
+use Rattle.std.specs.Vec.Iter.{into_iter_items}
 use Rattle.terms.specs.declared.Header.{Header}
 use Rattle.disk.specs.declared.memory.MemDisk.{MemDisk}
 use Rattle.disk.specs.Memory.{fuse_left}
@@ -8,7 +8,7 @@ use Rattle.sim.specs.declared.faults.SimFault.TheVariants as faults
 use Rattle.sim.specs.declared.posts.Post.{Post}
 use Rattle.sim.specs.Posts.{IsReady, IsCreated}
 use Rattle.sim.specs.Seats.{mine}
-use Rattle.sim.specs.Outcomes.{HasFuse, among, fused_in}
+use Rattle.sim.specs.Outcomes.{among, fused_in}
 use Rattle.sim.proofs.Opening.{pushed, fused_front, fused_behind, none_left}
 use Rattle.sim.proofs.cluster.posts.Goals as goal
 

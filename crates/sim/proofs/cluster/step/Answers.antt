@@ -1,4 +1,4 @@
-use Rattle.std.proofs.Common.{◌≡◌, ◌∙◌, sym}
+use Rattle.std.proofs.Common.{◌∙◌, sym}
 use Rattle.sim.proofs.Planned.{plan_right}
 use Rattle.sim.proofs.Turn.{turned, skipped_turn}
 use Rattle.sim.proofs.cluster.step.Goals as goal

@@ -1,4 +1,4 @@
-use Rattle.std.proofs.Common.{◌≡◌, ◌<◌, refl, arith}
+use Rattle.std.proofs.Common.{◌<◌, refl, arith}
 use Rattle.sim.proofs.Planned.{post_at}
 use Rattle.sim.proofs.Verdicts.{verdicts_more}
 use Rattle.sim.proofs.cluster.verdicts.Goals as goal

@@ -1,9 +1,8 @@
-use Rattle.std.proofs.Common.{◌≡◌, ◌<◌, ℕ, true, false, [], get_or, List, refl, sym, ap, ◌∙◌, subst, arith}
+use Rattle.std.proofs.Common.{◌≡◌, ◌<◌, ℕ, true, false, [], List, sym, ap, ◌∙◌, arith}
 use Rattle.terms.specs.declared.Record.{Record}
 use Rattle.terms.specs.Heard.{is_none}
 use Rattle.wire.specs.Reading.{Rest}
 use Rattle.sim.specs.declared.links.Link.{Link}
-use Rattle.sim.specs.Posts.{IsPost}
 use Rattle.sim.specs.Scene.{delivery_of}
 use Rattle.sim.proofs.Planned.{post_at, up_is, saved_is, delivery_plan}
 use Rattle.sim.proofs.tasks.delivery.Goals as goal

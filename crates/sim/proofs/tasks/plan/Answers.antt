@@ -1,4 +1,3 @@
-use Rattle.sim.proofs.Turn.{cluster_done}
 use Rattle.sim.proofs.tasks.plan.Goals as goal
 
 pub returns-in-Fuse-clause-plan : goal.returns-in-Fuse-clause-plan

@@ -1,4 +1,4 @@
-use Rattle.std.proofs.Common.{◌≡◌, ◌++◌, ◌∙◌, ap, subst, List, ℕ, length}
+use Rattle.std.proofs.Common.{◌≡◌, ◌++◌, ◌∙◌, ap, subst, List, ℕ}
 use Rattle.std.specs.List.{slice_get}
 use Rattle.terms.specs.declared.Statement.{Statement}
 use Rattle.wire.specs.declared.message.Message.TheVariants as message

@@ -1,4 +1,4 @@
-use Rattle.std.proofs.Common.{◌≡◌, ℕ, List, [], Some, Option, IfOk, length, get_or, refl, sym, ap, subst, ◌∙◌, true}
+use Rattle.std.proofs.Common.{◌≡◌, ℕ, [], Some, Option, IfOk, length, get_or, refl, sym, ap, subst, ◌∙◌, true}
 use Rattle.terms.specs.declared.Size.{Size}
 use Rattle.terms.specs.declared.Header.{Header}
 use Rattle.terms.specs.declared.Statement.{Statement}
@@ -7,7 +7,6 @@ use Rattle.terms.specs.WellFormed.{IsWellFormed}
 use Rattle.terms.specs.Reply.Event.{Hearing}
 use Rattle.wire.specs.Reading.{Rest}
 use Rattle.world.specs.World.{has_sent}
-use Rattle.sim.specs.declared.events.Mark.{Mark}
 use Rattle.sim.specs.declared.links.Link.{Link}
 use Rattle.sim.specs.Seats.{IsMove, Answers}
 use Rattle.sim.proofs.Done.{mapped, delivered}

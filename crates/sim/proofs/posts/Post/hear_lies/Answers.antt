@@ -1,4 +1,4 @@
-use Rattle.std.proofs.Common.{◌≡◌, length, refl, sym, ap, ◌∙◌, true, false, subst, List, IfOk}
+use Rattle.std.proofs.Common.{◌≡◌, length, refl, sym, ap, ◌∙◌, false, subst, List, IfOk}
 use Rattle.std.specs.List.{AllByRecursion}
 use Rattle.terms.specs.WellFormed.{IsWellFormed}
 use Rattle.sim.specs.Links.{is_broken_at}

@@ -2,7 +2,6 @@ use Rattle.std.proofs.Common.{◌≡◌, ◌<◌, length, get_or, refl, sym, ap,
 use Rattle.terms.specs.declared.Header.{Header}
 use Rattle.terms.specs.declared.Size.{Size}
 use Rattle.sim.specs.declared.seats.Seat.{Seat}
-use Rattle.sim.specs.declared.events.Mark.{Mark}
 use Rattle.sim.specs.Seats.{is_liar, IsMove, Reopens}
 use Rattle.sim.specs.Posts.{IsNewLink}
 use Rattle.sim.proofs.Done.{reopen_done, reopen_failed}

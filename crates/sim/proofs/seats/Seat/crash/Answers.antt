@@ -1,4 +1,4 @@
-use Rattle.std.proofs.Common.{◌≡◌, ◌∙◌, sym, subst, ap}
+use Rattle.std.proofs.Common.{◌∙◌, sym, subst, ap}
 use Rattle.disk.specs.Memory.{memory_state}
 use Rattle.sim.specs.declared.seats.Seat.{Seat}
 use Rattle.sim.specs.Seats.{IsSeat, is_liar}

@@ -1,4 +1,4 @@
-use Rattle.std.proofs.Common.{◌≡◌, ◌∙◌, sym, refl}
+use Rattle.std.proofs.Common.{◌∙◌, refl}
 use Rattle.std.proofs.lemmas.List.{drop_all}
 use Rattle.sim.proofs.Lies.{none_heard, all_heard, one_heard, one_failed, next_of}
 use Rattle.sim.proofs.seats.Seat.hear_each.Goals as goal

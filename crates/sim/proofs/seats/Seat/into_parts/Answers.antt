@@ -1,4 +1,3 @@
-use Rattle.std.proofs.Common.{◌≡◌}
 use Rattle.member.specs.Life.{IsAt}
 use Rattle.member.specs.Sound.{IsSound}
 use Rattle.member.specs.Memory.{memory_disk}

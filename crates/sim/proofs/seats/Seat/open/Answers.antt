@@ -1,4 +1,4 @@
-use Rattle.std.proofs.Common.{◌≡◌, ◌∙◌, [], sym, subst, ap, refl}
+use Rattle.std.proofs.Common.{◌∙◌, [], sym, subst, ap, refl}
 use Rattle.world.specs.World.{IsCorrect}
 use Rattle.terms.specs.declared.Header.{Header}
 use Rattle.disk.specs.Memory.{memory_state}

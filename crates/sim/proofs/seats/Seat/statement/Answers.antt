@@ -1,4 +1,4 @@
-use Rattle.std.proofs.Common.{◌≡◌, ◌<◌, ◌≤◌, Some, None, Option, List, length, get_or, sym, ap, subst, ◌∙◌}
+use Rattle.std.proofs.Common.{◌≡◌, ◌<◌, ◌≤◌, Some, List, length, get_or, sym, ap, subst, ◌∙◌}
 use Rattle.terms.specs.declared.Statement.{Statement}
 use Rattle.member.specs.declared.sealed.Sealed.{Sealed}
 use Rattle.member.specs.Sealed.{sealed_from}
