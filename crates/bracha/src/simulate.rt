@@ -1,9 +1,11 @@
 //! The command `simulate`: a script's cluster, run in memory.
 
-ghost use Rattle.std.specs.Prelude.{◌≡◌, IfOk, IfErr, OnOk, string_bytes};
+ghost use Rattle.std.specs.Prelude.{◌≡◌, ℕ, Bool, IfOk, IfErr, OnOk, string_bytes};
 ghost use Rattle.std.specs.List.{flat_map};
 ghost use Rattle.std.specs.Io.KnownBytes.{Appends};
+ghost use Rattle.script.specs.declared.Script.{Script};
 ghost use Rattle.sim.specs.declared.cluster.Outcome.{Outcome};
+ghost use Rattle.sim.specs.Outcomes.{IsSimulation, among};
 ghost use Rattle.bracha.specs.Faults.{IsOfSimulate};
 ghost use Rattle.bracha.specs.Simulations.{verdict_line, count_line, simulation_text, is_skipped, skipped};
 
@@ -89,7 +91,9 @@ fn empty_disks(alloc: Global, size: Size) -> Result<Vec<MemDisk>, Memory> {
 /// can't be run: nothing was written. [`Fault::Stream`] and [`Fault::Memory`]: the write or a growth failed.
 pub fn simulate_text<W: Write>(alloc: Global, text: &[u8], output: &mut W) -> Result<u8, Fault>
     ensures status { IfOk result (λ status. status ≡ 0) }
-    ensures all { OnOk result ((outcome : Outcome)
+    // What is written is the text of a simulation of a script, which is a run of the world.
+    ensures all { OnOk result ((script : Script) × (fused : ℕ → Bool) × (outcome : Outcome)
+        × IsSimulation script.size (among script.liars.items) fused script.events.items outcome.marks.items outcome.verdicts.items
         × Appends (W.contents output.old) (W.contents output.new) (simulation_text outcome)) }
     ensures only { IfErr result IsOfSimulate }
 {
