@@ -252,6 +252,7 @@ fn faults(rt: HostRuntime) -> Result<(), Fail> {
         (6, Ok(0)),
     ] {
         let mut disks = disks(&rt, 4)?;
+        assert_eq!(rt; disks.len(), 4);
         disks[2].fuse(Some(calls));
         let outcome = run(rt.alloc(), size, &[], disks, &[]);
         assert!(rt;
@@ -260,6 +261,7 @@ fn faults(rt: HostRuntime) -> Result<(), Fail> {
         );
     }
     let mut disks = disks(&rt, 4)?;
+    assert_eq!(rt; disks.len(), 4);
     disk::Disk::write_at(&mut disks[3], 0, &[0])?;
     let used = run(rt.alloc(), size, &[3], disks, &[]);
     assert!(rt; used == Err(SimFault::BadDisks));
