@@ -93,7 +93,7 @@ pub fn simulate_text<W: Write>(alloc: Global, text: &[u8], output: &mut W) -> Re
     ensures status { IfOk result (λ status. status ≡ 0) }
     // What is written is the text of a simulation of a script, which is a run of the world.
     ensures all { OnOk result ((script : Script) × (fused : ℕ → Bool) × (outcome : Outcome)
-        × IsSimulation script.size (among script.liars.items) fused script.events.items outcome.marks.items outcome.verdicts.items
+        × IsSimulation script.size (among script.liars.items) fused script.events.items outcome.marks.items outcome.saved.items outcome.verdicts.items
         × Appends (W.contents output.old) (W.contents output.new) (simulation_text outcome)) }
     ensures only { IfErr result IsOfSimulate }
 {

@@ -6,6 +6,7 @@ use Rattle.rounds.specs.declared.tosses.Toss.{Toss}
 use Rattle.std.specs.Bool.{beq}
 use Rattle.std.specs.List.{AllByRecursion}
 use Rattle.std.proofs.lemmas.Bool.{eqb-true}
+use Rattle.std.specs.Global.{Vec}
 use Rattle.terms.specs.declared.Size.{Size}
 use Rattle.terms.specs.declared.Statement.{Statement}
 use Rattle.terms.specs.declared.Record.{Record}
@@ -179,32 +180,34 @@ module _ (question : ℕ) (v : Bool) where
   same_scene : (c next : Scene) → next ≡ c → AllPropose c.world question v → AllPropose next.world question v
   same_scene c next e all = subst (λ (s : Scene). AllPropose s.world question v) (sym e) all
 
-  skipped_on : (size : Size) (c : Scene) (plan : Result (ℕ × Task) Reason) (bytes : List ℕ) (reason : Reason) (steps : List Step) (next : Scene)
-      → IsPlanned size c plan bytes (Skipped reason) steps next → AllPropose c.world question v → AllPropose next.world question v
-  skipped_on size c (Ok to) bytes reason steps next h all = same_scene c next h.1 all
-  skipped_on size c (Err told) bytes reason steps next h all = same_scene c next h.2 all
+  skipped_on : (size : Size) (c : Scene) (plan : Result (ℕ × Task) Reason) (bytes : List ℕ) (reason : Reason) (saved : List Record) (steps : List Step) (next : Scene)
+      → IsPlanned size c plan bytes (Skipped reason) saved steps next → AllPropose c.world question v → AllPropose next.world question v
+  skipped_on size c (Ok to) bytes reason saved steps next h all = same_scene c next h.1 all
+  skipped_on size c (Err told) bytes reason saved steps next h all = same_scene c next h.3 all
 
-  done_on : (size : Size) (c : Scene) (plan : Result (ℕ × Task) Reason) (bytes : List ℕ) (steps : List Step) (next : Scene)
-      → PlanOk plan → IsPlanned size c plan bytes Done steps next → AllPropose c.world question v → AllPropose next.world question v
-  done_on size c (Ok to) bytes steps next ok h all = moved_on size c to.0 to.1 bytes Done steps next ok h.0 h.1 all
-  done_on size c (Err told) bytes steps next ok h all = same_scene c next h.2 all
+  done_on : (size : Size) (c : Scene) (plan : Result (ℕ × Task) Reason) (bytes : List ℕ) (saved : List Record) (steps : List Step) (next : Scene)
+      → PlanOk plan → IsPlanned size c plan bytes Done saved steps next → AllPropose c.world question v → AllPropose next.world question v
+  done_on size c (Ok to) bytes saved steps next ok h all = moved_on size c to.0 to.1 bytes Done steps next ok h.0 h.1 all
+  done_on size c (Err told) bytes saved steps next ok h all = same_scene c next h.3 all
 
-  failed_on : (size : Size) (c : Scene) (plan : Result (ℕ × Task) Reason) (bytes : List ℕ) (steps : List Step) (next : Scene)
-      → PlanOk plan → IsPlanned size c plan bytes Failed steps next → AllPropose c.world question v → AllPropose next.world question v
-  failed_on size c (Ok to) bytes steps next ok h all = moved_on size c to.0 to.1 bytes Failed steps next ok h.0 h.1 all
-  failed_on size c (Err told) bytes steps next ok h all = same_scene c next h.2 all
+  failed_on : (size : Size) (c : Scene) (plan : Result (ℕ × Task) Reason) (bytes : List ℕ) (saved : List Record) (steps : List Step) (next : Scene)
+      → PlanOk plan → IsPlanned size c plan bytes Failed saved steps next → AllPropose c.world question v → AllPropose next.world question v
+  failed_on size c (Ok to) bytes saved steps next ok h all = moved_on size c to.0 to.1 bytes Failed steps next ok h.0 h.1 all
+  failed_on size c (Err told) bytes saved steps next ok h all = same_scene c next h.3 all
 
-  event_on : (size : Size) (liars : ℕ → Bool) (c : Scene) (event : Event) (mark : Mark) (steps : List Step) (next : Scene)
-      → ProposedOnly question v event mark → IsEvent size liars c event mark steps next → AllPropose c.world question v → AllPropose next.world question v
-  event_on size liars c event Done steps next ok h all = done_on size c (plan_of size liars c event) (bytes_in event) steps next (plan_ok size liars c event ok) h all
-  event_on size liars c event Failed steps next ok h all = failed_on size c (plan_of size liars c event) (bytes_in event) steps next (plan_ok size liars c event ok) h all
-  event_on size liars c event (Skipped reason) steps next ok h all = skipped_on size c (plan_of size liars c event) (bytes_in event) reason steps next h all
+  event_on : (size : Size) (liars : ℕ → Bool) (c : Scene) (event : Event) (mark : Mark) (saved : List Record) (steps : List Step) (next : Scene)
+      → ProposedOnly question v event mark → IsEvent size liars c event mark saved steps next → AllPropose c.world question v → AllPropose next.world question v
+  event_on size liars c event Done saved steps next ok h all = done_on size c (plan_of size liars c event) (bytes_in event) saved steps next (plan_ok size liars c event ok) h all
+  event_on size liars c event Failed saved steps next ok h all = failed_on size c (plan_of size liars c event) (bytes_in event) saved steps next (plan_ok size liars c event ok) h all
+  event_on size liars c event (Skipped reason) saved steps next ok h all = skipped_on size c (plan_of size liars c event) (bytes_in event) reason saved steps next h all
 
   -- the world was handed no other bit than the script proposes
-  pub script_on : (size : Size) (liars : ℕ → Bool) (c : Scene) (events : List Event) (marks : List Mark) (steps : List Step) (last : Scene)
-      → AllProposedOnly question v events marks → IsRunOf size liars c events marks steps last → AllPropose c.world question v → AllPropose last.world question v
-  script_on size liars c [] [] steps last ok h all = same_scene c last h.1 all
-  script_on size liars c [] (m ∷ marks) steps last ok h all = absurd h
-  script_on size liars c (e ∷ events) [] steps last ok h all = absurd h
-  script_on size liars c (e ∷ events) (m ∷ marks) steps last ok (first, others, next, is, did, tail) all =
-      script_on size liars next events marks others last ok.1 tail (event_on size liars c e m first next ok.0 did all)
+  pub script_on : (size : Size) (liars : ℕ → Bool) (c : Scene) (events : List Event) (marks : List Mark) (saved : List (Vec Record)) (steps : List Step) (last : Scene)
+      → AllProposedOnly question v events marks → IsRunOf size liars c events marks saved steps last → AllPropose c.world question v → AllPropose last.world question v
+  script_on size liars c [] [] [] steps last ok h all = same_scene c last h.1 all
+  script_on size liars c (e ∷ events) (m ∷ marks) (r ∷ saved) steps last ok (first, others, next, is, did, tail) all =
+      script_on size liars next events marks saved others last ok.1 tail (event_on size liars c e m r.items first next ok.0 did all)
+  script_on size liars c [] [] (r ∷ saved) steps last ok h all = absurd h
+  script_on size liars c [] (m ∷ marks) saved steps last ok h all = absurd h
+  script_on size liars c (e ∷ events) [] saved steps last ok h all = absurd h
+  script_on size liars c (e ∷ events) (m ∷ marks) [] steps last ok h all = absurd h

@@ -1,6 +1,8 @@
 -- What a simulation promises.
 use Rattle.std.proofs.Common.{◌≡◌, ◌≤◌, ℕ, Bool, List, sym, subst, arith}
+use Rattle.std.specs.Global.{Vec}
 use Rattle.terms.specs.declared.Size.{Size}
+use Rattle.terms.specs.declared.Record.{Record}
 use Rattle.terms.specs.Bounds.{IsSize}
 use Rattle.terms.specs.Count.{count_below}
 use Rattle.world.specs.World.{World, start, after_all}
@@ -21,17 +23,17 @@ use Rattle.sim.proofs.Proposals.{script_on}
 pub few_lie : (size : Size) (liars : List ℕ) → AreLiars size liars → count_below size.n (among liars) ≤ size.t
 few_lie size liars are = let many = few_among size.n liars in omega (arith, many, are.1)
 
-pub simulated : (size : Size) (liars fused : ℕ → Bool) (script : List Event) (marks : List Mark) (old new : List Post) (verdicts : List Verdict)
+pub simulated : (size : Size) (liars fused : ℕ → Bool) (script : List Event) (marks : List Mark) (saved : List (Vec Record)) (old new : List Post) (verdicts : List Verdict)
     → IsCluster size liars (opening fused) old
-    → (IsCluster size liars (opening fused) old → IsFollowed size liars (opening fused) script marks new)
+    → (IsCluster size liars (opening fused) old → IsFollowed size liars (opening fused) script marks saved new)
     → ((c : Scene) → IsCluster size liars c new → verdicts ≡ verdicts_of size liars c.world)
-    → IsSimulation size liars fused script marks verdicts
-simulated size liars fused script marks old new verdicts cluster run are =
+    → IsSimulation size liars fused script marks saved verdicts
+simulated size liars fused script marks saved old new verdicts cluster run are =
     let f = run cluster in
     record { steps = f.steps; last = f.last; run = f.run; world_is = f.world_is; is_run = f.is_run; verdicts_are = are f.last f.at }
 
-module _ (size : Size) (liars fused : ℕ → Bool) (script : List Event) (marks : List Mark) (verdicts : List Verdict) (ok : IsSize size) (few : count_below size.n liars ≤ size.t)
-    (s : IsSimulation size liars fused script marks verdicts) where
+module _ (size : Size) (liars fused : ℕ → Bool) (script : List Event) (marks : List Mark) (saved : List (Vec Record)) (verdicts : List Verdict) (ok : IsSize size) (few : count_below size.n liars ≤ size.t)
+    (s : IsSimulation size liars fused script marks saved verdicts) where
   pub simulations_agree : HaveOneBit verdicts
   simulations_agree =
       verdicts_agree size liars s.last.world verdicts
@@ -42,5 +44,5 @@ module _ (size : Size) (liars fused : ℕ → Bool) (script : List Event) (marks
   simulations_unanimous question v only =
       verdicts_unanimous size liars s.last.world verdicts question v
       (subst (λ (w : World). Unanimous size liars w) (sym s.world_is) (unanimous size liars ok few (after_all start s.steps) (reached_ok size liars ok few s.steps s.is_run)))
-      (script_on question v size liars (opening fused) script marks s.steps s.last only s.run (λ a b h. cc))
+      (script_on question v size liars (opening fused) script marks saved s.steps s.last only s.run (λ a b h. cc))
       s.verdicts_are

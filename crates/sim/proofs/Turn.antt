@@ -1,6 +1,7 @@
 -- A task of one post as a turn of the cluster.
-use Rattle.std.proofs.Common.{◌≡◌, ◌<◌, ℕ, Bool, true, false, eqb, Result, Ok, Err, IfOk, List, [], ◌∷◌, ◌++◌, length, get_or, set, get_or-set_same, get_or-set_other, refl, sym, ap, subst, ◌∙◌, arith}
+use Rattle.std.proofs.Common.{◌≡◌, ◌<◌, ℕ, Bool, true, false, cond, eqb, Result, Ok, Err, List, [], ◌∷◌, ◌++◌, length, drop, append-nil, append_assoc, get_or, set, get_or-set_same, get_or-set_other, refl, sym, ap, subst, ◌∙◌, arith}
 use Rattle.std.proofs.lemmas.Bool.{eqb-true, eqb-false}
+use Rattle.std.proofs.Math.Seq.{drop-append_seam}
 use Rattle.terms.specs.declared.Size.{Size}
 use Rattle.terms.specs.declared.Statement.{Statement}
 use Rattle.terms.specs.declared.Record.{Record}
@@ -9,8 +10,8 @@ use Rattle.terms.specs.Reply.Event.{Hearing, Proposal}
 use Rattle.wire.specs.declared.message.Message.{Message}
 use Rattle.sim.specs.declared.events.Reason.{Reason}
 use Rattle.wire.specs.Reading.{End, Rest, Broken}
-use Rattle.world.specs.World.{World, Step, after, after_all}
-use Rattle.world.specs.World.Step.{Lie}
+use Rattle.world.specs.World.{World, Step, put, in_doubt, after, after_all}
+use Rattle.world.specs.World.Step.{Lie, Hears, Proposes, Crash as CrashStep, Restart as RestartStep}
 use Rattle.world.proofs.Runs.{put-there, after_all-append}
 use Rattle.member.specs.Life.{step_of}
 use Rattle.sim.specs.declared.events.Mark.{Mark}
@@ -20,14 +21,14 @@ use Rattle.sim.specs.declared.seats.Seat.{Seat}
 use Rattle.sim.specs.declared.seats.Seat.TheVariants.{Here, Down, Liar}
 use Rattle.sim.specs.declared.tasks.Task.{Task}
 use Rattle.sim.specs.declared.tasks.Task.TheVariants as task
-use Rattle.sim.specs.Seats.{IsSeat, Answers, AreLies, GoesOn, mine}
+use Rattle.sim.specs.Seats.{IsSeat, Answers, AreLies, GoesOn, is_liar, saved_in, mine}
 use Rattle.sim.specs.Scene.{Scene, Does, HearsLies, moved, scene_after, plan_of, bytes_in}
 use Rattle.sim.specs.Posts.{IsPost, IsDone, IsCluster, Fits}
 use Rattle.sim.specs.Runs.{IsTurn, IsPlanned}
 use Rattle.sim.specs.declared.events.Event.{Event}
 use Rattle.terms.specs.Bounds.{IsSize}
-use Rattle.sim.proofs.Planned.{IsRight}
-use Rattle.sim.proofs.Done.{mapped, never_skipped, put_at-other, cleared-other, link_same}
+use Rattle.sim.proofs.Planned.{IsRight, saved_is}
+use Rattle.sim.proofs.Done.{never_skipped, put_at-other, cleared-other, link_same}
 
 -- the two worlds have the same of that member
 pub record SameAt (q : ℕ) (w v : World) : Type 0 where
@@ -190,31 +191,103 @@ cluster_done size liars c p told bytes mark posts post len below cluster done q 
         rw (get_or-set_other posts p q post d (eqb-false q p e))
         (post_other size liars c p q told bytes mark done.steps (get_or posts q d) done.does e (cluster q d lq))
 
+-- a member's records with a batch more
+put_grown : (journal : ℕ → List Record) (q p : ℕ) (batch : List Record) (b : Bool) → eqb p q ≡ b → (more : List Record) × (put journal q (journal q ++ batch) p ≡ journal p ++ more)
+put_grown journal q p batch true e = (batch, rw e (ap (λ (a : ℕ). journal a ++ batch) (sym (eqb-true p q e))))
+put_grown journal q p batch false e = ([], rw e (sym (append-nil (journal p))))
+
+step_grown : (w : World) (x : Step) (p : ℕ) → (more : List Record) × ((after w x).journal p ≡ w.journal p ++ more)
+step_grown w (Lie a s) p = ([], sym (append-nil (w.journal p)))
+step_grown w (Hears q es batch true) p = put_grown w.journal q p batch (eqb p q) refl
+step_grown w (Hears q es batch false) p = ([], sym (append-nil (w.journal p)))
+step_grown w (Proposes q question bit batch true) p = put_grown w.journal q p batch (eqb p q) refl
+step_grown w (Proposes q question bit batch false) p = ([], sym (append-nil (w.journal p)))
+step_grown w (CrashStep q) p = ([], sym (append-nil (w.journal p)))
+step_grown w (RestartStep q kept) p = put_grown w.journal q p (cond kept (in_doubt (w.doubt q)) []) (eqb p q) refl
+
+-- journals only grow
+pub grown : (w : World) (steps : List Step) (p : ℕ) → (more : List Record) × ((after_all w steps).journal p ≡ w.journal p ++ more)
+grown w [] p = ([], sym (append-nil (w.journal p)))
+grown w (x ∷ xs) p =
+    let one = step_grown w x p in
+    let all = grown (after w x) xs p in (
+      one.0 ++ all.0,
+      all.1 ∙ ap (λ (l : List Record). l ++ all.0) one.1 ∙ append_assoc (w.journal p) one.0 all.0,
+    )
+
+-- a task at a liar's number takes no step
+liar_stays : (size : Size) (liars : ℕ → Bool) (c : Scene) (p : ℕ) (told : Task) (bytes : List ℕ) (mark : Mark) (steps : List Step) → liars p ≡ true → Fits size liars c p told
+    → Does size c p told bytes mark steps → steps ≡ []
+liar_stays size liars c p (task.Propose question bit toss) bytes mark steps e fits h = let no : liars p ≡ false = fits.0 in cc
+liar_stays size liars c p (task.Deliver from s place toss) bytes mark steps e fits h = let no : liars p ≡ false = fits.0.0 in cc
+liar_stays size liars c p (task.Lie liar toss) bytes mark steps e fits h = let no : liars p ≡ false = fits.0.0 in cc
+liar_stays size liars c p (task.Fuse calls) bytes mark steps e fits h = h.1
+liar_stays size liars c p (task.Crash pick) bytes mark steps e fits h = let no : liars p ≡ false = fits in cc
+liar_stays size liars c p task.Restart bytes mark steps e fits h = let no : liars p ≡ false = fits.0 in cc
+liar_stays size liars c p (task.Reset from) bytes mark steps e fits h = h.1
+
+-- a liar has no records
+liar_saves : (seat : Seat) → is_liar seat ≡ true → saved_in seat ≡ []
+liar_saves (Here m) e = cc
+liar_saves (Down disk records) e = cc
+liar_saves Liar e = refl
+
+-- what the post has of the member behind what it had is what the member came to save
+came : (size : Size) (liars : ℕ → Bool) (c : Scene) (p : ℕ) (told : Task) (bytes : List ℕ) (mark : Mark) (old new : Post) (saved : List Record) → Fits size liars c p told → IsPost size liars c p old
+    → (d : IsDone size liars c p told bytes mark new) → saved ≡ drop (length (saved_in old.seat)) (saved_in new.seat)
+    → (scene_after c p told bytes mark (after_all c.world d.steps)).world.journal p ≡ c.world.journal p ++ saved
+came size liars c p told bytes mark old new saved fits here d is = go (liars p) refl
+  where
+    next : Scene
+    next = scene_after c p told bytes mark (after_all c.world d.steps)
+
+    world : next.world.journal p ≡ (after_all c.world d.steps).journal p
+    world = ap (λ (w : World). w.journal p) (world_of size c p told bytes mark d.steps d.does)
+
+    go : (b : Bool) → liars p ≡ b → next.world.journal p ≡ c.world.journal p ++ saved
+    go false e =
+        let before : saved_in old.seat ≡ c.world.journal p = saved_is size p c.world old.seat (here.at e) in
+        let after : saved_in new.seat ≡ next.world.journal p = saved_is size p next.world new.seat (d.at.at e) in
+        let g = grown c.world d.steps p in
+        let long : next.world.journal p ≡ c.world.journal p ++ g.0 = world ∙ g.1 in
+        let more : saved ≡ g.0 = is ∙ rw (before, after, long) (drop-append_seam (c.world.journal p) g.0) in
+        long ∙ ap (λ (l : List Record). c.world.journal p ++ l) (sym more)
+    go true e =
+        let before : saved_in old.seat ≡ [] = liar_saves old.seat (here.side ∙ e) in
+        let after : saved_in new.seat ≡ [] = liar_saves new.seat (d.at.side ∙ e) in
+        let none : saved ≡ [] = is ∙ rw (before, after) refl in
+        let still : d.steps ≡ [] = liar_stays size liars c p told bytes mark d.steps e fits d.does in
+        world ∙ ap (λ (l : List Step). (after_all c.world l).journal p) still ∙ sym (append-nil (c.world.journal p)) ∙ ap (λ (l : List Record). c.world.journal p ++ l) (sym none)
+
 -- a task that was carried out, as a turn; the code has the member's number as an index
-pub turned : (size : Size) (liars : ℕ → Bool) (c : Scene) (event : Event) (p : ℕ) (told : Task) (bytes : List ℕ) (i : ℕ) {E : Type 0} (result : Result Mark E) (posts : List Post) (x post : Post)
+pub turned : (size : Size) (liars : ℕ → Bool) (c : Scene) (event : Event) (p : ℕ) (told : Task) (bytes : List ℕ) (i : ℕ) (mark : Mark) (saved : List Record) (posts : List Post) (x post : Post)
     → IsSize size → i ≡ p → bytes ≡ bytes_in event → length posts ≡ size.n → plan_of size liars c event ≡ Ok (p, told) → IsRight size liars c p told → IsCluster size liars c posts
-    → (IsSize size → p < size.n → IsPost size liars c p (get_or posts i x) → Fits size liars c p told → IfOk result (λ mark. IsDone size liars c p told bytes mark post))
-    → IfOk result (λ mark. IsTurn size liars c event mark (set posts i post))
-turned size liars c event p told bytes i {E} result posts x post lawful ei eb len plan right cluster moved =
+    → (IsSize size → p < size.n → IsPost size liars c p (get_or posts i x) → Fits size liars c p told → IsDone size liars c p told bytes mark post)
+    → saved ≡ drop (length (saved_in (get_or posts i x).seat)) (saved_in post.seat)
+    → IsTurn size liars c event mark saved (set posts i post)
+turned size liars c event p told bytes i mark saved posts x post lawful ei eb len plan right cluster moved is =
     let here = subst (λ (j : ℕ). IsPost size liars c p (get_or posts j x)) (sym ei) (cluster p x right.below) in
-    mapped (λ mark. IsDone size liars c p told bytes mark post) (λ mark. IsTurn size liars c event mark (set posts i post)) result (moved lawful right.below here right.fits) (λ mark done. record {
+    let done = moved lawful right.below here right.fits in
+    let next = scene_after c p told bytes mark (after_all c.world done.steps) in
+    record {
       steps = done.steps;
-      next = scene_after c p told bytes mark (after_all c.world done.steps);
-      is = subst (λ (b : List ℕ). IsPlanned size c (plan_of size liars c event) b mark done.steps (scene_after c p told bytes mark (after_all c.world done.steps))) eb
-          (subst (λ (r : Result (ℕ × Task) Reason). IsPlanned size c r bytes mark done.steps (scene_after c p told bytes mark (after_all c.world done.steps))) (sym plan) (done.does, refl));
+      next = next;
+      is = subst (λ (b : List ℕ). IsPlanned size c (plan_of size liars c event) b mark saved done.steps next) eb
+          (subst (λ (r : Result (ℕ × Task) Reason). IsPlanned size c r bytes mark saved done.steps next) (sym plan)
+          (done.does, refl, came size liars c p told bytes mark (get_or posts i x) post saved right.fits here done is));
       world_is = world_of size c p told bytes mark done.steps done.does;
       is_run = done.is_run;
-      at = subst (λ (j : ℕ). IsCluster size liars (scene_after c p told bytes mark (after_all c.world done.steps)) (set posts j post)) (sym ei)
+      at = subst (λ (j : ℕ). IsCluster size liars next (set posts j post)) (sym ei)
           (cluster_done size liars c p told bytes mark posts post len right.below cluster done);
-    })
+    }
 
 -- a skipped event
-pub skipped_turn : (size : Size) (liars : ℕ → Bool) (c : Scene) (event : Event) (reason : Reason) (posts : List Post) → plan_of size liars c event ≡ Err reason → IsCluster size liars c posts
-    → IsTurn size liars c event (Skipped reason) posts
-skipped_turn size liars c event reason posts plan cluster = record {
+pub skipped_turn : (size : Size) (liars : ℕ → Bool) (c : Scene) (event : Event) (reason : Reason) (saved : List Record) (posts : List Post) → plan_of size liars c event ≡ Err reason → saved ≡ []
+    → IsCluster size liars c posts → IsTurn size liars c event (Skipped reason) saved posts
+skipped_turn size liars c event reason saved posts plan none cluster = record {
   steps = [];
   next = c;
-  is = subst (λ (r : Result (ℕ × Task) Reason). IsPlanned size c r (bytes_in event) (Skipped reason) [] c) (sym plan) (refl, refl, refl);
+  is = subst (λ (r : Result (ℕ × Task) Reason). IsPlanned size c r (bytes_in event) (Skipped reason) saved [] c) (sym plan) (refl, none, refl, refl);
   world_is = refl;
   is_run = tt;
   at = cluster;

@@ -1,6 +1,7 @@
 -- What a simulation begins with, and what it ends with.
 use Rattle.std.specs.Prelude.{ℕ, zero, suc, ◌≡◌, ◌<◌, ◌≤◌, ◌+◌, Bool, true, false, cond, is_some, nat_eq, Option, Some, None, List, [], ◌∷◌, ◌++◌, length}
 use Rattle.std.specs.List.{AllByRecursion, Contains, list_any}
+use Rattle.std.specs.Global.{Vec}
 use Rattle.terms.specs.declared.Size.{Size}
 use Rattle.terms.specs.declared.Record.{Record}
 use Rattle.terms.specs.Journal.{decided}
@@ -69,11 +70,12 @@ verdicts_of_below (suc p) questions liars w =
 abbrev pub verdicts_of : Size → (ℕ → Bool) → World → List Verdict
 verdicts_of size liars w = verdicts_of_below size.n size.questions liars w
 
--- The script with these marks is a run of the world from its start, and the verdicts are those of the world after it.
-pub record IsSimulation (size : Size) (liars : ℕ → Bool) (fused : ℕ → Bool) (script : List Event) (marks : List Mark) (verdicts : List Verdict) : Type 0 where
+-- The script with these marks and what was saved is a run of the world from its start, and the verdicts are those of the
+-- world after it.
+pub record IsSimulation (size : Size) (liars : ℕ → Bool) (fused : ℕ → Bool) (script : List Event) (marks : List Mark) (saved : List (Vec Record)) (verdicts : List Verdict) : Type 0 where
   pub steps : List Step
   pub last : Scene
-  pub run : IsRunOf size liars (opening fused) script marks steps last
+  pub run : IsRunOf size liars (opening fused) script marks saved steps last
   pub world_is : last.world ≡ after_all start steps
   pub is_run : IsRun size liars start steps
   pub verdicts_are : verdicts ≡ verdicts_of size liars last.world

@@ -1,6 +1,6 @@
 //! Whole simulations.
 
-ghost use Rattle.std.specs.Prelude.{◌≡◌, ◌++◌, ◌<◌, ◌≤◌, ℕ, Bool, List, length, get_or, false, true, IfOk, IfErr, OnOk, IsErrOf, IsTrue, ◌↔◌, ◌≢◌};
+ghost use Rattle.std.specs.Prelude.{◌≡◌, ◌++◌, ◌<◌, ◌≤◌, ℕ, Bool, List, length, drop, get_or, false, true, IfOk, IfErr, OnOk, IsErrOf, IsTrue, ◌↔◌, ◌≢◌};
 ghost use Rattle.terms.specs.Bounds.{IsSize};
 ghost use Rattle.terms.specs.Count.{count_below};
 ghost use Rattle.sim.specs.Scene.{Scene, opening};
@@ -28,6 +28,9 @@ pub struct Outcome {
     /// Every decision that a correct member has saved: the member, the question, the round (1 to 32) and the bit. They
     /// stand by member, and then by question.
     pub verdicts: Vec<(u8, u16, u8, bool)>,
+    /// Of each event, in order, the records that it made the member it came to save: what that member said because of it,
+    /// and what it decided. After a restart these are the records of a batch that was in doubt and that the disk has kept.
+    pub saved: Vec<Vec<Record>>,
 }
 
 /// Runs a script against a whole cluster, the one of number 0. The script, what was marked and what was decided are a
@@ -42,7 +45,8 @@ pub struct Outcome {
 /// - `device`: `Device` only where a fuse is in the disk of a correct member; it comes before the first event.
 /// - `run`: the events with their marks are steps of the world from its start, event by event; each mark is the one
 ///   that the event has there, and the verdicts are all decisions that correct members have saved in the end, by
-///   member and then by question.
+///   member and then by question. What an event saved is all that its member's journal has there behind what it had
+///   before, in order; an event whose plan is to skip it saved nothing.
 /// - `agree`: two verdicts of one question have one bit.
 /// - `unanimous`: where all proposals of a question that weren't skipped are of one bit, so is each verdict of it.
 ///
@@ -58,7 +62,7 @@ pub fn run(
     ensures bad_disks { IsErrOf result faults.BadDisks ↔ (AreLiars size liars.now × (AreDisks size disks.items → ⊥)) }
     ensures device { IsErrOf result faults.Device → HasFuse liars.now disks.items }
     ensures run { IfOk result (λ outcome. IsSimulation size (among liars.now) (fused_in disks.items) script.now
-        outcome.marks.items outcome.verdicts.items) }
+        outcome.marks.items outcome.saved.items outcome.verdicts.items) }
     ensures agree { IfOk result (λ outcome. HaveOneBit outcome.verdicts.items) }
     ensures unanimous { IfOk result (λ outcome. AreUnanimous script.now outcome.marks.items outcome.verdicts.items) }
 {
@@ -71,9 +75,13 @@ pub fn run(
     let _members = size.n();
     let mut posts = opened(alloc, size, liars, disks)?;
     let all = posts.as_mut_slice();
-    let marks = follow(alloc, size, all, script)?;
+    let (marks, saved) = follow(alloc, size, all, script)?;
     let verdicts = verdicts(alloc, size, all)?;
-    Ok(Outcome { marks, verdicts })
+    Ok(Outcome {
+        marks,
+        verdicts,
+        saved,
+    })
 }
 
 /// Whether these may be the liars' numbers: they rise, are below n, and at most t.
@@ -158,42 +166,63 @@ fn begin(alloc: Global, posts: &mut [Post]) -> Result<(), SimFault>
     Ok(())
 }
 
-/// Carries all events out.
+/// Carries all events out: of each its mark, and what it saved.
 fn follow(
     alloc: Global,
     size: Size,
     posts: &mut [Post],
     script: &[Event],
-) -> Result<Vec<Mark>, SimFault>
+) -> Result<(Vec<Mark>, Vec<Vec<Record>>), SimFault>
     requires ready { AreReady size posts.old }
     ensures ready { AreReady size posts.new }
     ensures only { IfErr result IsOfRun }
     ensures run { (liars : ℕ → Bool) (c : Scene) → IsSize size → count_below size.n liars ≤ size.t → c.world ≡ start →
-        IsCluster size liars c posts.old → IfOk result (λ marks. IsFollowed size liars c script.now marks.items posts.new) }
+        IsCluster size liars c posts.old → IfOk result (λ done. IsFollowed size liars c script.now done.0.items done.1.items posts.new) }
 {
     let mut marks = Vec::with_capacity(alloc, script.len())?;
+    let mut saved = Vec::with_capacity(alloc, script.len())?;
     for event in script {
-        let mark = step(alloc, size, posts, event)?;
+        let (mark, records) = step(alloc, size, posts, event)?;
         marks.push(mark)?;
+        saved.push(records)?;
     }
-    Ok(marks)
+    Ok((marks, saved))
 }
 
-/// Carries one event out.
-fn step(alloc: Global, size: Size, posts: &mut [Post], event: &Event) -> Result<Mark, SimFault>
+/// Carries one event out: its mark, and the records that its member came to save.
+fn step(
+    alloc: Global,
+    size: Size,
+    posts: &mut [Post],
+    event: &Event,
+) -> Result<(Mark, Vec<Record>), SimFault>
     requires ready { AreReady size posts.old }
     ensures ready { AreReady size posts.new }
     ensures only { IfErr result IsOfRun }
     ensures turn { (liars : ℕ → Bool) (c : Scene) → IsSize size → IsSteady size liars c → IsCluster size liars c posts.old →
-        IfOk result (λ mark. IsTurn size liars c event.now mark posts.new) }
+        IfOk result (λ done. IsTurn size liars c event.now done.0 done.1.items posts.new) }
 {
     match plan(size, posts, event) {
         Ok((to, task)) => {
             let post = &mut posts[usize::from(to)];
-            post.carry(alloc, task, bytes_in(event))
+            let before = post.records().len();
+            let mark = post.carry(alloc, task, bytes_in(event))?;
+            let saved = behind(alloc, post.records(), before)?;
+            Ok((mark, saved))
         }
-        Err(reason) => Ok(Mark::Skipped(reason)),
+        Err(reason) => Ok((Mark::Skipped(reason), Vec::new(alloc))),
     }
+}
+
+/// A copy of the records behind the first so many.
+fn behind(alloc: Global, records: &[Record], count: usize) -> Result<Vec<Record>, SimFault>
+    ensures copied { IfOk result (λ copy. copy.items ≡ drop count records.now) }
+    ensures only { IfErr result (λ fault. fault ≡ faults.Memory) }
+{
+    if count < records.len() {
+        return Ok(Vec::from_slice(alloc, &records[count..])?);
+    }
+    Ok(Vec::new(alloc))
 }
 
 /// The decisions that correct members have saved, by member and then by question.

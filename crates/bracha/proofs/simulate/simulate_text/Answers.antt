@@ -11,8 +11,8 @@ returns-clause-all g c =
       script,
       fused,
       outcome,
-      subst (λ (l : List ℕ). IsSimulation script.size (among l) fused script.events.items outcome.marks.items outcome.verdicts.items) c.deref.ensures.value
-          (subst (λ (l : List Event). IsSimulation script.size (among c.deref.result.now) fused l outcome.marks.items outcome.verdicts.items) c.deref-2.ensures.value
+      subst (λ (l : List ℕ). IsSimulation script.size (among l) fused script.events.items outcome.marks.items outcome.saved.items outcome.verdicts.items) c.deref.ensures.value
+          (subst (λ (l : List Event). IsSimulation script.size (among c.deref.result.now) fused l outcome.marks.items outcome.saved.items outcome.verdicts.items) c.deref-2.ensures.value
           c.in_ok-outcome.ensures.run),
       search (rules, c.in_ok-shown.ensures, c.as_bytes.ensures.value, c.in_ok-write_all.ensures.bytes, c.in_ok-flush.ensures.bytes),
     )

@@ -11,5 +11,5 @@ abbrev pub invariant-loop-event : goal.invariant-loop-event
 invariant-loop-event l = record {
   ready : AreReady l.fn.size l.posts;
   run : (liars : ℕ → Bool) (c : Scene) → IsSize l.fn.size → count_below l.fn.size.n liars ≤ l.fn.size.t → c.world ≡ start → IsCluster l.fn.size liars c l.initial.posts
-      → IsFollowed l.fn.size liars c (take l.event-index l.script) l.marks.items l.posts;
+      → IsFollowed l.fn.size liars c (take l.event-index l.script) l.marks.items l.saved.items l.posts;
 }

@@ -9,7 +9,7 @@ use Rattle.sim.proofs.cluster.run.Goals as goal
 pub returns-clause-run : goal.returns-clause-run
 returns-clause-run c =
     let few = few_lie c.args.size c.args.liars.now (c.if-not-are_liars.ensures.0 refl) in
-    simulated c.args.size (among c.args.liars.now) (fused_in c.args.disks.items) c.args.script.now c.in_ok-marks.marks.items c.as_mut_slice-all.result.now c.follow.new.posts
+    simulated c.args.size (among c.args.liars.now) (fused_in c.args.disks.items) c.args.script.now c.in_ok-marks.marks.items c.in_ok-marks.saved.items c.as_mut_slice-all.result.now c.follow.new.posts
     c.in_ok-verdicts.verdicts.items
     (subst (λ (l : List Post). IsCluster c.args.size (among c.args.liars.now) (opening (fused_in c.args.disks.items)) l) (sym c.as_mut_slice-all.ensures.value) c.in_ok-posts.ensures.cluster)
     (c.in_ok-marks.ensures.run (among c.args.liars.now) (opening (fused_in c.args.disks.items)) c.n-members.ensures.bounds few refl)
@@ -18,19 +18,19 @@ returns-clause-run c =
 pub returns-clause-agree : goal.returns-clause-agree
 returns-clause-agree c =
     let few = few_lie c.args.size c.args.liars.now (c.if-not-are_liars.ensures.0 refl) in
-    let s = simulated c.args.size (among c.args.liars.now) (fused_in c.args.disks.items) c.args.script.now c.in_ok-marks.marks.items c.as_mut_slice-all.result.now c.follow.new.posts
+    let s = simulated c.args.size (among c.args.liars.now) (fused_in c.args.disks.items) c.args.script.now c.in_ok-marks.marks.items c.in_ok-marks.saved.items c.as_mut_slice-all.result.now c.follow.new.posts
     c.in_ok-verdicts.verdicts.items
     (subst (λ (l : List Post). IsCluster c.args.size (among c.args.liars.now) (opening (fused_in c.args.disks.items)) l) (sym c.as_mut_slice-all.ensures.value) c.in_ok-posts.ensures.cluster)
     (c.in_ok-marks.ensures.run (among c.args.liars.now) (opening (fused_in c.args.disks.items)) c.n-members.ensures.bounds few refl)
     (c.in_ok-verdicts.ensures.are (among c.args.liars.now)) in
-    simulations_agree c.args.size (among c.args.liars.now) (fused_in c.args.disks.items) c.args.script.now c.in_ok-marks.marks.items c.in_ok-verdicts.verdicts.items c.n-members.ensures.bounds few s
+    simulations_agree c.args.size (among c.args.liars.now) (fused_in c.args.disks.items) c.args.script.now c.in_ok-marks.marks.items c.in_ok-marks.saved.items c.in_ok-verdicts.verdicts.items c.n-members.ensures.bounds few s
 
 pub returns-clause-unanimous : goal.returns-clause-unanimous
 returns-clause-unanimous c =
     let few = few_lie c.args.size c.args.liars.now (c.if-not-are_liars.ensures.0 refl) in
-    let s = simulated c.args.size (among c.args.liars.now) (fused_in c.args.disks.items) c.args.script.now c.in_ok-marks.marks.items c.as_mut_slice-all.result.now c.follow.new.posts
+    let s = simulated c.args.size (among c.args.liars.now) (fused_in c.args.disks.items) c.args.script.now c.in_ok-marks.marks.items c.in_ok-marks.saved.items c.as_mut_slice-all.result.now c.follow.new.posts
     c.in_ok-verdicts.verdicts.items
     (subst (λ (l : List Post). IsCluster c.args.size (among c.args.liars.now) (opening (fused_in c.args.disks.items)) l) (sym c.as_mut_slice-all.ensures.value) c.in_ok-posts.ensures.cluster)
     (c.in_ok-marks.ensures.run (among c.args.liars.now) (opening (fused_in c.args.disks.items)) c.n-members.ensures.bounds few refl)
     (c.in_ok-verdicts.ensures.are (among c.args.liars.now)) in
-    simulations_unanimous c.args.size (among c.args.liars.now) (fused_in c.args.disks.items) c.args.script.now c.in_ok-marks.marks.items c.in_ok-verdicts.verdicts.items c.n-members.ensures.bounds few s
+    simulations_unanimous c.args.size (among c.args.liars.now) (fused_in c.args.disks.items) c.args.script.now c.in_ok-marks.marks.items c.in_ok-marks.saved.items c.in_ok-verdicts.verdicts.items c.n-members.ensures.bounds few s

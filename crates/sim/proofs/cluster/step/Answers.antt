@@ -1,4 +1,6 @@
-use Rattle.std.proofs.Common.{◌∙◌, sym}
+use Rattle.std.proofs.Common.{◌∙◌, sym, ap, List, length, drop}
+use Rattle.terms.specs.declared.Record.{Record}
+use Rattle.sim.specs.Seats.{saved_in}
 use Rattle.sim.proofs.Planned.{plan_right}
 use Rattle.sim.proofs.Turn.{turned, skipped_turn}
 use Rattle.sim.proofs.cluster.step.Goals as goal
@@ -6,13 +8,15 @@ use Rattle.sim.proofs.cluster.step.Goals as goal
 pub plan-requires : goal.plan-requires
 plan-requires c = record { ready = c.requires.ready }
 
-pub returns-in-Ok-clause-turn : goal.returns-in-Ok-clause-turn
-returns-in-Ok-clause-turn c liars s lawful steady cluster =
+pub returns-in_ok-saved-in-Ok-clause-turn : goal.returns-in_ok-saved-in-Ok-clause-turn
+returns-in_ok-saved-in-Ok-clause-turn c liars s lawful steady cluster =
     let plan = sym (c.plan.ensures.plan liars s cluster) ∙ c.in-Ok.is in
-    turned c.args.size liars s c.args.event.now c.in-Ok.to c.in-Ok.task c.bytes_in.result.now c.from.result c.carry.result c.args.posts.now c.index-posts-from.result c.carry.new.self
+    turned c.args.size liars s c.args.event.now c.in-Ok.to c.in-Ok.task c.bytes_in.result.now c.from.result c.in_ok-mark-in-Ok.mark c.in_ok-saved-in-Ok.saved.items c.args.posts.now c.index-posts-from.result c.carry.new.self
     lawful c.from.ensures c.bytes_in.ensures c.requires.ready.count plan (plan_right c.args.size liars s steady c.in-Ok.to c.in-Ok.task c.args.event.now plan) cluster
-    (c.carry.ensures.done c.args.size liars s c.in-Ok.to)
+    (c.in_ok-mark-in-Ok.ensures.done c.args.size liars s c.in-Ok.to)
+    (c.in_ok-saved-in-Ok.ensures.copied ∙ ap (λ (l : List Record). drop (length c.records-before.result.now) l) c.records.ensures
+    ∙ ap (λ (l : List Record). drop (length l) (saved_in c.carry.new.self.seat)) c.records-before.ensures)
 
 pub returns-in-Err-clause-turn : goal.returns-in-Err-clause-turn
 returns-in-Err-clause-turn c liars s lawful steady cluster =
-    skipped_turn c.args.size liars s c.args.event.now c.in-Err.reason c.args.posts.now (sym (c.plan.ensures.plan liars s cluster) ∙ c.in-Err.is) cluster
+    skipped_turn c.args.size liars s c.args.event.now c.in-Err.reason c.new.result.items c.args.posts.now (sym (c.plan.ensures.plan liars s cluster) ∙ c.in-Err.is) c.new.ensures.items cluster
