@@ -1,5 +1,5 @@
 mod Append
-mod Crash
+pub mod Crash
 pub mod Headers
 pub mod Held
 pub mod One

@@ -1,6 +1,5 @@
 pub mod Rising
 pub mod Reading
-pub mod Kept
 pub mod Numbers
 pub mod Moves
 pub mod Lies

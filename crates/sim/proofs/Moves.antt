@@ -9,7 +9,7 @@ use Rattle.disk.specs.Memory.{memory_state}
 use Rattle.disk.specs.Model.{State, MayLeave, at_rest}
 use Rattle.journal.specs.Texts.{header_text, texts}
 use Rattle.journal.specs.File.{Begins, Holds}
-use Rattle.sim.proofs.Kept.{begins_kept}
+use Rattle.journal.proofs.Crash.{begins_kept}
 use Rattle.journal.proofs.Held.{left_holds}
 use Rattle.questions.specs.declared.answer.Answer.{Answer}
 use Rattle.questions.specs.Replies.{reply_of}

@@ -4,13 +4,13 @@ use disk::{MemDisk, Pick};
 use rounds::Toss;
 use std::process::Abort;
 use std::test::Fail;
-use terms::Size;
+use terms::{Kind, Place, Record, Size, Statement, Value};
 
 /// The toss of all events.
 const TOSS: Toss = Toss(0);
 
 /// Empty disks, one for each member.
-fn disks(rt: &impl AllocGlobal, count: u8) -> Result<Vec<MemDisk>, Fail> {
+fn disks(rt: &impl AllocGlobal, count: u8) -> Result<Vec<MemDisk>, SimFault> {
     let mut disks = Vec::new(rt.alloc());
     for _ in 0..count {
         disks.push(MemDisk::new(rt.alloc()))?;
@@ -19,14 +19,26 @@ fn disks(rt: &impl AllocGlobal, count: u8) -> Result<Vec<MemDisk>, Fail> {
 }
 
 /// A run over empty disks.
+fn once(
+    rt: &impl AllocGlobal,
+    size: Size,
+    liars: &[u8],
+    script: &[Event],
+) -> Result<Outcome, SimFault> {
+    run(rt.alloc(), size, liars, disks(rt, size.n())?, script)
+}
+
+/// A run over empty disks. If memory is refused, it is run again.
 fn outcome(
     rt: &impl AllocGlobal,
     size: Size,
     liars: &[u8],
     script: &[Event],
 ) -> Result<Outcome, Fail> {
-    let disks = disks(rt, size.n())?;
-    Ok(run(rt.alloc(), size, liars, disks, script)?)
+    match once(rt, size, liars, script) {
+        Err(SimFault::Memory) => Ok(once(rt, size, liars, script)?),
+        result => Ok(result?),
+    }
 }
 
 fn propose(member: u8, bit: bool) -> Event {
@@ -194,43 +206,152 @@ fn three_decide_in_spite_of_a_liar(rt: HostRuntime) -> Result<(), Fail> {
     Ok(())
 }
 
-/// A member with a fuse of that length, and all others deliver; then it crashes, is opened again, and all go on.
-fn with_fuse(rt: &impl AllocGlobal, calls: u64, pick: Pick) -> Result<Vec<Event>, Fail> {
+/// What a crash may leave, as far as a script can say it.
+const PICKS: [Pick; 5] = [
+    Pick::Kept,
+    Pick::Lost,
+    Pick::Fill(0),
+    Pick::Fill(0x7f),
+    Pick::Fill(0xff),
+];
+
+/// Member 1 has a fuse of that length, and all of so many members deliver; it crashes, is opened again, and all go on.
+fn with_fuse(
+    rt: &impl AllocGlobal,
+    members: u8,
+    calls: u64,
+    pick: Pick,
+) -> Result<Vec<Event>, Fail> {
     let mut script = Vec::new(rt.alloc());
     script.push(Event::Fuse {
         member: 1,
         calls: Some(calls),
     })?;
-    for member in 0..4 {
+    for member in 0..members {
         script.push(propose(member, member != 2))?;
     }
-    for half in 0..2 {
-        for _ in 0..60 {
-            for from in 0..4 {
-                for to in 0..4 {
-                    script.push(next(from, to))?;
-                }
-            }
-        }
-        if half == 0 {
+    for round in 0..70 {
+        if round == 10 {
             script.push(Event::Crash { member: 1, pick })?;
             script.push(Event::Restart { member: 1 })?;
+        }
+        for from in 0..members {
+            for to in 0..members {
+                script.push(next(from, to))?;
+            }
         }
     }
     Ok(script)
 }
 
+/// The verdicts are these many, and all of one bit.
+fn agree(rt: &impl Abort, outcome: &Outcome, count: usize) {
+    assert_eq!(rt; outcome.verdicts.len(), count);
+    for (_, _, _, bit) in &outcome.verdicts {
+        assert!(rt; *bit == outcome.verdicts[0].3);
+    }
+}
+
 #[test]
-fn fuses_and_crashes_keep_agreement(rt: HostRuntime) -> Result<(), Fail> {
+fn two_agree_in_spite_of_each_fuse_and_crash(rt: HostRuntime) -> Result<(), Fail> {
     for calls in 0..8 {
-        for pick in [Pick::Lost] {
-            let script = with_fuse(&rt, calls, pick)?;
-            let outcome = outcome(&rt, four()?, &[], &script)?;
-            assert_eq!(rt; outcome.verdicts.len(), 4, "at {calls}");
-            for (_, _, _, bit) in &outcome.verdicts {
-                assert!(rt; *bit == outcome.verdicts[0].3);
-            }
+        for pick in PICKS {
+            let script = with_fuse(&rt, 2, calls, pick)?;
+            agree(&rt, &outcome(&rt, Size::new(2, 0, 1)?, &[], &script)?, 2);
         }
+    }
+    Ok(())
+}
+
+#[test]
+fn four_agree_in_spite_of_fuses_and_crashes(rt: HostRuntime) -> Result<(), Fail> {
+    for (calls, pick) in PICKS.iter().enumerate() {
+        let script = with_fuse(&rt, 4, calls as u64, *pick)?;
+        agree(&rt, &outcome(&rt, four()?, &[], &script)?, 4);
+    }
+    Ok(())
+}
+
+#[test]
+fn a_single_member_decides_in_spite_of_its_fuse(rt: HostRuntime) -> Result<(), Fail> {
+    for calls in 0..8 {
+        for pick in PICKS {
+            let mut script = Vec::new(rt.alloc());
+            script.push(Event::Fuse {
+                member: 0,
+                calls: Some(calls),
+            })?;
+            script.push(propose(0, true))?;
+            for _ in 0..8 {
+                script.push(next(0, 0))?;
+            }
+            script.push(Event::Crash { member: 0, pick })?;
+            script.push(Event::Restart { member: 0 })?;
+            script.push(propose(0, true))?;
+            for _ in 0..18 {
+                script.push(next(0, 0))?;
+            }
+            let outcome = outcome(&rt, Size::new(1, 0, 1)?, &[], &script)?;
+            assert!(rt; outcome.verdicts.as_slice() == &[(0, 0, 1, true)][..]);
+            assert!(rt; count(&outcome.marks, Mark::Failed) == 1, "at {calls}");
+        }
+    }
+    Ok(())
+}
+
+/// A single member's own Initial of One.
+fn initial(round: u8, step: u8) -> Result<Record, Fail> {
+    let place = Place::new(0, 0, round, step).ok_or("a place")?;
+    let statement = Statement::new(Kind::Initial, place, Value::One).ok_or("a statement")?;
+    Ok(Record::Said(statement))
+}
+
+#[test]
+fn saves_what_an_event_made_it_say(rt: HostRuntime) -> Result<(), Fail> {
+    let mut script = Vec::new(rt.alloc());
+    script.push(propose(0, true))?;
+    for _ in 0..18 {
+        script.push(next(0, 0))?;
+    }
+    let outcome = outcome(&rt, Size::new(1, 0, 1)?, &[], &script)?;
+    let decided = Record::Decided {
+        question: 0,
+        round: 1,
+        bit: true,
+    };
+    assert_eq!(rt; outcome.saved.len(), 19);
+    assert!(rt; outcome.saved[0].as_slice() == &[initial(1, 1)?][..]);
+    assert!(rt; outcome.saved[9].as_slice() == &[decided, initial(2, 1)?][..]);
+    assert!(rt; outcome.saved[18].is_empty());
+    Ok(())
+}
+
+#[test]
+fn a_restart_saves_what_the_disk_kept(rt: HostRuntime) -> Result<(), Fail> {
+    for (pick, kept) in [(Pick::Kept, true), (Pick::Lost, false)] {
+        let script = [
+            Event::Fuse {
+                member: 0,
+                calls: Some(3),
+            },
+            propose(0, true),
+            Event::Crash { member: 0, pick },
+            Event::Restart { member: 0 },
+            propose(0, true),
+        ];
+        let outcome = outcome(&rt, Size::new(1, 0, 1)?, &[], &script)?;
+        let first = [initial(1, 1)?];
+        let empty: &[Record] = &[];
+        let (opened, proposed) = if kept {
+            (&first[..], empty)
+        } else {
+            (empty, &first[..])
+        };
+        assert_eq!(rt; outcome.saved.len(), 5);
+        assert!(rt; outcome.marks[1] == Mark::Failed);
+        assert!(rt; outcome.saved[1].is_empty());
+        assert!(rt; outcome.saved[3].as_slice() == opened);
+        assert!(rt; outcome.saved[4].as_slice() == proposed);
     }
     Ok(())
 }
