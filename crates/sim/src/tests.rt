@@ -234,6 +234,7 @@ fn with_fuse(
         if round == 10 {
             script.push(Event::Crash { member: 1, pick })?;
             script.push(Event::Restart { member: 1 })?;
+            script.push(propose(1, true))?;
         }
         for from in 0..members {
             for to in 0..members {
@@ -348,7 +349,7 @@ fn a_restart_saves_what_the_disk_kept(rt: HostRuntime) -> Result<(), Fail> {
             (empty, &first[..])
         };
         assert_eq!(rt; outcome.saved.len(), 5);
-        assert!(rt; outcome.marks[1] == Mark::Failed);
+        assert_eq!(rt; count(&outcome.marks, Mark::Failed), 1);
         assert!(rt; outcome.saved[1].is_empty());
         assert!(rt; outcome.saved[3].as_slice() == opened);
         assert!(rt; outcome.saved[4].as_slice() == proposed);
