@@ -175,7 +175,7 @@ fn a_fuse_stops_a_member(rt: HostRuntime) -> Result<(), Fail> {
     Ok(())
 }
 
-/// What the liar sends to each: its Initial of One in round 1 step 1 with an Echo, and more.
+/// What the liar sends to each: its Initials of round 1, Zero in steps 1 and 2, and SureZero in step 3.
 const LIES: [u8; 30] = [
     0x00, 0x08, 0x03, 0x01, 0x00, 0x00, 0x03, 0x01, 0x01, 0x00, 0x00, 0x08, 0x03, 0x01, 0x00, 0x00,
     0x03, 0x01, 0x02, 0x00, 0x00, 0x08, 0x03, 0x01, 0x00, 0x00, 0x03, 0x01, 0x03, 0x02,
@@ -355,6 +355,67 @@ fn a_restart_saves_what_the_disk_kept(rt: HostRuntime) -> Result<(), Fail> {
         assert!(rt; outcome.saved[4].as_slice() == proposed);
     }
     Ok(())
+}
+
+/// A liar speaks, a disk fails, crashes and is opened again.
+fn many_sided(rt: &impl AllocGlobal, size: Size) -> Result<Outcome, SimFault> {
+    let bytes = Vec::from_slice(rt.alloc(), &LIES[..10])?;
+    let script = [
+        propose(0, true),
+        propose(1, true),
+        Event::LieBytes {
+            liar: 3,
+            to: 0,
+            bytes,
+            toss: TOSS,
+        },
+        next(1, 0),
+        Event::Fuse {
+            member: 1,
+            calls: Some(1),
+        },
+        next(0, 1),
+        Event::Crash {
+            member: 1,
+            pick: Pick::Fill(0x7f),
+        },
+        Event::Restart { member: 1 },
+        next(0, 1),
+    ];
+    once(rt, size, &[3], &script)
+}
+
+#[test]
+fn refused_memory_is_answered_so(rt: HostRuntime) -> Result<(), Fail> {
+    let size = four()?;
+    let outcome = match many_sided(&rt, size) {
+        Err(SimFault::Memory) => many_sided(&rt, size)?,
+        result => result?,
+    };
+    let wanted = [
+        Mark::Done,
+        Mark::Done,
+        Mark::Done,
+        Mark::Done,
+        Mark::Done,
+        Mark::Failed,
+        Mark::Done,
+        Mark::Done,
+        Mark::Done,
+    ];
+    assert!(rt; outcome.marks.as_slice() == &wanted[..]);
+    let saved: Vec<usize> = counts(&rt, &outcome.saved)?;
+    assert!(rt; saved.as_slice() == &[1, 1, 1, 1, 0, 0, 0, 0, 1][..]);
+    Ok(())
+}
+
+/// How many records each event saved.
+fn counts(rt: &impl AllocGlobal, saved: &[Vec<Record>]) -> Result<Vec<usize>, SimFault> {
+    let mut counts = Vec::new(rt.alloc());
+    for records in saved {
+        counts.push(records.len())?;
+    }
+    Ok(counts)
 }
 
 #[test]
