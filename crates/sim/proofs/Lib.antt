@@ -2,6 +2,8 @@ pub mod Rising
 pub mod Reading
 pub mod Numbers
 pub mod Moves
+pub mod Few
+pub mod Room
 pub mod Lies
 pub mod Done
 pub mod Planned

@@ -20,7 +20,7 @@ use Rattle.member.specs.Words.{saved_of, is_stopped_of}
 use Rattle.member.specs.Sound.{IsSound}
 use Rattle.member.specs.Memory.{memory_disk}
 use Rattle.member.specs.Stands.{IsLeft}
-use Rattle.member.specs.Life.{IsAt, Replies, step_of}
+use Rattle.member.specs.Life.{IsAt, IsReached, Replies, step_of}
 use Rattle.sim.specs.declared.events.Mark.{Mark}
 use Rattle.sim.specs.declared.events.Mark.TheVariants.{Done, Failed, Skipped}
 use Rattle.sim.specs.declared.seats.Seat.{Seat}
@@ -107,6 +107,12 @@ pub record IsEventStep (size : Size) (p : ℕ) (w : World) (toss : ℕ) (event :
   pub reply : Reply
   pub replies : Replies (mine size p) w toss event reply
   pub is : steps ≡ step_of p event (records_of reply) kept ∷ []
+
+-- the world may come: some run of the cluster, in which few enough lie, leaves it
+pub record MayCome (size : Size) (liars : ℕ → Bool) (w : World) : Type 0 where
+  pub steps : List Step
+  pub reached : IsReached size liars steps
+  pub world_is : w ≡ after_all start steps
 
 -- the steps of an event at a member with that mark: kept, or, where it failed, a fuse is in and the batch is in doubt
 abbrev pub Answers : Size → ℕ → World → Bool → ℕ → Happening → Mark → List Step → Type 0

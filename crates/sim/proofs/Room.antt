@@ -1,0 +1,115 @@
+-- A member's journal always has room.
+use Rattle.std.proofs.Common.{◌≡◌, ◌+◌, ◌*◌, ◌<◌, ◌≤◌, ◌⊎◌, inl, inr, ℕ, Bool, true, false, None, Result, Ok, Err, IsErrOf, List, [], ◌∷◌, ◌++◌, length, length-append, sym, ap, subst, ◌∙◌, arith}
+use Rattle.terms.specs.declared.Size.{Size}
+use Rattle.terms.specs.declared.Header.{Header}
+use Rattle.terms.specs.declared.Record.{Record}
+use Rattle.terms.specs.Past.{past_of}
+use Rattle.terms.specs.Reply.{Event as Happening, IsReply, records_of}
+use Rattle.terms.specs.Reply.Event.{Hearing, Proposal}
+use Rattle.disk.specs.declared.memory.MemDisk.{MemDisk}
+use Rattle.journal.specs.Texts.{Batch, body, header_text, texts, records_of as records_in}
+use Rattle.journal.specs.WellFormed.{AreBatches}
+use Rattle.journal.proofs.Texts.{length-header_text, length-body}
+use Rattle.questions.specs.declared.answer.Answer.{Answer}
+use Rattle.world.specs.World.{World, Step, IsCorrect, IsAllowed, IsRun, start, in_doubt, after, after_all}
+use Rattle.world.specs.Laws.{AreWellFormed}
+use Rattle.world.proofs.Runs.{IsRun-append, after_all-append}
+use Rattle.world.proofs.Keeps.{reached_ok}
+use Rattle.world.proofs.Broadcast.{decides_once, says_once}
+use Rattle.world.proofs.Order.{reached_order, saved_formed}
+use Rattle.world.proofs.Formed.{AreWellFormed-front}
+use Rattle.member.specs.declared.fault.MemberFault.{MemberFault}
+use Rattle.member.specs.declared.fault.MemberFault.TheVariants.{Stopped, Device, Memory, JournalFull, NoSuchQuestion, NoSuchMember}
+use Rattle.member.specs.declared.member.Member.{Member}
+use Rattle.member.specs.Answers.{question_of, IsFull}
+use Rattle.member.specs.Life.{IsAt, Lives, Comes, Replies, step_of}
+use Rattle.member.specs.Memory.{memory_disk}
+use Rattle.member.specs.Sound.{IsSound}
+use Rattle.member.specs.Words.{header_of, gate_of, saved_of, is_stopped_of}
+use Rattle.member.proofs.Lives.{kept_step}
+use Rattle.sim.specs.Seats.{MayCome, mine}
+use Rattle.sim.proofs.Few.{few_records}
+use Rattle.sim.proofs.Moves.{true_or_false}
+
+-- a batch of at least one record has at most ten bytes a record
+texts_below : (header : Header) (batches : List Batch) → AreBatches header batches → length (texts batches) ≤ 10 * length (records_in batches)
+texts_below header [] good = omega arith
+texts_below header (b ∷ bs) good =
+    let some = good.0.some in
+    omega (arith, texts_below header bs good.1, length-body b.records, length-append (body b.records) (texts bs), length-append b.records (records_in bs))
+
+-- so a journal on which all is on the disk isn't long
+gate_below : (m : Member MemDisk) → IsSound memory_disk m → is_stopped_of m ≡ false → gate_of m ≤ 24 + 10 * length (saved_of m)
+unfolding gate_of
+gate_below m sound going =
+    let held = (sound.filed.settled tt going).held in
+    let records = ap (λ (l : List Record). length l) held.records_are in
+    let gate = held.gate in
+    omega (arith, gate, records, texts_below (header_of m) held.batches held.good, length-header_text (header_of m), length-append (header_text (header_of m)) (texts held.batches))
+
+-- one step more
+comes_after : (size : Size) (liars : ℕ → Bool) (w : World) (steps : List Step) → MayCome size liars w → IsRun size liars w steps → MayCome size liars (after_all w steps)
+comes_after size liars w steps may run = record {
+  steps = may.steps ++ steps;
+  reached = record {
+    lawful = may.reached.lawful;
+    few = may.reached.few;
+    is_run = IsRun-append size liars start may.steps steps may.reached.is_run (subst (λ (v : World). IsRun size liars v steps) may.world_is run);
+  };
+  world_is = ap (λ (v : World). after_all v steps) may.world_is ∙ sym (after_all-append start may.steps steps);
+}
+
+-- what a correct member comes to save isn't much
+few_saved : (size : Size) (liars : ℕ → Bool) (w : World) (p : ℕ) → MayCome size liars w → IsCorrect size liars p → length (w.journal p) ≤ 3244288
+few_saved size liars w p may correct =
+    let r = may.reached in
+    let last = after_all start may.steps in
+    let ok = reached_ok size liars r.lawful r.few may.steps r.is_run in
+    let formed : AreWellFormed size (last.journal p) =
+    AreWellFormed-front size (last.journal p) (in_doubt (last.doubt p)) (saved_formed size liars last (reached_order size liars r.lawful r.few may.steps r.is_run) p correct) in
+    subst (λ (v : World). length (v.journal p) ≤ 3244288) (sym may.world_is)
+    (few_records size r.lawful (last.journal p) formed
+    (λ kind place. says_once size liars r.lawful r.few last ok p kind place correct)
+    (λ question. decides_once size liars r.lawful r.few last ok p question correct))
+
+module _ (size : Size) (liars : ℕ → Bool) (p : ℕ) (w : World) (toss : ℕ) (event : Happening) (old : Member MemDisk) (correct : IsCorrect size liars p) (free : w.doubt p ≡ None)
+    (may : MayCome size liars w) (sound : IsSound memory_disk old) (at : IsAt memory_disk (mine size p) w old) (comes : Comes w event) where
+  going : is_stopped_of old ≡ false
+  going = go (true_or_false (is_stopped_of old))
+    where
+      go : (is_stopped_of old ≡ true) ⊎ (is_stopped_of old ≡ false) → is_stopped_of old ≡ false
+      go (inl e) = let some = (at.down e).0.1 in cc (some, free)
+      go (inr e) = e
+
+  asked : (happens : Happening) → Comes w happens → IsAllowed size liars w (step_of p happens [] false) → question_of happens < size.questions
+  asked (Hearing a s) sent allowed =
+      let r = may.reached in
+      ((reached_order size liars r.lawful r.few may.steps r.is_run).sent a s (rw may.world_is at sent)).1.question
+  asked (Proposal question bit) sent allowed = allowed.2
+
+  has_room : IsAllowed size liars w (step_of p event [] false) → IsFull old toss event → ⊥
+  has_room allowed full =
+      let reply = full.0 in
+      let replies : Replies (mine size p) w toss event reply =
+      subst (λ (h : Header). IsReply (past_of h.size h.me (question_of event) (w.journal p) (w.heard p)) toss event reply) at.header_is
+      (full.1 (w.journal p) (w.heard p) (at.up going).1) in
+      let one = kept_step (mine size p) liars w toss event reply correct free comes (asked event comes allowed) replies in
+      let next = step_of p event (records_of reply) true in
+      let few = few_saved size liars (after w next) p (comes_after size liars w (next ∷ []) may (one.allowed true, tt)) correct in
+      let journal = ap (λ (l : List Record). length l) one.journal in
+      let both = length-append (w.journal p) (records_of reply) in
+      let saved = ap (λ (l : List Record). length l) at.records in
+      let gate = gate_below old sound going in
+      let over = full.2 in
+      omega arith
+
+  -- no event finds the journal full
+  pub never_full : (new : Member MemDisk) (answer : Result Answer MemberFault) → (IsErrOf answer JournalFull → IsFull old toss event)
+      → Lives memory_disk (mine size p) liars w toss event answer old new → IsErrOf answer JournalFull → ⊥
+  never_full new (Ok a) full lives e = cc
+  never_full new (Err Stopped) full lives e = let f : ◌≡◌ {A = MemberFault} Stopped JournalFull = cc in cc
+  never_full new (Err Device) full lives e = let f : ◌≡◌ {A = MemberFault} Device JournalFull = cc in cc
+  never_full new (Err Memory) full lives e = let f : ◌≡◌ {A = MemberFault} Memory JournalFull = cc in cc
+  never_full new (Err JournalFull) full lives e = has_room lives.0 (full e)
+  never_full new (Err NoSuchQuestion) full lives e = let f : ◌≡◌ {A = MemberFault} NoSuchQuestion JournalFull = cc in cc
+  never_full new (Err NoSuchMember) full lives e = let f : ◌≡◌ {A = MemberFault} NoSuchMember JournalFull = cc in cc
