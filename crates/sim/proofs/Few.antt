@@ -19,9 +19,10 @@ use Rattle.terms.specs.WellFormed.{IsWellFormed}
 use Rattle.terms.proofs.Same.{is_about-same}
 use Rattle.world.specs.Laws.{IsWellFormedRecord, AreWellFormed}
 
--- a number for each question, for its decision, and one for each kind at each place
+-- a number for each question, for its decision, and one for each kind at each place; rounds and steps count from 1 and so do
+-- their digits, and the least number of a place is 12, so 244 more sets all of them behind the 256 questions
 abbrev code : Record → ℕ
-code (Said s) = 256 + ((((s.place.question * 32 + s.place.origin) * 33 + s.place.round) * 4 + s.place.step) * 3 + kind_code s.kind)
+code (Said s) = 244 + ((((s.place.question * 32 + s.place.origin) * 32 + s.place.round) * 3 + s.place.step) * 3 + kind_code s.kind)
 code (Decided question round bit) = question
 
 kind_below : (kind : Kind) → kind_code kind < 3
@@ -29,22 +30,22 @@ kind_below Initial = omega arith
 kind_below Echo = omega arith
 kind_below Ready = omega arith
 
-step_below : (step : ℕ) (m : Value) → FitsStep step m → step < 4
-step_below zero m fits = absurd fits
-step_below (suc zero) m fits = omega arith
-step_below (suc (suc zero)) m fits = omega arith
-step_below (suc (suc (suc zero))) m fits = omega arith
-step_below (suc (suc (suc (suc step)))) m fits = absurd fits
+step_within : (step : ℕ) (m : Value) → FitsStep step m → (1 ≤ step) × (step ≤ 3)
+step_within zero m fits = absurd fits
+step_within (suc zero) m fits = (omega arith, omega arith)
+step_within (suc (suc zero)) m fits = (omega arith, omega arith)
+step_within (suc (suc (suc zero))) m fits = (omega arith, omega arith)
+step_within (suc (suc (suc (suc step)))) m fits = absurd fits
 
 -- statements of one number are of one kind and place
 same_about : (s t : Statement) (size : Size) → IsSize size → IsWellFormed size s → IsWellFormed size t → code (Said s) ≡ code (Said t) → is_about t s.kind s.place ≡ true
 same_about s t size ok is be e =
     let k = kind_below s.kind in
     let l = kind_below t.kind in
-    let a = step_below s.place.step s.value is.value in
-    let b = step_below t.place.step t.value be.value in
+    let a = step_within s.place.step s.value is.value in
+    let b = step_within t.place.step t.value be.value in
     let kind : kind_code t.kind ≡ kind_code s.kind = omega arith in
-    let rest : ((s.place.question * 32 + s.place.origin) * 33 + s.place.round) * 4 + s.place.step ≡ ((t.place.question * 32 + t.place.origin) * 33 + t.place.round) * 4 + t.place.step = omega arith in
+    let rest : ((s.place.question * 32 + s.place.origin) * 32 + s.place.round) * 3 + s.place.step ≡ ((t.place.question * 32 + t.place.origin) * 32 + t.place.round) * 3 + t.place.step = omega arith in
     let step : t.place.step ≡ s.place.step = omega arith in
     let round : t.place.round ≡ s.place.round = omega arith in
     let origin : t.place.origin ≡ s.place.origin = omega arith in
@@ -75,7 +76,11 @@ module _ (size : Size) (ok : IsSize size) where
       )
   said_apart s (Decided question round bit ∷ xs) is all h =
       (
-        ne_eqb (code (Said s)) question (λ e. let few = ok.few in let asked = all.0.0 in absurd (omega arith)),
+        ne_eqb (code (Said s)) question (λ e.
+            let few = ok.few in
+            let asked = all.0.0 in
+            let a = step_within s.place.step s.value is.value in
+            absurd (omega arith)),
         said_apart s xs is all.1 h,
       )
 
@@ -85,7 +90,10 @@ module _ (size : Size) (ok : IsSize size) where
   decided_apart question [] l all h = tt
   decided_apart question (Said t ∷ xs) l all h =
       (
-        ne_eqb question (code (Said t)) (λ e. let few = ok.few in absurd (omega arith)),
+        ne_eqb question (code (Said t)) (λ e.
+            let few = ok.few in
+            let a = step_within t.place.step t.value all.0.value in
+            absurd (omega arith)),
         decided_apart question xs l all.1 h,
       )
   decided_apart question (Decided other round bit ∷ xs) l all h =
@@ -113,25 +121,25 @@ module _ (size : Size) (ok : IsSize size) where
         apart xs all.1 says (λ q. at_most (eqb question q) (decisions xs q) (decides q)),
       )
 
-  code_below : (x : Record) → IsWellFormedRecord size x → code x < 3244288
+  code_below : (x : Record) → IsWellFormedRecord size x → code x < 2359552
   code_below (Said s) is =
       let k = kind_below s.kind in
-      let a = step_below s.place.step s.value is.value in
+      let a = step_within s.place.step s.value is.value in
       omega arith
   code_below (Decided question round bit) is = let few = ok.few in let asked = is.0 in omega arith
 
-  codes_below : (xs : List Record) → AreWellFormed size xs → (c : ℕ) → list_any (eqb c) (map code xs) ≡ true → c < 3244288
+  codes_below : (xs : List Record) → AreWellFormed size xs → (c : ℕ) → list_any (eqb c) (map code xs) ≡ true → c < 2359552
   codes_below [] all c h = cc
   codes_below (x ∷ xs) all c h = step (or_cases (eqb c (code x)) (list_any (eqb c) (map code xs)) h) (codes_below xs all.1 c)
     where
-      step : (eqb c (code x) ≡ true) ⊎ (list_any (eqb c) (map code xs) ≡ true) → (list_any (eqb c) (map code xs) ≡ true → c < 3244288) → c < 3244288
+      step : (eqb c (code x) ≡ true) ⊎ (list_any (eqb c) (map code xs) ≡ true) → (list_any (eqb c) (map code xs) ≡ true → c < 2359552) → c < 2359552
       step (inl e) ih = let same = eqb-true c (code x) e in let l = code_below x all.0 in omega arith
       step (inr e) ih = ih e
 
   -- it has no more records than there are such numbers
   pub few_records : (xs : List Record) → AreWellFormed size xs → ((kind : Kind) (place : Place) → sayings xs kind place ≤ 1) → ((question : ℕ) → decisions xs question ≤ 1)
-      → length xs ≤ 3244288
+      → length xs ≤ 2359552
   few_records xs all says decides =
-      let few = length-le_from_distinct_below (map code xs) 3244288 (apart xs all says decides) (codes_below xs all) in
+      let few = length-le_from_distinct_below (map code xs) 2359552 (apart xs all says decides) (codes_below xs all) in
       let same = length-map xs code in
       omega arith

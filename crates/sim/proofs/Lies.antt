@@ -19,7 +19,8 @@ use Rattle.sim.specs.declared.events.Mark.{Mark}
 use Rattle.sim.specs.declared.events.Mark.TheVariants.{Done, Failed, Skipped}
 use Rattle.sim.specs.declared.seats.Seat.{Seat}
 use Rattle.sim.specs.declared.seats.Seat.TheVariants.{Here, Down, Liar}
-use Rattle.sim.specs.Seats.{IsSeat, IsMove, Answers, AreLies, mine}
+use Rattle.sim.specs.Seats.{IsSeat, IsMove, Answers, AreLies, MayCome, mine}
+use Rattle.sim.proofs.Room.{comes_after}
 
 -- a step that is kept leaves the member up
 pub kept_up : (w : World) (p : ℕ) (event : Happening) (batch : List Record) → (after w (step_of p event batch true)).doubt p ≡ w.doubt p
@@ -133,6 +134,17 @@ module _ (size : Size) (liars : ℕ → Bool) (p : ℕ) (w : World) (fused : Boo
               is_run = is_run_both m;
               at = at_both m;
             }
+
+-- what holds of one more statement in each world that may come
+pub one_more : (size : Size) (liars : ℕ → Bool) (p : ℕ) (w : World) (fused : Bool) (liar toss : ℕ) (statements : List Statement) (i : ℕ) (s : Statement) (seat : Seat) {T : Type 0}
+    → drop i statements ≡ s ∷ drop (i + 1) statements → MayCome size liars w → IsCorrect size liars p → liar < size.n → liars liar ≡ true
+    → HeardSoFar size liars p w fused liar toss statements i seat
+    → ((v : World) → IsCorrect size liars p → v.doubt p ≡ None → IsSeat (mine size p) v seat → has_sent v.sent liar s ≡ true → MayCome size liars v → T) → T
+one_more size liars p w fused liar toss statements i s seat next may correct member lies h holds =
+    let here = after_all w h.steps in
+    let formed : AllByRecursion (IsWellFormed size) (s ∷ drop (i + 1) statements) = subst (λ (l : List Statement). AllByRecursion (IsWellFormed size) l) next h.formed in
+    holds (after here (Lie liar s)) correct h.up (seat_of_lie size here p liar s seat h.at) (lie_sent here liar s)
+    (comes_after size liars here (Lie liar s ∷ []) (comes_after size liars w h.steps may h.is_run) ((member, lies, formed.0), tt))
 
 pub next_of : (statements : List Statement) (i : ℕ) (s : Statement) → i < length statements → s ≡ get_or statements i s → drop i statements ≡ s ∷ drop (i + 1) statements
 next_of statements i s l e =

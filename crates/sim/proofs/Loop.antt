@@ -59,6 +59,7 @@ module _ (size : Size) (liars : ℕ → Bool) (c : Scene) where
       let run : IsRun size liars start f.steps = subst (λ (w : World). IsRun size liars w f.steps) begun f.is_run in
       let world : f.last.world ≡ after_all start f.steps = f.world_is ∙ ap (λ (w : World). after_all w f.steps) begun in
       record {
+        may = record { steps = f.steps; reached = record { lawful = ok; few = few; is_run = run }; world_is = world };
         said = λ p s correct said. rw world (said_sent size liars (after_all start f.steps) (reached_ok size liars ok few f.steps run) p correct s (rw world at said));
         formed = λ p s sent. ((reached_order size liars ok few f.steps run).sent p s (rw world at sent)).1;
       }

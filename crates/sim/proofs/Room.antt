@@ -48,7 +48,7 @@ gate_below m sound going =
     omega (arith, gate, records, texts_below (header_of m) held.batches held.good, length-header_text (header_of m), length-append (header_text (header_of m)) (texts held.batches))
 
 -- one step more
-comes_after : (size : Size) (liars : ℕ → Bool) (w : World) (steps : List Step) → MayCome size liars w → IsRun size liars w steps → MayCome size liars (after_all w steps)
+pub comes_after : (size : Size) (liars : ℕ → Bool) (w : World) (steps : List Step) → MayCome size liars w → IsRun size liars w steps → MayCome size liars (after_all w steps)
 comes_after size liars w steps may run = record {
   steps = may.steps ++ steps;
   reached = record {
@@ -60,14 +60,14 @@ comes_after size liars w steps may run = record {
 }
 
 -- what a correct member comes to save isn't much
-few_saved : (size : Size) (liars : ℕ → Bool) (w : World) (p : ℕ) → MayCome size liars w → IsCorrect size liars p → length (w.journal p) ≤ 3244288
+few_saved : (size : Size) (liars : ℕ → Bool) (w : World) (p : ℕ) → MayCome size liars w → IsCorrect size liars p → length (w.journal p) ≤ 2359552
 few_saved size liars w p may correct =
     let r = may.reached in
     let last = after_all start may.steps in
     let ok = reached_ok size liars r.lawful r.few may.steps r.is_run in
     let formed : AreWellFormed size (last.journal p) =
     AreWellFormed-front size (last.journal p) (in_doubt (last.doubt p)) (saved_formed size liars last (reached_order size liars r.lawful r.few may.steps r.is_run) p correct) in
-    subst (λ (v : World). length (v.journal p) ≤ 3244288) (sym may.world_is)
+    subst (λ (v : World). length (v.journal p) ≤ 2359552) (sym may.world_is)
     (few_records size r.lawful (last.journal p) formed
     (λ kind place. says_once size liars r.lawful r.few last ok p kind place correct)
     (λ question. decides_once size liars r.lawful r.few last ok p question correct))

@@ -13,6 +13,7 @@ use Rattle.sim.specs.declared.events.Mark.TheVariants.{Skipped}
 use Rattle.sim.specs.declared.events.Reason.{Reason}
 use Rattle.sim.specs.declared.posts.Post.{Post}
 use Rattle.sim.specs.declared.tasks.Task.{Task}
+use Rattle.sim.specs.Seats.{MayCome}
 use Rattle.sim.specs.Scene.{Scene, plan_of, Does, scene_after, bytes_in}
 use Rattle.sim.specs.Posts.{IsCluster}
 
@@ -36,8 +37,9 @@ IsRunOf size liars c (event ∷ events) (mark ∷ marks) (saved ∷ more) steps 
 -- each event has its mark and its records
 IsRunOf size liars c events marks saved steps last = ⊥
 
--- what correct members saved was sent, and all that was sent is well formed
+-- the world may come; what correct members saved was sent, and all that was sent is well formed
 pub record IsSteady (size : Size) (liars : ℕ → Bool) (c : Scene) : Type 0 where
+  pub may : MayCome size liars c.world
   pub said : (p : ℕ) (s : Statement) → IsCorrect size liars p → has_said (c.world.journal p) s ≡ true → has_sent c.world.sent p s ≡ true
   pub formed : (p : ℕ) (s : Statement) → has_sent c.world.sent p s ≡ true → IsWellFormed size s
 

@@ -1,6 +1,6 @@
 //! Whole simulations.
 
-ghost use Rattle.std.specs.Prelude.{◌≡◌, ◌++◌, ◌<◌, ◌≤◌, ℕ, Bool, List, length, drop, get_or, false, true, IfOk, IfErr, OnOk, IsErrOf, IsTrue, ◌↔◌, ◌≢◌};
+ghost use Rattle.std.specs.Prelude.{◌≡◌, ◌++◌, ◌<◌, ◌≤◌, ℕ, Bool, List, length, drop, get_or, false, true, IfOk, IfErr, OnOk, IsErrOf, IsTrue, Err, ◌↔◌, ◌≢◌};
 ghost use Rattle.terms.specs.Bounds.{IsSize};
 ghost use Rattle.terms.specs.Count.{count_below};
 ghost use Rattle.sim.specs.Scene.{Scene, opening};
@@ -65,6 +65,7 @@ pub fn run(
         outcome.marks.items outcome.saved.items outcome.verdicts.items) }
     ensures agree { IfOk result (λ outcome. HaveOneBit outcome.verdicts.items) }
     ensures unanimous { IfOk result (λ outcome. AreUnanimous script.now outcome.marks.items outcome.verdicts.items) }
+    ensures never_full { result ≡ Err faults.Full → ⊥ }
 {
     if !are_liars(size, liars) {
         return Err(SimFault::BadLiars);
@@ -178,6 +179,8 @@ fn follow(
     ensures only { IfErr result IsOfRun }
     ensures run { (liars : ℕ → Bool) (c : Scene) → IsSize size → count_below size.n liars ≤ size.t → c.world ≡ start →
         IsCluster size liars c posts.old → IfOk result (λ done. IsFollowed size liars c script.now done.0.items done.1.items posts.new) }
+    ensures memory { (liars : ℕ → Bool) (c : Scene) → IsSize size → count_below size.n liars ≤ size.t → c.world ≡ start →
+        IsCluster size liars c posts.old → IfErr result (λ fault. fault ≡ faults.Memory) }
 {
     let mut marks = Vec::with_capacity(alloc, script.len())?;
     let mut saved = Vec::with_capacity(alloc, script.len())?;
@@ -201,6 +204,8 @@ fn step(
     ensures only { IfErr result IsOfRun }
     ensures turn { (liars : ℕ → Bool) (c : Scene) → IsSize size → IsSteady size liars c → IsCluster size liars c posts.old →
         IfOk result (λ done. IsTurn size liars c event.now done.0 done.1.items posts.new) }
+    ensures memory { (liars : ℕ → Bool) (c : Scene) → IsSize size → IsSteady size liars c → IsCluster size liars c posts.old →
+        IfErr result (λ fault. fault ≡ faults.Memory) }
 {
     match plan(size, posts, event) {
         Ok((to, task)) => {

@@ -12,7 +12,7 @@ ghost use Rattle.disk.specs.Memory.{memory_state};
 ghost use Rattle.sim.specs.declared.tasks.Task.TheVariants as tasks;
 ghost use Rattle.sim.specs.declared.faults.SimFault.TheVariants as faults;
 ghost use Rattle.sim.specs.declared.links.Link.{Link};
-ghost use Rattle.sim.specs.Seats.{is_liar, is_up, saved_in, nth_said, IsFresh, IsSeat, mine};
+ghost use Rattle.sim.specs.Seats.{is_liar, is_up, saved_in, nth_said, IsFresh, IsSeat, MayCome, mine};
 ghost use Rattle.sim.specs.Scene.{Scene};
 ghost use Rattle.sim.specs.Posts.{IsPost, IsReady, IsDone, IsNewLink, Fits, HasSender, IsCreated, IsOpened, IsOfOpening, IsOfRun};
 
@@ -145,6 +145,9 @@ impl Post {
         ensures done { (size : Size) (liars : ℕ → Bool) (c : Scene) (p : ℕ) → IsSize size → p < size.n →
             IsPost size liars c p self.old → Fits size liars c p task →
             IfOk result (λ mark. IsDone size liars c p task bytes.now mark self.new) }
+        ensures memory { (size : Size) (liars : ℕ → Bool) (c : Scene) (p : ℕ) → IsSize size → p < size.n →
+            IsPost size liars c p self.old → Fits size liars c p task → MayCome size liars c.world →
+            IfErr result (λ fault. fault ≡ faults.Memory) }
     {
         match task {
             Task::Propose(question, bit, toss) => self.propose(question, bit, toss),
@@ -168,6 +171,9 @@ impl Post {
         ensures done { (size : Size) (liars : ℕ → Bool) (c : Scene) (p : ℕ) → IsSize size → p < size.n →
             IsPost size liars c p self.old → Fits size liars c p (tasks.Propose question bit toss) → (bytes : List ℕ) →
             IfOk result (λ mark. IsDone size liars c p (tasks.Propose question bit toss) bytes mark self.new) }
+        ensures memory { (size : Size) (liars : ℕ → Bool) (c : Scene) (p : ℕ) → IsSize size → p < size.n →
+            IsPost size liars c p self.old → Fits size liars c p (tasks.Propose question bit toss) → MayCome size liars c.world →
+            IfErr result (λ fault. fault ≡ faults.Memory) }
     {
         self.seat.propose(self.fused, question, bit, toss)
     }
@@ -189,6 +195,9 @@ impl Post {
         ensures done { (size : Size) (liars : ℕ → Bool) (c : Scene) (p : ℕ) → IsSize size → p < size.n →
             IsPost size liars c p self.old → Fits size liars c p (tasks.Deliver from statement place toss) → (bytes : List ℕ) →
             IfOk result (λ mark. IsDone size liars c p (tasks.Deliver from statement place toss) bytes mark self.new) }
+        ensures memory { (size : Size) (liars : ℕ → Bool) (c : Scene) (p : ℕ) → IsSize size → p < size.n →
+            IsPost size liars c p self.old → Fits size liars c p (tasks.Deliver from statement place toss) → MayCome size liars c.world →
+            IfErr result (λ fault. fault ≡ faults.Memory) }
     {
         let link = &mut self.incoming[usize::from(from)];
         link.go_to(place);
@@ -214,6 +223,9 @@ impl Post {
         ensures done { (size : Size) (liars : ℕ → Bool) (c : Scene) (p : ℕ) → IsSize size → p < size.n →
             IsPost size liars c p self.old → Fits size liars c p (tasks.Lie liar toss) →
             IfOk result (λ mark. IsDone size liars c p (tasks.Lie liar toss) bytes.now mark self.new) }
+        ensures memory { (size : Size) (liars : ℕ → Bool) (c : Scene) (p : ℕ) → IsSize size → p < size.n →
+            IsPost size liars c p self.old → Fits size liars c p (tasks.Lie liar toss) → MayCome size liars c.world →
+            IfErr result (λ fault. fault ≡ faults.Memory) }
     {
         let link = &mut self.incoming[usize::from(liar)];
         if link.is_broken() {
@@ -228,7 +240,7 @@ impl Post {
         requires ready { IsReady self.old }
         ensures ready { IsReady self.new }
         ensures header { self.new.header ≡ self.old.header }
-        ensures only { IfErr result IsOfRun }
+        ensures only { IfErr result (λ fault. fault ≡ faults.Memory) }
         ensures done { (size : Size) (liars : ℕ → Bool) (c : Scene) (p : ℕ) → IsSize size → p < size.n →
             IsPost size liars c p self.old → Fits size liars c p (tasks.Fuse calls) → (bytes : List ℕ) →
             IfOk result (λ mark. IsDone size liars c p (tasks.Fuse calls) bytes mark self.new) }
@@ -243,7 +255,7 @@ impl Post {
         requires ready { IsReady self.old }
         ensures ready { IsReady self.new }
         ensures header { self.new.header ≡ self.old.header }
-        ensures only { IfErr result IsOfRun }
+        ensures only { IfErr result (λ fault. fault ≡ faults.Memory) }
         ensures done { (size : Size) (liars : ℕ → Bool) (c : Scene) (p : ℕ) → IsSize size → p < size.n →
             IsPost size liars c p self.old → Fits size liars c p (tasks.Crash pick) → (bytes : List ℕ) →
             IfOk result (λ mark. IsDone size liars c p (tasks.Crash pick) bytes mark self.new) }
@@ -258,7 +270,7 @@ impl Post {
         requires ready { IsReady self.old }
         ensures ready { IsReady self.new }
         ensures header { self.new.header ≡ self.old.header }
-        ensures only { IfErr result IsOfRun }
+        ensures only { IfErr result (λ fault. fault ≡ faults.Memory) }
         ensures done { (size : Size) (liars : ℕ → Bool) (c : Scene) (p : ℕ) → IsSize size → p < size.n →
             IsPost size liars c p self.old → Fits size liars c p (tasks.Restart) → (bytes : List ℕ) →
             IfOk result (λ mark. IsDone size liars c p (tasks.Restart) bytes mark self.new) }
@@ -293,7 +305,7 @@ impl Post {
         requires within { from < self.old.header.size.n }
         ensures ready { IsReady self.new }
         ensures header { self.new.header ≡ self.old.header }
-        ensures only { IfErr result IsOfRun }
+        ensures only { IfErr result (λ fault. fault ≡ faults.Memory) }
         ensures done { (size : Size) (liars : ℕ → Bool) (c : Scene) (p : ℕ) → IsSize size → p < size.n →
             IsPost size liars c p self.old → Fits size liars c p (tasks.Reset from) → (bytes : List ℕ) →
             IfOk result (λ mark. IsDone size liars c p (tasks.Reset from) bytes mark self.new) }

@@ -1,6 +1,6 @@
 //! Where a member of a simulated cluster is.
 
-ghost use Rattle.std.specs.Prelude.{◌≡◌, ◌<◌, ◌+◌, ◌^◌, ℕ, Bool, true, false, None, Some, List, [], IfOk, IfErr, IfSome, OnOk, MatchOption};
+ghost use Rattle.std.specs.Prelude.{◌≡◌, ◌<◌, ◌+◌, ◌^◌, ℕ, Bool, true, false, None, Some, List, [], IfOk, IfErr, IfSome, OnOk, IsErrOf, MatchOption};
 ghost use Rattle.std.specs.List.{AllByRecursion};
 ghost use Rattle.terms.specs.declared.Header.{Header};
 ghost use Rattle.terms.specs.declared.Size.{Size};
@@ -11,8 +11,9 @@ ghost use Rattle.world.specs.World.{World, IsCorrect, has_sent, after};
 ghost use Rattle.world.specs.World.Step.{Crash};
 ghost use Rattle.sim.specs.Posts.{IsOfRun};
 ghost use Rattle.sim.specs.declared.faults.SimFault.TheVariants as faults;
+ghost use Rattle.member.specs.declared.fault.MemberFault.TheVariants as refusals;
 ghost use Rattle.sim.specs.declared.events.Mark.TheVariants as marks;
-ghost use Rattle.sim.specs.Seats.{IsOneSound, IsSeat, IsFresh, IsMarkOf, IsMove, IsBegun, Answers, AreLies, Reopens, AreParts, AreFresh, mine, is_liar, is_up, saved_in, nth_said};
+ghost use Rattle.sim.specs.Seats.{IsOneSound, IsSeat, IsFresh, IsMarkOf, IsMove, IsBegun, MayCome, Answers, AreLies, Reopens, AreParts, AreFresh, mine, is_liar, is_up, saved_in, nth_said};
 
 use crate::{Mark, Reason, SimFault};
 use disk::{MemDisk, Pick};
@@ -99,6 +100,8 @@ impl Seat {
         ensures moved { (size : Size) (liars : ℕ → Bool) (p : ℕ) (w : World) → IsCorrect size liars p → w.doubt p ≡ None →
             IsSeat (mine size p) w self.old → IfOk result (λ mark.
             IsMove size liars p w (Answers size p w fused toss.0 (Proposal question bit) mark) self.new) }
+        ensures memory { (size : Size) (liars : ℕ → Bool) (p : ℕ) (w : World) → IsCorrect size liars p → w.doubt p ≡ None →
+            IsSeat (mine size p) w self.old → MayCome size liars w → IfErr result (λ fault. fault ≡ faults.Memory) }
     {
         let Seat::Here(member) = self else {
             return Ok(Mark::Skipped(Reason::NotUp));
@@ -122,6 +125,9 @@ impl Seat {
         ensures moved { (size : Size) (liars : ℕ → Bool) (p : ℕ) (w : World) → IsCorrect size liars p → w.doubt p ≡ None →
             IsSeat (mine size p) w self.old → has_sent w.sent from statement.now ≡ true → IfOk result (λ mark.
             IsMove size liars p w (Answers size p w fused toss.0 (Hearing from statement.now) mark) self.new) }
+        ensures memory { (size : Size) (liars : ℕ → Bool) (p : ℕ) (w : World) → IsCorrect size liars p → w.doubt p ≡ None →
+            IsSeat (mine size p) w self.old → has_sent w.sent from statement.now ≡ true → MayCome size liars w →
+            IfErr result (λ fault. fault ≡ faults.Memory) }
     {
         let Seat::Here(member) = self else {
             return Ok(Mark::Skipped(Reason::NotUp));
@@ -145,6 +151,9 @@ impl Seat {
         ensures moved { (size : Size) (liars : ℕ → Bool) (p : ℕ) (w : World) → IsCorrect size liars p → w.doubt p ≡ None →
             IsSeat (mine size p) w self.old → from < size.n → liars from ≡ true → AllByRecursion (IsWellFormed size) statements.now →
             IfOk result (λ mark. IsMove size liars p w (AreLies size p w fused from toss.0 statements.now mark) self.new) }
+        ensures memory { (size : Size) (liars : ℕ → Bool) (p : ℕ) (w : World) → IsCorrect size liars p → w.doubt p ≡ None →
+            IsSeat (mine size p) w self.old → from < size.n → liars from ≡ true → AllByRecursion (IsWellFormed size) statements.now →
+            MayCome size liars w → IfErr result (λ fault. fault ≡ faults.Memory) }
     {
         for statement in statements {
             let mark = self.hear(fused, from, statement, toss)?;
@@ -174,7 +183,7 @@ impl Seat {
     pub(crate) fn crash(&mut self, pick: Pick) -> Result<(), SimFault>
         requires sound { IsOneSound self.old }
         ensures sound { IsOneSound self.new }
-        ensures only { IfErr result IsOfRun }
+        ensures only { IfErr result (λ fault. fault ≡ faults.Memory) }
         ensures side { OnOk result (is_liar self.new ≡ is_liar self.old) }
         ensures at { (header : Header) (w : World) → IsSeat header w self.old →
             OnOk result (IsSeat header (after w (Crash header.me)) self.new) }
@@ -259,6 +268,7 @@ fn statement_at(records: &[Record], number: u64) -> Option<Statement>
 fn mark_of(answer: Result<Answer, MemberFault>, fused: bool) -> Result<Mark, SimFault>
     ensures mark { IfOk result (λ mark. IsMarkOf fused answer mark) }
     ensures only { IfErr result IsOfRun }
+    ensures memory { (IsErrOf answer refusals.JournalFull → ⊥) → IfErr result (λ fault. fault ≡ faults.Memory) }
 {
     match answer {
         Ok(_) => Ok(Mark::Done),

@@ -1,5 +1,6 @@
 use Rattle.std.proofs.Common.{◌≡◌, ◌+◌, ◌++◌, ◌∷◌, [], List, take, ◌∙◌, ap, sym, subst}
 use Rattle.std.proofs.lemmas.List.{take_all, take_more}
+use Rattle.std.proofs.lemmas.Result.{err_from_is_err_and}
 use Rattle.std.specs.Global.{Vec}
 use Rattle.terms.specs.declared.Record.{Record}
 use Rattle.sim.specs.declared.events.Event.{Event}
@@ -42,3 +43,11 @@ returns-clause-run c liars s ok few begun at =
     subst (λ (l : List Event). IsFollowed c.args.size liars s l c.loop-event.marks.items c.loop-event.saved.items c.loop-event.posts)
     (take_all c.loop-event.event-index c.args.script.now c.loop-event-test.false)
     (c.loop-event.invariant.run liars s ok few begun at)
+
+pub returns-in_err-mark-clause-memory : goal.returns-in_err-mark-clause-memory
+returns-in_err-mark-clause-memory c liars s ok few begun at =
+    let size = c.args.size in
+    let f = c.loop-event.invariant.run liars s ok few begun at in
+    let made = err_from_is_err_and c.from_residual-in_err-mark.result c.from_residual-in_err-mark.ensures.1 in
+    rw (made.1, made.2) (c.in_err-mark.ensures.memory liars f.last ok
+    (steady size liars s ok few begun (take c.loop-event.event-index c.args.script.now) c.loop-event.marks.items c.loop-event.saved.items c.loop-event.posts f) f.at)

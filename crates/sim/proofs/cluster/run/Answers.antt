@@ -1,4 +1,6 @@
-use Rattle.std.proofs.Common.{List, refl, sym, subst}
+use Rattle.std.proofs.Common.{◌≡◌, List, refl, sym, subst}
+use Rattle.std.proofs.lemmas.Result.{err_from_is_err_and}
+use Rattle.sim.specs.declared.faults.SimFault.TheVariants as faults
 use Rattle.sim.specs.declared.posts.Post.{Post}
 use Rattle.sim.specs.Scene.{opening}
 use Rattle.sim.specs.Posts.{IsCluster}
@@ -34,3 +36,12 @@ returns-clause-unanimous c =
     (c.in_ok-marks.ensures.run (among c.args.liars.now) (opening (fused_in c.args.disks.items)) c.n-members.ensures.bounds few refl)
     (c.in_ok-verdicts.ensures.are (among c.args.liars.now)) in
     simulations_unanimous c.args.size (among c.args.liars.now) (fused_in c.args.disks.items) c.args.script.now c.in_ok-marks.marks.items c.in_ok-marks.saved.items c.in_ok-verdicts.verdicts.items c.n-members.ensures.bounds few s
+
+pub returns-in_err-marks-clause-never_full : goal.returns-in_err-marks-clause-never_full
+returns-in_err-marks-clause-never_full c e =
+    let few = few_lie c.args.size c.args.liars.now (c.if-not-are_liars.ensures.0 refl) in
+    let made = err_from_is_err_and c.from_residual-in_err-marks.result c.from_residual-in_err-marks.ensures.1 in
+    let memory : c.in_err-marks.field-0.0 ≡ faults.Memory = c.in_err-marks.ensures.memory (among c.args.liars.now) (opening (fused_in c.args.disks.items)) c.n-members.ensures.bounds few refl
+    (subst (λ (l : List Post). IsCluster c.args.size (among c.args.liars.now) (opening (fused_in c.args.disks.items)) l) (sym c.as_mut_slice-all.ensures.value) c.in_ok-posts.ensures.cluster) in
+    let is : made.0 ≡ faults.Full = cc (made.1, e) in
+    cc (made.2, memory, is)

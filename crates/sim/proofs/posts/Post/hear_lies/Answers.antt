@@ -29,3 +29,14 @@ returns-clause-done c size liars s p lawful below post fits =
     (λ mark move. lies_done size liars s p c.args.self.now post below c.args.liar c.args.toss c.args.bytes.now c.from.result len fits.1 fits.2 c.from.ensures
     c.index_mut-link.result.now c.take.new.self c.index_mut-link.ensures.value unbroken c.in_ok-statements.statements.items c.take.ensures.place c.take.ensures.size c.in_ok-statements.ensures.takes
     mark _ fits.0.0 refl c.hear_each.ensures.side refl refl move)
+
+pub returns-clause-memory : goal.returns-clause-memory
+returns-clause-memory c size liars s p lawful below post fits may =
+    let len : length c.args.self.now.incoming.items ≡ size.n = c.requires.ready.wide ∙ ap (λ (h : Header). h.size.n) post.header in
+    let unbroken : is_broken_at c.index_mut-link.result.now.end ≡ false = sym c.if-is_broken.ensures in
+    let formed : AllByRecursion (IsWellFormed size) c.in_ok-statements.statements.items =
+    lies_formed size liars s p c.args.self.now post below c.args.liar c.args.toss c.args.bytes.now c.from.result len fits.1 fits.2 c.from.ensures
+    c.index_mut-link.result.now c.take.new.self c.index_mut-link.ensures.value unbroken c.in_ok-statements.statements.items c.take.ensures.place c.take.ensures.size c.in_ok-statements.ensures.takes in
+    let all : c.deref.result.now ≡ c.in_ok-statements.statements.items = c.deref.ensures.value in
+    c.hear_each.ensures.memory size liars p s.world (record { member = below; honest = fits.0.0 }) fits.0.1 (post.at fits.0.0) fits.2 fits.1
+    (subst (λ (l : List Statement). AllByRecursion (IsWellFormed size) l) (sym all) formed) may
