@@ -89,7 +89,7 @@ pub record AreReady (size : Size) (posts : List Post) : Type 0 where
   pub count : length posts ≡ size.n
   pub each : (p : ℕ) (d : Post) → p < size.n → IsOneReady size (get_or posts p d)
 
--- a fault that may come once the members run
+-- a fault that a task may end with, whatever the posts are
 abbrev pub IsOfRun : SimFault → Type 0
 IsOfRun faults.BadLiars = ⊥
 IsOfRun faults.BadDisks = ⊥
