@@ -5,8 +5,6 @@ use mir.Val.{bool_byte}
 use Rattle.std.specs.Fmt.{decimal}
 use Rattle.std.proofs.Math.Seq.{take-suc}
 use Rattle.terms.specs.declared.Record.{Record}
-use Rattle.terms.specs.declared.Record.TheVariants.{Said, Decided}
-use Rattle.terms.specs.declared.Statement.{Statement}
 use Rattle.terms.specs.declared.Header.{Header}
 use Rattle.journal.specs.declared.fault.JournalFault.{JournalFault}
 use Rattle.journal.specs.declared.fault.JournalFault.TheVariants as unheld
@@ -15,7 +13,7 @@ use Rattle.journal.specs.File.{HasHeader, Refuses}
 use Rattle.journal.proofs.One.{one_header}
 use Rattle.bracha.specs.declared.fault.Fault.TheVariants as fault
 use Rattle.bracha.specs.Faults.{of_journal}
-use Rattle.bracha.specs.Dumps.{IsUnreadable, kind_word, value_word, bit_digit, header_line, record_line, record_lines}
+use Rattle.bracha.specs.Dumps.{IsUnreadable, bit_digit, header_line, record_line, record_lines}
 
 -- a text with other words for its bytes
 pub written_as : (r : Result (String Global) AllocError) (bytes others : List ℕ) → bytes ≡ others → IfOk r (λ s. string_bytes s ≡ bytes) → IfOk r (λ s. string_bytes s ≡ others)
@@ -26,19 +24,9 @@ pub header_pieces : (h : Header) (cluster n t questions me : ℕ) → cluster �
     ++ (codes " questions " ++ (decimal questions ++ (codes " me " ++ (decimal me ++ codes "\n"))))))))) ≡ header_line h
 header_pieces h cluster n t questions me a b c d e = rw (a, b, c, d, e) (simp append_assoc)
 
-pub said_pieces : (s : Statement) (kind value : List ℕ) (question origin round step : ℕ)
-    → kind ≡ kind_word s.kind → question ≡ s.place.question → origin ≡ s.place.origin → round ≡ s.place.round → step ≡ s.place.step → value ≡ value_word s.value
-    → kind ++ (codes " " ++ (decimal question ++ (codes " " ++ (decimal origin ++ (codes " " ++ (decimal round ++ (codes " " ++ (decimal step ++ (codes " " ++ (value ++ codes "\n"))))))))))
-    ≡ record_line (Said s)
-said_pieces s kind value question origin round step a b c d e f = rw (a, b, c, d, e, f) (simp append_assoc)
-
 pub bit_of : (bit : Bool) → bool_byte bit ≡ bit_digit bit
 bit_of true = refl
 bit_of false = refl
-
-pub decided_pieces : (question round digit : ℕ) (bit : Bool) → digit ≡ bit_digit bit
-    → codes "decided " ++ (decimal question ++ (codes " " ++ (decimal round ++ (codes " " ++ (decimal digit ++ codes "\n"))))) ≡ record_line (Decided question round bit)
-decided_pieces question round digit bit a = rw a (simp append_assoc)
 
 lines-append : (xs ys : List Record) → record_lines (xs ++ ys) ≡ record_lines xs ++ record_lines ys
 lines-append [] ys = refl

@@ -6,6 +6,7 @@ use Rattle.terms.specs.declared.Kind.{Kind}
 use Rattle.terms.specs.declared.Kind.TheVariants.{Initial, Echo, Ready}
 use Rattle.terms.specs.declared.Value.{Value}
 use Rattle.terms.specs.declared.Value.TheVariants.{Zero, One, SureZero, SureOne, Unsure}
+use Rattle.terms.specs.declared.Statement.{Statement}
 use Rattle.terms.specs.declared.Record.{Record}
 use Rattle.terms.specs.declared.Record.TheVariants.{Said, Decided}
 use Rattle.terms.specs.declared.Header.{Header}
@@ -45,13 +46,21 @@ header_line h =
     line (sentence (codes "cluster" ∷ decimal h.cluster ∷ codes "n" ∷ decimal h.size.n ∷ codes "t" ∷ decimal h.size.t
     ∷ codes "questions" ∷ decimal h.size.questions ∷ codes "me" ∷ decimal h.me ∷ []))
 
+-- the words of a statement
+abbrev pub statement_text : Statement → List ℕ
+statement_text s =
+    sentence (kind_word s.kind ∷ decimal s.place.question ∷ decimal s.place.origin ∷ decimal s.place.round
+    ∷ decimal s.place.step ∷ value_word s.value ∷ [])
+
+-- the words of a record
+abbrev pub record_text : Record → List ℕ
+record_text (Said s) = statement_text s
+record_text (Decided question round bit) =
+    sentence (codes "decided" ∷ decimal question ∷ decimal round ∷ decimal (bit_digit bit) ∷ [])
+
 -- the line of a record
 abbrev pub record_line : Record → List ℕ
-record_line (Said s) =
-    line (sentence (kind_word s.kind ∷ decimal s.place.question ∷ decimal s.place.origin ∷ decimal s.place.round
-    ∷ decimal s.place.step ∷ value_word s.value ∷ []))
-record_line (Decided question round bit) =
-    line (sentence (codes "decided" ∷ decimal question ∷ decimal round ∷ decimal (bit_digit bit) ∷ []))
+record_line r = line (record_text r)
 
 -- the lines of the records, in order
 abbrev pub record_lines : List Record → List ℕ

@@ -12,6 +12,7 @@ mod piece;
 mod session;
 mod settings;
 mod simulate;
+mod trace;
 
 use clap::error::ErrorKind;
 use command::{Task, command, size_from};

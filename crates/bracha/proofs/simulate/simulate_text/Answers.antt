@@ -1,4 +1,4 @@
-use Rattle.std.proofs.Common.{ℕ, Bool, ◌≡◌, rules, List, subst, sym}
+use Rattle.std.proofs.Common.{ℕ, Bool, rules, List, subst}
 use Rattle.sim.specs.declared.events.Event.{Event}
 use Rattle.sim.specs.Outcomes.{IsSimulation, among, fused_in}
 use Rattle.bracha.proofs.simulate.simulate_text.Goals as goal
