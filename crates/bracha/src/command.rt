@@ -23,9 +23,11 @@ pub enum Task<'a> {
     Init {
         settings: &'a str,
     },
-    /// Runs the script in this file.
+    /// Runs the script in this file, and writes a trace and a chart of the run into those files.
     Simulate {
         script: &'a str,
+        trace: Option<&'a str>,
+        chart: Option<&'a str>,
     },
     /// Prints the journal in this file.
     Dump {
@@ -118,14 +120,29 @@ fn dump<'a>(alloc: Global) -> Result<clap::Command<'a>, Error> {
     )
 }
 
+/// An option of that name with the path of a file, such as `--trace FILE`.
+fn file<'a>(alloc: Global, name: &'a str, help: &'a str) -> Arg<'a> {
+    Arg::new(alloc, name)
+        .long(name)
+        .value_name("FILE")
+        .help(help)
+}
+
 fn simulate<'a>(alloc: Global) -> Result<clap::Command<'a>, Error> {
-    with_path(
+    let command = with_path(
         alloc,
         "simulate",
         "Runs a script of a whole cluster in memory, and prints what was decided",
         "script",
         "SCRIPT",
         "The file of the script",
+    )?;
+    let trace = "Writes what each event did, a line for each, to this file";
+    let chart = "Draws the run as a sequence chart (SVG) into this file";
+    Ok(
+        command
+            .arg(file(alloc, "trace", trace))?
+            .arg(file(alloc, "chart", chart))?,
     )
 }
 
@@ -170,6 +187,8 @@ fn task_of<'a>(matches: &ArgMatches<'a>) -> Option<Task<'a>> {
         let options = matches.subcommand_matches("simulate")?;
         Some(Task::Simulate {
             script: options.get_str("script")?,
+            trace: options.get_str("trace"),
+            chart: options.get_str("chart"),
         })
     }
 }

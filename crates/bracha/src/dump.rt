@@ -18,7 +18,7 @@ use std::io::Write;
 use terms::{Header, Kind, Record, Statement, Value};
 
 /// The word of a kind.
-fn kind_word(kind: Kind) -> &'static str
+pub(crate) fn kind_word(kind: Kind) -> &'static str
     ensures { result.now ≡ kind_word kind }
 {
     match kind {

@@ -46,6 +46,12 @@ pub enum Fault {
     /// A script can't be run.
     #[error("sim {0}")]
     Sim(SimFault),
+    /// The file of a trace couldn't be written.
+    #[error("trace")]
+    Trace,
+    /// The file of a chart couldn't be written.
+    #[error("chart")]
+    Chart,
     /// Memory was refused.
     #[error("memory")]
     Memory,

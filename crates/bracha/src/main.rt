@@ -2,6 +2,7 @@
 #![tactic(auto)]
 
 mod address;
+mod chart;
 mod command;
 mod dump;
 mod entries;
@@ -22,7 +23,7 @@ use fault::Fault;
 use hear::hear_lines;
 use init::init_disk;
 use settings::Settings;
-use simulate::simulate_text;
+use simulate::{print, simulate_pages};
 use std::io::{self, LineWriter};
 use std::process::ExitCode;
 use std::{env, fs};
@@ -50,10 +51,32 @@ fn dump_file(rt: &HostRuntime, path: &str) -> Result<u8, Fault> {
     dump_lines(rt.alloc(), disk, &mut io::writer(rt))
 }
 
-/// Runs the script in the file.
-fn simulate_file(rt: &HostRuntime, path: &str) -> Result<u8, Fault> {
+/// Writes a page, if there is one, into the file. What was there is replaced.
+fn write_page(
+    rt: &HostRuntime,
+    path: Option<&str>,
+    page: Option<String>,
+    fault: Fault,
+) -> Result<(), Fault> {
+    match (path, page) {
+        (Some(path), Some(page)) => fs::write(rt, path, page.as_str()).map_err(|_| fault),
+        _ => Ok(()),
+    }
+}
+
+/// Runs the script in the file, and writes a trace and a chart of it where they are asked for. Only then anything is
+/// printed.
+fn simulate_file(
+    rt: &HostRuntime,
+    path: &str,
+    trace: Option<&str>,
+    chart: Option<&str>,
+) -> Result<u8, Fault> {
     let text = fs::read(rt, path).map_err(Fault::of_file)?;
-    simulate_text(rt.alloc(), &text, &mut io::writer(rt))
+    let pages = simulate_pages(rt.alloc(), &text, trace.is_some(), chart.is_some())?;
+    write_page(rt, trace, pages.trace, Fault::Trace)?;
+    write_page(rt, chart, pages.chart, Fault::Chart)?;
+    print(pages.verdicts.as_str(), &mut io::writer(rt))
 }
 
 /// Does the task, and gives the status to end with.
@@ -67,7 +90,11 @@ fn work(rt: &HostRuntime, task: Task) -> Result<u8, Fault> {
         } => hear_input(rt, size_from(n, t, questions)?, me),
         Task::Init { settings } => init_file(rt, settings),
         Task::Dump { journal } => dump_file(rt, journal),
-        Task::Simulate { script } => simulate_file(rt, script),
+        Task::Simulate {
+            script,
+            trace,
+            chart,
+        } => simulate_file(rt, script, trace, chart),
     }
 }
 

@@ -6,11 +6,16 @@ ghost use Rattle.std.specs.Io.KnownBytes.{Appends};
 ghost use Rattle.script.specs.declared.Script.{Script};
 ghost use Rattle.sim.specs.declared.cluster.Outcome.{Outcome};
 ghost use Rattle.sim.specs.Outcomes.{IsSimulation, among};
-ghost use Rattle.bracha.specs.Faults.{IsOfSimulate};
+ghost use Rattle.bracha.specs.Faults.{IsOfSimulate, IsOfStream};
+ghost use Rattle.bracha.specs.Charts.{IsSvg};
+ghost use Rattle.bracha.specs.Pages.{IsOutcome, IsPage, IsTrace, ArePages};
 ghost use Rattle.bracha.specs.Simulations.{verdict_line, count_line, simulation_text, is_skipped, skipped};
 
+use crate::chart::chart_text;
 use crate::fault::Fault;
+use crate::trace::trace_text;
 use disk::MemDisk;
+use script::Script;
 use sim::{Mark, Outcome};
 use std::alloc::{AllocError, Global};
 use std::io::Write;
@@ -28,7 +33,7 @@ fn verdict_line(alloc: Global, verdict: &(u8, u16, u8, bool)) -> Result<String, 
 }
 
 /// Whether the event was skipped.
-fn is_skipped(mark: &Mark) -> bool
+pub(crate) fn is_skipped(mark: &Mark) -> bool
     ensures { result ≡ is_skipped mark.now }
 {
     match mark {
@@ -84,6 +89,98 @@ fn empty_disks(alloc: Global, size: Size) -> Result<Vec<MemDisk>, Memory> {
     Ok(disks)
 }
 
+/// Reads the script, and runs it over empty disks in memory.
+fn run(alloc: Global, text: &[u8]) -> Result<(Script, Outcome), Fault>
+    ensures run { IfOk result (λ ran. IsOutcome ran.0 ran.1) }
+    ensures only { IfErr result IsOfSimulate }
+{
+    let script = script::read(alloc, text)?;
+    let disks = empty_disks(alloc, script.size)?;
+    let outcome = sim::run(alloc, script.size, &script.liars, disks, &script.events)?;
+    Ok((script, outcome))
+}
+
+/// The trace of a run, if it is wanted.
+fn trace_page(
+    alloc: Global,
+    wanted: bool,
+    script: &Script,
+    outcome: &Outcome,
+) -> Result<Option<String>, AllocError>
+    ensures { IfOk result (IsPage wanted (IsTrace script.now outcome.now)) }
+{
+    if !wanted {
+        return Ok(None);
+    }
+    let text = trace_text(alloc, &script.events, &outcome.marks, &outcome.saved)?;
+    Ok(Some(text))
+}
+
+/// The chart of a run, if it is wanted.
+fn chart_page(
+    alloc: Global,
+    wanted: bool,
+    script: &Script,
+    outcome: &Outcome,
+) -> Result<Option<String>, AllocError>
+    ensures { IfOk result (IsPage wanted IsSvg) }
+{
+    if !wanted {
+        return Ok(None);
+    }
+    let text = chart_text(
+        alloc,
+        script.size,
+        &script.liars,
+        &script.events,
+        &outcome.marks,
+        &outcome.saved,
+    )?;
+    Ok(Some(text))
+}
+
+/// What a simulation makes: texts to be printed and written.
+#[derive(Drop)]
+pub struct Pages {
+    /// For each verdict, by member and then by question, `member M question Q round R bit B`, and last
+    /// `events E skipped S`.
+    pub verdicts: String,
+    /// A line for each event.
+    pub trace: Option<String>,
+    /// A sequence chart in SVG.
+    pub chart: Option<String>,
+}
+
+/// Runs the script over empty disks in memory, and makes the text of its outcome, and a trace and a chart where they are
+/// wanted.
+///
+/// [`Fault::Line`], [`Fault::Size`] and [`Fault::Events`] for a text that is no script, [`Fault::Sim`] for a script that
+/// can't be run, [`Fault::Memory`] where a growth failed.
+pub fn simulate_pages(alloc: Global, text: &[u8], trace: bool, chart: bool) -> Result<Pages, Fault>
+    // They are of a simulation of a script, which is a run of the world.
+    ensures all { IfOk result (λ made. (script : Script) × (outcome : Outcome)
+        × IsOutcome script outcome × ArePages trace chart script outcome made) }
+    ensures only { IfErr result IsOfSimulate }
+{
+    let (script, outcome) = run(alloc, text)?;
+    Ok(Pages {
+        verdicts: simulation_text(alloc, &outcome)?,
+        trace: trace_page(alloc, trace, &script, &outcome)?,
+        chart: chart_page(alloc, chart, &script, &outcome)?,
+    })
+}
+
+/// Writes the text. The status is 0. [`Fault::Stream`] and [`Fault::Memory`]: the write failed.
+pub fn print<W: Write>(text: &str, output: &mut W) -> Result<u8, Fault>
+    ensures status { IfOk result (λ status. status ≡ 0) }
+    ensures all { OnOk result (Appends (W.contents output.old) (W.contents output.new) text.now) }
+    ensures only { IfErr result IsOfStream }
+{
+    output.write_all(text.as_bytes())?;
+    output.flush()?;
+    Ok(0)
+}
+
 /// Runs the script over empty disks in memory, and writes its outcome: for each verdict, by member and then by question,
 /// `member M question Q round R bit B`, and last `events E skipped S`. The status is 0.
 ///
@@ -97,13 +194,8 @@ pub fn simulate_text<W: Write>(alloc: Global, text: &[u8], output: &mut W) -> Re
         × Appends (W.contents output.old) (W.contents output.new) (simulation_text outcome)) }
     ensures only { IfErr result IsOfSimulate }
 {
-    let script = script::read(alloc, text)?;
-    let disks = empty_disks(alloc, script.size)?;
-    let outcome = sim::run(alloc, script.size, &script.liars, disks, &script.events)?;
-    let shown = simulation_text(alloc, &outcome)?;
-    output.write_all(shown.as_bytes())?;
-    output.flush()?;
-    Ok(0)
+    let pages = simulate_pages(alloc, text, false, false)?;
+    print(pages.verdicts.as_str(), output)
 }
 
 #[cfg(test)]

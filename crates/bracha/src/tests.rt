@@ -223,7 +223,11 @@ fn reads_the_words(rt: HostRuntime) -> Result<(), Fail> {
         ),
         (
             ["bracha", "simulate", "a.script"],
-            Task::Simulate { script: "a.script" },
+            Task::Simulate {
+                script: "a.script",
+                trace: None,
+                chart: None,
+            },
         ),
     ] {
         let task = command(rt.alloc(), words.as_slice()).ok().ok_or("a task")?;
@@ -312,6 +316,8 @@ fn faults_print_so(rt: HostRuntime) -> Result<(), Fail> {
         (Fault::Journal(JournalFault::NotEmpty), "journal NotEmpty"),
         (Fault::from(JournalFault::Memory), "memory"),
         (Fault::Events, "events"),
+        (Fault::Trace, "trace"),
+        (Fault::Chart, "chart"),
         (Fault::Sim(SimFault::BadLiars), "sim BadLiars"),
         (Fault::from(SimFault::Memory), "memory"),
         (Fault::from(ScriptFault::Line(3)), "line 3"),

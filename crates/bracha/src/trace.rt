@@ -21,7 +21,7 @@ fn which_text(alloc: Global, which: Which) -> Result<String, AllocError>
 }
 
 /// How many calls a fuse lets pass.
-fn calls_text(alloc: Global, calls: Option<u64>) -> Result<String, AllocError>
+pub(crate) fn calls_text(alloc: Global, calls: Option<u64>) -> Result<String, AllocError>
     ensures { IfOk result (λ text. string_bytes text ≡ calls_text calls) }
 {
     match calls {

@@ -1,18 +1,20 @@
-use Rattle.std.proofs.Common.{ℕ, Bool, rules, List, subst}
-use Rattle.sim.specs.declared.events.Event.{Event}
-use Rattle.sim.specs.Outcomes.{IsSimulation, among, fused_in}
+use Rattle.std.proofs.Common.{ℕ, List, ◌∙◌, subst}
+use Rattle.std.specs.Io.KnownBytes.{Appends}
+use Rattle.std.proofs.lemmas.Result.{IfOk-weaker}
 use Rattle.bracha.proofs.simulate.simulate_text.Goals as goal
 
+-- what is printed is the page of the verdicts
 pub returns-clause-all : goal.returns-clause-all
 returns-clause-all g c =
-    let script = c.in_ok-script.script in
-    let outcome = c.in_ok-outcome.outcome in
-    let fused : ℕ → Bool = fused_in c.in_ok-disks.disks.items in (
-      script,
-      fused,
-      outcome,
-      subst (λ (l : List ℕ). IsSimulation script.size (among l) fused script.events.items outcome.marks.items outcome.saved.items outcome.verdicts.items) c.deref.ensures.value
-          (subst (λ (l : List Event). IsSimulation script.size (among c.deref.result.now) fused l outcome.marks.items outcome.saved.items outcome.verdicts.items) c.deref-2.ensures.value
-          c.in_ok-outcome.ensures.run),
-      search (rules, c.in_ok-shown.ensures, c.as_bytes.ensures.value, c.in_ok-write_all.ensures.bytes, c.in_ok-flush.ensures.bytes),
-    )
+    let of = c.in_ok-pages.ensures.all in
+    let old = g.W.Write.contents c.args.output.now in
+    let new = g.W.Write.contents c.print.new.output in
+    IfOk-weaker c.print.result _ _
+    (λ _ wrote. (
+      of.0,
+      of.2.0,
+      of.1,
+      of.2.1,
+      subst (λ (text : List ℕ). Appends old new text) (c.as_str.ensures.value ∙ of.3.verdicts_are) wrote,
+    ))
+    c.print.ensures.all
