@@ -365,7 +365,11 @@ fn svg(
         "xmlns=\"http://www.w3.org/2000/svg\" width=\"{width}\" height=\"{height}\" viewBox=\"0 0 {width} {height}\">\n{}\n<rect width=\"{width}\" height=\"{height}\" fill=\"#fff\"/>\n",
         STYLE
     )?;
-    format!(in alloc; "<svg {frame}{}{}</svg>\n", lifelines.as_str(), events.as_str())
+    format!(in alloc;
+        "<svg {frame}{}{}</svg>\n",
+        lifelines.as_str(),
+        events.as_str()
+    )
 }
 
 /// Draws the events that weren't skipped as a sequence chart in SVG, each in a row with its number, counted from 1. A

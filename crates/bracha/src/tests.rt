@@ -304,6 +304,87 @@ fn reads_the_words(rt: HostRuntime) -> Result<(), Fail> {
 }
 
 #[test]
+fn reads_the_options_of_simulate(rt: HostRuntime) -> Result<(), Fail> {
+    for (words, trace, chart) in [
+        (
+            ["bracha", "simulate", "--trace", "t", "s"].as_slice(),
+            Some("t"),
+            None,
+        ),
+        (
+            ["bracha", "simulate", "s", "--chart", "c"].as_slice(),
+            None,
+            Some("c"),
+        ),
+        (
+            ["bracha", "simulate", "--chart", "c", "--trace=t", "s"].as_slice(),
+            Some("t"),
+            Some("c"),
+        ),
+    ] {
+        let task = command(rt.alloc(), words).ok().ok_or("a task")?;
+        let want = Task::Simulate {
+            script: "s",
+            trace,
+            chart,
+        };
+        assert!(rt; task == want, "at {words:?}");
+    }
+    for words in [
+        ["bracha", "simulate", "--trace", "t"].as_slice(),
+        ["bracha", "simulate", "s", "--trace"].as_slice(),
+        ["bracha", "simulate", "s", "--picture", "c"].as_slice(),
+        ["bracha", "simulate", "--trace", "t", "--trace", "u", "s"].as_slice(),
+        ["bracha", "simulate", "--chart", "c", "--chart", "c", "s"].as_slice(),
+    ] {
+        let error = command(rt.alloc(), words)
+            .err()
+            .ok_or("a fault of the words")?;
+        assert!(rt; error.exit_code() == 2, "at {words:?}");
+    }
+    Ok(())
+}
+
+/// Files of the tests. Nothing makes the folder of the last one.
+const PAGE: &str = "bracha_tests_page";
+
+const SCRIPT: &str = "bracha_tests_script";
+
+const NOWHERE: &str = "bracha_tests_missing/page";
+
+#[test]
+fn a_page_replaces_what_was_there(rt: HostRuntime) -> Result<(), Fail> {
+    let _ = fs::remove_file(&rt, PAGE);
+    for words in ["a longer text", "short"] {
+        let page = String::from_str(rt.alloc(), words)?;
+        let written = write_page(&rt, Some(PAGE), Some(page), Fault::Trace);
+        assert!(rt; matches!(&written, Ok(())));
+        let bytes = fs::read(&rt, PAGE)?;
+        assert!(rt; bytes.as_slice() == words.as_bytes());
+    }
+    fs::remove_file(&rt, PAGE)?;
+    assert!(rt; write_page(&rt, Some(PAGE), None, Fault::Trace).is_ok());
+    assert!(rt; fs::metadata(&rt, PAGE).is_err(), "a file of no page");
+    Ok(())
+}
+
+#[test]
+fn a_run_of_a_fault_writes_no_file(rt: HostRuntime) -> Result<(), Fail> {
+    let _ = fs::remove_file(&rt, PAGE);
+    fs::write(&rt, SCRIPT, "n 1\nt 0\nquestions 1\nliars\nseed 1\n")?;
+    let trace = simulate_file(&rt, SCRIPT, Some(NOWHERE), Some(PAGE));
+    assert!(rt; matches!(&trace, Err(Fault::Trace)));
+    let chart = simulate_file(&rt, SCRIPT, None, Some(NOWHERE));
+    assert!(rt; matches!(&chart, Err(Fault::Chart)));
+    fs::write(&rt, SCRIPT, "n 1\nt 0\nquestions 1\nliars 0\nseed 1\n")?;
+    let run = simulate_file(&rt, SCRIPT, Some(PAGE), Some(PAGE));
+    assert!(rt; matches!(&run, Err(Fault::Sim(SimFault::BadLiars))));
+    assert!(rt; fs::metadata(&rt, PAGE).is_err(), "a file of a fault");
+    fs::remove_file(&rt, SCRIPT)?;
+    Ok(())
+}
+
+#[test]
 fn faults_print_so(rt: HostRuntime) -> Result<(), Fail> {
     for (fault, want) in [
         (Fault::Size(SizeFault::TooManyLiars), "size TooManyLiars"),

@@ -94,12 +94,16 @@ pub(crate) struct Column {
 }
 
 impl Column {
+    ghost use Rattle.std.specs.Prelude.{ℕ, ◌≡◌, ◌≢◌, ◌↔◌, IsTrue, IfOk, OnOk, Some, slice_get};
+    ghost use Rattle.bracha.specs.Charts.{runs_after, delivered};
+    ghost use Rattle.bracha.specs.Columns.{IsNew, Follows, line_of};
+
     /// A member of a cluster of n before the first event. Its lifeline begins that far down.
-    pub(crate) fn new(alloc: Global, n: u8, is_liar: bool, top: u64) -> Result<Column, AllocError> {
+    pub(crate) fn new(alloc: Global, n: u8, is_liar: bool, top: u64) -> Result<Column, AllocError>
+        ensures { IfOk result (IsNew n is_liar) }
+    {
         let mut places = Vec::new(alloc);
-        for _ in 0..n {
-            places.push(0)?;
-        }
+        places.resize(usize::from(n), 0)?;
         Ok(Column {
             is_liar,
             runs: true,
@@ -110,13 +114,18 @@ impl Column {
     }
 
     /// Which statement of a sender's column is delivered here.
-    pub(crate) fn takes(&self, from: u8, sender: &Column, which: Which) -> Option<Statement> {
+    pub(crate) fn takes(&self, from: u8, sender: &Column, which: Which) -> Option<Statement>
+        ensures { (place : ℕ) → slice_get self.now.places.items from ≡ Some place →
+            result ≡ delivered sender.now.said.items place which }
+    {
         let place = *self.places.get(usize::from(from))?;
         delivered(&sender.said, place, which)
     }
 
     /// How its lifeline looks.
-    pub(crate) fn line(&self) -> Line {
+    pub(crate) fn line(&self) -> Line
+        ensures { result ≡ line_of self.now.is_liar self.now.runs }
+    {
         match (self.is_liar, self.runs) {
             (true, _) => Line::Lies,
             (false, true) => Line::Runs,
@@ -125,17 +134,23 @@ impl Column {
     }
 
     /// How far down its lifeline is drawn.
-    pub(crate) fn drawn(&self) -> u64 {
+    pub(crate) fn drawn(&self) -> u64
+        ensures { result ≡ self.now.drawn }
+    {
         self.drawn
     }
 
     /// Whether another piece of its lifeline begins with the event.
-    pub(crate) fn turns(&self, event: &Event, mark: Mark) -> bool {
+    pub(crate) fn turns(&self, event: &Event, mark: Mark) -> bool
+        ensures { IsTrue result ↔ (runs_after event.now mark self.now.runs ≢ self.now.runs) }
+    {
         runs_after(event, mark, self.runs) != self.runs
     }
 
     /// Its lifeline is drawn that far down.
-    pub(crate) fn draw_to(&mut self, y: u64) {
+    pub(crate) fn draw_to(&mut self, y: u64)
+        ensures { self.new ≡ record self.old { drawn = y } }
+    {
         self.drawn = y;
     }
 
@@ -145,7 +160,9 @@ impl Column {
         event: &Event,
         mark: Mark,
         saved: &[Record],
-    ) -> Result<(), AllocError> {
+    ) -> Result<(), AllocError>
+        ensures { OnOk result (Follows event.now mark saved.now self.old self.new) }
+    {
         move_links(event, mark, &mut self.places);
         self.runs = runs_after(event, mark, self.runs);
         add_statements(&mut self.said, saved)

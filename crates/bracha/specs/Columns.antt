@@ -1,0 +1,29 @@
+-- What the chart knows of a member.
+use Rattle.std.specs.Prelude.{ℕ, ◌≡◌, ◌++◌, Bool, true, false, List, [], replicate}
+use Rattle.terms.specs.declared.Record.{Record}
+use Rattle.sim.specs.declared.events.Event.{Event}
+use Rattle.sim.specs.declared.events.Mark.{Mark}
+use Rattle.bracha.specs.declared.chart.column.Column.{Column}
+use Rattle.bracha.specs.declared.chart.drawing.Line.{Line}
+use Rattle.bracha.specs.declared.chart.drawing.Line.TheVariants.{Runs, Down, Lies}
+use Rattle.bracha.specs.Charts.{runs_after, statements_of, AreMoved}
+
+-- how the lifeline of a liar, or else of a member that runs or doesn't, looks
+abbrev pub line_of : Bool → Bool → Line
+line_of true runs = Lies
+line_of false true = Runs
+line_of false false = Down
+
+-- a member of a cluster of n before the first event
+pub record IsNew (n : ℕ) (liar : Bool) (column : Column) : Type 0 where
+  pub side : column.is_liar ≡ liar
+  pub up : column.runs ≡ true
+  pub silent : column.said.items ≡ []
+  pub at_start : column.places.items ≡ replicate n 0
+
+-- the event's member, before and after it
+pub record Follows (event : Event) (mark : Mark) (saved : List Record) (old new : Column) : Type 0 where
+  pub side : new.is_liar ≡ old.is_liar
+  pub runs : new.runs ≡ runs_after event mark old.runs
+  pub said : new.said.items ≡ old.said.items ++ statements_of saved
+  pub places : AreMoved event mark old.places.items new.places.items
