@@ -1,9 +1,10 @@
 -- What the chart of a run makes of its events.
-use Rattle.std.specs.Prelude.{ℕ, ◌+◌, ◌^◌, ◌≡◌, ◌<◌, ◌==◌, nat_le, Bool, true, false, if◌then◌else◌, Option, List, [], ◌∷◌, ◌++◌, codes, length, take, slice_get, slice_index}
+use Rattle.std.specs.Prelude.{ℕ, ◌+◌, ◌^◌, ◌≡◌, ◌<◌, ◌==◌, nat_le, Bool, true, false, if◌then◌else◌, Option, Some, None, List, [], ◌∷◌, ◌++◌, codes, length, take, slice_get, slice_index}
 use Rattle.hex.specs.Hex.{encode_lower}
 use Rattle.terms.specs.declared.Record.{Record}
 use Rattle.terms.specs.declared.Record.TheVariants.{Said, Decided}
 use Rattle.terms.specs.declared.Statement.{Statement}
+use Rattle.bracha.specs.Dumps.{statement_text}
 use Rattle.sim.specs.declared.events.Event.{Event}
 use Rattle.sim.specs.declared.events.Event.TheVariants.{Propose, Deliver, LieBytes, Fuse, Crash, Restart, Reset}
 use Rattle.sim.specs.declared.events.Which.{Which}
@@ -58,6 +59,11 @@ statements_of (Decided question round bit ∷ records) = statements_of records
 abbrev pub delivered : List Statement → ℕ → Which → Option Statement
 delivered said place Next = slice_get said place
 delivered said place (At number) = slice_get said number
+
+-- the words of a statement, if there is one
+abbrev pub text_if : Option Statement → List ℕ
+text_if (Some s) = statement_text s
+text_if None = []
 
 -- bytes in hexadecimal digits, of which 24 are shown at most
 abbrev pub bytes_label : List ℕ → List ℕ

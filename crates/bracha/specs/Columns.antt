@@ -1,12 +1,12 @@
 -- What the chart knows of a member.
-use Rattle.std.specs.Prelude.{ℕ, ◌≡◌, ◌++◌, Bool, true, false, List, [], replicate}
+use Rattle.std.specs.Prelude.{ℕ, ◌≡◌, ◌++◌, Bool, true, false, Some, List, [], replicate, slice_get}
 use Rattle.terms.specs.declared.Record.{Record}
 use Rattle.sim.specs.declared.events.Event.{Event}
 use Rattle.sim.specs.declared.events.Mark.{Mark}
 use Rattle.bracha.specs.declared.chart.column.Column.{Column}
 use Rattle.bracha.specs.declared.chart.drawing.Line.{Line}
 use Rattle.bracha.specs.declared.chart.drawing.Line.TheVariants.{Runs, Down, Lies}
-use Rattle.bracha.specs.Charts.{runs_after, statements_of, AreMoved}
+use Rattle.bracha.specs.Charts.{member_of, runs_after, statements_of, AreMoved}
 
 -- how the lifeline of a liar, or else of a member that runs or doesn't, looks
 abbrev pub line_of : Bool → Bool → Line
@@ -27,3 +27,9 @@ pub record Follows (event : Event) (mark : Mark) (saved : List Record) (old new 
   pub runs : new.runs ≡ runs_after event mark old.runs
   pub said : new.said.items ≡ old.said.items ++ statements_of saved
   pub places : AreMoved event mark old.places.items new.places.items
+
+-- all members, before and after an event: its own follows it, and the others stay as they are
+abbrev pub FollowAll : Event → Mark → List Record → List Column → List Column → Type 0
+FollowAll event mark saved old new = (k : ℕ) (before after : Column)
+    → slice_get old k ≡ Some before → slice_get new k ≡ Some after
+    → (k ≡ member_of event → Follows event mark saved before after) × ((k ≡ member_of event → ⊥) → after ≡ before)

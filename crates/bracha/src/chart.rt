@@ -1,6 +1,6 @@
 //! What `simulate --chart` draws: the events of a run as a sequence chart in SVG.
 
-ghost use Rattle.std.specs.Prelude.{◌≡◌, ◌+◌, ◌*◌, ◌≤◌, IfOk, string_bytes};
+ghost use Rattle.std.specs.Prelude.{◌≡◌, ◌+◌, ◌*◌, ◌≤◌, IfOk, OnOk, string_bytes};
 ghost use Rattle.script.specs.declared.TheConstants.{MOST_EVENTS};
 ghost use Rattle.bracha.specs.Charts.{bytes_label, IsSvg};
 
@@ -112,6 +112,24 @@ fn decided_text(alloc: Global, questions: u16, saved: &[Record]) -> Result<Strin
     Ok(text)
 }
 
+/// Draws the lifeline of the event's member down to it, where it looks different from there on.
+fn draw_piece(
+    lifelines: &mut Drawing,
+    column: &mut Column,
+    event: &Event,
+    mark: Mark,
+    y: u64,
+) -> Result<(), AllocError>
+    ensures { OnOk result (column.new ≡ record column.old { drawn = column.new.drawn }) }
+{
+    if column.turns(event, mark) {
+        let x = x_of(member_of(event));
+        lifelines.lifeline(column.line(), x, column.drawn(), y)?;
+        column.draw_to(y);
+    }
+    Ok(())
+}
+
 /// The run, as far as it is drawn.
 #[derive(Drop)]
 struct Scene {
@@ -124,6 +142,11 @@ struct Scene {
 }
 
 impl Scene {
+    ghost use Rattle.std.specs.Prelude.{ℕ, ◌≡◌, IfOk, OnOk, Some, slice_get, string_bytes};
+    ghost use Rattle.bracha.specs.Charts.{delivered, text_if, IsSvg};
+    ghost use Rattle.bracha.specs.Columns.{FollowAll};
+    ghost use Rattle.bracha.specs.declared.chart.column.Column.{Column};
+
     /// The heads of the columns.
     fn new(alloc: Global, size: Size, liars: &[u8]) -> Result<Scene, AllocError> {
         let mut events = Drawing::new(alloc);
@@ -211,7 +234,11 @@ impl Scene {
     }
 
     /// What a delivery carries.
-    fn carried(&self, from: u8, to: u8, which: Which) -> Result<String, AllocError> {
+    fn carried(&self, from: u8, to: u8, which: Which) -> Result<String, AllocError>
+        ensures { (sender receiver : Column) (place : ℕ) → slice_get self.now.columns.items from ≡ Some sender →
+            slice_get self.now.columns.items to ≡ Some receiver → slice_get receiver.places.items from ≡ Some place →
+            IfOk result (λ text. string_bytes text ≡ text_if (delivered sender.said.items place which)) }
+    {
         let (Some(sender), Some(receiver)) = (
             self.columns.get(usize::from(from)),
             self.columns.get(usize::from(to)),
@@ -316,17 +343,17 @@ impl Scene {
         mark: Mark,
         saved: &[Record],
         y: u64,
-    ) -> Result<(), AllocError> {
+    ) -> Result<(), AllocError>
+        ensures { OnOk result (FollowAll event.now mark saved.now self.old.columns.items self.new.columns.items) }
+    {
         let member = member_of(event);
-        let Some(column) = self.columns.get_mut(usize::from(member)) else {
-            return Ok(());
-        };
-        if column.turns(event, mark) {
-            self.lifelines
-                .lifeline(column.line(), x_of(member), column.drawn(), y)?;
-            column.draw_to(y);
+        match self.columns.get_mut(usize::from(member)) {
+            None => Ok(()),
+            Some(column) => {
+                draw_piece(&mut self.lifelines, column, event, mark, y)?;
+                column.follow(event, mark, saved)
+            }
         }
-        column.follow(event, mark, saved)
     }
 
     /// The picture, with the lifelines drawn to its end.
