@@ -1,3 +1,4 @@
+use Rattle.std.proofs.Common.{rules}
 use Rattle.bracha.proofs.simulate.simulate_pages.Goals as goal
 
 pub returns-clause-all : goal.returns-clause-all
@@ -6,8 +7,8 @@ returns-clause-all c = (
   c.in_ok-script.outcome,
   c.in_ok-script.ensures.run,
   record {
-    verdicts_are = c.in_ok-simulation_text.ensures;
-    trace_is = c.in_ok-trace_page.ensures;
-    chart_is = c.in_ok-chart_page.ensures;
+    verdicts_are = search (rules, c.in_ok-simulation_text.ensures);
+    trace_is = search (rules, c.in_ok-trace_page.ensures);
+    chart_is = search (rules, c.in_ok-chart_page.ensures);
   },
 )
