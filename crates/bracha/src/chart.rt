@@ -38,7 +38,7 @@ path{fill:none;stroke:#111;stroke-width:1.5}\
 .arrow,.dot{fill:#111}.liar{fill:#c81e1e;stroke:#c81e1e}\
 .cross{stroke:#c81e1e;stroke-width:2.5}.ring{stroke:#c81e1e;stroke-width:2;fill:#fff}.triangle{fill:#15803d;stroke:#15803d}\
 .runs{stroke:#444}.down{stroke:#aaa;stroke-dasharray:5 4}.lies{stroke:#e79a9a}\
-.badge rect{fill:#15803d}.badge text{fill:#fff;stroke:none;font-weight:bold;text-anchor:middle}</style>";
+.badge{fill:#15803d}.verdict{fill:#fff;stroke:none;font-weight:bold;text-anchor:middle}</style>";
 
 /// Where the lifeline of that member stands.
 fn x_of(member: u8) -> u64
@@ -331,9 +331,7 @@ impl Scene {
         if decided.is_empty() {
             return self.events.words(Words::Said, x, y, said.as_str());
         }
-        self.events.badge(x, y, decided.as_str())?;
-        self.events
-            .words(Words::SaidBesideBadge, x, y, said.as_str())
+        self.events.badge(x, y, decided.as_str(), said.as_str())
     }
 
     /// Follows the event, and draws the lifeline of its member down to it where it then looks different.

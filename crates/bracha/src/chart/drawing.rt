@@ -29,8 +29,6 @@ pub(crate) enum Words {
     Note,
     /// What a member said, or its disk has kept.
     Said,
-    /// The same, beside a badge.
-    SaidBesideBadge,
     /// A disk that failed.
     Failure,
 }
@@ -51,7 +49,6 @@ impl Words {
             Words::Restart => "class=\"opened\" dx=\"12\" dy=\"2\"",
             Words::Note => "class=\"note\" dx=\"12\" dy=\"4\"",
             Words::Said => "class=\"said\" dx=\"10\" dy=\"15\"",
-            Words::SaidBesideBadge => "class=\"said\" dx=\"56\" dy=\"17\"",
             Words::Failure => "class=\"failure\" dx=\"-12\" dy=\"15\"",
         }
     }
@@ -156,12 +153,19 @@ impl Drawing {
         self.text.push_str(element.as_str())
     }
 
-    /// Adds a badge with words on a lifeline, below the point.
-    pub(crate) fn badge(&mut self, x: u64, y: u64, words: &str) -> Result<(), AllocError> {
-        let half = 4 * words.len().min(1000) + 8;
+    /// Adds a badge on a lifeline, below the point, and words beside it.
+    pub(crate) fn badge(
+        &mut self,
+        x: u64,
+        y: u64,
+        badge: &str,
+        words: &str,
+    ) -> Result<(), AllocError> {
+        let half = 4 * badge.len().min(1000) + 8;
         let width = 2 * half;
+        let beside = half + 10;
         let element = format!(in self.alloc;
-            "<g class=\"badge\" transform=\"translate({x},{y})\"><rect x=\"-{half}\" y=\"5\" width=\"{width}\" height=\"17\" rx=\"8\"/><text y=\"17\">{words}</text></g>\n"
+            "<g transform=\"translate({x},{y})\"><rect class=\"badge\" x=\"-{half}\" y=\"5\" width=\"{width}\" height=\"17\" rx=\"8\"/><text class=\"verdict\" y=\"17\">{badge}</text><text class=\"said\" x=\"{beside}\" y=\"17\">{words}</text></g>\n"
         )?;
         self.text.push_str(element.as_str())
     }

@@ -1,6 +1,7 @@
-//! Traces of worked scripts, whose marks and saved records are written by hand.
+//! Traces of worked scripts: of a run, and of marks and saved records that are written by hand.
 
 use super::*;
+use crate::simulate::simulate_pages;
 use std::test::Fail;
 use terms::{Kind, Place, Statement, Value};
 
@@ -21,19 +22,15 @@ fn events_of(alloc: Global, lines: &str) -> Result<Vec<Event>, Fail> {
     Ok(script.events)
 }
 
-/// Lists of records, one for each of the numbers, each with so many of the records in turn.
-fn saved_of(alloc: Global, counts: &[usize], records: &[Record]) -> Result<Vec<Vec<Record>>, Fail> {
-    let mut all = Vec::new(alloc);
-    let mut taken = 0;
-    for count in counts {
-        let mut some = Vec::new(alloc);
-        for record in records.iter().skip(taken).take(*count) {
-            some.push(*record)?;
-        }
-        taken += some.len();
-        all.push(some)?;
+/// What was saved, event by event.
+fn saved_of(alloc: Global, lists: &[&[Record]]) -> Result<Vec<Vec<Record>>, Fail> {
+    let mut saved = Vec::new(alloc);
+    for records in lists {
+        let mut list = Vec::new(alloc);
+        list.extend_from_slice(records)?;
+        saved.push(list)?;
     }
-    Ok(all)
+    Ok(saved)
 }
 
 /// The events of a crash and a restart.
@@ -55,28 +52,12 @@ fuse 4 off
 
 #[test]
 fn writes_a_line_for_each_event(rt: HostRuntime) -> Result<(), Fail> {
-    let alloc = rt.alloc();
-    let events = events_of(alloc, CRASH)?;
-    let marks = [
-        Mark::Done,
-        Mark::Done,
-        Mark::Skipped(Reason::Nothing),
-        Mark::Done,
-        Mark::Skipped(Reason::NotUp),
-        Mark::Done,
-        Mark::Skipped(Reason::Running),
-        Mark::Done,
-        Mark::Skipped(Reason::WrongSide),
-        Mark::Done,
-        Mark::Skipped(Reason::Nothing),
-        Mark::Done,
-        Mark::Done,
-        Mark::Skipped(Reason::NoSuch),
-    ];
-    let records = [one(Kind::Initial)?, one(Kind::Echo)?];
-    let counts = [1, 1, 0, 0, 0, 0, 0, 0, 0, 0, 0, 0, 0, 0];
-    let saved = saved_of(alloc, &counts, &records)?;
-    let text = trace_text(alloc, &events, &marks, &saved)?;
+    let script = format!(in rt.alloc(); "{HEAD}{CRASH}")?;
+    let pages = simulate_pages(rt.alloc(), script.as_bytes(), true, false)
+        .ok()
+        .ok_or("pages")?;
+    assert!(rt; pages.chart.is_none());
+    let text = pages.trace.ok_or("a trace")?;
     assert_eq!(rt;
         text.as_str(),
         "1 propose 1 0 1: done: initial 0 1 1 1 one
@@ -118,7 +99,8 @@ fn writes_the_other_words(rt: HostRuntime) -> Result<(), Fail> {
         bit: true,
     };
     let records = [one(Kind::Echo)?, one(Kind::Ready)?, decided];
-    let saved = saved_of(alloc, &[0, 0, 0, 0, 3, 0], &records)?;
+    let none: &[Record] = &[];
+    let saved = saved_of(alloc, &[none, none, none, none, &records, none])?;
     let text = trace_text(alloc, &events, &marks, &saved)?;
     assert_eq!(rt;
         text.as_str(),
@@ -138,7 +120,8 @@ fn goes_as_far_as_the_shortest(rt: HostRuntime) -> Result<(), Fail> {
     let alloc = rt.alloc();
     let events = events_of(alloc, "restart 0\nrestart 1\nrestart 2\n")?;
     let marks = [Mark::Done, Mark::Done, Mark::Done, Mark::Done];
-    let saved = saved_of(alloc, &[0, 0], &[])?;
+    let none: &[Record] = &[];
+    let saved = saved_of(alloc, &[none, none])?;
     for (marks, saved, want) in [
         (
             marks.as_slice(),
