@@ -99,6 +99,15 @@ fn draws_disks_that_fail_and_decisions(rt: HostRuntime) -> Result<(), Fail> {
         ("fuse 0 off\n", ">fuse off<"),
         ("fuse 0 0\npropose 0 1 0\n", ">disk fails<"),
         ("crash 0 fill 0F\n", ">crash fill 0f<"),
+        // The batch that failed is on the disk, and was said for good.
+        (
+            "fuse 0 3\npropose 0 1 0\ncrash 0 kept\nrestart 0\n",
+            ">keeps initial<",
+        ),
+        (
+            "fuse 0 3\npropose 0 1 0\ncrash 0 kept\nrestart 0\ndeliver 0 0 next\n",
+            ">initial 1 0 1 1 zero<",
+        ),
     ] {
         let script = format!(in rt.alloc(); "{head}{events}")?;
         let chart = drawn(rt.alloc(), script.as_str())?;
