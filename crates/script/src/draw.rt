@@ -1,13 +1,22 @@
 //! Words of ChaCha20, and the events that are drawn from them.
 
-ghost use Rattle.std.specs.Prelude.{◌<◌};
+ghost use Rattle.std.specs.Prelude.{◌≡◌, ◌<◌, ◌≤◌, ℕ, IfOk};
+ghost use Rattle.rand_chacha.specs.ChaCha.{ChaCha};
+ghost use Rattle.terms.specs.Bounds.{FitsStep, IsPlain, IsOfThird};
+ghost use Rattle.wire.specs.declared.message.Message.TheVariants as message;
+ghost use Rattle.wire.specs.Texts.{text};
+ghost use Rattle.script.specs.Acts.{told};
+ghost use Rattle.script.specs.Untossed.{act_of};
+ghost use Rattle.script.specs.Drawing as drawing;
 
 use disk::Pick;
 use rand_chacha::ChaCha20Rng;
-use rand_core::{Rng, SeedableRng, utils};
+use rand_core::SeedableRng;
+use rand_core::utils::{self, NextWord};
 use rounds::Toss;
 use sim::{Event, Which};
 use std::alloc::Global;
+use std::marker::Model;
 use terms::{Kind, Memory, Place, Size, Statement, Value};
 use wire::{Message, encode};
 
@@ -17,6 +26,48 @@ const PLACES: u32 = 64;
 /// What a drawn crash may do: fill with one of 256 bytes, keep all, or lose all.
 const PICKS: u32 = 258;
 
+/// An event whose toss isn't drawn yet. Members and questions are any numbers: they may name none.
+#[derive(Debug, PartialEq, Eq, Drop)]
+pub enum Untossed {
+    /// A bit is proposed to a member.
+    Propose {
+        member: u8,
+        question: u16,
+        bit: bool,
+    },
+    /// A statement is delivered.
+    Deliver {
+        from: u8,
+        to: u8,
+        which: Which,
+    },
+    /// A liar's bytes come.
+    Lie {
+        liar: u8,
+        to: u8,
+        bytes: Vec<u8>,
+    },
+    /// A fuse is set, or taken out.
+    Fuse {
+        member: u8,
+        calls: Option<u64>,
+    },
+    /// A member goes down, and its disk crashes.
+    Crash {
+        member: u8,
+        pick: Pick,
+    },
+    /// A member is opened again.
+    Restart {
+        member: u8,
+    },
+    /// A link starts anew.
+    Reset {
+        from: u8,
+        to: u8,
+    },
+}
+
 /// What is drawn from a seed: stream 0 of ChaCha20, whose key is the seed in eight bytes, the greatest first, and 24
 /// zeros.
 #[derive(Drop)]
@@ -24,41 +75,64 @@ pub struct Draw {
     rng: ChaCha20Rng,
 }
 
+impl Model for Draw {
+    ghost Value = { ChaCha };
+
+    ghost view = { λ d. d.rng };
+}
+
 impl Draw {
     /// From the first word on.
-    pub fn from_seed(seed: u64) -> Draw {
-        let mut key = [0; 32];
-        key[..8].copy_from_slice(&seed.to_be_bytes());
+    #[tactic(auto, unfolding(crate::specs::Drawing::stream_of_seed))]
+    pub fn from_seed(seed: u64) -> Draw
+        ensures { result ≡ drawing.stream_of_seed seed }
+    {
+        let s = seed.to_be_bytes();
+        let key = [
+            s[0], s[1], s[2], s[3], s[4], s[5], s[6], s[7], 0, 0, 0, 0, 0, 0, 0, 0, 0, 0, 0, 0, 0, 0, 0, 0,
+            0, 0, 0, 0, 0, 0, 0, 0,
+        ];
         Draw {
             rng: ChaCha20Rng::from_seed(key),
         }
     }
 
     /// The toss of two words, the first the low half.
-    pub fn toss(&mut self) -> Toss {
+    #[tactic(auto, unfolding(crate::specs::Drawing::toss))]
+    fn toss(&mut self) -> Toss
+        ensures { (result.0, self.new) ≡ drawing.toss self.old }
+    {
         Toss(utils::next_u64_via_u32(&mut self.rng))
     }
 
     /// A word modulo this number.
+    #[tactic(auto, unfolding(crate::specs::Drawing::below))]
     fn below(&mut self, bound: u32) -> u32
         requires { 0 < bound }
-        ensures { result < bound }
+        ensures value { (result, self.new) ≡ drawing.below bound self.old }
+        ensures within { result < bound }
     {
-        self.rng.next_u32() % bound
+        self.rng.next_word() % bound
     }
 
     /// A member, or an origin.
-    fn member(&mut self, size: Size) -> u8 {
+    fn member(&mut self, size: Size) -> u8
+        ensures { (result, self.new) ≡ drawing.member size self.old }
+    {
         self.below(u32::from(size.n())) as u8
     }
 
     /// A question.
-    fn question(&mut self, size: Size) -> u16 {
+    fn question(&mut self, size: Size) -> u16
+        ensures { (result, self.new) ≡ drawing.question size self.old }
+    {
         self.below(u32::from(size.questions())) as u16
     }
 
     /// A kind of statement.
-    fn kind(&mut self) -> Kind {
+    fn kind(&mut self) -> Kind
+        ensures { (result, self.new) ≡ drawing.kind self.old }
+    {
         match self.below(3) {
             0 => Kind::Initial,
             1 => Kind::Echo,
@@ -66,41 +140,60 @@ impl Draw {
         }
     }
 
-    /// A value of the step.
-    fn value(&mut self, step: u8) -> Value {
-        if step == 3 {
-            match self.below(3) {
-                0 => Value::SureZero,
-                1 => Value::SureOne,
-                _ => Value::Unsure,
-            }
-        } else {
-            match self.below(2) {
-                0 => Value::Zero,
-                _ => Value::One,
-            }
+    /// A value of the first two steps.
+    fn plain_value(&mut self) -> Value
+        ensures value { (result, self.new) ≡ drawing.plain_value self.old }
+        ensures fits { IsPlain result }
+    {
+        match self.below(2) {
+            0 => Value::Zero,
+            _ => Value::One,
         }
     }
 
-    /// The frame of a statement of the first three rounds.
-    fn frame(&mut self, alloc: Global, size: Size) -> Result<Vec<u8>, Memory> {
+    /// A value of the third step.
+    fn sure_value(&mut self) -> Value
+        ensures value { (result, self.new) ≡ drawing.sure_value self.old }
+        ensures fits { IsOfThird result }
+    {
+        match self.below(3) {
+            0 => Value::SureZero,
+            1 => Value::SureOne,
+            _ => Value::Unsure,
+        }
+    }
+
+    /// A value of the step, which fits it.
+    fn value(&mut self, step: u8) -> Value
+        requires { (1 ≤ step) × (step ≤ 3) }
+        ensures value { (result, self.new) ≡ drawing.value step self.old }
+        ensures fits { FitsStep step result }
+    {
+        if step == 3 {
+            self.sure_value()
+        } else {
+            self.plain_value()
+        }
+    }
+
+    /// A statement of the first three rounds.
+    fn statement(&mut self, size: Size) -> Statement
+        ensures { (result, self.new) ≡ drawing.statement size self.old }
+    {
         let kind = self.kind();
         let question = self.question(size);
         let origin = self.member(size);
         let round = 1 + self.below(3) as u8;
         let step = 1 + self.below(3) as u8;
         let value = self.value(step);
-        let mut bytes = Vec::new(alloc);
-        if let Some(place) = Place::new(question, origin, round, step) {
-            if let Some(statement) = Statement::new(kind, place, value) {
-                encode(&Message::Statement(statement), &mut bytes)?;
-            }
-        }
-        Ok(bytes)
+        let place = Place::new(question, origin, round, step).unwrap();
+        Statement::new(kind, place, value).unwrap()
     }
 
     /// What a crash leaves.
-    fn pick(&mut self) -> Pick {
+    fn pick(&mut self) -> Pick
+        ensures { (result, self.new) ≡ drawing.pick self.old }
+    {
         match self.below(PICKS) {
             256 => Pick::Kept,
             257 => Pick::Lost,
@@ -109,7 +202,9 @@ impl Draw {
     }
 
     /// A fuse of 0 to 6 calls, or none.
-    fn fuse(&mut self) -> Option<u64> {
+    fn calls(&mut self) -> Option<u64>
+        ensures { (result, self.new) ≡ drawing.calls self.old }
+    {
         match self.below(8) {
             7 => None,
             calls => Some(u64::from(calls)),
@@ -117,85 +212,142 @@ impl Draw {
     }
 
     /// A delivery of the link's next statement.
-    fn deliver_next(&mut self, size: Size) -> Event {
+    fn deliver_next(&mut self, size: Size) -> Untossed
+        ensures { (act_of result, self.new) ≡ drawing.deliver_next size self.old }
+    {
         let from = self.member(size);
         let to = self.member(size);
-        Event::Deliver {
-            from,
-            to,
-            which: Which::Next,
-            toss: self.toss(),
-        }
+        let which = Which::Next;
+        Untossed::Deliver { from, to, which }
     }
 
     /// A delivery of a statement by its number.
-    fn deliver_at(&mut self, size: Size) -> Event {
+    fn deliver_at(&mut self, size: Size) -> Untossed
+        ensures { (act_of result, self.new) ≡ drawing.deliver_at size self.old }
+    {
         let from = self.member(size);
         let to = self.member(size);
         let which = Which::At(u64::from(self.below(PLACES)));
-        Event::Deliver {
-            from,
-            to,
-            which,
-            toss: self.toss(),
-        }
+        Untossed::Deliver { from, to, which }
     }
 
     /// A link that starts anew.
-    fn reset(&mut self, size: Size) -> Event {
+    fn reset(&mut self, size: Size) -> Untossed
+        ensures { (act_of result, self.new) ≡ drawing.reset size self.old }
+    {
         let from = self.member(size);
         let to = self.member(size);
-        Event::Reset { from, to }
+        Untossed::Reset { from, to }
     }
 
-    /// A statement of a liar.
-    fn lie(&mut self, alloc: Global, size: Size) -> Result<Event, Memory> {
-        let liar = self.member(size);
-        let to = self.member(size);
-        let bytes = self.frame(alloc, size)?;
-        Ok(Event::LieBytes {
-            liar,
-            to,
-            bytes,
-            toss: self.toss(),
-        })
+    /// A crash.
+    fn crash(&mut self, size: Size) -> Untossed
+        ensures { (act_of result, self.new) ≡ drawing.crash size self.old }
+    {
+        let member = self.member(size);
+        let pick = self.pick();
+        Untossed::Crash { member, pick }
+    }
+
+    /// A restart.
+    fn restart(&mut self, size: Size) -> Untossed
+        ensures { (act_of result, self.new) ≡ drawing.restart size self.old }
+    {
+        let member = self.member(size);
+        Untossed::Restart { member }
+    }
+
+    /// A fuse.
+    fn fuse(&mut self, size: Size) -> Untossed
+        ensures { (act_of result, self.new) ≡ drawing.fuse size self.old }
+    {
+        let member = self.member(size);
+        let calls = self.calls();
+        Untossed::Fuse { member, calls }
     }
 
     /// A proposal.
-    fn propose(&mut self, size: Size) -> Event {
+    fn propose(&mut self, size: Size) -> Untossed
+        ensures { (act_of result, self.new) ≡ drawing.propose size self.old }
+    {
         let member = self.member(size);
         let question = self.question(size);
         let bit = self.below(2) == 1;
-        Event::Propose {
+        Untossed::Propose {
             member,
             question,
             bit,
-            toss: self.toss(),
         }
     }
 
-    /// An event of a cluster of this size.
-    pub fn event(&mut self, alloc: Global, size: Size) -> Result<Event, Memory> {
-        Ok(match self.below(16) {
+    /// A statement of a liar, as a frame.
+    fn lie(&mut self, alloc: Global, size: Size) -> Result<Untossed, Memory>
+        ensures { IfOk result (λ event. (act_of event, self.new) ≡ drawing.lie size self.old) }
+    {
+        let liar = self.member(size);
+        let to = self.member(size);
+        let statement = self.statement(size);
+        let mut bytes = Vec::new(alloc);
+        encode(&Message::Statement(statement), &mut bytes)?;
+        Ok(Untossed::Lie { liar, to, bytes })
+    }
+
+    /// An event of this kind, 0 to 15, of a cluster of this size.
+    #[tactic(auto, unfolding(crate::specs::Drawing::act_of_kind))]
+    fn of_kind(&mut self, alloc: Global, size: Size, kind: u32) -> Result<Untossed, Memory>
+        ensures { IfOk result (λ event. (act_of event, self.new) ≡ drawing.act_of_kind size kind self.old) }
+    {
+        Ok(match kind {
             9 => self.deliver_at(size),
             10 => self.reset(size),
             11 => self.lie(alloc, size)?,
-            12 => {
-                let member = self.member(size);
-                let pick = self.pick();
-                Event::Crash { member, pick }
-            }
-            13 => {
-                let member = self.member(size);
-                Event::Restart { member }
-            }
-            14 => {
-                let member = self.member(size);
-                let calls = self.fuse();
-                Event::Fuse { member, calls }
-            }
+            12 => self.crash(size),
+            13 => self.restart(size),
+            14 => self.fuse(size),
             15 => self.propose(size),
             _ => self.deliver_next(size),
         })
+    }
+
+    /// An event of a cluster of this size.
+    pub fn event(&mut self, alloc: Global, size: Size) -> Result<Untossed, Memory>
+        ensures { IfOk result (λ event. (act_of event, self.new) ≡ drawing.drawn size self.old) }
+    {
+        let kind = self.below(16);
+        self.of_kind(alloc, size, kind)
+    }
+
+    /// The event with its toss, which is drawn where it takes one.
+    pub fn tossed(&mut self, event: Untossed) -> Event
+        ensures { (told result, self.new) ≡ drawing.tossed (act_of event) self.old }
+    {
+        match event {
+            Untossed::Propose {
+                member,
+                question,
+                bit,
+            } => Event::Propose {
+                member,
+                question,
+                bit,
+                toss: self.toss(),
+            },
+            Untossed::Deliver { from, to, which } => Event::Deliver {
+                from,
+                to,
+                which,
+                toss: self.toss(),
+            },
+            Untossed::Lie { liar, to, bytes } => Event::LieBytes {
+                liar,
+                to,
+                bytes,
+                toss: self.toss(),
+            },
+            Untossed::Fuse { member, calls } => Event::Fuse { member, calls },
+            Untossed::Crash { member, pick } => Event::Crash { member, pick },
+            Untossed::Restart { member } => Event::Restart { member },
+            Untossed::Reset { from, to } => Event::Reset { from, to },
+        }
     }
 }

@@ -1,10 +1,116 @@
 //! The first five lines of a script.
 
+ghost use Rattle.std.specs.Prelude.{ℕ, List, ◌≡◌, ◌⊎◌, ◌<◌, ◌^◌, Some, codes, IfOk, IfErr, IfSome, MatchOption};
+ghost use Rattle.terms.specs.declared.Size.{Size};
+ghost use Rattle.terms.specs.Sizes.{size_fault};
+ghost use Rattle.script.specs.declared.fault.ScriptFault.{ScriptFault};
+ghost use Rattle.script.specs.Words.{AreMembers};
+ghost use Rattle.script.specs.Scripts.{IsNamed, AreLiars, IsSeed, MakeSize, IsHead, IsHeadFault, Lacks, as_byte};
+ghost use Rattle.script.specs.Lines.{HasLine, number_at};
+ghost use Rattle.script.specs.Untossed.{texts};
+
 use crate::fault::ScriptFault;
-use crate::lines::{Line, Lines};
-use crate::words::{member, number, number16};
-use std::alloc::Global;
-use terms::Size;
+use crate::lines::Lines;
+use crate::words::{is, member, number, number16};
+use std::alloc::{AllocError, Global};
+use terms::{Size, SizeFault};
+
+/// The number below 2^16 behind this name.
+fn named(words: &[&[u8]], name: &str) -> Option<u16>
+    ensures some { IfSome result (IsNamed name.now (texts words.now)) }
+    ensures exact { (number : ℕ) → IsNamed name.now (texts words.now) number → result ≡ Some number }
+{
+    match words {
+        [first, word] if is(first, name) => number16(word),
+        _ => None,
+    }
+}
+
+/// The number below 2^16 behind this name on the line of that place.
+fn named_at(alloc: Global, lines: &Lines, place: usize, name: &str) -> Result<u16, ScriptFault>
+    ensures ok { IfOk result (HasLine lines.now place (IsNamed name.now)) }
+    ensures err { IfErr result (λ fault. (fault ≡ ScriptFault.Memory) ⊎ Lacks lines.now place (IsNamed name.now) fault) }
+{
+    let line = lines.at(place)?;
+    let words = line.words(alloc)?;
+    match named(&words, name) {
+        Some(number) => Ok(number),
+        None => Err(line.fault()),
+    }
+}
+
+/// The members that these words list, or none where one of them names none.
+fn members(alloc: Global, words: &[&[u8]]) -> Result<Option<Vec<u8>>, AllocError>
+    ensures some { IfOk result (λ found. IfSome found (λ members. AreMembers (texts words.now) members.items)) }
+    ensures exact { (members : List ℕ) → AreMembers (texts words.now) members → IfOk result (λ found. MatchOption found ⊥ (λ found. found.items ≡ members)) }
+{
+    let mut members = Vec::new(alloc);
+    for word in words {
+        let Some(member) = member(word) else {
+            return Ok(None);
+        };
+        members.push(member)?;
+    }
+    Ok(Some(members))
+}
+
+/// The members that a line of liars lists.
+fn liars(alloc: Global, words: &[&[u8]]) -> Result<Option<Vec<u8>>, AllocError>
+    ensures some { IfOk result (λ found. IfSome found (λ liars. AreLiars (texts words.now) liars.items)) }
+    ensures exact { (liars : List ℕ) → AreLiars (texts words.now) liars → IfOk result (λ found. MatchOption found ⊥ (λ found. found.items ≡ liars)) }
+{
+    match words {
+        [name, listed @ ..] if is(name, "liars") => members(alloc, listed),
+        _ => Ok(None),
+    }
+}
+
+/// The members that the line of that place lists as liars.
+fn liars_at(alloc: Global, lines: &Lines, place: usize) -> Result<Vec<u8>, ScriptFault>
+    ensures ok { IfOk result (λ liars. HasLine lines.now place AreLiars liars.items) }
+    ensures err { IfErr result (λ fault. (fault ≡ ScriptFault.Memory) ⊎ Lacks lines.now place AreLiars fault) }
+{
+    let line = lines.at(place)?;
+    let words = line.words(alloc)?;
+    match liars(alloc, &words)? {
+        Some(liars) => Ok(liars),
+        None => Err(line.fault()),
+    }
+}
+
+/// The seed that a line writes.
+fn seed(words: &[&[u8]]) -> Option<u64>
+    ensures some { IfSome result (IsSeed (texts words.now)) }
+    ensures exact { (seed : ℕ) → IsSeed (texts words.now) seed → result ≡ Some seed }
+{
+    match words {
+        [name, word] if is(name, "seed") => number(word),
+        _ => None,
+    }
+}
+
+/// The seed that the line of that place writes.
+fn seed_at(alloc: Global, lines: &Lines, place: usize) -> Result<u64, ScriptFault>
+    ensures ok { IfOk result (HasLine lines.now place IsSeed) }
+    ensures err { IfErr result (λ fault. (fault ≡ ScriptFault.Memory) ⊎ Lacks lines.now place IsSeed fault) }
+{
+    let line = lines.at(place)?;
+    let words = line.words(alloc)?;
+    match seed(&words) {
+        Some(seed) => Ok(seed),
+        None => Err(line.fault()),
+    }
+}
+
+/// The size that these numbers make. A number that no byte holds is too many, as one just above the limit is.
+fn size(n: u16, t: u16, questions: u16) -> Result<Size, SizeFault>
+    ensures ok { IfOk result (MakeSize n t questions) }
+    ensures err { IfErr result (λ fault. size_fault (as_byte n) (as_byte t) questions ≡ Some fault) }
+{
+    let n = u8::try_from(n).unwrap_or(u8::MAX);
+    let t = u8::try_from(t).unwrap_or(u8::MAX);
+    Size::new(n, t, questions)
+}
 
 /// How many lines a head has.
 pub const HEAD_LINES: usize = 5;
@@ -17,47 +123,18 @@ pub struct Head {
     pub seed: u64,
 }
 
-/// The word behind this name on a line of two words.
-fn named<'a>(alloc: Global, line: Line<'a>, name: &str) -> Result<&'a str, ScriptFault> {
-    match line.words(alloc)?.as_deref() {
-        Some([first, word]) if *first == name => Ok(*word),
-        _ => Err(line.fault()),
-    }
-}
-
-/// The number below 2^16 behind this name.
-fn named_number(alloc: Global, line: Line, name: &str) -> Result<u16, ScriptFault> {
-    number16(named(alloc, line, name)?).ok_or(line.fault())
-}
-
-/// The members that a line of liars lists.
-fn liars(alloc: Global, line: Line) -> Result<Vec<u8>, ScriptFault> {
-    let Some(words) = line.words(alloc)? else {
-        return Err(line.fault());
-    };
-    let ["liars", listed @ ..] = words.as_slice() else {
-        return Err(line.fault());
-    };
-    let mut liars = Vec::new(alloc);
-    for word in listed {
-        liars.push(member(word).ok_or(line.fault())?)?;
-    }
-    Ok(liars)
-}
-
 impl Head {
     /// Reads the first five lines. The size is looked at behind the third.
-    pub fn read(alloc: Global, lines: &Lines) -> Result<Head, ScriptFault> {
-        let n = named_number(alloc, lines.at(0)?, "n")?;
-        let t = named_number(alloc, lines.at(1)?, "t")?;
-        let questions = named_number(alloc, lines.at(2)?, "questions")?;
-        // A number that no byte holds is too many, as one just above the limit is.
-        let n = u8::try_from(n).unwrap_or(u8::MAX);
-        let t = u8::try_from(t).unwrap_or(u8::MAX);
-        let size = Size::new(n, t, questions)?;
-        let liars = liars(alloc, lines.at(3)?)?;
-        let line = lines.at(4)?;
-        let seed = number(named(alloc, line, "seed")?).ok_or(line.fault())?;
+    pub fn read(alloc: Global, lines: &Lines) -> Result<Head, ScriptFault>
+        ensures ok { IfOk result (λ head. IsHead lines.now head.size head.liars.items head.seed) }
+        ensures err { IfErr result (λ fault. (fault ≡ ScriptFault.Memory) ⊎ IsHeadFault lines.now fault) }
+    {
+        let n = named_at(alloc, lines, 0, "n")?;
+        let t = named_at(alloc, lines, 1, "t")?;
+        let questions = named_at(alloc, lines, 2, "questions")?;
+        let size = size(n, t, questions)?;
+        let liars = liars_at(alloc, lines, 3)?;
+        let seed = seed_at(alloc, lines, 4)?;
         Ok(Head { size, liars, seed })
     }
 }

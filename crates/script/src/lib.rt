@@ -6,24 +6,25 @@
 //! are words of ChaCha20 on the seed, so a script says all that happens.
 #![tactic(auto)]
 
-ghost use Rattle.std.specs.Prelude.{◌≤◌, length, IfOk};
+ghost use Rattle.std.specs.Prelude.{◌≡◌, ◌≤◌, ◌⊎◌, length, IfOk, IfErr};
+ghost use Rattle.script.specs.Making.{correct_below};
+ghost use Rattle.script.specs.Scripts.{IsScript, IsFirstFault};
 
 mod draw;
 mod fault;
 mod head;
 mod lines;
+mod making;
 mod step;
-mod unroll;
 mod words;
 
 pub use fault::ScriptFault;
 use head::{HEAD_LINES, Head};
 use lines::Lines;
+use making::Making;
 use sim::Event;
-use std::alloc::Global;
-use step::Step;
+use std::alloc::{AllocError, Global};
 use terms::Size;
-use unroll::Unroll;
 
 /// How many events a script may have.
 pub const MOST_EVENTS: usize = 1_000_000;
@@ -40,6 +41,19 @@ pub struct Script {
     pub events: Vec<Event>,
 }
 
+/// The members below n that don't lie, ascending.
+fn correct_members(alloc: Global, n: u8, liars: &[u8]) -> Result<Vec<u8>, AllocError>
+    ensures { IfOk result (λ correct. correct.items ≡ correct_below n liars.now) }
+{
+    let mut correct = Vec::new(alloc);
+    for member in 0..n {
+        if !liars.contains(&member) {
+            correct.push(member)?;
+        }
+    }
+    Ok(correct)
+}
+
 /// The script that the text says.
 ///
 /// # Errors
@@ -47,21 +61,16 @@ pub struct Script {
 /// The first fault from the top: [`ScriptFault::Line`], [`ScriptFault::Size`] behind the third line of the head,
 /// [`ScriptFault::Events`] before a line's events are made. [`ScriptFault::Memory`] where memory was refused.
 pub fn read(alloc: Global, text: &[u8]) -> Result<Script, ScriptFault>
+    ensures says { IfOk result (IsScript text.now) }
     ensures few { IfOk result (λ script. length script.events.items ≤ MOST_EVENTS) }
+    ensures fault { IfErr result (λ fault. (fault ≡ ScriptFault.Memory) ⊎ IsFirstFault text.now fault) }
 {
     let lines = Lines::of(alloc, text)?;
     let Head { size, liars, seed } = Head::read(alloc, &lines)?;
-    let mut unroll = Unroll::new(alloc, size, &liars, seed)?;
-    for line in lines.said.iter().skip(HEAD_LINES) {
-        let Some(words) = line.words(alloc)? else {
-            return Err(line.fault());
-        };
-        let Some(step) = Step::parse(alloc, &words)? else {
-            return Err(line.fault());
-        };
-        unroll.take(step)?;
-    }
-    let events = unroll.into_events();
+    let correct = correct_members(alloc, size.n(), &liars)?;
+    let mut making = Making::new(alloc, seed);
+    making.take_all(alloc, size, &correct, lines.behind(HEAD_LINES))?;
+    let events = making.into_events();
     Ok(Script {
         size,
         liars,

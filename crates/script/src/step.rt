@@ -1,161 +1,239 @@
 //! What one line of events says.
 
-use crate::words::{member, number, number16};
+ghost use Rattle.std.specs.Prelude.{ℕ, ◌≡◌, ◌∷◌, IfOk, IfSome, MatchOption, Some};
+ghost use Rattle.disk.specs.declared.Pick.{Pick};
+ghost use Rattle.script.specs.Words.{ArePick, IsLong};
+ghost use Rattle.script.specs.Steps.{Step, One, name_of, SaysBehind, Says};
+ghost use Rattle.script.specs.declared.step.Verb.{Verb};
+ghost use Rattle.script.specs.Untossed.{step_of, texts};
+
+use crate::draw::Untossed;
+use crate::words::{bit, byte, bytes, fuse, is, member, number, number16, which};
 use disk::Pick;
-use hex::FromHexError;
-use sim::Which;
 use std::alloc::Global;
 use terms::Memory;
 
+/// The word that a line of events begins with.
+#[derive(Clone, Copy, Debug, PartialEq, Eq)]
+pub enum Verb {
+    /// `propose M Q B`
+    Propose,
+    /// `deliver A B next`, `deliver A B I`
+    Deliver,
+    /// `lie L M HEX`
+    Lie,
+    /// `fuse M K`, `fuse M off`
+    Fuse,
+    /// `crash M kept`, `crash M lost`, `crash M fill HH`
+    Crash,
+    /// `restart M`
+    Restart,
+    /// `reset A B`
+    Reset,
+    /// `rounds K`
+    Rounds,
+    /// `random K`
+    Random,
+}
+
 /// What a line says, before tosses are drawn and lines that stand for many events are unrolled.
 #[derive(Debug, PartialEq, Eq, Drop)]
-pub enum Step {
-    /// `propose M Q B`
-    Propose {
-        member: u8,
-        question: u16,
-        bit: bool,
-    },
-    /// `deliver A B next`, `deliver A B I`
-    Deliver {
-        from: u8,
-        to: u8,
-        which: Which,
-    },
-    /// `lie L M HEX`
-    Lie {
-        liar: u8,
-        to: u8,
-        bytes: Vec<u8>,
-    },
-    /// `fuse M K`, `fuse M off`
-    Fuse {
-        member: u8,
-        calls: Option<u64>,
-    },
-    /// `crash M kept`, `crash M lost`, `crash M fill HH`
-    Crash {
-        member: u8,
-        pick: Pick,
-    },
-    /// `restart M`
-    Restart {
-        member: u8,
-    },
-    /// `reset A B`
-    Reset {
-        from: u8,
-        to: u8,
-    },
-    /// `rounds K`
+pub enum Order {
+    /// One event.
+    Once(Untossed),
+    /// So many times a delivery on each link between correct members.
     Rounds(u64),
-    /// `random K`
+    /// So many drawn events.
     Random(u64),
 }
 
-/// Whether memory was refused.
-fn is_refusal(error: &FromHexError) -> bool {
-    matches!(error, FromHexError::OutOfMemory)
+/// What the words behind `propose` say.
+fn propose(words: &[&[u8]]) -> Option<Order>
+    ensures some { IfSome result (λ order. SaysBehind Verb.Propose (texts words.now) (step_of order)) }
+    ensures exact { (step : Step) → SaysBehind Verb.Propose (texts words.now) step → MatchOption result ⊥ (λ order. step_of order ≡ step) }
+{
+    let [m, q, b] = words else {
+        return None;
+    };
+    Some(Order::Once(Untossed::Propose {
+        member: member(m)?,
+        question: number16(q)?,
+        bit: bit(b)?,
+    }))
 }
 
-/// The bytes that the word writes in hexadecimal digits of either case, at least one.
-fn bytes(alloc: Global, word: &str) -> Result<Option<Vec<u8>>, Memory> {
-    match hex::decode(alloc, word.as_bytes()) {
-        Ok(bytes) if bytes.is_empty() => Ok(None),
-        Ok(bytes) => Ok(Some(bytes)),
-        Err(error) if is_refusal(&error) => Err(Memory),
-        Err(_) => Ok(None),
+/// What the words behind `deliver` say.
+fn deliver(words: &[&[u8]]) -> Option<Order>
+    ensures some { IfSome result (λ order. SaysBehind Verb.Deliver (texts words.now) (step_of order)) }
+    ensures exact { (step : Step) → SaysBehind Verb.Deliver (texts words.now) step → MatchOption result ⊥ (λ order. step_of order ≡ step) }
+{
+    let [a, b, i] = words else {
+        return None;
+    };
+    Some(Order::Once(Untossed::Deliver {
+        from: member(a)?,
+        to: member(b)?,
+        which: which(i)?,
+    }))
+}
+
+/// What the words behind `fuse` say.
+fn fuse_of(words: &[&[u8]]) -> Option<Order>
+    ensures some { IfSome result (λ order. SaysBehind Verb.Fuse (texts words.now) (step_of order)) }
+    ensures exact { (step : Step) → SaysBehind Verb.Fuse (texts words.now) step → MatchOption result ⊥ (λ order. step_of order ≡ step) }
+{
+    let [m, k] = words else {
+        return None;
+    };
+    Some(Order::Once(Untossed::Fuse {
+        member: member(m)?,
+        calls: fuse(k)?,
+    }))
+}
+
+/// What the words behind `restart` say.
+fn restart(words: &[&[u8]]) -> Option<Order>
+    ensures some { IfSome result (λ order. SaysBehind Verb.Restart (texts words.now) (step_of order)) }
+    ensures exact { (step : Step) → SaysBehind Verb.Restart (texts words.now) step → MatchOption result ⊥ (λ order. step_of order ≡ step) }
+{
+    let [m] = words else {
+        return None;
+    };
+    Some(Order::Once(Untossed::Restart { member: member(m)? }))
+}
+
+/// What the words behind `lie` say.
+fn lie(alloc: Global, words: &[&[u8]]) -> Result<Option<Order>, Memory>
+    ensures some { IfOk result (λ found. IfSome found (λ order. SaysBehind Verb.Lie (texts words.now) (step_of order))) }
+    ensures exact { (step : Step) → SaysBehind Verb.Lie (texts words.now) step → IfOk result (λ found. MatchOption found ⊥ (λ order. step_of order ≡ step)) }
+{
+    let [l, m, hex] = words else {
+        return Ok(None);
+    };
+    let (Some(liar), Some(to), Some(bytes)) = (member(l), member(m), bytes(alloc, hex)?) else {
+        return Ok(None);
+    };
+    Ok(Some(Order::Once(Untossed::Lie { liar, to, bytes })))
+}
+
+/// What the words behind the member of a crash say.
+fn pick(alloc: Global, words: &[&[u8]]) -> Result<Option<Pick>, Memory>
+    ensures some { IfOk result (λ found. IfSome found (ArePick (texts words.now))) }
+    ensures exact { (pick : Pick) → ArePick (texts words.now) pick → IfOk result (λ found. MatchOption found ⊥ (λ found. found ≡ pick)) }
+{
+    match words {
+        [word] if is(word, "kept") => Ok(Some(Pick::Kept)),
+        [word] if is(word, "lost") => Ok(Some(Pick::Lost)),
+        [word, digits] if is(word, "fill") => match byte(alloc, digits)? {
+            Some(byte) => Ok(Some(Pick::Fill(byte))),
+            None => Ok(None),
+        },
+        _ => Ok(None),
     }
 }
 
-/// The byte that the word writes in two hexadecimal digits.
-fn byte(alloc: Global, word: &str) -> Result<Option<u8>, Memory> {
-    Ok(match bytes(alloc, word)?.as_deref() {
-        Some([byte]) => Some(*byte),
-        _ => None,
-    })
-}
-
-/// The bit that the word writes, `0` or `1`, leading zeros taken.
-fn bit(word: &str) -> Option<bool> {
-    match number(word)? {
-        0 => Some(false),
-        1 => Some(true),
-        _ => None,
+/// What the words behind `crash` say.
+fn crash(alloc: Global, words: &[&[u8]]) -> Result<Option<Order>, Memory>
+    ensures some { IfOk result (λ found. IfSome found (λ order. SaysBehind Verb.Crash (texts words.now) (step_of order))) }
+    ensures exact { (step : Step) → SaysBehind Verb.Crash (texts words.now) step → IfOk result (λ found. MatchOption found ⊥ (λ order. step_of order ≡ step)) }
+{
+    let [m, behind @ ..] = words else {
+        return Ok(None);
+    };
+    let Some(member) = member(m) else {
+        return Ok(None);
+    };
+    match pick(alloc, behind)? {
+        Some(pick) => Ok(Some(Order::Once(Untossed::Crash { member, pick }))),
+        None => Ok(None),
     }
 }
 
-/// Which statement the word names: `next`, or a number.
-fn which(word: &str) -> Option<Which> {
-    match word {
-        "next" => Some(Which::Next),
-        _ => Some(Which::At(number(word)?)),
+/// What the words behind `reset` say.
+fn reset(words: &[&[u8]]) -> Option<Order>
+    ensures some { IfSome result (λ order. SaysBehind Verb.Reset (texts words.now) (step_of order)) }
+    ensures exact { (step : Step) → SaysBehind Verb.Reset (texts words.now) step → MatchOption result ⊥ (λ order. step_of order ≡ step) }
+{
+    let [a, b] = words else {
+        return None;
+    };
+    Some(Order::Once(Untossed::Reset {
+        from: member(a)?,
+        to: member(b)?,
+    }))
+}
+
+/// The number that stands behind `rounds` or `random`.
+fn count(words: &[&[u8]]) -> Option<u64>
+    ensures some { IfSome result (One IsLong (texts words.now)) }
+    ensures exact { (count : ℕ) → One IsLong (texts words.now) count → result ≡ Some count }
+{
+    let [k] = words else {
+        return None;
+    };
+    number(k)
+}
+
+impl Verb {
+    /// The verb of this name.
+    fn parse(name: &[u8]) -> Option<Verb>
+        ensures some { IfSome result (λ verb. name.now ≡ name_of verb) }
+        ensures exact { (verb : Verb) → name.now ≡ name_of verb → result ≡ Some verb }
+    {
+        let Ok(name) = str::from_utf8(name) else {
+            return None;
+        };
+        match name {
+            "propose" => Some(Verb::Propose),
+            "deliver" => Some(Verb::Deliver),
+            "lie" => Some(Verb::Lie),
+            "fuse" => Some(Verb::Fuse),
+            "crash" => Some(Verb::Crash),
+            "restart" => Some(Verb::Restart),
+            "reset" => Some(Verb::Reset),
+            "rounds" => Some(Verb::Rounds),
+            "random" => Some(Verb::Random),
+            _ => None,
+        }
     }
 }
 
-/// The fuse that the word names: `off`, or a number of calls.
-fn fuse(word: &str) -> Option<Option<u64>> {
-    match word {
-        "off" => Some(None),
-        _ => Some(Some(number(word)?)),
+impl Order {
+    /// What the words behind the verb say.
+    fn behind(alloc: Global, verb: Verb, words: &[&[u8]]) -> Result<Option<Order>, Memory>
+        ensures some { IfOk result (λ found. IfSome found (λ order. SaysBehind verb (texts words.now) (step_of order))) }
+        ensures exact { (step : Step) → SaysBehind verb (texts words.now) step → IfOk result (λ found. MatchOption found ⊥ (λ order. step_of order ≡ step)) }
+    {
+        match verb {
+            Verb::Propose => Ok(propose(words)),
+            Verb::Deliver => Ok(deliver(words)),
+            Verb::Lie => lie(alloc, words),
+            Verb::Fuse => Ok(fuse_of(words)),
+            Verb::Crash => crash(alloc, words),
+            Verb::Restart => Ok(restart(words)),
+            Verb::Reset => Ok(reset(words)),
+            Verb::Rounds => match count(words) {
+                Some(count) => Ok(Some(Order::Rounds(count))),
+                None => Ok(None),
+            },
+            Verb::Random => match count(words) {
+                Some(count) => Ok(Some(Order::Random(count))),
+                None => Ok(None),
+            },
+        }
     }
-}
 
-/// What a line of these words says, if it has no hexadecimal digits.
-fn plain(words: &[&str]) -> Option<Step> {
-    Some(match words {
-        ["propose", m, q, b] => Step::Propose {
-            member: member(m)?,
-            question: number16(q)?,
-            bit: bit(b)?,
-        },
-        ["deliver", a, b, i] => Step::Deliver {
-            from: member(a)?,
-            to: member(b)?,
-            which: which(i)?,
-        },
-        ["fuse", m, k] => Step::Fuse {
-            member: member(m)?,
-            calls: fuse(k)?,
-        },
-        ["crash", m, "kept"] => Step::Crash {
-            member: member(m)?,
-            pick: Pick::Kept,
-        },
-        ["crash", m, "lost"] => Step::Crash {
-            member: member(m)?,
-            pick: Pick::Lost,
-        },
-        ["restart", m] => Step::Restart { member: member(m)? },
-        ["reset", a, b] => Step::Reset {
-            from: member(a)?,
-            to: member(b)?,
-        },
-        ["rounds", k] => Step::Rounds(number(k)?),
-        ["random", k] => Step::Random(number(k)?),
-        _ => return None,
-    })
-}
-
-impl Step {
     /// What the words say, or none where they are no line of events.
-    pub fn parse(alloc: Global, words: &[&str]) -> Result<Option<Step>, Memory> {
-        match words {
-            ["lie", l, m, hex] => {
-                let (Some(liar), Some(to), Some(bytes)) = (member(l), member(m), bytes(alloc, hex)?)
-                else {
-                    return Ok(None);
-                };
-                Ok(Some(Step::Lie { liar, to, bytes }))
-            }
-            ["crash", m, "fill", hex] => {
-                let (Some(member), Some(byte)) = (member(m), byte(alloc, hex)?) else {
-                    return Ok(None);
-                };
-                let pick = Pick::Fill(byte);
-                Ok(Some(Step::Crash { member, pick }))
-            }
-            _ => Ok(plain(words)),
+    pub fn parse(alloc: Global, words: &[&[u8]]) -> Result<Option<Order>, Memory>
+        ensures some { IfOk result (λ found. IfSome found (λ order. Says (texts words.now) (step_of order))) }
+        ensures exact { (step : Step) → Says (texts words.now) step → IfOk result (λ found. MatchOption found ⊥ (λ order. step_of order ≡ step)) }
+    {
+        let [name, behind @ ..] = words else {
+            return Ok(None);
+        };
+        match Verb::parse(name) {
+            Some(verb) => Order::behind(alloc, verb, behind),
+            None => Ok(None),
         }
     }
 }

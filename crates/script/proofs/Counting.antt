@@ -1,0 +1,153 @@
+-- How many events there are, and events in turn.
+use Rattle.std.proofs.Common.{ℕ, zero, suc, ◌≡◌, ◌+◌, ◌*◌, ◌-◌, ◌<◌, ◌≤◌, refl, sym, ap, ◌∙◌, subst, arith, List, [], ◌∷◌, ◌++◌, length, map, drop, length-append, get_or, add-one, ◌^◌, min, mul-le-mul_left, Result, Ok, Err, OnOk, IfErr}
+use Rattle.script.specs.declared.fault.ScriptFault.{ScriptFault}
+use Rattle.script.specs.declared.fault.ScriptFault.TheVariants as faults
+use Rattle.script.specs.declared.TheConstants.{MOST_EVENTS}
+use Rattle.std.proofs.Math.Seq.{drop-cons}
+use Rattle.sim.specs.declared.events.Which.TheVariants.{Next}
+use Rattle.script.specs.Acts.Act.{Deliver}
+use Rattle.std.specs.List.{flat_map}
+use Rattle.std.proofs.lemmas.List.{map-append}
+use Rattle.terms.specs.declared.Size.{Size}
+use Rattle.script.specs.Acts.{Act}
+use Rattle.script.specs.Making.{Made, add, add_drawn, adds, draws, row, round, times, AreFew, IsOver}
+
+pub length-add : (act : Act) (made : Made) → length (add act made).events ≡ length made.events + 1
+unfolding add
+length-add act made = length-append made.events _
+
+pub length-add_drawn : (size : Size) (made : Made) → length (add_drawn size made).events ≡ length made.events + 1
+unfolding add_drawn add
+length-add_drawn size made = length-append made.events _
+
+-- events in turn, in two parts
+pub adds-append : (xs ys : List Act) (made : Made) → adds (xs ++ ys) made ≡ adds ys (adds xs made)
+adds-append [] ys made = refl
+adds-append (x ∷ xs) ys made = adds-append xs ys (add x made)
+
+pub length-adds : (acts : List Act) (made : Made) → length (adds acts made).events ≡ length made.events + length acts
+length-adds [] made = omega arith
+length-adds (act ∷ acts) made =
+    let r = length-adds acts (add act made) in
+    let a = length-add act made in
+    omega arith
+
+pub length-draws : (size : Size) (k : ℕ) (made : Made) → length (draws size k made).events ≡ length made.events + k
+length-draws size zero made = omega arith
+length-draws size (suc k) made =
+    let r = length-draws size k (add_drawn size made) in
+    let a = length-add_drawn size made in
+    omega arith
+
+pub length-row : (from : ℕ) (members : List ℕ) → length (row from members) ≡ length members
+length-row from [] = refl
+length-row from (to ∷ members) = ap suc (length-row from members)
+
+-- the rows of some senders
+pub length-rows : (froms members : List ℕ) → length (flat_map (λ from. row from members) froms) ≡ length froms * length members
+length-rows [] members = omega arith
+length-rows (from ∷ froms) members =
+    let r = length-rows froms members in
+    let l = length-append (row from members) (flat_map (λ from. row from members) froms) in
+    let w = length-row from members in
+    omega arith
+
+pub length-times : (k : ℕ) (acts : List Act) → length (times k acts) ≡ k * length acts
+length-times zero acts = omega arith
+length-times (suc k) acts =
+    let r = length-times k acts in
+    let l = length-append acts (times k acts) in
+    omega arith
+
+-- what is left of a list at an index is the item there, and what is left behind it
+pub next_of : {A : Type 0} (xs : List A) (i : ℕ) (d : A) → i < length xs → drop i xs ≡ get_or xs i d ∷ drop (i + 1) xs
+next_of xs i d h = rw add-one (drop-cons xs i d h)
+
+-- one delivery of a row
+pub row-next : (from : ℕ) (members : List ℕ) (i : ℕ) (made : Made) → i < length members
+    → adds (row from (drop i members)) made ≡ adds (row from (drop (i + 1) members)) (add (Deliver from (get_or members i 0) Next) made)
+row-next from members i made h = ap (λ (ms : List ℕ). adds (row from ms) made) (next_of members i 0 h)
+
+-- one row of a round
+pub round-next : (members : List ℕ) (i : ℕ) (made : Made) → i < length members
+    → adds (flat_map (λ from. row from members) (drop i members)) made
+    ≡ adds (flat_map (λ from. row from members) (drop (i + 1) members)) (adds (row (get_or members i 0) members) made)
+round-next members i made h =
+    ap (λ (froms : List ℕ). adds (flat_map (λ from. row from members) froms) made) (next_of members i 0 h)
+    ∙ adds-append (row (get_or members i 0) members) (flat_map (λ from. row from members) (drop (i + 1) members)) made
+
+-- one time less
+pub less-one : (n i : ℕ) → i < n → n - i ≡ suc (n - (i + 1))
+less-one n i h = omega arith
+
+pub less-one-times : (n i m : ℕ) → i < n → (n - i) * m ≡ m + (n - (i + 1)) * m
+less-one-times n i m h = subst (λ k. k * m ≡ m + (n - (i + 1)) * m) (sym (less-one n i h)) (omega arith)
+
+-- one round of many
+pub times-next : (n i : ℕ) (acts : List Act) (made : Made) → i < n
+    → adds (times (n - i) acts) made ≡ adds (times (n - (i + 1)) acts) (adds acts made)
+times-next n i acts made h =
+    ap (λ k. adds (times k acts) made) (less-one n i h) ∙ adds-append acts (times (n - (i + 1)) acts) made
+
+-- one drawn event of many
+pub draws-next : (size : Size) (n i : ℕ) (made : Made) → i < n
+    → draws size (n - i) made ≡ draws size (n - (i + 1)) (add_drawn size made)
+draws-next size n i made h = ap (λ k. draws size k made) (less-one n i h)
+
+-- rounds of no members
+pub times-none : (k : ℕ) (made : Made) → adds (times k (round [])) made ≡ made
+times-none zero made = refl
+times-none (suc k) made = times-none k made
+
+-- how many events there are behind rounds
+pub length-rounds : (k : ℕ) (members : List ℕ) (made : Made)
+    → length (adds (times k (round members)) made).events ≡ length made.events + k * (length members * length members)
+length-rounds k members made =
+    length-adds (times k (round members)) made
+    ∙ ap (λ x. length made.events + x) (length-times k (round members) ∙ ap (λ x. k * x) (length-rows members members))
+
+pub count_one : (act : Act) (made : Made) → length (add act made).events ≡ length made.events + 1
+count_one act made = length-add act made
+
+pub count_drawn : (size : Size) (k : ℕ) (made : Made) → length (draws size k made).events ≡ length made.events + k
+count_drawn size k made = length-draws size k made
+
+-- a product that is cut at the greatest number is no greater than the product
+pub over_room : (have k l links sat : ℕ) → links ≡ min l (2 ^ 64 - 1) → sat ≡ min (k * links) (2 ^ 64 - 1)
+    → MOST_EVENTS < have + sat → MOST_EVENTS < have + k * l
+over_room have k l links sat e f h =
+    let small : links ≤ l = omega arith in
+    let grows : k * links ≤ k * l = mul-le-mul_left k small in
+    omega arith
+
+-- where it is no more than there may be, it wasn't cut
+pub in_room : (have k l links sat : ℕ) → links ≡ min l (2 ^ 64 - 1) → sat ≡ min (k * links) (2 ^ 64 - 1)
+    → have + sat ≤ MOST_EVENTS → have + k * l ≤ MOST_EVENTS
+in_room have zero l links sat e f h = omega arith
+in_room have (suc k) l links sat e f h =
+    let whole : links ≡ l = omega arith in
+    subst (λ x. have + suc k * x ≤ MOST_EVENTS) whole (omega arith)
+
+-- rounds of members of whom there are none
+pub no_rounds : (k : ℕ) (members : List ℕ) (made : Made) → length members ≡ 0 → adds (times k (round members)) made ≡ made
+no_rounds k [] made h = times-none k made
+no_rounds k (m ∷ members) made h = absurd (omega arith)
+
+-- what the room for rounds says
+pub rounds_fit : (k : ℕ) (members : List ℕ) (made : Made) (links sat : ℕ) (r : Result (Unit {0}) ScriptFault)
+    → links ≡ min (length members * length members) (2 ^ 64 - 1) → sat ≡ min (k * links) (2 ^ 64 - 1)
+    → OnOk r (length made.events + sat ≤ MOST_EVENTS) → OnOk r (AreFew (adds (times k (round members)) made))
+rounds_fit k members made links sat (Ok u) e f h =
+    let l = length-rounds k members made in
+    let g = in_room (length made.events) k (length members * length members) links sat e f h in
+    omega arith
+rounds_fit k members made links sat (Err x) e f h = tt
+
+pub rounds_are_over : (k : ℕ) (members : List ℕ) (made : Made) (links sat : ℕ) (r : Result (Unit {0}) ScriptFault)
+    → links ≡ min (length members * length members) (2 ^ 64 - 1) → sat ≡ min (k * links) (2 ^ 64 - 1)
+    → IfErr r (λ fault. (MOST_EVENTS < length made.events + sat) × (fault ≡ faults.Events)) → IfErr r (IsOver (adds (times k (round members)) made))
+rounds_are_over k members made links sat (Ok u) e f h = tt
+rounds_are_over k members made links sat (Err x) e f h =
+    let l = length-rounds k members made in
+    let g = over_room (length made.events) k (length members * length members) links sat e f h.0 in
+    (omega arith, h.1)

@@ -1,0 +1,5 @@
+pub mod Counting
+pub mod Parts
+pub mod Splits
+pub mod Heads
+pub mod Leading

@@ -1,0 +1,14 @@
+use Rattle.std.proofs.Common.{◌≡◌, sym, ap, subst, ◌∙◌, Bor, List, ℕ, length, arith}
+use Rattle.script.specs.Untossed.{texts, numbered, ends_empty}
+use Rattle.script.specs.Lines.{said_from}
+use Rattle.script.proofs.Splits.{page_is}
+use Rattle.script.proofs.lines.Lines.of.Goals as goal
+
+pub returns : goal.returns
+returns c =
+    page_is c.args.text.now c.in_ok-parts.parts.items (numbered c.in_ok-said.said.items) c.len.result c.from.result c.ends_empty.result
+    c.in_ok-parts.ensures
+    (c.in_ok-said.ensures ∙ ap (λ (ws : List (Bor (List ℕ))). said_from 1 (texts ws)) c.deref.ensures.value)
+    (omega (arith, c.len.ensures, c.in_ok-parts.parts.ok.0))
+    c.from.ensures
+    (c.ends_empty.ensures ∙ ap (λ (ws : List (Bor (List ℕ))). ends_empty (texts ws)) c.deref-2.ensures.value)

@@ -1,0 +1,105 @@
+-- What lines of events stand for.
+use Rattle.std.specs.Prelude.{ℕ, zero, suc, ◌≡◌, ◌<◌, ◌≤◌, ◌⊎◌, if◌then◌else◌, List, [], ◌∷◌, ◌++◌, length, map}
+use Rattle.std.specs.List.{flat_map}
+use Rattle.rand_chacha.specs.ChaCha.{ChaCha}
+use Rattle.terms.specs.declared.Size.{Size}
+use Rattle.sim.specs.declared.events.Which.TheVariants.{Next}
+use Rattle.sim.specs.Outcomes.{among}
+use Rattle.script.specs.declared.fault.ScriptFault.{ScriptFault}
+use Rattle.script.specs.declared.fault.ScriptFault.TheVariants as faults
+use Rattle.script.specs.declared.TheConstants.{MOST_EVENTS}
+use Rattle.script.specs.Words.{words_of}
+use Rattle.script.specs.Acts.{Act, Told}
+use Rattle.script.specs.Acts.Act.{Deliver}
+use Rattle.script.specs.Drawing.{drawn, tossed}
+use Rattle.script.specs.Steps.{Step, Says}
+use Rattle.script.specs.Steps.Step.{Once, Rounds, Random}
+
+-- the members below a number that don't lie, upwards
+abbrev pub correct_below : ℕ → List ℕ → List ℕ
+correct_below zero liars = []
+correct_below (suc member) liars = correct_below member liars ++ (if among liars member then [] else member ∷ [])
+
+-- a delivery of the sender's next statement to each of these, in turn
+abbrev pub row : ℕ → List ℕ → List Act
+row from members = map (λ to. Deliver from to Next) members
+
+-- a delivery of the next statement on each link between these members, by sender and then by receiver
+abbrev pub round : List ℕ → List Act
+round members = flat_map (λ from. row from members) members
+
+-- the list so many times
+abbrev pub times : {A : Type 0} → ℕ → List A → List A
+times zero xs = []
+times (suc k) xs = xs ++ times k xs
+
+-- the events so far, and the stream of words behind those that were drawn
+pub record Made : Type 0 where
+  pub events : List Told
+  pub stream : ChaCha
+
+-- one event more
+unfoldable pub add : Act → Made → Made
+add act made = record { events = made.events ++ (tossed act made.stream).0 ∷ []; stream = (tossed act made.stream).1 }
+
+-- these events more, in turn
+abbrev pub adds : List Act → Made → Made
+adds [] made = made
+adds (act ∷ acts) made = adds acts (add act made)
+
+-- a drawn event more
+unfoldable pub add_drawn : Size → Made → Made
+add_drawn size made =
+    add (drawn size made.stream).0 (record { events = made.events; stream = (drawn size made.stream).1 })
+
+-- so many drawn events more
+abbrev pub draws : Size → ℕ → Made → Made
+draws size zero made = made
+draws size (suc k) made = draws size k (add_drawn size made)
+
+-- what there is behind a step, in a cluster of that size in which these members don't lie
+abbrev pub after_step : Size → List ℕ → Step → Made → Made
+after_step size correct (Once act) made = add act made
+after_step size correct (Rounds k) made = adds (times k (round correct)) made
+after_step size correct (Random k) made = draws size k made
+
+-- there are no more events than may be
+abbrev pub AreFew : Made → Type 0
+AreFew made = length made.events ≤ MOST_EVENTS
+
+-- what there is now is what was to come, and there are no more events than may be
+pub record Goes (to now : Made) : Type 0 where
+  pub there : now ≡ to
+  pub few : AreFew to
+
+-- what was to come has too many events
+abbrev pub IsOver : Made → ScriptFault → Type 0
+IsOver to fault = (MOST_EVENTS < length to.events) × (fault ≡ faults.Events)
+
+-- the same, or memory was refused
+abbrev pub Fails : Made → ScriptFault → Type 0
+Fails to fault = (fault ≡ faults.Memory) ⊎ IsOver to fault
+
+-- the line says a step, and that leads from what there was to what there is
+abbrev pub LeadsBy : Size → List ℕ → Made → ℕ × List ℕ → Made → Type 0
+LeadsBy size correct before line after =
+    (step : Step) × Says (words_of line.1) step × Goes (after_step size correct step before) after
+
+-- each of the lines does, in turn
+abbrev pub LeadTo : Size → List ℕ → Made → List (ℕ × List ℕ) → Made → Type 0
+LeadTo size correct before [] after = before ≡ after
+LeadTo size correct before (line ∷ lines) after =
+    (next : Made) × LeadsBy size correct before line next × LeadTo size correct next lines after
+
+-- the line says no step, or one with which there are too many events
+abbrev pub BreaksAt : Size → List ℕ → Made → ℕ × List ℕ → ScriptFault → Type 0
+BreaksAt size correct before line fault =
+    (((step : Step) → Says (words_of line.1) step → ⊥) × (fault ≡ faults.Line line.0))
+    ⊎ ((step : Step) × Says (words_of line.1) step × IsOver (after_step size correct step before) fault)
+
+-- one of the lines does, and those before it lead there
+abbrev pub BreakBy : Size → List ℕ → Made → List (ℕ × List ℕ) → ScriptFault → Type 0
+BreakBy size correct before [] fault = ⊥
+BreakBy size correct before (line ∷ lines) fault =
+    BreaksAt size correct before line fault
+    ⊎ ((next : Made) × LeadsBy size correct before line next × BreakBy size correct next lines fault)

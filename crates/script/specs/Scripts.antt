@@ -1,0 +1,94 @@
+-- Which script a text says, or which fault is its first.
+use Rattle.std.specs.Prelude.{ℕ, ◌≡◌, ◌⊎◌, nat_lt, if◌then◌else◌, Some, None, List, [], ◌∷◌, codes, drop, map}
+use Rattle.terms.specs.declared.Size.{Size}
+use Rattle.terms.specs.Sizes.{size_of, size_fault}
+use Rattle.terms.specs.declared.SizeFault.{SizeFault}
+use Rattle.script.specs.declared.fault.ScriptFault.{ScriptFault}
+use Rattle.script.specs.declared.fault.ScriptFault.TheVariants as faults
+use Rattle.script.specs.declared.Script.{Script}
+use Rattle.script.specs.Words.{IsCount, IsLong, AreMembers}
+use Rattle.script.specs.Lines.{Page, page_of, number_at, HasLine}
+use Rattle.script.specs.Acts.{told}
+use Rattle.script.specs.Drawing.{stream_of_seed}
+use Rattle.script.specs.Making.{Made, correct_below, LeadTo, BreakBy}
+
+-- a name, and a number below 2^16
+abbrev pub IsNamed : List ℕ → List (List ℕ) → ℕ → Type 0
+IsNamed name words number = (word : List ℕ) × (words ≡ name ∷ word ∷ []) × IsCount word number
+
+-- `liars`, and members
+abbrev pub AreLiars : List (List ℕ) → List ℕ → Type 0
+AreLiars words liars = (listed : List (List ℕ)) × (words ≡ codes "liars" ∷ listed) × AreMembers listed liars
+
+-- `seed`, and a number below 2^64
+abbrev pub IsSeed : List (List ℕ) → ℕ → Type 0
+IsSeed words seed = (word : List ℕ) × (words ≡ codes "seed" ∷ word ∷ []) × IsLong word seed
+
+-- a number as one byte: those that no byte holds count as the greatest that one does
+abbrev pub as_byte : ℕ → ℕ
+as_byte number = if nat_lt 255 number then 255 else number
+
+-- the numbers of the first three lines make this size
+pub record MakeSize (n t questions : ℕ) (size : Size) : Type 0 where
+  pub size_is : size ≡ size_of (as_byte n) (as_byte t) questions
+  pub sound : size_fault (as_byte n) (as_byte t) questions ≡ None
+
+-- the first five lines
+pub record IsHead (page : Page) (size : Size) (liars : List ℕ) (seed : ℕ) : Type 0 where
+  pub n : ℕ
+  pub t : ℕ
+  pub questions : ℕ
+  pub n_is : HasLine page 0 (IsNamed (codes "n")) n
+  pub t_is : HasLine page 1 (IsNamed (codes "t")) t
+  pub questions_is : HasLine page 2 (IsNamed (codes "questions")) questions
+  pub size_is : MakeSize n t questions size
+  pub liars_are : HasLine page 3 AreLiars liars
+  pub seed_is : HasLine page 4 IsSeed seed
+
+-- no events yet, and the words of the seed
+abbrev pub at_start : ℕ → Made
+at_start seed = record { events = []; stream = stream_of_seed seed }
+
+-- the text says the script: its first five lines the head, all others the events
+pub record IsScript (text : List ℕ) (script : Script) : Type 0 where
+  pub seed : ℕ
+  pub last : Made
+  pub head : IsHead (page_of text) script.size script.liars.items seed
+  pub steps : LeadTo script.size (correct_below script.size.n script.liars.items) (at_start seed) (drop 5 (page_of text).said) last
+  pub events : map told script.events.items ≡ last.events
+
+-- there is no line at that place of that form, and the fault names it
+pub record Lacks {A : Type 0} (page : Page) (place : ℕ) (Form : List (List ℕ) → A → Type 0) (fault : ScriptFault) : Type 0 where
+  pub none : (x : A) → HasLine page place Form x → ⊥
+  pub fault_is : fault ≡ faults.Line (number_at page place)
+
+-- the line at that place isn't of the form, or it is and the fault is a later one
+abbrev pub FailsOr : {A : Type 0} → Page → ℕ → (List (List ℕ) → A → Type 0) → (A → ScriptFault → Type 0) → ScriptFault → Type 0
+FailsOr {A} page place Form Later fault =
+    Lacks page place Form fault ⊎ ((x : A) × HasLine page place Form x × Later x fault)
+
+-- the numbers make no size, or they do and the fault is a later one
+abbrev pub SizeFailsOr : ℕ → ℕ → ℕ → (Size → ScriptFault → Type 0) → ScriptFault → Type 0
+SizeFailsOr n t questions Later fault =
+    ((wrong : SizeFault) × (size_fault (as_byte n) (as_byte t) questions ≡ Some wrong) × (fault ≡ faults.Size wrong))
+    ⊎ ((size : Size) × MakeSize n t questions size × Later size fault)
+
+-- the fault is the first of the first five lines, or they are those of a head and the fault is a later one
+abbrev pub HeadFailsOr : Page → (Size → List ℕ → ℕ → ScriptFault → Type 0) → ScriptFault → Type 0
+HeadFailsOr page Later =
+    FailsOr page 0 (IsNamed (codes "n")) (λ n.
+    FailsOr page 1 (IsNamed (codes "t")) (λ t.
+    FailsOr page 2 (IsNamed (codes "questions")) (λ questions.
+    SizeFailsOr n t questions (λ size.
+    FailsOr page 3 AreLiars (λ liars.
+    FailsOr page 4 IsSeed (λ seed. Later size liars seed))))))
+
+-- the fault is the first of the first five lines
+abbrev pub IsHeadFault : Page → ScriptFault → Type 0
+IsHeadFault page = HeadFailsOr page (λ size liars seed fault. ⊥)
+
+-- the fault is the first of the text, from the top
+abbrev pub IsFirstFault : List ℕ → ScriptFault → Type 0
+IsFirstFault text =
+    HeadFailsOr (page_of text) (λ size liars seed.
+    BreakBy size (correct_below size.n liars) (at_start seed) (drop 5 (page_of text).said))

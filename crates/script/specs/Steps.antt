@@ -1,0 +1,86 @@
+-- What a line of events says.
+use Rattle.std.specs.Prelude.{ℕ, ◌≡◌, Bool, Option, List, [], ◌∷◌, codes}
+use Rattle.disk.specs.declared.Pick.{Pick}
+use Rattle.sim.specs.declared.events.Which.{Which}
+use Rattle.script.specs.declared.step.Verb.{Verb}
+use Rattle.script.specs.declared.step.Verb.TheVariants as verb
+use Rattle.script.specs.Words.{IsMember, IsCount, IsLong, IsBit, IsWhich, IsFuse, AreBytes, ArePick}
+use Rattle.script.specs.Acts.{Act}
+use Rattle.script.specs.Acts.Act.{Propose, Deliver, Lie, Fuse, Crash, Restart, Reset}
+
+-- an act, or many
+pub data Step : Type 0 where
+  Once : (act : Act) → Step
+  Rounds : (count : ℕ) → Step
+  Random : (count : ℕ) → Step
+
+-- the word that a line begins with
+abbrev pub name_of : Verb → List ℕ
+name_of verb.Propose = codes "propose"
+name_of verb.Deliver = codes "deliver"
+name_of verb.Lie = codes "lie"
+name_of verb.Fuse = codes "fuse"
+name_of verb.Crash = codes "crash"
+name_of verb.Restart = codes "restart"
+name_of verb.Reset = codes "reset"
+name_of verb.Rounds = codes "rounds"
+name_of verb.Random = codes "random"
+
+-- one word, of this form
+pub record One {A : Type 0} (First : List ℕ → A → Type 0) (words : List (List ℕ)) (a : A) : Type 0 where
+  pub first : List ℕ
+  pub words_are : words ≡ first ∷ []
+  pub first_is : First first a
+
+-- two words, of these forms
+pub record Two {A B : Type 0} (First : List ℕ → A → Type 0) (Second : List ℕ → B → Type 0) (words : List (List ℕ)) (a : A) (b : B) : Type 0 where
+  pub first : List ℕ
+  pub second : List ℕ
+  pub words_are : words ≡ first ∷ second ∷ []
+  pub first_is : First first a
+  pub second_is : Second second b
+
+-- three words, of these forms
+pub record Three {A B C : Type 0} (First : List ℕ → A → Type 0) (Second : List ℕ → B → Type 0) (Third : List ℕ → C → Type 0) (words : List (List ℕ)) (a : A) (b : B) (c : C) : Type 0 where
+  pub first : List ℕ
+  pub second : List ℕ
+  pub third : List ℕ
+  pub words_are : words ≡ first ∷ second ∷ third ∷ []
+  pub first_is : First first a
+  pub second_is : Second second b
+  pub third_is : Third third c
+
+-- what the words behind a line's first word say
+abbrev pub SaysBehind : Verb → List (List ℕ) → Step → Type 0
+-- propose M Q B
+SaysBehind verb.Propose words step =
+    (member : ℕ) × (question : ℕ) × (bit : Bool) × Three IsMember IsCount IsBit words member question bit
+    × (step ≡ Once (Propose member question bit))
+-- deliver A B next, deliver A B I
+SaysBehind verb.Deliver words step =
+    (from : ℕ) × (to : ℕ) × (which : Which) × Three IsMember IsMember IsWhich words from to which × (step ≡ Once (Deliver from to which))
+-- lie L M HEX
+SaysBehind verb.Lie words step =
+    (liar : ℕ) × (to : ℕ) × (bytes : List ℕ) × Three IsMember IsMember AreBytes words liar to bytes × (step ≡ Once (Lie liar to bytes))
+-- fuse M K, fuse M off
+SaysBehind verb.Fuse words step =
+    (member : ℕ) × (calls : Option ℕ) × Two IsMember IsFuse words member calls × (step ≡ Once (Fuse member calls))
+-- crash M kept, crash M lost, crash M fill HH
+SaysBehind verb.Crash words step =
+    (member : ℕ) × (pick : Pick) × (digits : List ℕ) × (behind : List (List ℕ)) × (words ≡ digits ∷ behind) × IsMember digits member
+    × ArePick behind pick × (step ≡ Once (Crash member pick))
+-- restart M
+SaysBehind verb.Restart words step = (member : ℕ) × One IsMember words member × (step ≡ Once (Restart member))
+-- reset A B
+SaysBehind verb.Reset words step = (from : ℕ) × (to : ℕ) × Two IsMember IsMember words from to × (step ≡ Once (Reset from to))
+-- rounds K
+SaysBehind verb.Rounds words step = (count : ℕ) × One IsLong words count × (step ≡ Rounds count)
+-- random K
+SaysBehind verb.Random words step = (count : ℕ) × One IsLong words count × (step ≡ Random count)
+
+-- the words of a line say the step
+pub record Says (words : List (List ℕ)) (step : Step) : Type 0 where
+  pub its_verb : Verb
+  pub behind : List (List ℕ)
+  pub words_are : words ≡ name_of its_verb ∷ behind
+  pub says : SaysBehind its_verb behind step

@@ -1,0 +1,47 @@
+-- What stands in the code for acts and steps.
+use Rattle.std.specs.Prelude.{ℕ, Bool, true, false, List, [], ◌∷◌, map}
+use denote.Ref.{Bor}
+use Rattle.script.specs.declared.draw.Untossed.{Untossed}
+use Rattle.script.specs.declared.draw.Untossed.TheVariants as untossed
+use Rattle.script.specs.declared.step.Order.{Order}
+use Rattle.script.specs.declared.step.Order.TheVariants as order
+use Rattle.script.specs.declared.lines.Line.{Line}
+use Rattle.script.specs.Acts.{Act}
+use Rattle.script.specs.Acts.Act.{Propose, Deliver, Lie, Fuse, Crash, Restart, Reset}
+use Rattle.script.specs.Steps.{Step}
+use Rattle.script.specs.Steps.Step.{Once, Rounds, Random}
+
+-- what an event without its toss is
+abbrev pub act_of : Untossed → Act
+act_of (untossed.Propose member question bit) = Propose member question bit
+act_of (untossed.Deliver from to which) = Deliver from to which
+act_of (untossed.Lie liar to bytes) = Lie liar to bytes.items
+act_of (untossed.Fuse member calls) = Fuse member calls
+act_of (untossed.Crash member pick) = Crash member pick
+act_of (untossed.Restart member) = Restart member
+act_of (untossed.Reset from to) = Reset from to
+
+-- what a line's order is
+abbrev pub step_of : Order → Step
+step_of (order.Once event) = Once (act_of event)
+step_of (order.Rounds count) = Rounds count
+step_of (order.Random count) = Random count
+
+-- the bytes of words
+abbrev pub texts : List (Bor (List ℕ)) → List (List ℕ)
+texts words = map (λ word. word.now) words
+
+-- lines with their numbers
+abbrev pub numbered : List Line → List (ℕ × List ℕ)
+numbered lines = map (λ line. (line.number, line.text.now)) lines
+
+-- whether the line is empty
+abbrev pub is_empty : List ℕ → Bool
+is_empty [] = true
+is_empty (byte ∷ bytes) = false
+
+-- the last of these is there, and is empty
+abbrev pub ends_empty : List (List ℕ) → Bool
+ends_empty [] = false
+ends_empty (line ∷ []) = is_empty line
+ends_empty (line ∷ next ∷ lines) = ends_empty (next ∷ lines)
