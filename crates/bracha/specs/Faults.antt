@@ -1,5 +1,5 @@
 -- Which faults a command ends with.
-use Rattle.std.specs.Prelude.{◌≡◌, ◌⊎◌}
+use Rattle.std.specs.Prelude.{ℕ, ◌≡◌, ◌⊎◌, List}
 use Rattle.bracha.specs.declared.fault.Fault.{Fault}
 use Rattle.bracha.specs.declared.fault.Fault.TheVariants as fault
 use Rattle.bracha.specs.declared.settings.SettingsFault.{SettingsFault}
@@ -11,6 +11,9 @@ use Rattle.script.specs.declared.fault.ScriptFault.{ScriptFault}
 use Rattle.script.specs.declared.fault.ScriptFault.TheVariants as unread
 use Rattle.sim.specs.declared.faults.SimFault.{SimFault}
 use Rattle.sim.specs.declared.faults.SimFault.TheVariants as unrun
+use Rattle.sim.specs.Outcomes.{AreLiars}
+use Rattle.script.specs.declared.Script.{Script}
+use Rattle.script.specs.Scripts.{IsScript, IsFirstFault}
 
 abbrev pub IsOfStream : Fault → Type 0
 IsOfStream ends = (ends ≡ fault.Memory) ⊎ (ends ≡ fault.Stream)
@@ -97,18 +100,26 @@ of_sim unrun.Device = fault.Sim unrun.Device
 of_sim unrun.Memory = fault.Memory
 of_sim unrun.Full = fault.Sim unrun.Full
 
--- memory, the output, or what is wrong with a script
-abbrev pub IsOfSimulate : Fault → Type 0
-IsOfSimulate fault.Me = ⊥
-IsOfSimulate (fault.Line number) = Unit {0}
-IsOfSimulate fault.Stream = Unit {0}
-IsOfSimulate fault.Memory = Unit {0}
-IsOfSimulate (fault.Size size) = Unit {0}
-IsOfSimulate fault.File = ⊥
-IsOfSimulate fault.SettingsText = ⊥
-IsOfSimulate fault.Trace = ⊥
-IsOfSimulate fault.Chart = ⊥
-IsOfSimulate fault.Events = Unit {0}
-IsOfSimulate (fault.Sim why) = Unit {0}
-IsOfSimulate (fault.Setting key) = ⊥
-IsOfSimulate (fault.Journal why) = ⊥
+-- the text says a script of liars that can't be: nothing else keeps a script from being run over empty disks
+abbrev pub CannotRun : List ℕ → SimFault → Type 0
+CannotRun text unrun.BadLiars = (script : Script) × IsScript text script × (AreLiars script.size script.liars.items → ⊥)
+CannotRun text unrun.BadDisks = ⊥
+CannotRun text unrun.Device = ⊥
+CannotRun text unrun.Memory = ⊥
+CannotRun text unrun.Full = Unit {0}
+
+-- memory, the output, or the first thing that is wrong with the script that the text is to say
+abbrev pub IsOfSimulate : List ℕ → Fault → Type 0
+IsOfSimulate text fault.Me = ⊥
+IsOfSimulate text (fault.Line number) = IsFirstFault text (unread.Line number)
+IsOfSimulate text fault.Stream = Unit {0}
+IsOfSimulate text fault.Memory = Unit {0}
+IsOfSimulate text (fault.Size size) = IsFirstFault text (unread.Size size)
+IsOfSimulate text fault.File = ⊥
+IsOfSimulate text fault.SettingsText = ⊥
+IsOfSimulate text fault.Trace = ⊥
+IsOfSimulate text fault.Chart = ⊥
+IsOfSimulate text fault.Events = IsFirstFault text unread.Events
+IsOfSimulate text (fault.Sim why) = CannotRun text why
+IsOfSimulate text (fault.Setting key) = ⊥
+IsOfSimulate text (fault.Journal why) = ⊥

@@ -9,10 +9,10 @@ use Rattle.bracha.specs.Simulations.{simulation_text}
 use Rattle.bracha.specs.Traces.{trace_text}
 use Rattle.bracha.specs.Charts.{IsSvg}
 
--- the outcome is that of a run of the script
+-- the outcome is that of a run of the script, over disks in which no fuse is
 abbrev pub IsOutcome : Script → Outcome → Type 0
 IsOutcome script outcome =
-    (fused : ℕ → Bool) × IsSimulation script.size (among script.liars.items) fused script.events.items
+    IsSimulation script.size (among script.liars.items) (λ p. false) script.events.items
     outcome.marks.items outcome.saved.items outcome.verdicts.items
 
 -- a page with a text of that kind where it is wanted, and else none

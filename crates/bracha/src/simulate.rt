@@ -1,11 +1,12 @@
 //! The command `simulate`: a script's cluster, run in memory.
 
-ghost use Rattle.std.specs.Prelude.{◌≡◌, ℕ, Bool, IfOk, IfErr, OnOk, string_bytes};
+ghost use Rattle.std.specs.Prelude.{◌≡◌, ℕ, false, IfOk, IfErr, OnOk, string_bytes};
 ghost use Rattle.std.specs.List.{flat_map};
 ghost use Rattle.std.specs.Io.KnownBytes.{Appends};
 ghost use Rattle.script.specs.declared.Script.{Script};
 ghost use Rattle.sim.specs.declared.cluster.Outcome.{Outcome};
-ghost use Rattle.sim.specs.Outcomes.{IsSimulation, among};
+ghost use Rattle.sim.specs.Outcomes.{AreDisks, fused_in};
+ghost use Rattle.script.specs.Scripts.{IsScript};
 ghost use Rattle.bracha.specs.Faults.{IsOfSimulate, IsOfStream};
 ghost use Rattle.bracha.specs.Charts.{IsSvg};
 ghost use Rattle.bracha.specs.Pages.{IsOutcome, IsPage, IsTrace, ArePages};
@@ -80,8 +81,11 @@ fn simulation_text(alloc: Global, outcome: &Outcome) -> Result<String, AllocErro
     Ok(text)
 }
 
-/// An empty disk for each member.
-fn empty_disks(alloc: Global, size: Size) -> Result<Vec<MemDisk>, Memory> {
+/// An empty disk for each member, without a fuse.
+fn empty_disks(alloc: Global, size: Size) -> Result<Vec<MemDisk>, Memory>
+    ensures empty { IfOk result (λ disks. AreDisks size disks.items) }
+    ensures no_fuse { IfOk result (λ disks. (p : ℕ) → fused_in disks.items p ≡ false) }
+{
     let mut disks = Vec::new(alloc);
     for _ in 0..size.n() {
         disks.push(MemDisk::new(alloc))?;
@@ -91,8 +95,9 @@ fn empty_disks(alloc: Global, size: Size) -> Result<Vec<MemDisk>, Memory> {
 
 /// Reads the script, and runs it over empty disks in memory.
 fn run(alloc: Global, text: &[u8]) -> Result<(Script, Outcome), Fault>
+    ensures says { IfOk result (λ ran. IsScript text.now ran.0) }
     ensures run { IfOk result (λ ran. IsOutcome ran.0 ran.1) }
-    ensures only { IfErr result IsOfSimulate }
+    ensures only { IfErr result (IsOfSimulate text.now) }
 {
     let script = script::read(alloc, text)?;
     let disks = empty_disks(alloc, script.size)?;
@@ -157,10 +162,10 @@ pub struct Pages {
 /// [`Fault::Line`], [`Fault::Size`] and [`Fault::Events`] for a text that is no script, [`Fault::Sim`] for a script that
 /// can't be run, [`Fault::Memory`] where a growth failed.
 pub fn simulate_pages(alloc: Global, text: &[u8], trace: bool, chart: bool) -> Result<Pages, Fault>
-    // They are of a simulation of a script, which is a run of the world.
+    // They are of a simulation of the script that the text says, which is a run of the world.
     ensures all { IfOk result (λ made. (script : Script) × (outcome : Outcome)
-        × IsOutcome script outcome × ArePages trace chart script outcome made) }
-    ensures only { IfErr result IsOfSimulate }
+        × IsScript text.now script × IsOutcome script outcome × ArePages trace chart script outcome made) }
+    ensures only { IfErr result (IsOfSimulate text.now) }
 {
     let (script, outcome) = run(alloc, text)?;
     Ok(Pages {
@@ -188,11 +193,11 @@ pub fn print<W: Write>(text: &str, output: &mut W) -> Result<u8, Fault>
 /// can't be run: nothing was written. [`Fault::Stream`] and [`Fault::Memory`]: the write or a growth failed.
 pub fn simulate_text<W: Write>(alloc: Global, text: &[u8], output: &mut W) -> Result<u8, Fault>
     ensures status { IfOk result (λ status. status ≡ 0) }
-    // What is written is the text of a simulation of a script, which is a run of the world.
-    ensures all { OnOk result ((script : Script) × (fused : ℕ → Bool) × (outcome : Outcome)
-        × IsSimulation script.size (among script.liars.items) fused script.events.items outcome.marks.items outcome.saved.items outcome.verdicts.items
+    // What is written is the text of a simulation of the script that the text says, which is a run of the world.
+    ensures all { OnOk result ((script : Script) × (outcome : Outcome)
+        × IsScript text.now script × IsOutcome script outcome
         × Appends (W.contents output.old) (W.contents output.new) (simulation_text outcome)) }
-    ensures only { IfErr result IsOfSimulate }
+    ensures only { IfErr result (IsOfSimulate text.now) }
 {
     let pages = simulate_pages(alloc, text, false, false)?;
     print(pages.verdicts.as_str(), output)

@@ -5,6 +5,7 @@ pub returns-clause-all : goal.returns-clause-all
 returns-clause-all c = (
   c.in_ok-script.script,
   c.in_ok-script.outcome,
+  c.in_ok-script.ensures.says,
   c.in_ok-script.ensures.run,
   record {
     verdicts_are = search (rules, c.in_ok-simulation_text.ensures);

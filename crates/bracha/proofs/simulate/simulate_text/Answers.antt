@@ -12,9 +12,9 @@ returns-clause-all g c =
     IfOk-weaker c.print.result _ _
     (λ _ wrote. (
       of.0,
-      of.2.0,
       of.1,
-      of.2.1,
-      subst (λ (text : List ℕ). Appends old new text) (c.as_str.ensures.value ∙ of.3.verdicts_are) wrote,
+      of.2,
+      of.3,
+      subst (λ (text : List ℕ). Appends old new text) (c.as_str.ensures.value ∙ of.4.verdicts_are) wrote,
     ))
     c.print.ensures.all
