@@ -14,12 +14,13 @@ line_of true runs = Lies
 line_of false true = Runs
 line_of false false = Down
 
--- a member of a cluster of n before the first event
-pub record IsNew (n : ℕ) (liar : Bool) (column : Column) : Type 0 where
+-- a member of a cluster of n before the first event, its lifeline not drawn yet
+pub record IsNew (n : ℕ) (liar : Bool) (top : ℕ) (column : Column) : Type 0 where
   pub side : column.is_liar ≡ liar
   pub up : column.runs ≡ true
   pub silent : column.said.items ≡ []
   pub at_start : column.places.items ≡ replicate n 0
+  pub drawn : column.drawn ≡ top
 
 -- the event's member, before and after it
 pub record Follows (event : Event) (mark : Mark) (saved : List Record) (old new : Column) : Type 0 where

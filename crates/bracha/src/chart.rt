@@ -142,7 +142,9 @@ struct Scene {
 }
 
 impl Scene {
-    ghost use Rattle.std.specs.Prelude.{ℕ, ◌≡◌, IfOk, OnOk, Some, slice_get, string_bytes};
+    ghost use Rattle.std.specs.Prelude.{ℕ, ◌≡◌, ◌+◌, ◌<◌, IfOk, OnOk, Some, slice_get, string_bytes};
+    ghost use Rattle.script.specs.declared.TheConstants.{MOST_EVENTS};
+    ghost use Rattle.bracha.specs.Scenes.{DrawsOnly};
     ghost use Rattle.bracha.specs.Charts.{delivered, text_if, IsSvg};
     ghost use Rattle.bracha.specs.Columns.{FollowAll};
     ghost use Rattle.bracha.specs.declared.chart.column.Column.{Column};
@@ -175,7 +177,10 @@ impl Scene {
         event: &Event,
         mark: Mark,
         saved: &[Record],
-    ) -> Result<(), AllocError> {
+    ) -> Result<(), AllocError>
+        ensures follow { OnOk result (FollowAll event.now mark saved.now self.old.columns.items self.new.columns.items) }
+        ensures row { OnOk result (self.old.rows < MOST_EVENTS → self.new.rows ≡ self.old.rows + 1) }
+    {
         let y = y_of(self.rows);
         self.rows = self.rows.saturating_add(1);
         let number = format!(in self.alloc; "{number}")?;
@@ -187,7 +192,9 @@ impl Scene {
     }
 
     /// Draws what happens.
-    fn show(&mut self, event: &Event, mark: Mark, y: u64) -> Result<(), AllocError> {
+    fn show(&mut self, event: &Event, mark: Mark, y: u64) -> Result<(), AllocError>
+        ensures { DrawsOnly self.old self.new }
+    {
         match event {
             Event::Propose {
                 member,
@@ -225,7 +232,9 @@ impl Scene {
         question: u16,
         bit: bool,
         y: u64,
-    ) -> Result<(), AllocError> {
+    ) -> Result<(), AllocError>
+        ensures { DrawsOnly self.old self.new }
+    {
         let x = x_of(member);
         let on = on_question(self.alloc, self.size.questions(), question)?;
         let words = format!(in self.alloc; "proposes {}{on}", u8::from(bit))?;
@@ -252,7 +261,9 @@ impl Scene {
     }
 
     /// Draws a delivery.
-    fn show_delivery(&mut self, from: u8, to: u8, which: Which, y: u64) -> Result<(), AllocError> {
+    fn show_delivery(&mut self, from: u8, to: u8, which: Which, y: u64) -> Result<(), AllocError>
+        ensures { DrawsOnly self.old self.new }
+    {
         let (start, end) = (x_of(from), x_of(to));
         let carried = self.carried(from, to, which)?;
         if from == to {
@@ -269,7 +280,9 @@ impl Scene {
     }
 
     /// Draws a lie.
-    fn show_lie(&mut self, liar: u8, to: u8, bytes: &[u8], y: u64) -> Result<(), AllocError> {
+    fn show_lie(&mut self, liar: u8, to: u8, bytes: &[u8], y: u64) -> Result<(), AllocError>
+        ensures { DrawsOnly self.old self.new }
+    {
         let label = bytes_label(self.alloc, bytes)?;
         let words = if liar < to {
             Words::LieRightward
@@ -281,7 +294,9 @@ impl Scene {
     }
 
     /// Draws a fuse that is set or taken out.
-    fn show_fuse(&mut self, member: u8, calls: Option<u64>, y: u64) -> Result<(), AllocError> {
+    fn show_fuse(&mut self, member: u8, calls: Option<u64>, y: u64) -> Result<(), AllocError>
+        ensures { DrawsOnly self.old self.new }
+    {
         let calls = calls_text(self.alloc, calls)?;
         let words = format!(in self.alloc; "fuse {calls}")?;
         self.events
@@ -289,7 +304,9 @@ impl Scene {
     }
 
     /// Draws a crash.
-    fn show_crash(&mut self, member: u8, pick: Pick, y: u64) -> Result<(), AllocError> {
+    fn show_crash(&mut self, member: u8, pick: Pick, y: u64) -> Result<(), AllocError>
+        ensures { DrawsOnly self.old self.new }
+    {
         let left = pick_text(self.alloc, pick)?;
         let words = format!(in self.alloc; "crash {left}")?;
         self.events.sign(Sign::Cross, x_of(member), y)?;
@@ -298,7 +315,9 @@ impl Scene {
     }
 
     /// Draws an opening, unless it failed.
-    fn show_restart(&mut self, member: u8, mark: Mark, y: u64) -> Result<(), AllocError> {
+    fn show_restart(&mut self, member: u8, mark: Mark, y: u64) -> Result<(), AllocError>
+        ensures { DrawsOnly self.old self.new }
+    {
         if mark != Mark::Done {
             return Ok(());
         }
@@ -308,19 +327,25 @@ impl Scene {
     }
 
     /// Draws a link that starts anew.
-    fn show_reset(&mut self, from: u8, to: u8, y: u64) -> Result<(), AllocError> {
+    fn show_reset(&mut self, from: u8, to: u8, y: u64) -> Result<(), AllocError>
+        ensures { DrawsOnly self.old self.new }
+    {
         let words = format!(in self.alloc; "reset {from}")?;
         self.events.words(Words::Note, x_of(to), y, words.as_str())
     }
 
     /// Draws that a disk failed.
-    fn show_failure(&mut self, x: u64, y: u64) -> Result<(), AllocError> {
+    fn show_failure(&mut self, x: u64, y: u64) -> Result<(), AllocError>
+        ensures { DrawsOnly self.old self.new }
+    {
         self.events.sign(Sign::Ring, x, y)?;
         self.events.words(Words::Failure, x, y, "disk fails")
     }
 
     /// Writes what was saved because of the event.
-    fn show_saved(&mut self, event: &Event, saved: &[Record], y: u64) -> Result<(), AllocError> {
+    fn show_saved(&mut self, event: &Event, saved: &[Record], y: u64) -> Result<(), AllocError>
+        ensures { DrawsOnly self.old self.new }
+    {
         let x = x_of(member_of(event));
         let verb = match event {
             Event::Restart { .. } => "keeps",
@@ -342,7 +367,8 @@ impl Scene {
         saved: &[Record],
         y: u64,
     ) -> Result<(), AllocError>
-        ensures { OnOk result (FollowAll event.now mark saved.now self.old.columns.items self.new.columns.items) }
+        ensures follow { OnOk result (FollowAll event.now mark saved.now self.old.columns.items self.new.columns.items) }
+        ensures row { OnOk result (self.new.rows ≡ self.old.rows) }
     {
         let member = member_of(event);
         match self.columns.get_mut(usize::from(member)) {

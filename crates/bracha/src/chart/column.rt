@@ -100,7 +100,7 @@ impl Column {
 
     /// A member of a cluster of n before the first event. Its lifeline begins that far down.
     pub(crate) fn new(alloc: Global, n: u8, is_liar: bool, top: u64) -> Result<Column, AllocError>
-        ensures { IfOk result (IsNew n is_liar) }
+        ensures { IfOk result (IsNew n is_liar top) }
     {
         let mut places = Vec::new(alloc);
         places.resize(usize::from(n), 0)?;
@@ -161,7 +161,8 @@ impl Column {
         mark: Mark,
         saved: &[Record],
     ) -> Result<(), AllocError>
-        ensures { OnOk result (Follows event.now mark saved.now self.old self.new) }
+        ensures follows { OnOk result (Follows event.now mark saved.now self.old self.new) }
+        ensures drawn { OnOk result (self.new.drawn ≡ self.old.drawn) }
     {
         move_links(event, mark, &mut self.places);
         self.runs = runs_after(event, mark, self.runs);
