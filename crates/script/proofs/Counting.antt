@@ -1,5 +1,5 @@
 -- How many events there are, and events in turn.
-use Rattle.std.proofs.Common.{ℕ, zero, suc, ◌≡◌, ◌+◌, ◌*◌, ◌-◌, ◌<◌, ◌≤◌, refl, sym, ap, ◌∙◌, subst, arith, List, [], ◌∷◌, ◌++◌, length, map, drop, length-append, get_or, add-one, ◌^◌, min, mul-le-mul_left, Result, Ok, Err, OnOk, IfErr}
+use Rattle.std.proofs.Common.{ℕ, zero, suc, ◌≡◌, ◌+◌, ◌*◌, ◌-◌, ◌<◌, ◌≤◌, refl, sym, ap, ◌∙◌, subst, arith, List, [], ◌∷◌, ◌++◌, length, drop, length-append, get_or, add-one, ◌^◌, min, mul-le-mul_left, Result, Ok, Err, OnOk, IfErr}
 use Rattle.script.specs.declared.fault.ScriptFault.{ScriptFault}
 use Rattle.script.specs.declared.fault.ScriptFault.TheVariants as faults
 use Rattle.script.specs.declared.TheConstants.{MOST_EVENTS}
@@ -7,7 +7,6 @@ use Rattle.std.proofs.Math.Seq.{drop-cons}
 use Rattle.sim.specs.declared.events.Which.TheVariants.{Next}
 use Rattle.script.specs.Acts.Act.{Deliver}
 use Rattle.std.specs.List.{flat_map}
-use Rattle.std.proofs.lemmas.List.{map-append}
 use Rattle.terms.specs.declared.Size.{Size}
 use Rattle.script.specs.Acts.{Act}
 use Rattle.script.specs.Making.{Made, add, add_drawn, adds, draws, row, round, times, AreFew, IsOver}

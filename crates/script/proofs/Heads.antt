@@ -8,7 +8,7 @@ use Rattle.std.specs.Prelude.{slice_get}
 use Rattle.script.specs.declared.fault.ScriptFault.{ScriptFault}
 use Rattle.script.specs.declared.fault.ScriptFault.TheVariants as faults
 use Rattle.script.specs.Words.{words_of}
-use Rattle.script.specs.Lines.{Page, page_of, HasLine, number_at, number_or}
+use Rattle.script.specs.Lines.{Page, page_of, HasLine, number_or}
 use Rattle.script.specs.Scripts.{IsNamed, AreLiars, IsSeed, MakeSize, IsHead, IsHeadFault, HeadFailsOr, IsFirstFault, Lacks, as_byte, at_start}
 use Rattle.script.specs.Making.{Made, correct_below, BreakBy}
 use Rattle.terms.specs.declared.Size.{Size}
@@ -21,9 +21,9 @@ pub lacks : {A : Type 0} (page : Page) (place : ℕ) (Form : List (List ℕ) →
     → Lacks page place Form fault
 lacks page place Form fault number text words there words_are none fault_is = record {
   none = λ x h.
-    let same : ◌≡◌ {A = Option (ℕ × List ℕ)} (Some h.line) (Some (number, text)) = sym h.there ∙ there in
-    let line : h.line ≡ (number, text) = cc in
-    none x (subst (λ (w : List (List ℕ)). Form w x) (sym (words_are ∙ ap (λ (l : ℕ × List ℕ). words_of l.1) (sym line))) h.form);
+      let same : ◌≡◌ {A = Option (ℕ × List ℕ)} (Some h.line) (Some (number, text)) = sym h.there ∙ there in
+      let line : h.line ≡ (number, text) = cc in
+      none x (subst (λ (w : List (List ℕ)). Form w x) (sym (words_are ∙ ap (λ (l : ℕ × List ℕ). words_of l.1) (sym line))) h.form);
   fault_is = fault_is ∙ ap (λ (k : ℕ). faults.Line k) (sym (ap (λ (o : Option (ℕ × List ℕ)). number_or page.next o) there));
 }
 
@@ -40,8 +40,8 @@ one_more words i d items m lt is only before = record {
   sound = λ rest h. subst (λ (ms : List ℕ). AreMembers (texts words) ms) (sym (append_assoc items (m ∷ []) rest))
       (before.sound (m ∷ rest) (subst (λ (ws : List (Bor (List ℕ))). AreMembers (texts ws) (m ∷ rest)) (sym (next_of words i d lt)) (is, h)));
   whole = λ all h.
-    let r = before.whole all h in
-    found all r.0 r.1 (subst (λ (ws : List (Bor (List ℕ))). AreMembers (texts ws) r.0) (next_of words i d lt) r.2);
+      let r = before.whole all h in
+      found all r.0 r.1 (subst (λ (ws : List (Bor (List ℕ))). AreMembers (texts ws) r.0) (next_of words i d lt) r.2);
 }
   where
     found : (all rest : List ℕ) → all ≡ items ++ rest → AreMembers ((get_or words i d).now ∷ texts (drop (i + 1) words)) rest
@@ -104,8 +104,19 @@ pub in_events : (text : List ℕ) (fault : ScriptFault) (size : Size) (liars : L
     → (fault ≡ faults.Memory) ⊎ IsFirstFault text fault
 in_events text fault size liars seed head (inl e) = inl e
 in_events text fault size liars seed head (inr b) =
-    inr (inr (head.n, head.n_is, inr (head.t, head.t_is, inr (head.questions, head.questions_is,
-    inr (size, head.size_is, inr (liars, head.liars_are, inr (seed, head.seed_is, b)))))))
+    inr (inr (
+      head.n,
+      head.n_is,
+      inr (
+        head.t,
+        head.t_is,
+        inr (
+          head.questions,
+          head.questions_is,
+          inr (size, head.size_is, inr (liars, head.liars_are, inr (seed, head.seed_is, b))),
+        ),
+      ),
+    ))
 
 -- the same, of what the code has for the parts
 pub in_events_of : (text : List ℕ) (fault : ScriptFault) (size : Size) (liars : List ℕ) (seed : ℕ) (page : Page) (correct : List ℕ) (start : Made) (lines : List (ℕ × List ℕ))

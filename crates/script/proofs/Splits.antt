@@ -1,5 +1,5 @@
 -- The lines of a text are what stands between its bytes 10, but for nothing behind the last.
-use Rattle.std.proofs.Common.{ℕ, zero, suc, ◌≡◌, ◌+◌, ◌-◌, ◌≤◌, ◌==◌, refl, sym, ap, ◌∙◌, subst, arith, Bool, true, false, cond, eqb, List, [], ◌∷◌, length, Bor}
+use Rattle.std.proofs.Common.{ℕ, suc, ◌≡◌, ◌+◌, ◌-◌, ◌≤◌, ◌==◌, refl, sym, ap, ◌∙◌, arith, Bool, true, false, cond, List, [], ◌∷◌, length, Bor}
 use mir.Val.{bool_byte}
 use Rattle.std.specs.Prelude.{if◌then◌else◌}
 use Rattle.std.specs.List.{slice_split, onto_first}
@@ -103,7 +103,7 @@ page_is text parts found len b t parts_are said_is len_is b_is t_is =
     let s = some_part text in
     let lines = lines_are text in
     let said : found ≡ said_from 1 (lines_of text) =
-        said_is ∙ (ap (said_from 1) parts_are ∙ (same_said 1 (parts_of text) ∙ ap (said_from 1) (sym lines)))
+    said_is ∙ (ap (said_from 1) parts_are ∙ (same_said 1 (parts_of text) ∙ ap (said_from 1) (sym lines)))
     in
     let many = how_many (parts_of text) in
     let test : t ≡ ends_empty (parts_of text) = t_is ∙ ap ends_empty parts_are in

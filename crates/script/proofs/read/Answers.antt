@@ -1,4 +1,4 @@
-use Rattle.std.proofs.Common.{◌≡◌, ap, ap₂, ◌∙◌, subst, ◌⊎◌, List, ℕ}
+use Rattle.std.proofs.Common.{◌≡◌, ap₂, ◌∙◌, subst, ◌⊎◌}
 use Rattle.std.proofs.lemmas.Result.{err_from_is_err_and}
 use Rattle.script.specs.declared.fault.ScriptFault.TheVariants as faults
 use Rattle.script.specs.Lines.{Page}

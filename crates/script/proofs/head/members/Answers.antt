@@ -1,4 +1,4 @@
-use Rattle.std.proofs.Common.{sym, subst, ◌∙◌, ℕ, List, [], ◌∷◌, ◌++◌, get_or, arith, ◌+◌}
+use Rattle.std.proofs.Common.{sym, subst, ℕ, List, arith, ◌+◌}
 use Rattle.script.proofs.Heads.{Listing, one_more, all_listed}
 use Rattle.script.proofs.head.members.Goals as goal
 

@@ -1,4 +1,4 @@
-use Rattle.std.proofs.Common.{sym, ◌∙◌, ap, inr, Bor, List, ℕ}
+use Rattle.std.proofs.Common.{◌∙◌, ap, inr, Bor, List, ℕ}
 use Rattle.script.specs.Untossed.{texts}
 use Rattle.script.specs.Scripts.{IsNamed}
 use Rattle.script.proofs.Heads.{lacks}

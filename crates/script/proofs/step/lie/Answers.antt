@@ -1,5 +1,4 @@
-use Rattle.std.proofs.Common.{refl, get_or, Some, IfSome, Option, Vec, Global, List, ℕ}
-use Rattle.script.specs.Words.{AreBytes}
+use Rattle.std.proofs.Common.{refl, get_or}
 use Rattle.script.proofs.Parts.{three}
 use Rattle.script.proofs.step.lie.Goals as goal
 

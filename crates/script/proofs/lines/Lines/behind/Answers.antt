@@ -1,4 +1,4 @@
-use Rattle.std.proofs.Common.{ap, ◌∙◌, drop, List, ℕ}
+use Rattle.std.proofs.Common.{ap, ◌∙◌, drop, List}
 use Rattle.script.specs.declared.lines.Line.{Line}
 use Rattle.script.specs.Lines.{Page}
 use Rattle.script.specs.Untossed.{numbered}

@@ -1,4 +1,4 @@
-use Rattle.std.proofs.Common.{◌≡◌, sym, ap, subst, ◌∙◌, Bor, List, ℕ, length, arith}
+use Rattle.std.proofs.Common.{ap, ◌∙◌, Bor, List, ℕ, arith}
 use Rattle.script.specs.Untossed.{texts, numbered, ends_empty}
 use Rattle.script.specs.Lines.{said_from}
 use Rattle.script.proofs.Splits.{page_is}

@@ -1,4 +1,4 @@
-use Rattle.std.proofs.Common.{◌≡◌, ◌+◌, ◌-◌, ◌≤◌, sym, ap, ◌∙◌, length, arith}
+use Rattle.std.proofs.Common.{◌+◌, ◌-◌, sym, ap, ◌∙◌, length, arith}
 use Rattle.script.specs.Making.{Made, draws}
 use Rattle.script.proofs.Counting.{draws-next, length-add_drawn}
 use Rattle.script.proofs.making.Making.add_all_drawn.Goals as goal

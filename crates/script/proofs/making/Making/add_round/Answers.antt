@@ -1,4 +1,4 @@
-use Rattle.std.proofs.Common.{◌≡◌, ◌+◌, ◌-◌, ◌*◌, ◌≤◌, sym, ap, ◌∙◌, length, drop, get_or, arith}
+use Rattle.std.proofs.Common.{◌+◌, sym, ap, ◌∙◌, length, drop, get_or, arith}
 use Rattle.std.specs.List.{flat_map}
 use Rattle.script.specs.Making.{Made, adds, row}
 use Rattle.script.proofs.Counting.{round-next, length-adds, length-row, less-one-times}

@@ -1,4 +1,4 @@
-use Rattle.std.proofs.Common.{◌≡◌, ◌+◌, ◌-◌, ◌*◌, ◌≤◌, sym, ap, ◌∙◌, length, arith}
+use Rattle.std.proofs.Common.{◌+◌, ◌-◌, ◌*◌, sym, ap, ◌∙◌, length, arith}
 use Rattle.script.specs.Making.{Made, adds, round, times}
 use Rattle.script.proofs.Counting.{times-next, length-adds, length-rows, less-one-times}
 use Rattle.script.proofs.making.Making.add_rounds.Goals as goal

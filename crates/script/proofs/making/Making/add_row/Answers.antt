@@ -1,4 +1,4 @@
-use Rattle.std.proofs.Common.{◌≡◌, ◌+◌, ◌-◌, ◌≤◌, refl, sym, ap, ◌∙◌, length, drop, get_or, arith}
+use Rattle.std.proofs.Common.{◌+◌, sym, ap, ◌∙◌, length, drop, get_or, arith}
 use Rattle.sim.specs.declared.events.Which.TheVariants.{Next}
 use Rattle.script.specs.Acts.Act.{Deliver}
 use Rattle.script.specs.Making.{Made, adds, row}
