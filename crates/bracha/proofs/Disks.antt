@@ -1,5 +1,5 @@
 -- The disks of a simulation.
-use Rattle.std.proofs.Common.{ℕ, zero, suc, ◌≡◌, Bool, false, is_some, None, refl, ap, ◌∙◌, List, [], ◌∷◌, ◌++◌, length}
+use Rattle.std.proofs.Common.{ℕ, zero, suc, ◌≡◌, false, None, refl, List, [], ◌∷◌, ◌++◌}
 use Rattle.std.specs.List.{AllByRecursion}
 use Rattle.disk.specs.declared.memory.MemDisk.{MemDisk}
 use Rattle.disk.specs.Model.{at_rest}

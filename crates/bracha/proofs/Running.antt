@@ -10,7 +10,7 @@ use Rattle.sim.specs.declared.cluster.Outcome.{Outcome}
 use Rattle.sim.specs.declared.faults.SimFault.{SimFault}
 use Rattle.sim.specs.declared.faults.SimFault.TheVariants as unrun
 use Rattle.sim.specs.Outcomes.{AreLiars}
-use Rattle.bracha.specs.Faults.{of_script, of_sim, CannotRun, IsOfSimulate}
+use Rattle.bracha.specs.Faults.{of_script, of_sim, IsOfSimulate}
 
 -- the command's fault is the one that was made of another
 made_of : {A : Type 0} (text : List ℕ) (result : Result A Fault) (ends : Fault) → IsErrAnd result (λ given. given ≡ ends) → IsOfSimulate text ends → IfErr result (IsOfSimulate text)
@@ -36,19 +36,19 @@ abbrev Answered : SimFault → SimFault → Type 0
 Answered fault one = IsErrOf {T = Outcome} {E = SimFault} (Err fault) one
 
 of_unrun : (text : List ℕ) (script : Script) (fault : SimFault) → IsScript text script → (Answered fault unrun.BadLiars → AreLiars script.size script.liars.items → ⊥)
-    → (Answered fault unrun.BadDisks → ⊥) → (Answered fault unrun.Device → ⊥) → IsOfSimulate text (of_sim fault)
-of_unrun text script unrun.BadLiars says liars disks device = (script, says, liars refl)
-of_unrun text script unrun.BadDisks says liars disks device = disks refl
-of_unrun text script unrun.Device says liars disks device = device refl
-of_unrun text script unrun.Memory says liars disks device = tt
-of_unrun text script unrun.Full says liars disks device = tt
+    → (Answered fault unrun.BadDisks → ⊥) → (Answered fault unrun.Device → ⊥) → (Answered fault unrun.Full → ⊥) → IsOfSimulate text (of_sim fault)
+of_unrun text script unrun.BadLiars says liars disks device full = (script, says, liars refl)
+of_unrun text script unrun.BadDisks says liars disks device full = disks refl
+of_unrun text script unrun.Device says liars disks device full = device refl
+of_unrun text script unrun.Memory says liars disks device full = tt
+of_unrun text script unrun.Full says liars disks device full = full refl
 
 -- a script that can't be run
 pub unrun_ends : {A : Type 0} (text : List ℕ) (script : Script) (result : Result A Fault) (fault : SimFault) → IsErrAnd result (λ given. given ≡ of_sim fault) → IsScript text script
-    → (Answered fault unrun.BadLiars → AreLiars script.size script.liars.items → ⊥) → (Answered fault unrun.BadDisks → ⊥) → (Answered fault unrun.Device → ⊥)
+    → (Answered fault unrun.BadLiars → AreLiars script.size script.liars.items → ⊥) → (Answered fault unrun.BadDisks → ⊥) → (Answered fault unrun.Device → ⊥) → (Answered fault unrun.Full → ⊥)
     → IfErr result (IsOfSimulate text)
-unrun_ends text script result fault is says liars disks device =
-    made_of text result (of_sim fault) is (of_unrun text script fault says liars disks device)
+unrun_ends text script result fault is says liars disks device full =
+    made_of text result (of_sim fault) is (of_unrun text script fault says liars disks device full)
 
 -- tables of one content are one
 pub same_table : (a b : ℕ → Bool) → ((p : ℕ) → a p ≡ b p) → a ≡ b

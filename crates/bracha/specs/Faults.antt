@@ -106,7 +106,7 @@ CannotRun text unrun.BadLiars = (script : Script) × IsScript text script × (Ar
 CannotRun text unrun.BadDisks = ⊥
 CannotRun text unrun.Device = ⊥
 CannotRun text unrun.Memory = ⊥
-CannotRun text unrun.Full = Unit {0}
+CannotRun text unrun.Full = ⊥
 
 -- memory, the output, or the first thing that is wrong with the script that the text is to say
 abbrev pub IsOfSimulate : List ℕ → Fault → Type 0

@@ -1,4 +1,4 @@
-use Rattle.std.proofs.Common.{◌≡◌, ◌≤◌, length}
+use Rattle.std.proofs.Common.{◌≡◌, length}
 use Rattle.std.specs.List.{AllByRecursion}
 use Rattle.bracha.proofs.Disks.{IsNew}
 use Rattle.bracha.proofs.simulate.empty_disks.Given as goal

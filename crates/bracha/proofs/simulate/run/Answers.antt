@@ -1,4 +1,4 @@
-use Rattle.std.proofs.Common.{◌≡◌, ◌∙◌, sym, ap, subst, ℕ, Bool, true, false, List}
+use Rattle.std.proofs.Common.{◌≡◌, sym, subst, ℕ, Bool, false, List}
 use Rattle.sim.specs.Outcomes.{AreLiars, IsSimulation, among, fused_in}
 use Rattle.sim.specs.declared.events.Event.{Event}
 use Rattle.bracha.proofs.Running.{unread_ends, unrun_ends, same_table, both_ways}
@@ -17,6 +17,7 @@ returns-in_err-outcome-clause-only c =
     (λ is liars. faults.bad_liars.0 is (subst (λ (l : List ℕ). AreLiars script.size l) (sym c.deref.ensures.value) liars))
     (λ is. (faults.bad_disks.0 is).1 c.in_ok-disks.ensures.empty)
     (λ is. let fused = faults.device is in both_ways (fused_in c.in_ok-disks.disks.items fused.0) (c.in_ok-disks.ensures.no_fuse fused.0) fused.3)
+    faults.never_full
 
 pub returns-clause-run : goal.returns-clause-run
 returns-clause-run c =
