@@ -69,36 +69,32 @@ module _ (size : Size) (ok : IsSize size) where
       → AllByRecursion (λ c. eqb (code (Said s)) c ≡ false) (map code xs)
   said_apart s [] is all h = tt
   said_apart s (Said t ∷ xs) is all h =
-      let n = none_of (is_about t s.kind s.place) (sayings xs s.kind s.place) h in
-      (
+      let n = none_of (is_about t s.kind s.place) (sayings xs s.kind s.place) h in (
         ne_eqb (code (Said s)) (code (Said t)) (λ e. let yes = same_about s t size ok is all.0 e in cc (yes, n.0)),
         said_apart s xs is all.1 n.1,
       )
-  said_apart s (Decided question round bit ∷ xs) is all h =
-      (
-        ne_eqb (code (Said s)) question (λ e.
-            let few = ok.few in
-            let asked = all.0.0 in
-            let a = step_within s.place.step s.value is.value in
-            absurd (omega arith)),
-        said_apart s xs is all.1 h,
-      )
+  said_apart s (Decided question round bit ∷ xs) is all h = (
+    ne_eqb (code (Said s)) question (λ e.
+        let few = ok.few in
+        let asked = all.0.0 in
+        let a = step_within s.place.step s.value is.value in
+        absurd (omega arith)),
+    said_apart s xs is all.1 h,
+  )
 
   -- so has a decision
   decided_apart : (question : ℕ) (xs : List Record) → question < size.questions → AreWellFormed size xs → decisions xs question ≡ 0
       → AllByRecursion (λ c. eqb question c ≡ false) (map code xs)
   decided_apart question [] l all h = tt
-  decided_apart question (Said t ∷ xs) l all h =
-      (
-        ne_eqb question (code (Said t)) (λ e.
-            let few = ok.few in
-            let a = step_within t.place.step t.value all.0.value in
-            absurd (omega arith)),
-        decided_apart question xs l all.1 h,
-      )
+  decided_apart question (Said t ∷ xs) l all h = (
+    ne_eqb question (code (Said t)) (λ e.
+        let few = ok.few in
+        let a = step_within t.place.step t.value all.0.value in
+        absurd (omega arith)),
+    decided_apart question xs l all.1 h,
+  )
   decided_apart question (Decided other round bit ∷ xs) l all h =
-      let n = none_of (eqb other question) (decisions xs question) h in
-      (
+      let n = none_of (eqb other question) (decisions xs question) h in (
         ne_eqb question other (λ e. let yes = eq-eqb other question (omega arith) in cc (yes, n.0)),
         decided_apart question xs l all.1 n.1,
       )
@@ -109,14 +105,12 @@ module _ (size : Size) (ok : IsSize size) where
   unfolding IsDistinct
   apart [] all says decides = tt
   apart (Said s ∷ xs) all says decides =
-      let once : 1 + sayings xs s.kind s.place ≤ 1 = rw (is_about-same s) at (says s.kind s.place) in
-      (
+      let once : 1 + sayings xs s.kind s.place ≤ 1 = rw (is_about-same s) at (says s.kind s.place) in (
         said_apart s xs all.0 all.1 (omega arith),
         apart xs all.1 (λ kind place. at_most (is_about s kind place) (sayings xs kind place) (says kind place)) decides,
       )
   apart (Decided question round bit ∷ xs) all says decides =
-      let once : 1 + decisions xs question ≤ 1 = rw (eq-eqb question question refl) at (decides question) in
-      (
+      let once : 1 + decisions xs question ≤ 1 = rw (eq-eqb question question refl) at (decides question) in (
         decided_apart question xs all.0.0 all.1 (omega arith),
         apart xs all.1 says (λ q. at_most (eqb question q) (decisions xs q) (decides q)),
       )

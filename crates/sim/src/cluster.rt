@@ -49,8 +49,8 @@ pub struct Outcome {
 ///   before, in order; an event whose plan is to skip it saved nothing.
 /// - `agree`: two verdicts of one question have one bit.
 /// - `unanimous`: where all proposals of a question that weren't skipped are of one bit, so is each verdict of it.
-/// - `never_full`: `Full` never comes, whatever the size and the script: all that a correct member may ever save, each
-///   kind once at each place and one decision of each question, has room in its journal.
+/// - `never_full`: `Full` never comes, whatever the size and the script: all that a correct member may ever save, at most
+///   one statement of each kind at each place and one decision of each question, has room in its journal.
 ///
 /// `Memory` comes where there is no memory.
 pub fn run(

@@ -21,9 +21,9 @@ pub enum SimFault {
     /// 4: there was no memory.
     #[error("Memory")]
     Memory,
-    /// 5: a member's journal has no room for the records of an answer. No script brings it about: a correct member says
-    /// each of the three kinds once at a place and decides a question once, which in the largest cluster is at most
-    /// 2,359,552 records of at most ten bytes each, and a journal has room for 2^31 bytes.
+    /// 5: a member's journal has no room for the records of an answer. No script of a cluster within the limits
+    /// brings it about: a correct member says each kind at most once at a place and decides a question at most once, which
+    /// is at most 2,359,552 records, and with the header and the batches' counts these stay far below 2^31 bytes.
     #[error("Full")]
     Full,
 }
