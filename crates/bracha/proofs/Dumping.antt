@@ -1,7 +1,5 @@
 -- The pieces of a dump's lines.
-use Rattle.std.proofs.Common.{ℕ, ◌≡◌, ◌+◌, ◌<◌, refl, sym, ap, ◌∙◌, subst, arith, append_assoc, append-nil, Bool, true, false, Result, IfOk, codes, string_bytes, String, List, [], ◌∷◌, ◌++◌, length, take, get_or, Global, suc}
-use Rattle.std.specs.declared.alloc.AllocError.{AllocError}
-use mir.Val.{bool_byte}
+use Rattle.std.proofs.Common.{ℕ, ◌≡◌, ◌+◌, ◌<◌, refl, sym, ap, ◌∙◌, subst, arith, append_assoc, append-nil, codes, List, [], ◌∷◌, ◌++◌, length, take, get_or, suc}
 use Rattle.std.specs.Fmt.{decimal}
 use Rattle.std.proofs.Math.Seq.{take-suc}
 use Rattle.terms.specs.declared.Record.{Record}
@@ -13,20 +11,12 @@ use Rattle.journal.specs.File.{HasHeader, Refuses}
 use Rattle.journal.proofs.One.{one_header}
 use Rattle.bracha.specs.declared.fault.Fault.TheVariants as fault
 use Rattle.bracha.specs.Faults.{of_journal}
-use Rattle.bracha.specs.Dumps.{IsUnreadable, bit_digit, header_line, record_line, record_lines}
-
--- a text with other words for its bytes
-pub written_as : (r : Result (String Global) AllocError) (bytes others : List ℕ) → bytes ≡ others → IfOk r (λ s. string_bytes s ≡ bytes) → IfOk r (λ s. string_bytes s ≡ others)
-written_as r bytes others e h = subst (λ (b : List ℕ). IfOk r (λ s. string_bytes s ≡ b)) e h
+use Rattle.bracha.specs.Dumps.{IsUnreadable, header_line, record_line, record_lines}
 
 pub header_pieces : (h : Header) (cluster n t questions me : ℕ) → cluster ≡ h.cluster → n ≡ h.size.n → t ≡ h.size.t → questions ≡ h.size.questions → me ≡ h.me
     → codes "cluster " ++ (decimal cluster ++ (codes " n " ++ (decimal n ++ (codes " t " ++ (decimal t
     ++ (codes " questions " ++ (decimal questions ++ (codes " me " ++ (decimal me ++ codes "\n"))))))))) ≡ header_line h
 header_pieces h cluster n t questions me a b c d e = rw (a, b, c, d, e) (simp append_assoc)
-
-pub bit_of : (bit : Bool) → bool_byte bit ≡ bit_digit bit
-bit_of true = refl
-bit_of false = refl
 
 lines-append : (xs ys : List Record) → record_lines (xs ++ ys) ≡ record_lines xs ++ record_lines ys
 lines-append [] ys = refl

@@ -18,7 +18,8 @@ use Rattle.rbc.specs.declared.Heard.TheVariants.{News, Repeat, Foreign}
 use Rattle.rbc.specs.declared.Broadcasts.{Broadcasts}
 use Rattle.rbc.specs.Answers.{heard_as}
 use Rattle.rbc.specs.Stands.{Stands}
-use Rattle.bracha.specs.Replies.{line, frame_line, AnswersAs, AnswersStatement}
+use Rattle.report.specs.Records.{line}
+use Rattle.bracha.specs.Replies.{frame_line, AnswersAs, AnswersStatement}
 use Rattle.bracha.specs.Sessions.{IsOf}
 
 -- what is said changes neither the question nor the size nor what was heard

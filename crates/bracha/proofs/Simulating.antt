@@ -7,8 +7,9 @@ use Rattle.std.proofs.lemmas.List.{length-take}
 use Rattle.std.proofs.lemmas.List.Concat.{flat_map-append}
 use Rattle.sim.specs.declared.events.Mark.{Mark}
 use Rattle.sim.specs.declared.events.Mark.TheVariants.{Done}
-use Rattle.bracha.specs.Dumps.{bit_digit}
-use Rattle.bracha.specs.Simulations.{is_skipped, skipped, verdict_line, count_line}
+use Rattle.report.specs.Records.{bit_digit}
+use Rattle.report.specs.Traces.{is_skipped}
+use Rattle.bracha.specs.Simulations.{skipped, verdict_line, count_line}
 
 pub verdict_pieces : (v : ℕ × ℕ × ℕ × Bool) (digit : ℕ) → digit ≡ bit_digit v.3
     → codes "member " ++ (decimal v.0 ++ (codes " question " ++ (decimal v.1 ++ (codes " round " ++ (decimal v.2

@@ -6,8 +6,8 @@ use Rattle.sim.specs.declared.cluster.Outcome.{Outcome}
 use Rattle.sim.specs.Outcomes.{IsSimulation, among}
 use Rattle.bracha.specs.declared.simulate.Pages.{Pages}
 use Rattle.bracha.specs.Simulations.{simulation_text}
-use Rattle.bracha.specs.Traces.{trace_text}
-use Rattle.bracha.specs.Charts.{IsSvg}
+use Rattle.report.specs.Traces.{trace_text}
+use Rattle.report.specs.Charts.{IsSvg}
 
 -- the outcome is that of a run of the script, over disks in which no fuse is
 abbrev pub IsOutcome : Script → Outcome → Type 0

@@ -1,5 +1,5 @@
 -- What `hear` answers to one statement, to one piece of a stream, and to one line.
-use Rattle.std.specs.Prelude.{ℕ, ◌≡◌, ◌==◌, cond, Option, List, [], ◌∷◌, ◌++◌, codes}
+use Rattle.std.specs.Prelude.{ℕ, ◌≡◌, ◌==◌, cond, Option, List, [], ◌++◌, codes}
 use Rattle.std.specs.List.{flat_map}
 use Rattle.terms.specs.declared.Kind.TheVariants.{Echo, Ready}
 use Rattle.terms.specs.declared.Value.{Value}
@@ -21,12 +21,9 @@ use Rattle.rbc.specs.declared.Heard.{Heard}
 use Rattle.rbc.specs.declared.Heard.TheVariants.{News, Repeat, Foreign}
 use Rattle.rbc.specs.Answers.{heard_as}
 use Rattle.hex.specs.Hex.{encode_lower}
+use Rattle.report.specs.Records.{line}
 use Rattle.bracha.specs.Pieces.{IsPiece}
 use Rattle.bracha.specs.InTurn.{InTurn}
-
--- the words and a line's end
-abbrev pub line : List ℕ → List ℕ
-line words = words ++ 10 ∷ []
 
 -- the frame of what was said, in lower case digits
 abbrev pub frame_line : Record → List ℕ

@@ -1,20 +1,13 @@
 -- What `simulate` prints.
-use Rattle.std.specs.Prelude.{ℕ, ◌+◌, Bool, true, false, List, [], ◌∷◌, ◌++◌, codes, length}
+use Rattle.std.specs.Prelude.{ℕ, ◌+◌, Bool, List, [], ◌∷◌, ◌++◌, codes, length}
 use Rattle.std.specs.List.{flat_map}
 use Rattle.std.specs.Fmt.{decimal}
 use Rattle.sim.specs.declared.cluster.Outcome.{Outcome}
 use Rattle.sim.specs.declared.events.Mark.{Mark}
-use Rattle.sim.specs.declared.events.Mark.TheVariants.{Done, Failed, Skipped}
-use Rattle.bracha.specs.Replies.{line}
-use Rattle.bracha.specs.Dumps.{sentence, bit_digit}
+use Rattle.report.specs.Records.{line, sentence, bit_digit}
+use Rattle.report.specs.Traces.{is_skipped}
 
--- the event was skipped
-abbrev pub is_skipped : Mark → Bool
-is_skipped Done = false
-is_skipped Failed = false
-is_skipped (Skipped reason) = true
-
--- how many events were
+-- how many events were skipped
 abbrev pub skipped : List Mark → ℕ
 skipped [] = 0
 skipped (mark ∷ marks) = bit_digit (is_skipped mark) + skipped marks

@@ -8,38 +8,15 @@ ghost use Rattle.journal.specs.declared.fault.JournalFault.TheVariants.{Device};
 ghost use Rattle.terms.specs.declared.Header.{Header};
 ghost use Rattle.terms.specs.declared.Record.{Record};
 ghost use Rattle.bracha.specs.Faults.{IsOfDump};
-ghost use Rattle.bracha.specs.Dumps.{kind_word, value_word, header_line, statement_text, record_text, record_line, dump_text, IsUnreadable};
+ghost use Rattle.bracha.specs.Dumps.{header_line, record_line, dump_text, IsUnreadable};
 
 use crate::fault::Fault;
 use disk::Disk;
 use journal::Journal;
+use report::record_text;
 use std::alloc::{AllocError, Global};
 use std::io::Write;
-use terms::{Header, Kind, Record, Statement, Value};
-
-/// The word of a kind.
-pub(crate) fn kind_word(kind: Kind) -> &'static str
-    ensures { result.now ≡ kind_word kind }
-{
-    match kind {
-        Kind::Initial => "initial",
-        Kind::Echo => "echo",
-        Kind::Ready => "ready",
-    }
-}
-
-/// The word of a value.
-fn value_word(value: Value) -> &'static str
-    ensures { result.now ≡ value_word value }
-{
-    match value {
-        Value::Zero => "zero",
-        Value::One => "one",
-        Value::SureZero => "sure-zero",
-        Value::SureOne => "sure-one",
-        Value::Unsure => "unsure",
-    }
-}
+use terms::{Header, Record};
 
 /// The line of a header.
 fn header_line(alloc: Global, header: &Header) -> Result<String, AllocError>
@@ -54,36 +31,6 @@ fn header_line(alloc: Global, header: &Header) -> Result<String, AllocError>
         size.questions(),
         header.me()
     )
-}
-
-/// The words of a statement: its kind, question, origin, round, step and value.
-pub(crate) fn statement_text(alloc: Global, statement: Statement) -> Result<String, AllocError>
-    ensures { IfOk result (λ text. string_bytes text ≡ statement_text statement) }
-{
-    let place = statement.place();
-    format!(in alloc;
-        "{} {} {} {} {} {}",
-        kind_word(statement.kind()),
-        place.question(),
-        place.origin(),
-        place.round(),
-        place.step(),
-        value_word(statement.value())
-    )
-}
-
-/// The words of a record: those of a statement, or `decided`, the question, the round and the bit.
-pub(crate) fn record_text(alloc: Global, record: &Record) -> Result<String, AllocError>
-    ensures { IfOk result (λ text. string_bytes text ≡ record_text «record».now) }
-{
-    match record {
-        Record::Said(statement) => statement_text(alloc, *statement),
-        Record::Decided {
-            question,
-            round,
-            bit,
-        } => format!(in alloc; "decided {} {} {}", *question, *round, u8::from(*bit)),
-    }
 }
 
 /// The line of a record.

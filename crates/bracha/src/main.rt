@@ -2,7 +2,6 @@
 #![tactic(auto)]
 
 mod address;
-mod chart;
 mod command;
 mod dump;
 mod entries;
@@ -13,7 +12,6 @@ mod piece;
 mod session;
 mod settings;
 mod simulate;
-mod trace;
 
 use clap::error::ErrorKind;
 use command::{Task, command, size_from};

@@ -8,14 +8,13 @@ ghost use Rattle.sim.specs.declared.cluster.Outcome.{Outcome};
 ghost use Rattle.sim.specs.Outcomes.{AreDisks, fused_in};
 ghost use Rattle.script.specs.Scripts.{IsScript};
 ghost use Rattle.bracha.specs.Faults.{IsOfSimulate, IsOfStream};
-ghost use Rattle.bracha.specs.Charts.{IsSvg};
+ghost use Rattle.report.specs.Charts.{IsSvg};
 ghost use Rattle.bracha.specs.Pages.{IsOutcome, IsPage, IsTrace, ArePages};
-ghost use Rattle.bracha.specs.Simulations.{verdict_line, count_line, simulation_text, is_skipped, skipped};
+ghost use Rattle.bracha.specs.Simulations.{verdict_line, count_line, simulation_text, skipped};
 
-use crate::chart::chart_text;
 use crate::fault::Fault;
-use crate::trace::trace_text;
 use disk::MemDisk;
+use report::{chart_text, is_skipped, trace_text};
 use script::Script;
 use sim::{Mark, Outcome};
 use std::alloc::{AllocError, Global};
@@ -31,16 +30,6 @@ fn verdict_line(alloc: Global, verdict: &(u8, u16, u8, bool)) -> Result<String, 
         "member {member} question {question} round {round} bit {}\n",
         u8::from(bit)
     )
-}
-
-/// Whether the event was skipped.
-pub(crate) fn is_skipped(mark: &Mark) -> bool
-    ensures { result ≡ is_skipped mark.now }
-{
-    match mark {
-        Mark::Skipped(_) => true,
-        Mark::Done | Mark::Failed => false,
-    }
 }
 
 /// How many of the marks are of events that were skipped.

@@ -1,6 +1,7 @@
 use Rattle.std.proofs.Common.{ap, ◌∙◌}
 use Rattle.terms.specs.declared.Size.{Size}
-use Rattle.bracha.proofs.Dumping.{written_as, header_pieces}
+use Rattle.bracha.proofs.Dumping.{header_pieces}
+use Rattle.report.proofs.Wording.{written_as}
 use Rattle.bracha.proofs.dump.header_line.Goals as goal
 
 pub returns : goal.returns

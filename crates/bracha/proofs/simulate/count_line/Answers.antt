@@ -1,5 +1,5 @@
 use Rattle.std.proofs.Common.{refl}
-use Rattle.bracha.proofs.Dumping.{written_as}
+use Rattle.report.proofs.Wording.{written_as}
 use Rattle.bracha.proofs.Simulating.{count_pieces}
 use Rattle.bracha.proofs.simulate.count_line.Goals as goal
 

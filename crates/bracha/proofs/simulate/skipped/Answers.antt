@@ -1,6 +1,6 @@
 use Rattle.std.proofs.Common.{◌∙◌, ap, arith, ◌≤◌}
-use Rattle.bracha.specs.Dumps.{bit_digit}
-use Rattle.bracha.proofs.Dumping.{bit_of}
+use Rattle.report.specs.Records.{bit_digit}
+use Rattle.report.proofs.Wording.{bit_of}
 use Rattle.bracha.proofs.Simulating.{bit_small, skipped_more, skipped_below}
 use Rattle.bracha.proofs.simulate.skipped.Goals as goal
 

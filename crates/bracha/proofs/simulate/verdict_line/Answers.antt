@@ -1,5 +1,5 @@
 use Rattle.std.proofs.Common.{◌∙◌}
-use Rattle.bracha.proofs.Dumping.{written_as, bit_of}
+use Rattle.report.proofs.Wording.{written_as, bit_of}
 use Rattle.bracha.proofs.Simulating.{verdict_pieces}
 use Rattle.bracha.proofs.simulate.verdict_line.Goals as goal
 

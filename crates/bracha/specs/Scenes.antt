@@ -1,7 +1,0 @@
--- A chart in the making.
-use Rattle.std.specs.Prelude.{◌≡◌}
-use Rattle.bracha.specs.declared.chart.Scene.{Scene}
-
--- elements may have been drawn, and all else is as it was
-abbrev pub DrawsOnly : Scene → Scene → Type 0
-DrawsOnly old new = new ≡ record old { events = new.events }

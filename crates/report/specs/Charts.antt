@@ -1,0 +1,78 @@
+-- What the chart of a run makes of its events.
+use Rattle.std.specs.Prelude.{ℕ, ◌+◌, ◌^◌, ◌≡◌, ◌<◌, ◌==◌, nat_le, Bool, true, false, if◌then◌else◌, Option, Some, None, List, [], ◌∷◌, ◌++◌, codes, length, take, slice_get, slice_index}
+use Rattle.hex.specs.Hex.{encode_lower}
+use Rattle.terms.specs.declared.Record.{Record}
+use Rattle.terms.specs.declared.Record.TheVariants.{Said, Decided}
+use Rattle.terms.specs.declared.Statement.{Statement}
+use Rattle.report.specs.Records.{statement_text}
+use Rattle.sim.specs.declared.events.Event.{Event}
+use Rattle.sim.specs.declared.events.Event.TheVariants.{Propose, Deliver, LieBytes, Fuse, Crash, Restart, Reset}
+use Rattle.sim.specs.declared.events.Which.{Which}
+use Rattle.sim.specs.declared.events.Which.TheVariants.{Next, At}
+use Rattle.sim.specs.declared.events.Mark.{Mark}
+use Rattle.sim.specs.declared.events.Mark.TheVariants.{Done, Failed, Skipped}
+
+-- the member that an event is for
+abbrev pub member_of : Event → ℕ
+member_of (Propose member question bit toss) = member
+member_of (Deliver from to which toss) = to
+member_of (LieBytes liar to bytes toss) = to
+member_of (Fuse member calls) = member
+member_of (Crash member pick) = member
+member_of (Restart member) = member
+member_of (Reset from to) = to
+
+-- whether that member runs after the event, if it ran before or not: a crash and a failed disk end a life, and being
+-- opened begins one
+abbrev pub runs_after : Event → Mark → Bool → Bool
+runs_after event (Skipped reason) runs = runs
+runs_after event Failed runs = false
+runs_after (Propose member question bit toss) Done runs = runs
+runs_after (Deliver from to which toss) Done runs = runs
+runs_after (LieBytes liar to bytes toss) Done runs = runs
+runs_after (Fuse member calls) Done runs = runs
+runs_after (Crash member pick) Done runs = false
+runs_after (Restart member) Done runs = true
+runs_after (Reset from to) Done runs = runs
+
+-- where that member's link from a sender is after an event that wasn't skipped: one further where its next statement
+-- came, at its start after a restart that is done and after its own reset
+abbrev pub place_after : Event → Mark → ℕ → ℕ → ℕ
+place_after event (Skipped reason) sender place = place
+place_after (Propose member question bit toss) mark sender place = place
+place_after (Deliver from to Next toss) mark sender place = if sender == from then place + 1 else place
+place_after (Deliver from to (At number) toss) mark sender place = place
+place_after (LieBytes liar to bytes toss) mark sender place = place
+place_after (Fuse member calls) mark sender place = place
+place_after (Crash member pick) mark sender place = place
+place_after (Restart member) Done sender place = 0
+place_after (Restart member) Failed sender place = place
+place_after (Reset from to) mark sender place = if sender == from then 0 else place
+
+-- the statements among records, in order
+abbrev pub statements_of : List Record → List Statement
+statements_of [] = []
+statements_of (Said s ∷ records) = s ∷ statements_of records
+statements_of (Decided question round bit ∷ records) = statements_of records
+
+-- which statement a delivery is of: the one at the link's place, or the one of the number
+abbrev pub delivered : List Statement → ℕ → Which → Option Statement
+delivered said place Next = slice_get said place
+delivered said place (At number) = slice_get said number
+
+-- the words of a statement, if there is one
+abbrev pub text_if : Option Statement → List ℕ
+text_if (Some s) = statement_text s
+text_if None = []
+
+-- bytes in hexadecimal digits, of which 24 are shown at most
+abbrev pub bytes_label : List ℕ → List ℕ
+bytes_label bytes = if nat_le (length bytes) 12 then encode_lower bytes else encode_lower (take 12 bytes) ++ codes ".."
+
+-- each place is where the link from the sender of its number is after the event, if there is a number for it
+abbrev pub AreMoved : Event → Mark → List ℕ → List ℕ → Type 0
+AreMoved event mark old new = (a : ℕ) → a < length old → slice_index old a + 1 < 2 ^ 64 → slice_index new a ≡ place_after event mark a (slice_index old a)
+
+-- an SVG text by its beginning and its end
+abbrev pub IsSvg : List ℕ → Type 0
+IsSvg text = (body : List ℕ) × (text ≡ codes "<svg " ++ (body ++ codes "</svg>\n"))

@@ -1,0 +1,36 @@
+-- What the chart knows of a member.
+use Rattle.std.specs.Prelude.{ℕ, ◌≡◌, ◌++◌, Bool, true, false, Some, List, [], replicate, slice_get}
+use Rattle.terms.specs.declared.Record.{Record}
+use Rattle.sim.specs.declared.events.Event.{Event}
+use Rattle.sim.specs.declared.events.Mark.{Mark}
+use Rattle.report.specs.declared.chart.column.Column.{Column}
+use Rattle.report.specs.declared.chart.drawing.Line.{Line}
+use Rattle.report.specs.declared.chart.drawing.Line.TheVariants.{Runs, Down, Lies}
+use Rattle.report.specs.Charts.{member_of, runs_after, statements_of, AreMoved}
+
+-- how the lifeline of a liar, or else of a member that runs or doesn't, looks
+abbrev pub line_of : Bool → Bool → Line
+line_of true runs = Lies
+line_of false true = Runs
+line_of false false = Down
+
+-- a member of a cluster of n before the first event, its lifeline not drawn yet
+pub record IsNew (n : ℕ) (liar : Bool) (top : ℕ) (column : Column) : Type 0 where
+  pub side : column.is_liar ≡ liar
+  pub up : column.runs ≡ true
+  pub silent : column.said.items ≡ []
+  pub at_start : column.places.items ≡ replicate n 0
+  pub drawn : column.drawn ≡ top
+
+-- the event's member, before and after it
+pub record Follows (event : Event) (mark : Mark) (saved : List Record) (old new : Column) : Type 0 where
+  pub side : new.is_liar ≡ old.is_liar
+  pub runs : new.runs ≡ runs_after event mark old.runs
+  pub said : new.said.items ≡ old.said.items ++ statements_of saved
+  pub places : AreMoved event mark old.places.items new.places.items
+
+-- all members, before and after an event: its own follows it, and the others stay as they are
+abbrev pub FollowAll : Event → Mark → List Record → List Column → List Column → Type 0
+FollowAll event mark saved old new = (k : ℕ) (before after : Column)
+    → slice_get old k ≡ Some before → slice_get new k ≡ Some after
+    → (k ≡ member_of event → Follows event mark saved before after) × ((k ≡ member_of event → ⊥) → after ≡ before)

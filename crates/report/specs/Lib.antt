@@ -1,0 +1,5 @@
+pub mod Records
+pub mod Traces
+pub mod Charts
+pub mod Columns
+pub mod Scenes

@@ -1,0 +1,449 @@
+//! What `simulate --chart` draws: the events of a run as a sequence chart in SVG.
+
+ghost use Rattle.std.specs.Prelude.{◌≡◌, ◌+◌, ◌*◌, ◌≤◌, IfOk, OnOk, string_bytes};
+ghost use Rattle.script.specs.declared.TheConstants.{MOST_EVENTS};
+ghost use Rattle.report.specs.Charts.{bytes_label, IsSvg};
+
+mod column;
+mod drawing;
+
+use crate::records::{kind_word, statement_text};
+use crate::trace::{calls_text, is_skipped, pick_text};
+use column::{Column, member_of};
+use disk::Pick;
+use drawing::{Drawing, Sign, Words};
+use sim::{Event, Mark, Which};
+use std::alloc::{AllocError, Global};
+use terms::{Kind, Record, Size};
+
+/// How far a row stands below the one before it.
+const ROW: u64 = 36;
+
+/// How far down the first row stands.
+const TOP: u64 = 66;
+
+/// How far down the lifelines begin.
+const LIFE: u64 = 34;
+
+/// Where the events' numbers end.
+const NUMBERS: u64 = 40;
+
+/// How the classes of the elements look.
+const STYLE: &str =
+    "<style>text{font:12px sans-serif;fill:#111;stroke:#fff;stroke-width:3px;paint-order:stroke}\
+path{fill:none;stroke:#111;stroke-width:1.5}\
+.head{font-weight:bold;text-anchor:middle}.number{text-anchor:end;fill:#777}.middle{text-anchor:middle}\
+.said{fill:#1d4ed8}.note{fill:#777}.lie,.failure{fill:#c81e1e}.failure{text-anchor:end}.opened{fill:#15803d}\
+.arrow,.dot{fill:#111}.liar{fill:#c81e1e;stroke:#c81e1e}\
+.cross{stroke:#c81e1e;stroke-width:2.5}.ring{stroke:#c81e1e;stroke-width:2;fill:#fff}.triangle{fill:#15803d;stroke:#15803d}\
+.runs{stroke:#444}.down{stroke:#aaa;stroke-dasharray:5 4}.lies{stroke:#e79a9a}\
+.badge{fill:#15803d}.verdict{fill:#fff;stroke:none;font-weight:bold;text-anchor:middle}</style>";
+
+/// Where the lifeline of that member stands.
+fn x_of(member: u8) -> u64
+    ensures { result ≡ 220 * member + 110 }
+{
+    220 * u64::from(member) + 110
+}
+
+/// Where the row of that number stands, counted from 0.
+fn y_of(row: u64) -> u64
+    ensures { row ≤ MOST_EVENTS → result ≡ 36 * row + 66 }
+{
+    row.saturating_mul(ROW).saturating_add(TOP)
+}
+
+/// The question, where there are several.
+fn on_question(alloc: Global, questions: u16, question: u16) -> Result<String, AllocError> {
+    if questions > 1 {
+        format!(in alloc; " on {question}")
+    } else {
+        Ok(String::new(alloc))
+    }
+}
+
+/// The bytes in hexadecimal digits, of which 24 are shown at most.
+fn bytes_label(alloc: Global, bytes: &[u8]) -> Result<String, AllocError>
+    ensures { IfOk result (λ text. string_bytes text ≡ bytes_label bytes.now) }
+{
+    if bytes.len() <= 12 {
+        return hex::encode(alloc, bytes);
+    }
+    let digits = hex::encode(alloc, &bytes[..12])?;
+    format!(in alloc; "{digits}..")
+}
+
+/// How many statements of that kind are among the records.
+fn count_of(kind: Kind, saved: &[Record]) -> usize {
+    saved
+        .iter()
+        .filter(|record| matches!(record, Record::Said(statement) if statement.kind() == kind))
+        .count()
+}
+
+/// What was said, by kinds, behind the verb; nothing where nothing was.
+fn said_text(alloc: Global, verb: &str, saved: &[Record]) -> Result<String, AllocError> {
+    let mut text = String::new(alloc);
+    for kind in [Kind::Initial, Kind::Echo, Kind::Ready] {
+        let before = if text.is_empty() { verb } else { "," };
+        let word = kind_word(kind);
+        let part = match count_of(kind, saved) {
+            0 => String::new(alloc),
+            1 => format!(in alloc; "{before} {word}")?,
+            many => format!(in alloc; "{before} {many} {word}s")?,
+        };
+        text.push_str(part.as_str())?;
+    }
+    Ok(text)
+}
+
+/// What was decided; nothing where nothing was.
+fn decided_text(alloc: Global, questions: u16, saved: &[Record]) -> Result<String, AllocError> {
+    let mut text = String::new(alloc);
+    for record in saved {
+        if let Record::Decided { question, bit, .. } = *record {
+            let before = if text.is_empty() { "decides" } else { "," };
+            let on = on_question(alloc, questions, question)?;
+            let part = format!(in alloc; "{before} {}{on}", u8::from(bit))?;
+            text.push_str(part.as_str())?;
+        }
+    }
+    Ok(text)
+}
+
+/// Draws the lifeline of the event's member down to it, where it looks different from there on.
+fn draw_piece(
+    lifelines: &mut Drawing,
+    column: &mut Column,
+    event: &Event,
+    mark: Mark,
+    y: u64,
+) -> Result<(), AllocError>
+    ensures { OnOk result (column.new ≡ record column.old { drawn = column.new.drawn }) }
+{
+    if column.turns(event, mark) {
+        let x = x_of(member_of(event));
+        lifelines.lifeline(column.line(), x, column.drawn(), y)?;
+        column.draw_to(y);
+    }
+    Ok(())
+}
+
+/// The run, as far as it is drawn.
+#[derive(Drop)]
+struct Scene {
+    alloc: Global,
+    size: Size,
+    columns: Vec<Column>,
+    lifelines: Drawing,
+    events: Drawing,
+    rows: u64,
+}
+
+impl Scene {
+    ghost use Rattle.std.specs.Prelude.{ℕ, ◌≡◌, ◌+◌, ◌<◌, IfOk, OnOk, Some, slice_get, string_bytes};
+    ghost use Rattle.script.specs.declared.TheConstants.{MOST_EVENTS};
+    ghost use Rattle.report.specs.Scenes.{DrawsOnly};
+    ghost use Rattle.report.specs.Charts.{delivered, text_if, IsSvg};
+    ghost use Rattle.report.specs.Columns.{FollowAll};
+    ghost use Rattle.report.specs.declared.chart.column.Column.{Column};
+
+    /// The heads of the columns.
+    fn new(alloc: Global, size: Size, liars: &[u8]) -> Result<Scene, AllocError> {
+        let mut events = Drawing::new(alloc);
+        let mut columns = Vec::new(alloc);
+        for member in 0..size.n() {
+            let is_liar = liars.contains(&member);
+            columns.push(Column::new(alloc, size.n(), is_liar, LIFE)?)?;
+            let lies = if is_liar { " (lies)" } else { "" };
+            let name = format!(in alloc; "member {member}{lies}")?;
+            events.words(Words::Head, x_of(member), 24, name.as_str())?;
+        }
+        Ok(Scene {
+            alloc,
+            size,
+            columns,
+            lifelines: Drawing::new(alloc),
+            events,
+            rows: 0,
+        })
+    }
+
+    /// Draws an event that wasn't skipped into a row of its own.
+    fn take(
+        &mut self,
+        number: usize,
+        event: &Event,
+        mark: Mark,
+        saved: &[Record],
+    ) -> Result<(), AllocError>
+        ensures follow { OnOk result (FollowAll event.now mark saved.now self.old.columns.items self.new.columns.items) }
+        ensures row { OnOk result (self.old.rows < MOST_EVENTS → self.new.rows ≡ self.old.rows + 1) }
+    {
+        let y = y_of(self.rows);
+        self.rows = self.rows.saturating_add(1);
+        let number = format!(in self.alloc; "{number}")?;
+        self.events
+            .words(Words::Number, NUMBERS, y, number.as_str())?;
+        self.show(event, mark, y)?;
+        self.show_saved(event, saved, y)?;
+        self.follow(event, mark, saved, y)
+    }
+
+    /// Draws what happens.
+    fn show(&mut self, event: &Event, mark: Mark, y: u64) -> Result<(), AllocError>
+        ensures { DrawsOnly self.old self.new }
+    {
+        match event {
+            Event::Propose {
+                member,
+                question,
+                bit,
+                ..
+            } => self.show_proposal(*member, *question, *bit, y)?,
+            Event::Deliver {
+                from,
+                to,
+                which,
+                ..
+            } => self.show_delivery(*from, *to, *which, y)?,
+            Event::LieBytes {
+                liar,
+                to,
+                bytes,
+                ..
+            } => self.show_lie(*liar, *to, bytes.as_slice(), y)?,
+            Event::Fuse { member, calls } => self.show_fuse(*member, *calls, y)?,
+            Event::Crash { member, pick } => self.show_crash(*member, *pick, y)?,
+            Event::Restart { member } => self.show_restart(*member, mark, y)?,
+            Event::Reset { from, to } => self.show_reset(*from, *to, y)?,
+        }
+        if mark == Mark::Failed {
+            self.show_failure(x_of(member_of(event)), y)?;
+        }
+        Ok(())
+    }
+
+    /// Draws a proposal.
+    fn show_proposal(
+        &mut self,
+        member: u8,
+        question: u16,
+        bit: bool,
+        y: u64,
+    ) -> Result<(), AllocError>
+        ensures { DrawsOnly self.old self.new }
+    {
+        let x = x_of(member);
+        let on = on_question(self.alloc, self.size.questions(), question)?;
+        let words = format!(in self.alloc; "proposes {}{on}", u8::from(bit))?;
+        self.events.sign(Sign::Dot, x, y)?;
+        self.events.words(Words::Proposal, x, y, words.as_str())
+    }
+
+    /// What a delivery carries.
+    fn carried(&self, from: u8, to: u8, which: Which) -> Result<String, AllocError>
+        ensures { (sender receiver : Column) (place : ℕ) → slice_get self.now.columns.items from ≡ Some sender →
+            slice_get self.now.columns.items to ≡ Some receiver → slice_get receiver.places.items from ≡ Some place →
+            IfOk result (λ text. string_bytes text ≡ text_if (delivered sender.said.items place which)) }
+    {
+        let (Some(sender), Some(receiver)) = (
+            self.columns.get(usize::from(from)),
+            self.columns.get(usize::from(to)),
+        ) else {
+            return Ok(String::new(self.alloc));
+        };
+        match receiver.takes(from, sender, which) {
+            Some(statement) => statement_text(self.alloc, statement),
+            None => Ok(String::new(self.alloc)),
+        }
+    }
+
+    /// Draws a delivery.
+    fn show_delivery(&mut self, from: u8, to: u8, which: Which, y: u64) -> Result<(), AllocError>
+        ensures { DrawsOnly self.old self.new }
+    {
+        let (start, end) = (x_of(from), x_of(to));
+        let carried = self.carried(from, to, which)?;
+        if from == to {
+            self.events.turn(start, y)?;
+            return self.events.words(Words::Turn, start, y, carried.as_str());
+        }
+        let words = if from < to {
+            Words::Rightward
+        } else {
+            Words::Leftward
+        };
+        self.events.arrow(false, start, end, y)?;
+        self.events.words(words, start, y, carried.as_str())
+    }
+
+    /// Draws a lie.
+    fn show_lie(&mut self, liar: u8, to: u8, bytes: &[u8], y: u64) -> Result<(), AllocError>
+        ensures { DrawsOnly self.old self.new }
+    {
+        let label = bytes_label(self.alloc, bytes)?;
+        let words = if liar < to {
+            Words::LieRightward
+        } else {
+            Words::LieLeftward
+        };
+        self.events.arrow(true, x_of(liar), x_of(to), y)?;
+        self.events.words(words, x_of(liar), y, label.as_str())
+    }
+
+    /// Draws a fuse that is set or taken out.
+    fn show_fuse(&mut self, member: u8, calls: Option<u64>, y: u64) -> Result<(), AllocError>
+        ensures { DrawsOnly self.old self.new }
+    {
+        let calls = calls_text(self.alloc, calls)?;
+        let words = format!(in self.alloc; "fuse {calls}")?;
+        self.events
+            .words(Words::Note, x_of(member), y, words.as_str())
+    }
+
+    /// Draws a crash.
+    fn show_crash(&mut self, member: u8, pick: Pick, y: u64) -> Result<(), AllocError>
+        ensures { DrawsOnly self.old self.new }
+    {
+        let left = pick_text(self.alloc, pick)?;
+        let words = format!(in self.alloc; "crash {left}")?;
+        self.events.sign(Sign::Cross, x_of(member), y)?;
+        self.events
+            .words(Words::Crash, x_of(member), y, words.as_str())
+    }
+
+    /// Draws an opening, unless it failed.
+    fn show_restart(&mut self, member: u8, mark: Mark, y: u64) -> Result<(), AllocError>
+        ensures { DrawsOnly self.old self.new }
+    {
+        if mark != Mark::Done {
+            return Ok(());
+        }
+        self.events.sign(Sign::Triangle, x_of(member), y)?;
+        self.events
+            .words(Words::Restart, x_of(member), y, "restart")
+    }
+
+    /// Draws a link that starts anew.
+    fn show_reset(&mut self, from: u8, to: u8, y: u64) -> Result<(), AllocError>
+        ensures { DrawsOnly self.old self.new }
+    {
+        let words = format!(in self.alloc; "reset {from}")?;
+        self.events.words(Words::Note, x_of(to), y, words.as_str())
+    }
+
+    /// Draws that a disk failed.
+    fn show_failure(&mut self, x: u64, y: u64) -> Result<(), AllocError>
+        ensures { DrawsOnly self.old self.new }
+    {
+        self.events.sign(Sign::Ring, x, y)?;
+        self.events.words(Words::Failure, x, y, "disk fails")
+    }
+
+    /// Writes what was saved because of the event.
+    fn show_saved(&mut self, event: &Event, saved: &[Record], y: u64) -> Result<(), AllocError>
+        ensures { DrawsOnly self.old self.new }
+    {
+        let x = x_of(member_of(event));
+        let verb = match event {
+            Event::Restart { .. } => "keeps",
+            _ => "says",
+        };
+        let said = said_text(self.alloc, verb, saved)?;
+        let decided = decided_text(self.alloc, self.size.questions(), saved)?;
+        if decided.is_empty() {
+            return self.events.words(Words::Said, x, y, said.as_str());
+        }
+        self.events.badge(x, y, decided.as_str(), said.as_str())
+    }
+
+    /// Follows the event, and draws the lifeline of its member down to it where it then looks different.
+    fn follow(
+        &mut self,
+        event: &Event,
+        mark: Mark,
+        saved: &[Record],
+        y: u64,
+    ) -> Result<(), AllocError>
+        ensures follow { OnOk result (FollowAll event.now mark saved.now self.old.columns.items self.new.columns.items) }
+        ensures row { OnOk result (self.new.rows ≡ self.old.rows) }
+    {
+        let member = member_of(event);
+        match self.columns.get_mut(usize::from(member)) {
+            None => Ok(()),
+            Some(column) => {
+                draw_piece(&mut self.lifelines, column, event, mark, y)?;
+                column.follow(event, mark, saved)
+            }
+        }
+    }
+
+    /// The picture, with the lifelines drawn to its end.
+    fn finish(mut self) -> Result<String, AllocError>
+        ensures { IfOk result (λ text. IsSvg (string_bytes text)) }
+    {
+        let bottom = y_of(self.rows);
+        for member in 0..self.size.n() {
+            if let Some(column) = self.columns.get(usize::from(member)) {
+                self.lifelines
+                    .lifeline(column.line(), x_of(member), column.drawn(), bottom)?;
+            }
+        }
+        svg(
+            self.alloc,
+            x_of(self.size.n()),
+            bottom,
+            &self.lifelines,
+            &self.events,
+        )
+    }
+}
+
+/// The picture of that width, as far down as that and a little farther.
+fn svg(
+    alloc: Global,
+    width: u64,
+    bottom: u64,
+    lifelines: &Drawing,
+    events: &Drawing,
+) -> Result<String, AllocError>
+    ensures { IfOk result (λ text. IsSvg (string_bytes text)) }
+{
+    let height = bottom.saturating_add(12);
+    let frame = format!(in alloc;
+        "xmlns=\"http://www.w3.org/2000/svg\" width=\"{width}\" height=\"{height}\" viewBox=\"0 0 {width} {height}\">\n{}\n<rect width=\"{width}\" height=\"{height}\" fill=\"#fff\"/>\n",
+        STYLE
+    )?;
+    format!(in alloc;
+        "<svg {frame}{}{}</svg>\n",
+        lifelines.as_str(),
+        events.as_str()
+    )
+}
+
+/// Draws the events that weren't skipped as a sequence chart in SVG, each in a row with its number, counted from 1. A
+/// member's lifeline is solid while it runs, and dashed while it is down or stopped. Where the lists are of unequal lengths
+/// the chart goes as far as the shortest.
+pub fn chart_text(
+    alloc: Global,
+    size: Size,
+    liars: &[u8],
+    events: &[Event],
+    marks: &[Mark],
+    saved: &[Vec<Record>],
+) -> Result<String, AllocError>
+    ensures { IfOk result (λ text. IsSvg (string_bytes text)) }
+{
+    let count = events.len().min(marks.len()).min(saved.len());
+    let mut scene = Scene::new(alloc, size, liars)?;
+    for (index, event) in events[..count].iter().enumerate() {
+        if !is_skipped(&marks[index]) {
+            scene.take(index + 1, event, marks[index], &saved[index])?;
+        }
+    }
+    scene.finish()
+}
+
+#[cfg(test)]
+mod tests;

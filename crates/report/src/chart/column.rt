@@ -1,0 +1,171 @@
+//! A member of a chart, as far as the chart has come.
+
+ghost use Rattle.std.specs.Prelude.{◌≡◌, ◌+◌, ◌^◌, ◌<◌, ◌++◌, OnOk};
+ghost use Rattle.report.specs.Charts.{member_of, runs_after, place_after, statements_of, delivered, AreMoved};
+
+use super::drawing::Line;
+use sim::{Event, Mark, Which};
+use std::alloc::{AllocError, Global};
+use terms::{Record, Statement};
+
+/// The member that an event is for.
+pub(crate) fn member_of(event: &Event) -> u8
+    ensures { result ≡ member_of event.now }
+{
+    match event {
+        Event::Propose { member, .. }
+        | Event::Fuse { member, .. }
+        | Event::Crash { member, .. }
+        | Event::Restart { member } => *member,
+        Event::Deliver { to, .. } | Event::LieBytes { to, .. } | Event::Reset { to, .. } => *to,
+    }
+}
+
+/// Whether the event's member runs after it, if it ran before or not.
+fn runs_after(event: &Event, mark: Mark, runs: bool) -> bool
+    ensures { result ≡ runs_after event.now mark runs }
+{
+    match (event, mark) {
+        (_, Mark::Skipped(_)) => runs,
+        (_, Mark::Failed) | (Event::Crash { .. }, Mark::Done) => false,
+        (Event::Restart { .. }, Mark::Done) => true,
+        (_, Mark::Done) => runs,
+    }
+}
+
+/// Where the link from a sender to the event's member is after the event.
+fn place_after(event: &Event, mark: Mark, sender: usize, place: usize) -> usize
+    ensures { place + 1 < 2 ^ 64 → result ≡ place_after event.now mark sender place }
+{
+    if matches!(mark, Mark::Skipped(_)) {
+        return place;
+    }
+    match event {
+        Event::Deliver {
+            from,
+            which: Which::Next,
+            ..
+        } if usize::from(*from) == sender => place.saturating_add(1),
+        Event::Reset { from, .. } if usize::from(*from) == sender => 0,
+        Event::Restart { .. } if mark == Mark::Done => 0,
+        _ => place,
+    }
+}
+
+/// Moves the links from all senders to the event's member.
+fn move_links(event: &Event, mark: Mark, places: &mut [usize])
+    ensures { AreMoved event.now mark places.old places.new }
+{
+    for (sender, place) in places.iter_mut().enumerate() {
+        *place = place_after(event, mark, sender, *place);
+    }
+}
+
+/// Adds the statements among the records.
+fn add_statements(said: &mut Vec<Statement>, saved: &[Record]) -> Result<(), AllocError>
+    ensures { OnOk result (said.new.items ≡ said.old.items ++ statements_of saved.now) }
+{
+    for record in saved {
+        if let Record::Said(statement) = *record {
+            said.push(statement)?;
+        }
+    }
+    Ok(())
+}
+
+/// Which statement a delivery is of, over a link that is at that place.
+fn delivered(said: &[Statement], place: usize, which: Which) -> Option<Statement>
+    ensures { result ≡ delivered said.now place which }
+{
+    match which {
+        Which::Next => said.get(place).copied(),
+        Which::At(number) => said.get(number as usize).copied(),
+    }
+}
+
+/// A member, and what is known of it.
+#[derive(Drop)]
+pub(crate) struct Column {
+    is_liar: bool,
+    runs: bool,
+    said: Vec<Statement>,
+    places: Vec<usize>,
+    drawn: u64,
+}
+
+impl Column {
+    ghost use Rattle.std.specs.Prelude.{ℕ, ◌≡◌, ◌≢◌, ◌↔◌, IsTrue, IfOk, OnOk, Some, slice_get};
+    ghost use Rattle.report.specs.Charts.{runs_after, delivered};
+    ghost use Rattle.report.specs.Columns.{IsNew, Follows, line_of};
+
+    /// A member of a cluster of n before the first event. Its lifeline begins that far down.
+    pub(crate) fn new(alloc: Global, n: u8, is_liar: bool, top: u64) -> Result<Column, AllocError>
+        ensures { IfOk result (IsNew n is_liar top) }
+    {
+        let mut places = Vec::new(alloc);
+        places.resize(usize::from(n), 0)?;
+        Ok(Column {
+            is_liar,
+            runs: true,
+            said: Vec::new(alloc),
+            places,
+            drawn: top,
+        })
+    }
+
+    /// Which statement of a sender's column is delivered here.
+    pub(crate) fn takes(&self, from: u8, sender: &Column, which: Which) -> Option<Statement>
+        ensures { (place : ℕ) → slice_get self.now.places.items from ≡ Some place →
+            result ≡ delivered sender.now.said.items place which }
+    {
+        let place = *self.places.get(usize::from(from))?;
+        delivered(&sender.said, place, which)
+    }
+
+    /// How its lifeline looks.
+    pub(crate) fn line(&self) -> Line
+        ensures { result ≡ line_of self.now.is_liar self.now.runs }
+    {
+        match (self.is_liar, self.runs) {
+            (true, _) => Line::Lies,
+            (false, true) => Line::Runs,
+            (false, false) => Line::Down,
+        }
+    }
+
+    /// How far down its lifeline is drawn.
+    pub(crate) fn drawn(&self) -> u64
+        ensures { result ≡ self.now.drawn }
+    {
+        self.drawn
+    }
+
+    /// Whether another piece of its lifeline begins with the event.
+    pub(crate) fn turns(&self, event: &Event, mark: Mark) -> bool
+        ensures { IsTrue result ↔ (runs_after event.now mark self.now.runs ≢ self.now.runs) }
+    {
+        runs_after(event, mark, self.runs) != self.runs
+    }
+
+    /// Its lifeline is drawn that far down.
+    pub(crate) fn draw_to(&mut self, y: u64)
+        ensures { self.new ≡ record self.old { drawn = y } }
+    {
+        self.drawn = y;
+    }
+
+    /// Follows an event that is for it.
+    pub(crate) fn follow(
+        &mut self,
+        event: &Event,
+        mark: Mark,
+        saved: &[Record],
+    ) -> Result<(), AllocError>
+        ensures follows { OnOk result (Follows event.now mark saved.now self.old self.new) }
+        ensures drawn { OnOk result (self.new.drawn ≡ self.old.drawn) }
+    {
+        move_links(event, mark, &mut self.places);
+        self.runs = runs_after(event, mark, self.runs);
+        add_statements(&mut self.said, saved)
+    }
+}

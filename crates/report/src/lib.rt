@@ -1,0 +1,10 @@
+//! What happened in a simulated cluster, for people: records in words, a line for each event, and a chart.
+#![tactic(auto)]
+
+mod chart;
+mod records;
+mod trace;
+
+pub use chart::chart_text;
+pub use records::{kind_word, record_text, statement_text};
+pub use trace::{is_skipped, trace_text};

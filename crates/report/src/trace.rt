@@ -1,0 +1,176 @@
+//! What `simulate --trace` writes: a line for each event of a run.
+
+ghost use Rattle.std.specs.Prelude.{◌≡◌, IfOk, string_bytes};
+ghost use Rattle.std.specs.List.{flat_map};
+ghost use Rattle.report.specs.Traces.{which_text, calls_text, pick_text, event_text, is_skipped, mark_text, also_text, saved_text, trace_line, trace_text};
+
+use crate::records::record_text;
+use disk::Pick;
+use sim::{Event, Mark, Reason, Which};
+use std::alloc::{AllocError, Global};
+use terms::Record;
+
+/// Which of a sender's statements.
+fn which_text(alloc: Global, which: Which) -> Result<String, AllocError>
+    ensures { IfOk result (λ text. string_bytes text ≡ which_text which) }
+{
+    match which {
+        Which::Next => String::from_str(alloc, "next"),
+        Which::At(number) => format!(in alloc; "{number}"),
+    }
+}
+
+/// How many calls a fuse lets pass.
+pub(crate) fn calls_text(alloc: Global, calls: Option<u64>) -> Result<String, AllocError>
+    ensures { IfOk result (λ text. string_bytes text ≡ calls_text calls) }
+{
+    match calls {
+        None => String::from_str(alloc, "off"),
+        Some(calls) => format!(in alloc; "{calls}"),
+    }
+}
+
+/// What a crash leaves: `kept`, `lost`, or `fill` and the byte in two hexadecimal digits.
+pub(crate) fn pick_text(alloc: Global, pick: Pick) -> Result<String, AllocError>
+    ensures { IfOk result (λ text. string_bytes text ≡ pick_text pick) }
+{
+    match pick {
+        Pick::Kept => String::from_str(alloc, "kept"),
+        Pick::Lost => String::from_str(alloc, "lost"),
+        Pick::Fill(byte) => {
+            let digits = hex::encode(alloc, [byte].as_slice())?;
+            format!(in alloc; "fill {digits}")
+        }
+    }
+}
+
+/// The event as a script says it.
+fn event_text(alloc: Global, event: &Event) -> Result<String, AllocError>
+    ensures { IfOk result (λ text. string_bytes text ≡ event_text event.now) }
+{
+    match event {
+        Event::Propose {
+            member,
+            question,
+            bit,
+            toss: _,
+        } => format!(in alloc; "propose {} {} {}", *member, *question, u8::from(*bit)),
+        Event::Deliver {
+            from,
+            to,
+            which,
+            toss: _,
+        } => format!(in alloc; "deliver {} {} {}", *from, *to, which_text(alloc, *which)?),
+        Event::LieBytes {
+            liar,
+            to,
+            bytes,
+            toss: _,
+        } => {
+            let digits = hex::encode(alloc, bytes.as_slice())?;
+            format!(in alloc; "lie {} {} {digits}", *liar, *to)
+        }
+        Event::Fuse { member, calls } => {
+            format!(in alloc; "fuse {} {}", *member, calls_text(alloc, *calls)?)
+        }
+        Event::Crash { member, pick } => {
+            format!(in alloc; "crash {} {}", *member, pick_text(alloc, *pick)?)
+        }
+        Event::Restart { member } => format!(in alloc; "restart {}", *member),
+        Event::Reset { from, to } => format!(in alloc; "reset {} {}", *from, *to),
+    }
+}
+
+/// Whether the event was skipped.
+pub fn is_skipped(mark: &Mark) -> bool
+    ensures { result ≡ is_skipped mark.now }
+{
+    match mark {
+        Mark::Skipped(_) => true,
+        Mark::Done | Mark::Failed => false,
+    }
+}
+
+/// What became of an event.
+fn mark_text(mark: Mark) -> &'static str
+    ensures { result.now ≡ mark_text mark }
+{
+    match mark {
+        Mark::Done => "done",
+        Mark::Failed => "failed",
+        Mark::Skipped(Reason::NoSuch) => "skipped no-such",
+        Mark::Skipped(Reason::WrongSide) => "skipped wrong-side",
+        Mark::Skipped(Reason::NotUp) => "skipped not-up",
+        Mark::Skipped(Reason::Running) => "skipped running",
+        Mark::Skipped(Reason::Nothing) => "skipped nothing",
+    }
+}
+
+/// A record behind others.
+fn also_text(alloc: Global, record: &Record) -> Result<String, AllocError>
+    ensures { IfOk result (λ text. string_bytes text ≡ also_text «record».now) }
+{
+    format!(in alloc; ", {}", record_text(alloc, record)?)
+}
+
+/// Records behind others.
+fn others_text(alloc: Global, others: &[Record]) -> Result<String, AllocError>
+    ensures { IfOk result (λ text. string_bytes text ≡ flat_map also_text others.now) }
+{
+    let mut text = String::new(alloc);
+    for record in others {
+        text.push_str(also_text(alloc, record)?.as_str())?;
+    }
+    Ok(text)
+}
+
+/// The records behind a colon, a comma between each two, or nothing where there are none.
+fn saved_text(alloc: Global, records: &[Record]) -> Result<String, AllocError>
+    ensures { IfOk result (λ text. string_bytes text ≡ saved_text records.now) }
+{
+    match records.split_first() {
+        None => Ok(String::new(alloc)),
+        Some((first, others)) => {
+            let first = record_text(alloc, first)?;
+            format!(in alloc; ": {first}{}", others_text(alloc, others)?)
+        }
+    }
+}
+
+/// The line of the event of that number.
+fn trace_line(
+    alloc: Global,
+    number: usize,
+    event: &Event,
+    mark: Mark,
+    saved: &[Record],
+) -> Result<String, AllocError>
+    ensures { IfOk result (λ text. string_bytes text ≡ trace_line number event.now mark saved.now) }
+{
+    let event = event_text(alloc, event)?;
+    let saved = saved_text(alloc, saved)?;
+    format!(in alloc; "{number} {event}: {}{saved}\n", mark_text(mark))
+}
+
+/// A line for each event, numbered from 1: `NUMBER EVENT: MARK[: RECORD[, RECORD]..]`. EVENT is the event as a line of a
+/// script, MARK is `done`, `failed`, or `skipped` and the reason; the records are those that were saved because of it, each
+/// as `dump` writes it. Where the lists are of unequal lengths the text goes as far as the shortest.
+pub fn trace_text(
+    alloc: Global,
+    events: &[Event],
+    marks: &[Mark],
+    saved: &[Vec<Record>],
+) -> Result<String, AllocError>
+    ensures { IfOk result (λ text. string_bytes text ≡ trace_text events.now marks.now saved.now) }
+{
+    let count = events.len().min(marks.len()).min(saved.len());
+    let mut text = String::new(alloc);
+    for (index, event) in events[..count].iter().enumerate() {
+        let line = trace_line(alloc, index + 1, event, marks[index], &saved[index])?;
+        text.push_str(line.as_str())?;
+    }
+    Ok(text)
+}
+
+#[cfg(test)]
+mod tests;
