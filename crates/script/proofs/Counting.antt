@@ -63,9 +63,9 @@ pub next_of : {A : Type 0} (xs : List A) (i : ℕ) (d : A) → i < length xs →
 next_of xs i d h = rw add-one (drop-cons xs i d h)
 
 -- one delivery of a row
-pub row-next : (from : ℕ) (members : List ℕ) (i : ℕ) (made : Made) → i < length members
+pub row_next : (from : ℕ) (members : List ℕ) (i : ℕ) (made : Made) → i < length members
     → adds (row from (drop i members)) made ≡ adds (row from (drop (i + 1) members)) (add (Deliver from (get_or members i 0) Next) made)
-row-next from members i made h = ap (λ (ms : List ℕ). adds (row from ms) made) (next_of members i 0 h)
+row_next from members i made h = ap (λ (ms : List ℕ). adds (row from ms) made) (next_of members i 0 h)
 
 -- one row of a round
 pub round-next : (members : List ℕ) (i : ℕ) (made : Made) → i < length members

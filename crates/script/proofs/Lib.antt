@@ -3,3 +3,6 @@ pub mod Parts
 pub mod Splits
 pub mod Heads
 pub mod Leading
+pub mod Exact
+pub mod Determined
+pub mod Total

@@ -8,7 +8,7 @@ use Rattle.script.specs.declared.fault.ScriptFault.TheVariants as faults
 use Rattle.script.specs.declared.Script.{Script}
 use Rattle.script.specs.Words.{IsCount, IsLong, AreMembers}
 use Rattle.script.specs.Lines.{Page, page_of, number_at, HasLine}
-use Rattle.script.specs.Acts.{told}
+use Rattle.script.specs.Acts.{Told, told}
 use Rattle.script.specs.Drawing.{stream_of_seed}
 use Rattle.script.specs.Making.{Made, correct_below, LeadTo, BreakBy}
 
@@ -49,13 +49,18 @@ pub record IsHead (page : Page) (size : Size) (liars : List ℕ) (seed : ℕ) : 
 abbrev pub at_start : ℕ → Made
 at_start seed = record { events = []; stream = stream_of_seed seed }
 
--- the text says the script: its first five lines the head, all others the events
-pub record IsScript (text : List ℕ) (script : Script) : Type 0 where
+-- the text says a cluster of that size, in which these members lie, and these events: its first five lines the head, all
+-- others the events
+pub record IsTold (text : List ℕ) (size : Size) (liars : List ℕ) (events : List Told) : Type 0 where
   pub seed : ℕ
   pub last : Made
-  pub head : IsHead (page_of text) script.size script.liars.items seed
-  pub steps : LeadTo script.size (correct_below script.size.n script.liars.items) (at_start seed) (drop 5 (page_of text).said) last
-  pub events : map told script.events.items ≡ last.events
+  pub head : IsHead (page_of text) size liars seed
+  pub steps : LeadTo size (correct_below size.n liars) (at_start seed) (drop 5 (page_of text).said) last
+  pub events_are : events ≡ last.events
+
+-- the text says the script
+abbrev pub IsScript : List ℕ → Script → Type 0
+IsScript text script = IsTold text script.size script.liars.items (map told script.events.items)
 
 -- there is no line at that place of that form, and the fault names it
 pub record Lacks {A : Type 0} (page : Page) (place : ℕ) (Form : List (List ℕ) → A → Type 0) (fault : ScriptFault) : Type 0 where

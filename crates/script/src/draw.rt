@@ -1,10 +1,8 @@
 //! Words of ChaCha20, and the events that are drawn from them.
 
-ghost use Rattle.std.specs.Prelude.{◌≡◌, ◌<◌, ◌≤◌, ℕ, IfOk};
+ghost use Rattle.std.specs.Prelude.{◌≡◌, ◌<◌, ◌≤◌, IfOk};
 ghost use Rattle.rand_chacha.specs.ChaCha.{ChaCha};
 ghost use Rattle.terms.specs.Bounds.{FitsStep, IsPlain, IsOfThird};
-ghost use Rattle.wire.specs.declared.message.Message.TheVariants as message;
-ghost use Rattle.wire.specs.Texts.{text};
 ghost use Rattle.script.specs.Acts.{told};
 ghost use Rattle.script.specs.Untossed.{act_of};
 ghost use Rattle.script.specs.Drawing as drawing;

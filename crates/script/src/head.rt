@@ -1,12 +1,12 @@
 //! The first five lines of a script.
 
-ghost use Rattle.std.specs.Prelude.{ℕ, List, ◌≡◌, ◌⊎◌, ◌<◌, ◌^◌, Some, codes, IfOk, IfErr, IfSome, MatchOption};
+ghost use Rattle.std.specs.Prelude.{ℕ, List, ◌≡◌, ◌⊎◌, ◌<◌, ◌^◌, Some, IfOk, IfErr, IfSome, MatchOption};
 ghost use Rattle.terms.specs.declared.Size.{Size};
 ghost use Rattle.terms.specs.Sizes.{size_fault};
 ghost use Rattle.script.specs.declared.fault.ScriptFault.{ScriptFault};
 ghost use Rattle.script.specs.Words.{AreMembers};
 ghost use Rattle.script.specs.Scripts.{IsNamed, AreLiars, IsSeed, MakeSize, IsHead, IsHeadFault, Lacks, as_byte};
-ghost use Rattle.script.specs.Lines.{HasLine, number_at};
+ghost use Rattle.script.specs.Lines.{HasLine};
 ghost use Rattle.script.specs.Untossed.{texts};
 
 use crate::fault::ScriptFault;

@@ -13,6 +13,7 @@ ghost use Rattle.script.specs.Scripts.{IsScript, IsFirstFault};
 mod draw;
 mod fault;
 mod head;
+pub mod laws;
 mod lines;
 mod making;
 mod step;

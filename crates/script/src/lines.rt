@@ -1,6 +1,6 @@
 //! The lines of a script that say something.
 
-ghost use Rattle.std.specs.Prelude.{ℕ, List, Bool, ◌≡◌, ◌+◌, ◌==◌, Some, None, length, drop, slice_get, IfOk, IfErr};
+ghost use Rattle.std.specs.Prelude.{◌≡◌, ◌+◌, ◌==◌, Some, None, drop, slice_get, IfOk, IfErr};
 ghost use Rattle.std.specs.List.{slice_split};
 ghost use Rattle.script.specs.Words.{words_of};
 ghost use Rattle.script.specs.Lines.{Page, page_of, is_skipped, said_from};

@@ -1,7 +1,6 @@
 //! The events that a script's lines stand for.
 
-ghost use Rattle.std.specs.Prelude.{ℕ, ◌≡◌, ◌<◌, ◌≤◌, ◌+◌, ◌*◌, ◌-◌, ◌^◌, length, map, min, OnOk, IfErr, ◌⊎◌};
-ghost use Rattle.std.specs.List.{flat_map};
+ghost use Rattle.std.specs.Prelude.{◌≡◌, ◌<◌, ◌≤◌, ◌+◌, ◌*◌, ◌-◌, ◌^◌, length, map, min, OnOk, IfErr, ◌⊎◌};
 ghost use Rattle.script.specs.declared.TheConstants.{MOST_EVENTS};
 ghost use Rattle.script.specs.Acts.{told};
 ghost use Rattle.script.specs.Untossed.{act_of, step_of, numbered};
@@ -90,6 +89,7 @@ impl Making {
     }
 
     /// Adds a delivery of the sender's next statement to each of these, for which there is room.
+    #[tactic(auto, using(crate::proofs::Counting::row_next, crate::proofs::Counting::count_one))]
     fn add_row(&mut self, from: u8, members: &[u8]) -> Result<(), ScriptFault>
         requires { length self.old.events + length members.now ≤ MOST_EVENTS }
         ensures ok { OnOk result (self.new ≡ adds (row from members.now) self.old) }
@@ -185,7 +185,8 @@ impl Making {
         Ok(())
     }
 
-    /// Adds what the order stands for, or nothing but some of it.
+    /// Adds what the order stands for: `Events` where there would be too many events, looked at before they are made.
+    /// Where memory is refused some of it may have been added.
     pub fn take(
         &mut self,
         alloc: Global,

@@ -1,6 +1,6 @@
 //! What one line of events says.
 
-ghost use Rattle.std.specs.Prelude.{ℕ, ◌≡◌, ◌∷◌, IfOk, IfSome, MatchOption, Some};
+ghost use Rattle.std.specs.Prelude.{ℕ, ◌≡◌, IfOk, IfSome, MatchOption, Some};
 ghost use Rattle.disk.specs.declared.Pick.{Pick};
 ghost use Rattle.script.specs.Words.{ArePick, IsLong};
 ghost use Rattle.script.specs.Steps.{Step, One, name_of, SaysBehind, Says};

@@ -1,7 +1,7 @@
 //! The words of a line, and what they write.
 
-ghost use Rattle.std.specs.Prelude.{◌<◌, ◌≡◌, ◌⊎◌, ◌↔◌, ℕ, Bool, List, [], ◌∷◌, Option, Some, IfOk, IfSome, IsTrue, MatchOption};
-ghost use Rattle.script.specs.Words.{IsNumber, IsMember, IsCount, IsLong, IsBit, IsWhich, IsFuse, AreBytes};
+ghost use Rattle.std.specs.Prelude.{◌<◌, ◌≡◌, ◌↔◌, ℕ, Bool, List, [], ◌∷◌, Option, Some, IfOk, IfSome, IsTrue, MatchOption};
+ghost use Rattle.script.specs.Words.{IsMember, IsCount, IsLong, IsBit, IsWhich, IsFuse, AreBytes};
 ghost use Rattle.sim.specs.declared.events.Which.{Which};
 
 use hex::FromHexError;
