@@ -7,7 +7,7 @@ use Rattle.std.proofs.lemmas.List.{length-take}
 use Rattle.std.proofs.lemmas.List.Concat.{flat_map-append}
 use Rattle.sim.specs.declared.events.Mark.{Mark}
 use Rattle.sim.specs.declared.events.Mark.TheVariants.{Done}
-use Rattle.report.specs.Records.{bit_digit}
+use Rattle.sim.specs.Texts.{bit_digit}
 use Rattle.report.specs.Traces.{is_skipped}
 use Rattle.bracha.specs.Simulations.{skipped, verdict_line, count_line}
 

@@ -7,7 +7,8 @@ use Rattle.terms.specs.declared.Header.{Header}
 use Rattle.journal.specs.declared.fault.JournalFault.{JournalFault}
 use Rattle.journal.specs.declared.fault.JournalFault.TheVariants.{NotEmpty, BadHeader, OtherHeader, BadRecord, CutShort, Device, Memory, Stopped, Full}
 use Rattle.journal.specs.File.{HasHeader, Refuses}
-use Rattle.report.specs.Records.{line, sentence, record_text}
+use Rattle.sim.specs.Texts.{sentence}
+use Rattle.report.specs.Records.{line, record_text}
 
 -- the line of a header
 abbrev pub header_line : Header → List ℕ

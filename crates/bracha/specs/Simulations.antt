@@ -4,7 +4,8 @@ use Rattle.std.specs.List.{flat_map}
 use Rattle.std.specs.Fmt.{decimal}
 use Rattle.sim.specs.declared.cluster.Outcome.{Outcome}
 use Rattle.sim.specs.declared.events.Mark.{Mark}
-use Rattle.report.specs.Records.{line, sentence, bit_digit}
+use Rattle.sim.specs.Texts.{sentence, bit_digit}
+use Rattle.report.specs.Records.{line}
 use Rattle.report.specs.Traces.{is_skipped}
 
 -- how many events were skipped

@@ -8,7 +8,8 @@ use Rattle.std.proofs.Math.ListN.{drop_of_length-le}
 use Rattle.terms.specs.declared.Record.{Record}
 use Rattle.sim.specs.declared.events.Event.{Event}
 use Rattle.sim.specs.declared.events.Mark.{Mark}
-use Rattle.report.specs.Traces.{event_text, mark_text, saved_text, trace_line, trace_from}
+use Rattle.sim.specs.Texts.{event_text}
+use Rattle.report.specs.Traces.{mark_text, saved_text, trace_line, trace_from}
 
 pub line_pieces : (number : ℕ) (e : Event) (m : Mark) (records : List Record) (event mark saved : List ℕ)
     → event ≡ event_text e → mark ≡ mark_text m → saved ≡ saved_text records

@@ -1,6 +1,7 @@
 -- Records in words.
-use Rattle.std.specs.Prelude.{ℕ, Bool, true, false, List, [], ◌∷◌, ◌++◌, codes}
+use Rattle.std.specs.Prelude.{ℕ, List, [], ◌∷◌, ◌++◌, codes}
 use Rattle.std.specs.Fmt.{decimal}
+use Rattle.sim.specs.Texts.{sentence, bit_digit}
 use Rattle.terms.specs.declared.Kind.{Kind}
 use Rattle.terms.specs.declared.Kind.TheVariants.{Initial, Echo, Ready}
 use Rattle.terms.specs.declared.Value.{Value}
@@ -26,17 +27,6 @@ value_word One = codes "one"
 value_word SureZero = codes "sure-zero"
 value_word SureOne = codes "sure-one"
 value_word Unsure = codes "unsure"
-
--- the digit of a bit
-abbrev pub bit_digit : Bool → ℕ
-bit_digit false = 0
-bit_digit true = 1
-
--- words, with a space between each two
-abbrev pub sentence : List (List ℕ) → List ℕ
-sentence [] = []
-sentence (word ∷ []) = word
-sentence (word ∷ next ∷ words) = word ++ 32 ∷ sentence (next ∷ words)
 
 -- the words of a statement
 abbrev pub statement_text : Statement → List ℕ

@@ -1,48 +1,15 @@
 -- What `simulate --trace` writes.
-use Rattle.std.specs.Prelude.{ℕ, ◌+◌, Bool, true, false, Option, Some, None, List, [], ◌∷◌, ◌++◌, codes}
+use Rattle.std.specs.Prelude.{ℕ, ◌+◌, Bool, true, false, List, [], ◌∷◌, ◌++◌, codes}
 use Rattle.std.specs.Global.{Vec}
 use Rattle.std.specs.List.{flat_map}
 use Rattle.std.specs.Fmt.{decimal}
-use Rattle.hex.specs.Hex.{encode_lower}
 use Rattle.terms.specs.declared.Record.{Record}
-use Rattle.disk.specs.declared.crash.Pick.{Pick}
-use Rattle.disk.specs.declared.crash.Pick.TheVariants.{Kept, Lost, Fill}
 use Rattle.sim.specs.declared.events.Event.{Event}
-use Rattle.sim.specs.declared.events.Event.TheVariants.{Propose, Deliver, LieBytes, Fuse, Crash, Restart, Reset}
-use Rattle.sim.specs.declared.events.Which.{Which}
-use Rattle.sim.specs.declared.events.Which.TheVariants.{Next, At}
 use Rattle.sim.specs.declared.events.Mark.{Mark}
 use Rattle.sim.specs.declared.events.Mark.TheVariants.{Done, Failed, Skipped}
+use Rattle.sim.specs.Texts.{sentence, event_text}
 use Rattle.sim.specs.declared.events.Reason.TheVariants.{NoSuch, WrongSide, NotUp, Running, Nothing}
-use Rattle.report.specs.Records.{line, sentence, bit_digit, record_text}
-
--- which of a sender's statements
-abbrev pub which_text : Which → List ℕ
-which_text Next = codes "next"
-which_text (At number) = decimal number
-
--- how many calls a fuse lets pass
-abbrev pub calls_text : Option ℕ → List ℕ
-calls_text None = codes "off"
-calls_text (Some calls) = decimal calls
-
--- what a crash leaves
-abbrev pub pick_text : Pick → List ℕ
-pick_text Kept = codes "kept"
-pick_text Lost = codes "lost"
-pick_text (Fill byte) = sentence (codes "fill" ∷ encode_lower (byte ∷ []) ∷ [])
-
--- the event as a script says it
-abbrev pub event_text : Event → List ℕ
-event_text (Propose member question bit toss) =
-    sentence (codes "propose" ∷ decimal member ∷ decimal question ∷ decimal (bit_digit bit) ∷ [])
-event_text (Deliver from to which toss) = sentence (codes "deliver" ∷ decimal from ∷ decimal to ∷ which_text which ∷ [])
-event_text (LieBytes liar to bytes toss) =
-    sentence (codes "lie" ∷ decimal liar ∷ decimal to ∷ encode_lower bytes.items ∷ [])
-event_text (Fuse member calls) = sentence (codes "fuse" ∷ decimal member ∷ calls_text calls ∷ [])
-event_text (Crash member pick) = sentence (codes "crash" ∷ decimal member ∷ pick_text pick ∷ [])
-event_text (Restart member) = sentence (codes "restart" ∷ decimal member ∷ [])
-event_text (Reset from to) = sentence (codes "reset" ∷ decimal from ∷ decimal to ∷ [])
+use Rattle.report.specs.Records.{line, record_text}
 
 -- the event was skipped
 abbrev pub is_skipped : Mark → Bool

@@ -2,13 +2,13 @@
 
 ghost use Rattle.std.specs.Prelude.{◌≡◌, ◌+◌, ◌*◌, ◌≤◌, IfOk, OnOk, string_bytes};
 ghost use Rattle.script.specs.declared.TheConstants.{MOST_EVENTS};
-ghost use Rattle.report.specs.Charts.{bytes_label, IsSvg};
+ghost use Rattle.report.specs.Charts.{calls_text, pick_text, bytes_label, IsSvg};
 
 mod column;
 mod drawing;
 
 use crate::records::{kind_word, statement_text};
-use crate::trace::{calls_text, is_skipped, pick_text};
+use crate::trace::is_skipped;
 use column::{Column, member_of};
 use disk::Pick;
 use drawing::{Drawing, Sign, Words};
@@ -59,6 +59,30 @@ fn on_question(alloc: Global, questions: u16, question: u16) -> Result<String, A
         format!(in alloc; " on {question}")
     } else {
         Ok(String::new(alloc))
+    }
+}
+
+/// How many calls a fuse lets pass.
+fn calls_text(alloc: Global, calls: Option<u64>) -> Result<String, AllocError>
+    ensures { IfOk result (λ text. string_bytes text ≡ calls_text calls) }
+{
+    match calls {
+        None => String::from_str(alloc, "off"),
+        Some(calls) => format!(in alloc; "{calls}"),
+    }
+}
+
+/// What a crash leaves: `kept`, `lost`, or `fill` and the byte in two hexadecimal digits.
+fn pick_text(alloc: Global, pick: Pick) -> Result<String, AllocError>
+    ensures { IfOk result (λ text. string_bytes text ≡ pick_text pick) }
+{
+    match pick {
+        Pick::Kept => String::from_str(alloc, "kept"),
+        Pick::Lost => String::from_str(alloc, "lost"),
+        Pick::Fill(byte) => {
+            let digits = hex::encode(alloc, [byte].as_slice())?;
+            format!(in alloc; "fill {digits}")
+        }
     }
 }
 

@@ -2,84 +2,12 @@
 
 ghost use Rattle.std.specs.Prelude.{◌≡◌, IfOk, string_bytes};
 ghost use Rattle.std.specs.List.{flat_map};
-ghost use Rattle.report.specs.Traces.{which_text, calls_text, pick_text, event_text, is_skipped, mark_text, also_text, saved_text, trace_line, trace_text};
+ghost use Rattle.report.specs.Traces.{is_skipped, mark_text, also_text, saved_text, trace_line, trace_text};
 
 use crate::records::record_text;
-use disk::Pick;
-use sim::{Event, Mark, Reason, Which};
+use sim::{Event, Mark, Reason};
 use std::alloc::{AllocError, Global};
 use terms::Record;
-
-/// Which of a sender's statements.
-fn which_text(alloc: Global, which: Which) -> Result<String, AllocError>
-    ensures { IfOk result (λ text. string_bytes text ≡ which_text which) }
-{
-    match which {
-        Which::Next => String::from_str(alloc, "next"),
-        Which::At(number) => format!(in alloc; "{number}"),
-    }
-}
-
-/// How many calls a fuse lets pass.
-pub(crate) fn calls_text(alloc: Global, calls: Option<u64>) -> Result<String, AllocError>
-    ensures { IfOk result (λ text. string_bytes text ≡ calls_text calls) }
-{
-    match calls {
-        None => String::from_str(alloc, "off"),
-        Some(calls) => format!(in alloc; "{calls}"),
-    }
-}
-
-/// What a crash leaves: `kept`, `lost`, or `fill` and the byte in two hexadecimal digits.
-pub(crate) fn pick_text(alloc: Global, pick: Pick) -> Result<String, AllocError>
-    ensures { IfOk result (λ text. string_bytes text ≡ pick_text pick) }
-{
-    match pick {
-        Pick::Kept => String::from_str(alloc, "kept"),
-        Pick::Lost => String::from_str(alloc, "lost"),
-        Pick::Fill(byte) => {
-            let digits = hex::encode(alloc, [byte].as_slice())?;
-            format!(in alloc; "fill {digits}")
-        }
-    }
-}
-
-/// The event as a script says it.
-fn event_text(alloc: Global, event: &Event) -> Result<String, AllocError>
-    ensures { IfOk result (λ text. string_bytes text ≡ event_text event.now) }
-{
-    match event {
-        Event::Propose {
-            member,
-            question,
-            bit,
-            toss: _,
-        } => format!(in alloc; "propose {} {} {}", *member, *question, u8::from(*bit)),
-        Event::Deliver {
-            from,
-            to,
-            which,
-            toss: _,
-        } => format!(in alloc; "deliver {} {} {}", *from, *to, which_text(alloc, *which)?),
-        Event::LieBytes {
-            liar,
-            to,
-            bytes,
-            toss: _,
-        } => {
-            let digits = hex::encode(alloc, bytes.as_slice())?;
-            format!(in alloc; "lie {} {} {digits}", *liar, *to)
-        }
-        Event::Fuse { member, calls } => {
-            format!(in alloc; "fuse {} {}", *member, calls_text(alloc, *calls)?)
-        }
-        Event::Crash { member, pick } => {
-            format!(in alloc; "crash {} {}", *member, pick_text(alloc, *pick)?)
-        }
-        Event::Restart { member } => format!(in alloc; "restart {}", *member),
-        Event::Reset { from, to } => format!(in alloc; "reset {} {}", *from, *to),
-    }
-}
 
 /// Whether the event was skipped.
 pub fn is_skipped(mark: &Mark) -> bool
@@ -147,7 +75,6 @@ fn trace_line(
 ) -> Result<String, AllocError>
     ensures { IfOk result (λ text. string_bytes text ≡ trace_line number event.now mark saved.now) }
 {
-    let event = event_text(alloc, event)?;
     let saved = saved_text(alloc, saved)?;
     format!(in alloc; "{number} {event}: {}{saved}\n", mark_text(mark))
 }

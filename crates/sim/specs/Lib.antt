@@ -4,3 +4,4 @@ pub mod Scene
 pub mod Posts
 pub mod Runs
 pub mod Outcomes
+pub mod Texts

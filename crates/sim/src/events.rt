@@ -105,6 +105,11 @@ pub enum Reason {
 }
 
 impl fmt::Display for Event {
+    ghost use Rattle.std.specs.Prelude.{Some};
+    ghost use Rattle.sim.specs.Texts.{event_text};
+
+    ghost output = { λ event. Some (event_text event) };
+
     /// The line of a script that says the event.
     fn fmt<W: fmt::Write>(&self, f: &mut fmt::Formatter<W>) -> fmt::Result {
         match self {
@@ -126,8 +131,8 @@ impl fmt::Display for Event {
                 bytes,
                 toss: _,
             } => {
-                write!(f, "lie {liar} {to} ")?;
-                show_bytes(bytes, f)
+                let digits = Digits(bytes.as_slice());
+                write!(f, "lie {liar} {to} {digits}")
             }
             Event::Fuse { member, calls } => match calls {
                 Some(calls) => write!(f, "fuse {member} {calls}"),
@@ -136,7 +141,11 @@ impl fmt::Display for Event {
             Event::Crash { member, pick } => match pick {
                 Pick::Kept => write!(f, "crash {member} kept"),
                 Pick::Lost => write!(f, "crash {member} lost"),
-                Pick::Fill(byte) => write!(f, "crash {member} fill {byte:02x}"),
+                Pick::Fill(byte) => {
+                    let bytes = [*byte];
+                    let digits = Digits(bytes.as_slice());
+                    write!(f, "crash {member} fill {digits}")
+                }
             },
             Event::Restart { member } => write!(f, "restart {member}"),
             Event::Reset { from, to } => write!(f, "reset {from} {to}"),
@@ -145,6 +154,11 @@ impl fmt::Display for Event {
 }
 
 impl fmt::Display for Which {
+    ghost use Rattle.std.specs.Prelude.{Some};
+    ghost use Rattle.sim.specs.Texts.{which_text};
+
+    ghost output = { λ which. Some (which_text which) };
+
     fn fmt<W: fmt::Write>(&self, f: &mut fmt::Formatter<W>) -> fmt::Result {
         match self {
             Which::Next => write!(f, "next"),
@@ -153,10 +167,21 @@ impl fmt::Display for Which {
     }
 }
 
-/// Writes bytes in lower case hexadecimal digits.
-fn show_bytes<W: fmt::Write>(bytes: &[u8], f: &mut fmt::Formatter<W>) -> fmt::Result {
-    for byte in bytes {
-        write!(f, "{byte:02x}")?;
+/// Bytes that print in lower case hexadecimal digits.
+#[derive(Clone, Copy)]
+struct Digits<'a>(&'a [u8]);
+
+impl fmt::Display for Digits<'_> {
+    ghost use Rattle.std.specs.Prelude.{Some};
+    ghost use Rattle.sim.specs.Texts.{hex_text};
+
+    ghost output = { λ digits. Some (hex_text digits.0.now) };
+
+    fn fmt<W: fmt::Write>(&self, f: &mut fmt::Formatter<W>) -> fmt::Result {
+        for byte in self.0 {
+            let byte = *byte;
+            write!(f, "{byte:02x}")?;
+        }
+        Ok(())
     }
-    Ok(())
 }

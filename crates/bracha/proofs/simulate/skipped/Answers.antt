@@ -1,5 +1,5 @@
 use Rattle.std.proofs.Common.{◌∙◌, ap, arith, ◌≤◌}
-use Rattle.report.specs.Records.{bit_digit}
+use Rattle.sim.specs.Texts.{bit_digit}
 use Rattle.report.proofs.Wording.{bit_of}
 use Rattle.bracha.proofs.Simulating.{bit_small, skipped_more, skipped_below}
 use Rattle.bracha.proofs.simulate.skipped.Goals as goal
