@@ -57,7 +57,12 @@ fn write_page(
     fault: Fault,
 ) -> Result<(), Fault> {
     match (path, page) {
-        (Some(path), Some(page)) => fs::write(rt, path, page.as_str()).map_err(|_| fault),
+        (Some(path), Some(page)) => match fs::write(rt, path, page.as_str()).map_err(
+            Fault::of_file,
+        ) {
+            Err(Fault::File) => Err(fault),
+            result => result,
+        },
         _ => Ok(()),
     }
 }

@@ -1,6 +1,5 @@
 -- What the chart of a run makes of its events.
 use Rattle.std.specs.Prelude.{ℕ, ◌+◌, ◌^◌, ◌≡◌, ◌<◌, ◌==◌, nat_le, Bool, true, false, if◌then◌else◌, Option, Some, None, List, [], ◌∷◌, ◌++◌, codes, length, take, slice_get, slice_index}
-use Rattle.std.specs.Fmt.{decimal}
 use Rattle.hex.specs.Hex.{encode_lower}
 use Rattle.disk.specs.declared.crash.Pick.{Pick}
 use Rattle.disk.specs.declared.crash.Pick.TheVariants.{Kept, Lost, Fill}
@@ -68,11 +67,6 @@ delivered said place (At number) = slice_get said number
 abbrev pub text_if : Option Statement → List ℕ
 text_if (Some s) = statement_text s
 text_if None = []
-
--- how many calls a fuse lets pass
-abbrev pub calls_text : Option ℕ → List ℕ
-calls_text None = codes "off"
-calls_text (Some calls) = decimal calls
 
 -- what a crash leaves
 abbrev pub pick_text : Pick → List ℕ

@@ -2,7 +2,8 @@
 
 ghost use Rattle.std.specs.Prelude.{◌≡◌, ◌+◌, ◌*◌, ◌≤◌, IfOk, OnOk, string_bytes};
 ghost use Rattle.script.specs.declared.TheConstants.{MOST_EVENTS};
-ghost use Rattle.report.specs.Charts.{calls_text, pick_text, bytes_label, IsSvg};
+ghost use Rattle.sim.specs.Texts.{calls_text};
+ghost use Rattle.report.specs.Charts.{pick_text, bytes_label, IsSvg};
 
 mod column;
 mod drawing;
