@@ -56,14 +56,12 @@ fn write_page(
     page: Option<String>,
     fault: Fault,
 ) -> Result<(), Fault> {
-    match (path, page) {
-        (Some(path), Some(page)) => match fs::write(rt, path, page.as_str()).map_err(
-            Fault::of_file,
-        ) {
-            Err(Fault::File) => Err(fault),
-            result => result,
-        },
-        _ => Ok(()),
+    let (Some(path), Some(page)) = (path, page) else {
+        return Ok(());
+    };
+    match fs::write(rt, path, page.as_str()).map_err(Fault::of_file) {
+        Err(Fault::File) => Err(fault),
+        result => result,
     }
 }
 
