@@ -1,13 +1,15 @@
 //! The words of the command line.
 
-ghost use Rattle.std.specs.Prelude.{◌≡◌, IfOk, MatchResult, None, Some};
-ghost use Rattle.terms.specs.Sizes.{size_of, size_fault};
+ghost use Rattle.bracha.specs.Tasks.{AskFor, HasFlag, HasNumber, IsAskedFor, Names, rows_in};
+ghost use Rattle.bracha.specs.Usage.{ask_app, bare_app, dump_app, file_rule, hear_app, init_app, number_rule, program_app};
+ghost use Rattle.bracha.specs.Usage.{propose_app, run_app, simulate_app, size_rules, desk_rules, word_rule, with_rules};
+ghost use Rattle.clap.specs.Words.{FailsBy, app_of, fault_of, first_of, new_app, rule_of, subcommand_rows_of};
+ghost use Rattle.std.specs.Prelude.{◌≡◌, ◌↔◌, IfOk, IfSome, IsNone, Some, codes, map, option_map, ℕ};
+ghost use Rattle.bracha.specs.declared.command.Task.{Task};
 
-use clap::error::ErrorKind;
-use clap::{Arg, ArgMatches, Error, value_parser};
-use std::alloc::Global;
+use clap::{Arg, ArgAction, ArgMatches, Error, value_parser};
+use std::alloc::{AllocError, Global};
 use std::convert::AsStr;
-use terms::{Size, SizeFault};
 
 /// What the program is asked to do.
 #[derive(Clone, Copy, Debug, PartialEq, Eq)]
@@ -23,6 +25,22 @@ pub enum Task<'a> {
     Init {
         settings: &'a str,
     },
+    /// Runs the member of the settings in this file, until the standard input ends, or for good where it is to stay.
+    Run {
+        settings: &'a str,
+        stay: bool,
+    },
+    /// Proposes a bit on a question to the member whose desk is at this address.
+    Propose {
+        address: &'a str,
+        question: u16,
+        bit: u8,
+    },
+    /// Asks the member whose desk is at this address for its decision of a question.
+    Ask {
+        address: &'a str,
+        question: u16,
+    },
     /// Runs the script in this file, and writes a trace and a chart of the run into those files.
     Simulate {
         script: &'a str,
@@ -35,171 +53,315 @@ pub enum Task<'a> {
     },
 }
 
-/// The size of these numbers, or the first thing that is wrong with them, in the order of [`SizeFault`]. A number of
-/// members or of liars that no byte holds is too many, as one just above the limit is.
-pub fn size_from(n: u16, t: u16, questions: u16) -> Result<Size, SizeFault>
-    ensures ok { IfOk result (λ size. size ≡ size_of n t questions) }
-    ensures exact { MatchResult result (λ _. size_fault n t questions ≡ None) (λ fault. size_fault n t questions ≡ Some fault) }
+/// A required word, such as `SETTINGS`.
+fn word<'a>(alloc: Global, id: &'a str, value: &'a str, help: &'a str) -> Arg<'a>
+    ensures { rule_of result ≡ word_rule id.now }
 {
-    let n = u8::try_from(n).unwrap_or(u8::MAX);
-    let t = u8::try_from(t).unwrap_or(u8::MAX);
-    Size::new(n, t, questions)
-}
-
-/// A required number of that name, such as `--n 4`.
-fn number<'a>(alloc: Global, name: &'a str, value: &'a str, help: &'a str) -> Arg<'a> {
-    Arg::new(alloc, name)
-        .long(name)
+    Arg::new(alloc, id)
         .value_name(value)
         .required(true)
         .help(help)
 }
 
-/// The options that name a size.
-fn with_size<'a>(alloc: Global, command: clap::Command<'a>) -> Result<clap::Command<'a>, Error> {
-    let n = number(alloc, "n", "N", "How many members there are (1 to 32)");
-    let t = number(
-        alloc,
-        "t",
-        "T",
-        "How many of them may lie (less than a third)",
-    );
-    let questions = number(
-        alloc,
-        "questions",
-        "Q",
-        "How many questions there are (1 to 256)",
-    );
-    Ok(
-        command
-            .arg(n.value_parser(value_parser!(u16)))?
-            .arg(t.value_parser(value_parser!(u16)))?
-            .arg(questions.value_parser(value_parser!(u16)))?,
-    )
-}
-
-fn hear<'a>(alloc: Global) -> Result<clap::Command<'a>, Error> {
-    let about =
-        "Reads lines `SENDER HEX`, each a piece of a sender's stream, and prints what reliable broadcast answers";
-    let me = number(alloc, "me", "M", "The member that hears (below N)");
-    let command = with_size(alloc, clap::Command::new(alloc, "hear").about(about))?;
-    Ok(command.arg(me.value_parser(value_parser!(u8)))?)
-}
-
-/// A command with one word, the path of a file.
-fn with_path<'a>(
-    alloc: Global,
-    name: &'a str,
-    about: &'a str,
-    id: &'a str,
-    value: &'a str,
-    help: &'a str,
-) -> Result<clap::Command<'a>, Error> {
-    let path = Arg::new(alloc, id)
-        .value_name(value)
-        .required(true)
-        .help(help);
-    Ok(clap::Command::new(alloc, name).about(about).arg(path)?)
-}
-
-fn init<'a>(alloc: Global) -> Result<clap::Command<'a>, Error> {
-    let about = "Makes the journal of a member, with no records";
-    let help = "The file of the member's settings, which names the journal";
-    with_path(alloc, "init", about, "settings", "SETTINGS", help)
-}
-
-fn dump<'a>(alloc: Global) -> Result<clap::Command<'a>, Error> {
-    let about = "Prints whose journal it is, and its records";
-    with_path(
-        alloc,
-        "dump",
-        about,
-        "journal",
-        "JOURNAL",
-        "The file of the journal",
-    )
+/// A required number of that name, such as `--n 4`.
+fn number<'a>(alloc: Global, name: &'a str, value: &'a str, help: &'a str) -> Arg<'a>
+    ensures { rule_of result ≡ number_rule name.now }
+{
+    word(alloc, name, value, help).long(name)
 }
 
 /// An option of that name with the path of a file, such as `--trace FILE`.
-fn file<'a>(alloc: Global, name: &'a str, help: &'a str) -> Arg<'a> {
+fn file<'a>(alloc: Global, name: &'a str, help: &'a str) -> Arg<'a>
+    ensures { rule_of result ≡ file_rule name.now }
+{
     Arg::new(alloc, name)
         .long(name)
         .value_name("FILE")
         .help(help)
 }
 
-fn simulate<'a>(alloc: Global) -> Result<clap::Command<'a>, Error> {
-    let command = with_path(
-        alloc,
-        "simulate",
-        "Runs a script of a whole cluster in memory, and prints what was decided",
-        "script",
-        "SCRIPT",
-        "The file of the script",
-    )?;
-    let trace = "Writes what each event did, a line for each, to this file";
-    let chart = "Draws the run as a sequence chart (SVG) into this file";
-    Ok(
-        command
-            .arg(file(alloc, "trace", trace))?
-            .arg(file(alloc, "chart", chart))?,
-    )
+/// A command of that name.
+fn named<'a>(alloc: Global, name: &'a str, about: &'a str, examples: &'a str) -> clap::Command<'a>
+    ensures { app_of result ≡ new_app name.now }
+{
+    clap::Command::new(alloc, name)
+        .about(about)
+        .after_help(examples)
 }
 
-fn program<'a>(alloc: Global) -> Result<clap::Command<'a>, Error> {
-    let program = clap::Command::new(alloc, "bracha")
-        .version("0.1.0")
+/// The options that name a size.
+fn with_size<'a>(alloc: Global, command: clap::Command<'a>) -> Result<clap::Command<'a>, AllocError>
+    ensures { IfOk result (λ with. app_of with ≡ with_rules (app_of command.entry) size_rules) }
+{
+    let n = number(alloc, "n", "N", "How many members there are (1 to 32)");
+    let liars = "How many of them may lie (less than a third)";
+    let t = number(alloc, "t", "T", liars);
+    let count = "How many questions there are (1 to 256)";
+    let questions = number(alloc, "questions", "Q", count);
+    command
+        .arg(n.value_parser(value_parser!(u16)))?
+        .arg(t.value_parser(value_parser!(u16)))?
+        .arg(questions.value_parser(value_parser!(u16)))
+}
+
+fn hear<'a>(alloc: Global) -> Result<clap::Command<'a>, AllocError>
+    ensures { IfOk result (λ made. app_of made ≡ hear_app) }
+{
+    let about =
+        "Reads lines `SENDER HEX`, each a piece of a sender's stream, and prints what reliable broadcast answers";
+    let examples =
+        "Example:\n  echo '0 00080301000000010101' | bracha hear --n 4 --t 1 --questions 1 --me 1";
+    let me = number(alloc, "me", "M", "The member that hears (below N)");
+    let command = with_size(alloc, named(alloc, "hear", about, examples))?;
+    command.arg(me.value_parser(value_parser!(u8)))
+}
+
+fn init<'a>(alloc: Global) -> Result<clap::Command<'a>, AllocError>
+    ensures { IfOk result (λ made. app_of made ≡ init_app) }
+{
+    let about = "Makes the journal of a member, with no records";
+    let examples = "Example:\n  bracha init member-1.toml";
+    let help = "The file of the member's settings, which names the journal";
+    named(alloc, "init", about, examples).arg(word(alloc, "settings", "SETTINGS", help))
+}
+
+fn run<'a>(alloc: Global) -> Result<clap::Command<'a>, AllocError>
+    ensures { IfOk result (λ made. app_of made ≡ run_app) }
+{
+    let about =
+        "Runs a member: it prints `member M ready`, links to all members, and answers clients at its desk";
+    let examples =
+        "It ends where standard input does. It may be killed at any moment and started again.\n\nExamples:\n  bracha run member-1.toml          in a terminal, until Ctrl-D\n  bracha run --stay member-1.toml   as a service, until it is killed";
+    let help = "The file of the member's settings, whose journal `init` made";
+    let stay = Arg::new(alloc, "stay")
+        .long("stay")
+        .action(ArgAction::SetTrue)
+        .help("Doesn't look at standard input, and runs until it is killed");
+    named(alloc, "run", about, examples)
+        .arg(word(alloc, "settings", "SETTINGS", help))?
+        .arg(stay)
+}
+
+/// The words of a line to a desk: its address and the question.
+fn with_desk<'a>(alloc: Global, command: clap::Command<'a>) -> Result<clap::Command<'a>, AllocError>
+    ensures { IfOk result (λ with. app_of with ≡ with_rules (app_of command.entry) desk_rules) }
+{
+    let address = word(alloc, "address", "ADDRESS", "The member's desk, HOST:PORT");
+    let question = word(alloc, "question", "Q", "The question (from 0)");
+    command
+        .arg(address)?
+        .arg(question.value_parser(value_parser!(u16)))
+}
+
+fn propose<'a>(alloc: Global) -> Result<clap::Command<'a>, AllocError>
+    ensures { IfOk result (λ made. app_of made ≡ propose_app) }
+{
+    let about = "Proposes a bit on a question to a member that runs";
+    let examples =
+        "It prints OK, HAVE B (bit B was proposed before, and stands), or what is wrong.\n\nExample:\n  bracha propose 127.0.0.1:47111 0 1";
+    let bit = word(alloc, "bit", "V", "The bit, 0 or 1");
+    let command = with_desk(alloc, named(alloc, "propose", about, examples))?;
+    command.arg(bit.value_parser(value_parser!(u8)))
+}
+
+fn ask<'a>(alloc: Global) -> Result<clap::Command<'a>, AllocError>
+    ensures { IfOk result (λ made. app_of made ≡ ask_app) }
+{
+    let about = "Asks a member that runs for its decision of a question";
+    let examples =
+        "It prints DECIDED B or UNDECIDED, or what is wrong. A decision is for good.\n\nExample:\n  bracha ask 127.0.0.1:47111 0";
+    with_desk(alloc, named(alloc, "ask", about, examples))
+}
+
+fn dump<'a>(alloc: Global) -> Result<clap::Command<'a>, AllocError>
+    ensures { IfOk result (λ made. app_of made ≡ dump_app) }
+{
+    let about = "Prints whose journal it is, and its records";
+    let examples = "Example:\n  bracha dump member-1.journal";
+    let help = "The file of the journal";
+    named(alloc, "dump", about, examples).arg(word(alloc, "journal", "JOURNAL", help))
+}
+
+fn simulate<'a>(alloc: Global) -> Result<clap::Command<'a>, AllocError>
+    ensures { IfOk result (λ made. app_of made ≡ simulate_app) }
+{
+    let about = "Runs a script of a whole cluster in memory, and prints what was decided";
+    let examples =
+        "Example:\n  bracha simulate --chart small.svg crates/bracha/examples/small.script";
+    let trace = "Writes what each event did, a line for each, to this file";
+    let chart = "Draws the run as a sequence chart (SVG) into this file";
+    named(alloc, "simulate", about, examples)
+        .arg(word(alloc, "script", "SCRIPT", "The file of the script"))?
+        .arg(file(alloc, "trace", trace))?
+        .arg(file(alloc, "chart", chart))
+}
+
+/// The program without its commands.
+fn bare<'a>(alloc: Global) -> clap::Command<'a>
+    ensures { app_of result ≡ bare_app }
+{
+    clap::Command::new(alloc, "bracha")
+        .version("0.2.0")
         .about("A cluster that settles yes-or-no questions while some of its members lie")
         .subcommand_required(true)
-        .arg_required_else_help(true);
-    Ok(
-        program
-            .subcommand(hear(alloc)?)?
-            .subcommand(init(alloc)?)?
-            .subcommand(dump(alloc)?)?
-            .subcommand(simulate(alloc)?)?,
-    )
+        .arg_required_else_help(true)
+}
+
+fn program<'a>(alloc: Global) -> Result<clap::Command<'a>, AllocError>
+    ensures { IfOk result (λ made. app_of made ≡ program_app) }
+{
+    bare(alloc)
+        .subcommand(init(alloc)?)?
+        .subcommand(run(alloc)?)?
+        .subcommand(propose(alloc)?)?
+        .subcommand(ask(alloc)?)?
+        .subcommand(dump(alloc)?)?
+        .subcommand(simulate(alloc)?)?
+        .subcommand(hear(alloc)?)
+}
+
+/// The text that was given for the id.
+fn text_of<'a>(options: &ArgMatches<'a>, id: &str) -> Option<&'a str>
+    ensures { option_map (λ text. text.now) result ≡ first_of id.now (rows_in options.now) }
+{
+    options.get_str(id)
+}
+
+/// The number that was given for the id.
+fn u16_of(options: &ArgMatches<'_>, id: &str) -> Option<u16>
+    ensures { (n : ℕ) → (result ≡ Some n) ↔ HasNumber 16 id.now (rows_in options.now) n }
+{
+    options.get_one::<u16>(id)
+}
+
+/// The number that was given for the id, of a byte.
+fn u8_of(options: &ArgMatches<'_>, id: &str) -> Option<u8>
+    ensures { (n : ℕ) → (result ≡ Some n) ↔ HasNumber 8 id.now (rows_in options.now) n }
+{
+    options.get_one::<u8>(id)
+}
+
+/// Whether the flag was given.
+fn flag_of(options: &ArgMatches<'_>, id: &str) -> bool
+    ensures { HasFlag id.now (rows_in options.now) result }
+{
+    options.get_one::<bool>(id).unwrap_or(false)
 }
 
 /// The values of `hear`'s options, each of which the parser has demanded.
-fn hear_of<'a>(options: &ArgMatches<'a>) -> Option<Task<'a>> {
+fn hear_of<'a>(options: &ArgMatches<'a>) -> Option<Task<'a>>
+    ensures some { IfSome result (Names (codes "hear") (rows_in options.now)) }
+    ensures none { IsNone result → (task : Task) → Names (codes "hear") (rows_in options.now) task → ⊥ }
+{
     Some(Task::Hear {
-        n: options.get_one::<u16>("n")?,
-        t: options.get_one::<u16>("t")?,
-        questions: options.get_one::<u16>("questions")?,
-        me: options.get_one::<u8>("me")?,
+        n: u16_of(options, "n")?,
+        t: u16_of(options, "t")?,
+        questions: u16_of(options, "questions")?,
+        me: u8_of(options, "me")?,
     })
 }
 
-/// The task of the command that was given, each of whose values the parser has demanded.
-fn task_of<'a>(matches: &ArgMatches<'a>) -> Option<Task<'a>> {
-    if let Some(options) = matches.subcommand_matches("hear") {
-        hear_of(options)
-    } else if let Some(options) = matches.subcommand_matches("init") {
-        Some(Task::Init {
-            settings: options.get_str("settings")?,
-        })
-    } else if let Some(options) = matches.subcommand_matches("dump") {
-        Some(Task::Dump {
-            journal: options.get_str("journal")?,
-        })
-    } else {
-        let options = matches.subcommand_matches("simulate")?;
-        Some(Task::Simulate {
-            script: options.get_str("script")?,
-            trace: options.get_str("trace"),
-            chart: options.get_str("chart"),
-        })
+/// The value of `init`'s word.
+fn init_of<'a>(options: &ArgMatches<'a>) -> Option<Task<'a>>
+    ensures some { IfSome result (Names (codes "init") (rows_in options.now)) }
+    ensures none { IsNone result → (task : Task) → Names (codes "init") (rows_in options.now) task → ⊥ }
+{
+    Some(Task::Init {
+        settings: text_of(options, "settings")?,
+    })
+}
+
+/// The values of `run`'s words.
+fn run_of<'a>(options: &ArgMatches<'a>) -> Option<Task<'a>>
+    ensures some { IfSome result (Names (codes "run") (rows_in options.now)) }
+    ensures none { IsNone result → (task : Task) → Names (codes "run") (rows_in options.now) task → ⊥ }
+{
+    Some(Task::Run {
+        settings: text_of(options, "settings")?,
+        stay: flag_of(options, "stay"),
+    })
+}
+
+/// The values of `propose`'s words.
+fn propose_of<'a>(options: &ArgMatches<'a>) -> Option<Task<'a>>
+    ensures some { IfSome result (Names (codes "propose") (rows_in options.now)) }
+    ensures none { IsNone result → (task : Task) → Names (codes "propose") (rows_in options.now) task → ⊥ }
+{
+    Some(Task::Propose {
+        address: text_of(options, "address")?,
+        question: u16_of(options, "question")?,
+        bit: u8_of(options, "bit")?,
+    })
+}
+
+/// The values of `ask`'s words.
+fn ask_of<'a>(options: &ArgMatches<'a>) -> Option<Task<'a>>
+    ensures some { IfSome result (Names (codes "ask") (rows_in options.now)) }
+    ensures none { IsNone result → (task : Task) → Names (codes "ask") (rows_in options.now) task → ⊥ }
+{
+    Some(Task::Ask {
+        address: text_of(options, "address")?,
+        question: u16_of(options, "question")?,
+    })
+}
+
+/// The value of `dump`'s word.
+fn dump_of<'a>(options: &ArgMatches<'a>) -> Option<Task<'a>>
+    ensures some { IfSome result (Names (codes "dump") (rows_in options.now)) }
+    ensures none { IsNone result → (task : Task) → Names (codes "dump") (rows_in options.now) task → ⊥ }
+{
+    Some(Task::Dump {
+        journal: text_of(options, "journal")?,
+    })
+}
+
+/// The values of `simulate`'s words.
+fn simulate_of<'a>(options: &ArgMatches<'a>) -> Option<Task<'a>>
+    ensures some { IfSome result (Names (codes "simulate") (rows_in options.now)) }
+    ensures none { IsNone result → (task : Task) → Names (codes "simulate") (rows_in options.now) task → ⊥ }
+{
+    Some(Task::Simulate {
+        script: text_of(options, "script")?,
+        trace: text_of(options, "trace"),
+        chart: text_of(options, "chart"),
+    })
+}
+
+/// The task of the command of that name, each of whose values the parser has demanded.
+fn named_task<'a>(name: &str, options: &ArgMatches<'a>) -> Option<Task<'a>>
+    ensures some { IfSome result (Names name.now (rows_in options.now)) }
+    ensures none { IsNone result → (task : Task) → Names name.now (rows_in options.now) task → ⊥ }
+{
+    match name {
+        "hear" => hear_of(options),
+        "init" => init_of(options),
+        "run" => run_of(options),
+        "propose" => propose_of(options),
+        "ask" => ask_of(options),
+        "dump" => dump_of(options),
+        "simulate" => simulate_of(options),
+        _ => None,
     }
+}
+
+/// The task of the command that was given.
+fn task_of<'a>(matches: &ArgMatches<'a>) -> Option<Task<'a>>
+    ensures some { IfSome result (IsAskedFor (subcommand_rows_of matches.now)) }
+    ensures none { IsNone result → (task : Task) → IsAskedFor (subcommand_rows_of matches.now) task → ⊥ }
+{
+    let (name, options) = matches.subcommand()?;
+    named_task(name, options)
 }
 
 /// The task that the words ask for, the program's name first among them. An `Err` is to be printed: it is a fault of
 /// the words, the help or the version.
-pub fn command<'a, S: AsStr>(alloc: Global, words: &'a [S]) -> Result<Task<'a>, Error> {
-    let mut program = program(alloc)?;
-    let matches = program.try_get_matches_from_mut(words)?;
+pub fn command<'a, S: AsStr>(alloc: Global, words: &'a [S]) -> Result<Task<'a>, Error>
+    ensures asks { IfOk result (AskFor (map S.text words.entry.now)) }
+    ensures faults { FailsBy (fault_of program_app (map S.text words.entry.now)) result }
+{
+    let matches = program(alloc)?.try_get_matches_from(words)?;
     match task_of(&matches) {
         Some(task) => Ok(task),
-        None => Err(program.error(ErrorKind::MissingSubcommand, "no command")?),
+        None => unreachable!(),
     }
 }

@@ -1,15 +1,17 @@
-//! What ends a command.
+//! What ends the program before its work is done.
 
-ghost use Rattle.std.specs.Prelude.{◌≡◌, ◌⊎◌};
-ghost use Rattle.bracha.specs.declared.fault.Fault.TheVariants as fault;
+ghost use Rattle.bracha.specs.declared.fault.Fault.TheVariants as ends;
+ghost use Rattle.bracha.specs.Faults.{IsMeant, IsOfFile, of_journal};
+ghost use Rattle.std.specs.Prelude.{◌≡◌};
 
-use crate::settings::{Key, SettingsFault};
+use commands::{DumpFault, InitFault, SimulateFault, TalkFault};
+use hearing::HearFault;
 use journal::JournalFault;
-use script::ScriptFault;
-use sim::SimFault;
+use running::RunFault;
+use settings::SettingsFault;
 use std::alloc::{AllocError, AllocFailed};
 use std::io;
-use terms::{Memory, SizeFault};
+use terms::SizeFault;
 use thiserror::Error;
 
 /// Why a command ended before its work was done. The program prints the text after `bracha: ` and ends with
@@ -18,83 +20,67 @@ use thiserror::Error;
 pub enum Fault {
     /// The numbers make no size.
     #[error("size {0}")]
-    Size(SizeFault),
-    /// There is no such member.
-    #[error("me")]
-    Me,
-    /// A line of the input, counted from 1, isn't one.
-    #[error("line {0}")]
-    Line(u64),
-    /// A read of the input or a write of the output failed.
-    #[error("stream")]
-    Stream,
+    Size(#[from] SizeFault),
     /// A file couldn't be opened or read.
     #[error("file")]
     File,
-    /// The settings aren't TOML.
-    #[error("settings text")]
-    SettingsText,
-    /// A key of the settings is missing, or its value is of another type, out of its range or doesn't fit the others.
-    #[error("settings {0}")]
-    Setting(Key),
-    /// The journal couldn't be made, opened or read.
+    /// The settings aren't any.
+    #[error(transparent)]
+    Settings(#[from] SettingsFault),
+    /// What ended `hear`.
+    #[error(transparent)]
+    Hear(#[from] HearFault),
+    /// What ended `init`.
+    #[error(transparent)]
+    Init(#[from] InitFault),
+    /// What ended `dump`.
+    #[error(transparent)]
+    Dump(#[from] DumpFault),
+    /// The journal of a member that is to run couldn't be opened.
     #[error("journal {0}")]
     Journal(JournalFault),
-    /// A script has too many events.
-    #[error("events")]
-    Events,
-    /// A script can't be run.
-    #[error("sim {0}")]
-    Sim(SimFault),
+    /// What ended `run`.
+    #[error(transparent)]
+    Run(#[from] RunFault),
+    /// The address of a desk isn't one.
+    #[error("address")]
+    Address,
+    /// What ended `propose` or `ask`.
+    #[error(transparent)]
+    Talk(#[from] TalkFault),
+    /// What ended `simulate`.
+    #[error(transparent)]
+    Simulate(#[from] SimulateFault),
     /// The file of a trace couldn't be written.
     #[error("trace")]
     Trace,
     /// The file of a chart couldn't be written.
     #[error("chart")]
     Chart,
+    /// A write of the output failed.
+    #[error("stream")]
+    Stream,
     /// Memory was refused.
     #[error("memory")]
     Memory,
 }
 
 impl Fault {
-    /// The fault of a file that couldn't be opened or read: [`Fault::File`], but for want of memory.
-    pub fn of_file(error: io::Error) -> Fault
-        ensures { (result ≡ Fault.Memory) ⊎ (result ≡ Fault.File) }
+    /// The fault of a file that couldn't be opened, read or written: this one, but for want of memory.
+    pub fn of_file(self, error: io::Error) -> Fault
+        ensures meant { IsMeant self result }
+        ensures kind { IsOfFile self error result }
     {
         if error.kind() == io::ErrorKind::OutOfMemory {
             Fault::Memory
         } else {
-            Fault::File
-        }
-    }
-}
-
-impl From<SizeFault> for Fault {
-    fn from(fault: SizeFault) -> Fault {
-        Fault::Size(fault)
-    }
-}
-
-impl From<SettingsFault> for Fault {
-    ghost use Rattle.bracha.specs.Faults.{of_settings};
-
-    ghost from_gives = { λ fault ends. ends ≡ of_settings fault };
-
-    fn from(fault: SettingsFault) -> Fault {
-        match fault {
-            SettingsFault::Text => Fault::SettingsText,
-            SettingsFault::Key(key) => Fault::Setting(key),
-            SettingsFault::Size(size) => Fault::Size(size),
-            SettingsFault::Memory => Fault::Memory,
+            self
         }
     }
 }
 
 impl From<JournalFault> for Fault {
-    ghost use Rattle.bracha.specs.Faults.{of_journal};
-
-    ghost from_gives = { λ fault ends. ends ≡ of_journal fault };
+    ghost from_gives = { λ fault given. given ≡ of_journal fault };
 
     fn from(fault: JournalFault) -> Fault {
         match fault {
@@ -104,44 +90,8 @@ impl From<JournalFault> for Fault {
     }
 }
 
-impl From<ScriptFault> for Fault {
-    ghost use Rattle.bracha.specs.Faults.{of_script};
-
-    ghost from_gives = { λ fault ends. ends ≡ of_script fault };
-
-    fn from(fault: ScriptFault) -> Fault {
-        match fault {
-            ScriptFault::Line(number) => Fault::Line(number),
-            ScriptFault::Events => Fault::Events,
-            ScriptFault::Size(size) => Fault::Size(size),
-            ScriptFault::Memory => Fault::Memory,
-        }
-    }
-}
-
-impl From<SimFault> for Fault {
-    ghost use Rattle.bracha.specs.Faults.{of_sim};
-
-    ghost from_gives = { λ fault ends. ends ≡ of_sim fault };
-
-    fn from(fault: SimFault) -> Fault {
-        match fault {
-            SimFault::Memory => Fault::Memory,
-            other => Fault::Sim(other),
-        }
-    }
-}
-
-impl From<Memory> for Fault {
-    ghost from_gives = { λ _ ends. ends ≡ fault.Memory };
-
-    fn from(_refused: Memory) -> Fault {
-        Fault::Memory
-    }
-}
-
 impl From<AllocError> for Fault {
-    ghost from_gives = { λ _ ends. ends ≡ fault.Memory };
+    ghost from_gives = { λ _ given. given ≡ ends.Memory };
 
     fn from(_refused: AllocError) -> Fault {
         Fault::Memory
@@ -149,7 +99,7 @@ impl From<AllocError> for Fault {
 }
 
 impl<T: Drop> From<AllocFailed<T>> for Fault {
-    ghost from_gives = { λ _ ends. ends ≡ fault.Memory };
+    ghost from_gives = { λ _ given. given ≡ ends.Memory };
 
     fn from(_refused: AllocFailed<T>) -> Fault {
         Fault::Memory
@@ -157,13 +107,9 @@ impl<T: Drop> From<AllocFailed<T>> for Fault {
 }
 
 impl From<io::Error> for Fault {
-    ghost from_gives = { λ _ ends. (ends ≡ fault.Memory) ⊎ (ends ≡ fault.Stream) };
+    ghost from_gives = { λ error given. IsOfFile ends.Stream error given };
 
     fn from(error: io::Error) -> Fault {
-        if error.kind() == io::ErrorKind::OutOfMemory {
-            Fault::Memory
-        } else {
-            Fault::Stream
-        }
+        Fault::Stream.of_file(error)
     }
 }

@@ -1,125 +1,108 @@
 //! The program `bracha`: reads its words, does the command's work, and prints what is wrong.
 #![tactic(auto)]
 
-mod address;
+ghost use Rattle.bracha.specs.Faults.{IsCodeOf};
+ghost use Rattle.clap.specs.Words.{kind_of};
+ghost use Rattle.clap.specs.declared.error.kind.ErrorKind.TheVariants.{DisplayHelp, DisplayVersion};
+ghost use Rattle.std.specs.Prelude.{◌≡◌, ◌≢◌, ◌⊎◌, IfOk};
+
+mod asking;
 mod command;
-mod dump;
-mod entries;
 mod fault;
-mod hear;
-mod init;
-mod piece;
-mod session;
-mod settings;
-mod simulate;
+mod files;
+mod live;
+mod streams;
 
+use asking::{ask_at, propose_at};
 use clap::error::ErrorKind;
-use command::{Task, command, size_from};
-use disk::FileDisk;
-use dump::dump_lines;
+use command::{Task, command};
 use fault::Fault;
-use hear::hear_lines;
-use init::init_disk;
-use settings::Settings;
-use simulate::{print, simulate_pages};
-use std::io::{self, LineWriter};
+use files::{dump_file, hear_input, init_file, simulate_file};
+use live::run_file;
+use running::Machine;
+use std::convert::AsStr;
+use std::net::{TcpListener, TcpStream};
 use std::process::ExitCode;
-use std::{env, fs};
-use terms::Size;
-
-/// Reads lines from the standard input, and answers them.
-fn hear_input(rt: &HostRuntime, size: Size, me: u8) -> Result<u8, Fault> {
-    let mut input = rt.reader();
-    let mut output = LineWriter::new(rt.alloc(), io::writer(rt))?;
-    hear_lines(rt.alloc(), size, me, &mut input, &mut output)
-}
-
-/// Makes the journal that the settings in the file name.
-fn init_file(rt: &HostRuntime, path: &str) -> Result<u8, Fault> {
-    let bytes = fs::read(rt, path).map_err(Fault::of_file)?;
-    let text = str::from_utf8(&bytes).map_err(|_| Fault::SettingsText)?;
-    let settings = Settings::parse(rt.alloc(), text)?;
-    let mut disk = FileDisk::open(rt, settings.journal.as_str(), true).map_err(Fault::of_file)?;
-    init_disk(&mut disk, &settings)
-}
-
-/// Prints the journal in the file.
-fn dump_file(rt: &HostRuntime, path: &str) -> Result<u8, Fault> {
-    let disk = FileDisk::open(rt, path, false).map_err(Fault::of_file)?;
-    dump_lines(rt.alloc(), disk, &mut io::writer(rt))
-}
-
-/// Writes a page, if there is one, into the file. What was there is replaced.
-fn write_page(
-    rt: &HostRuntime,
-    path: Option<&str>,
-    page: Option<String>,
-    fault: Fault,
-) -> Result<(), Fault> {
-    let (Some(path), Some(page)) = (path, page) else {
-        return Ok(());
-    };
-    match fs::write(rt, path, page.as_str()).map_err(Fault::of_file) {
-        Err(Fault::File) => Err(fault),
-        result => result,
-    }
-}
-
-/// Runs the script in the file, and writes a trace and a chart of it where they are asked for. Only then anything is
-/// printed.
-fn simulate_file(
-    rt: &HostRuntime,
-    path: &str,
-    trace: Option<&str>,
-    chart: Option<&str>,
-) -> Result<u8, Fault> {
-    let text = fs::read(rt, path).map_err(Fault::of_file)?;
-    let pages = simulate_pages(rt.alloc(), &text, trace.is_some(), chart.is_some())?;
-    write_page(rt, trace, pages.trace, Fault::Trace)?;
-    write_page(rt, chart, pages.chart, Fault::Chart)?;
-    print(pages.verdicts.as_str(), &mut io::writer(rt))
-}
+use std::{env, io};
+use streams::hold_streams;
+use words::size_from;
 
 /// Does the task, and gives the status to end with.
-fn work(rt: &HostRuntime, task: Task) -> Result<u8, Fault> {
+fn work<R: Machine>(rt: &R, host: &HostRuntime, task: Task) -> Result<u8, Fault> {
     match task {
         Task::Hear {
             n,
             t,
             questions,
             me,
-        } => hear_input(rt, size_from(n, t, questions)?, me),
-        Task::Init { settings } => init_file(rt, settings),
-        Task::Dump { journal } => dump_file(rt, journal),
+        } => hear_input(host, size_from(n, t, questions)?, me),
+        Task::Init { settings } => init_file(host, settings),
+        Task::Run { settings, stay } => run_file(rt, host, settings, stay),
+        Task::Propose {
+            address,
+            question,
+            bit,
+        } => propose_at(host, address, question, bit),
+        Task::Ask { address, question } => ask_at(host, address, question),
+        Task::Dump { journal } => dump_file(host, journal),
         Task::Simulate {
             script,
             trace,
             chart,
-        } => simulate_file(rt, script, trace, chart),
+        } => simulate_file(host, script, trace, chart),
     }
 }
 
-/// Reads the words and does what they ask for. Help, the version and faults of the words are printed here.
-fn run(rt: &HostRuntime) -> Result<u8, Fault> {
-    let words: Vec<String> = env::args(rt)?.collect(rt.alloc())?;
-    match command(rt.alloc(), words.as_slice()) {
-        Ok(task) => work(rt, task),
+/// The status to end with where the words ask for nothing to be done: 0 for the help and the version, 2 for a fault of
+/// the words.
+fn status_of(error: &clap::Error) -> u8
+    ensures shown { (kind_of error.now ≡ DisplayHelp) ⊎ (kind_of error.now ≡ DisplayVersion) → result ≡ 0 }
+    ensures fault { kind_of error.now ≢ DisplayHelp → kind_of error.now ≢ DisplayVersion → result ≡ 2 }
+{
+    error.exit_code() as u8
+}
+
+/// Does what the words ask for, the program's name first among them. Help, the version and faults of the words are printed
+/// here.
+fn run<R: Machine, S: AsStr>(rt: &R, host: &HostRuntime, words: &[S]) -> Result<u8, Fault> {
+    match command(host.alloc(), words) {
+        Ok(task) => work(rt, host, task),
         Err(error) if error.kind() == ErrorKind::OutOfMemory => Err(Fault::Memory),
         Err(error) => {
-            error.print(rt)?;
-            Ok(error.exit_code() as u8)
+            error.print(host)?;
+            Ok(status_of(&error))
         }
     }
 }
 
-fn main(rt: HostRuntime) -> io::Result<ExitCode> {
-    match run(&rt) {
+/// Does what the words ask for with which the program was started.
+fn run_own<R: Machine>(rt: &R, host: &HostRuntime) -> Result<u8, Fault> {
+    let words: Vec<String> = env::args(host)?.collect(host.alloc())?;
+    run(rt, host, words.as_slice())
+}
+
+/// Prints what is wrong, if anything is, and gives the code to end with: the status of what was done, or 1.
+fn end(rt: &HostRuntime, ended: Result<u8, Fault>) -> io::Result<ExitCode>
+    ensures { IfOk result (IsCodeOf ended) }
+{
+    match ended {
         Ok(status) => Ok(ExitCode::from(status)),
         Err(fault) => {
             eprintln!(rt; "bracha: {fault}")?;
             Ok(ExitCode::FAILURE)
         }
     }
+}
+
+/// No sockets. The check of a function that takes the runtime as one with sockets wants it to name their types.
+fn no_sockets() -> (Option<TcpListener>, Option<TcpStream>) {
+    (None, None)
+}
+
+fn main(rt: HostRuntime) -> io::Result<ExitCode> {
+    let _sockets = no_sockets();
+    let _held = hold_streams(&rt)?;
+    end(&rt, run_own(&rt, &rt))
 }
 
 #[cfg(test)]

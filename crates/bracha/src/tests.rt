@@ -1,192 +1,17 @@
-//! The worked rows of `hear`, its faults, and the words of the command line.
+//! The words of the command line, files, and what is printed of faults.
+
+mod processes;
 
 use super::*;
-use crate::hear::hear_lines;
-use crate::settings::{Key, SettingsFault};
+use commands::{DumpFault, InitFault, SimulateFault};
+use files::write_page;
+use hearing::HearFault;
 use journal::JournalFault;
-use script::ScriptFault;
+use settings::{Key, SettingsFault};
 use sim::SimFault;
-use std::io::{BufRead, Read, Write};
+use std::fs;
 use std::test::Fail;
-use terms::{Size, SizeFault};
-
-/// What `hear` answers to the input, and how it ends, as member 1 of 4 with one question.
-fn heard(rt: &HostRuntime, input: &str) -> Result<(String, Result<u8, Fault>), Fail> {
-    let size = Size::new(4, 1, 1).ok().ok_or("a size")?;
-    let mut rest = input.as_bytes();
-    let mut output = Vec::new(rt.alloc());
-    let result = hear_lines(rt.alloc(), size, 1, &mut rest, &mut output);
-    let text = String::from_utf8(output).ok().ok_or("text")?;
-    Ok((text, result))
-}
-
-#[test]
-fn answers_line_by_line(rt: HostRuntime) -> Result<(), Fail> {
-    for (input, want) in [
-        (
-            "0 00080301\n0 000000010101\n0 00080301000000010100\n2 00080301000000010101\n3 ff\n3 000100\n",
-            "news\n00080302000000010101\nrepeat\nforeign\nbroken BadLength\nbroken BadLength\n",
-        ),
-        // A help set of Readys makes Echo and Ready due at once, with no Echo heard.
-        (
-            "2 00080303000000010101\n3 00080303000000010101\n",
-            "news\nnews\n00080302000000010101\n00080303000000010101\n",
-        ),
-        // Two frames and then a bad value in one piece; then the same fault again.
-        (
-            "0 0008030100000001010100080301000000010100000803020000000101020000\n0 00\n",
-            "news\n00080302000000010101\nrepeat\nbroken BadValue\nbroken BadValue\n",
-        ),
-        // An idle, a welcome and a hello print nothing; a hello of another size is a fault.
-        (
-            "0 000100\n0 0009020000000000000001\n0 001001010000000000000007040100010001\n0 00080301000000010101\n",
-            "news\n00080302000000010101\n",
-        ),
-        ("2 00100101000000000000000705\n", "broken BadHello\n"),
-        // Digits of either case, leading zeros, a last line without its end, and an input of nothing.
-        ("03 FF", "broken BadLength\n"),
-        ("3 fF\n", "broken BadLength\n"),
-        ("00000000000000000000003 00\n", ""),
-        ("", ""),
-    ] {
-        let (text, result) = heard(&rt, input)?;
-        assert_eq!(rt; text.as_str(), want);
-        assert!(rt; matches!(result, Ok(0)), "at {input:?}");
-    }
-    Ok(())
-}
-
-#[test]
-fn names_the_first_bad_line(rt: HostRuntime) -> Result<(), Fail> {
-    for line in [
-        "",
-        "0",
-        "0 ",
-        " 00",
-        "0 0",
-        "0 0g",
-        "0 00 00",
-        "0  00",
-        "4 00",
-        "+0 00",
-        "-1 00",
-        "256 00",
-        "99999999999999999999999 00",
-        "0x0 00",
-        "0 00\r",
-        "0\t00",
-        "a 00",
-        "0,00",
-    ] {
-        let input = format!(in rt.alloc(); "0 00080301000000010101\n{line}\n0 00\n")?;
-        let (text, result) = heard(&rt, input.as_str())?;
-        assert_eq!(rt; text.as_str(), "news\n00080302000000010101\n");
-        assert!(rt; matches!(result, Err(Fault::Line(2))), "at {line:?}");
-    }
-    Ok(())
-}
-
-#[test]
-fn asks_for_a_member(rt: HostRuntime) -> Result<(), Fail> {
-    let size = Size::new(4, 1, 1).ok().ok_or("a size")?;
-    let mut output = Vec::new(rt.alloc());
-    let result = hear_lines(rt.alloc(), size, 4, &mut "0 ff\n".as_bytes(), &mut output);
-    assert!(rt; matches!(result, Err(Fault::Me)));
-    assert_eq!(rt; output.len(), 0);
-    Ok(())
-}
-
-/// A reader of lines that fails where its text ends.
-#[derive(Drop)]
-struct Torn<'a>(&'a [u8]);
-
-impl<'a> Read for Torn<'a> {
-    fn read(&mut self, buf: &mut [u8]) -> io::Result<usize> {
-        if self.0.is_empty() {
-            return Err(io::Error::from(io::ErrorKind::BrokenPipe));
-        }
-        self.0.read(buf)
-    }
-}
-
-impl<'a> BufRead for Torn<'a> {
-    fn fill_buf(&mut self) -> io::Result<&[u8]> {
-        if self.0.is_empty() {
-            return Err(io::Error::from(io::ErrorKind::BrokenPipe));
-        }
-        Ok(self.0)
-    }
-
-    fn consume(&mut self, amount: usize) {
-        self.0.consume(amount);
-    }
-}
-
-/// A writer that takes so many bytes, one at a time, and then fails.
-#[derive(Drop)]
-struct Narrow {
-    taken: Vec<u8>,
-    room: usize,
-}
-
-impl Write for Narrow {
-    fn write(&mut self, buf: &[u8]) -> io::Result<usize> {
-        if buf.is_empty() {
-            return Ok(0);
-        }
-        if self.taken.len() >= self.room {
-            return Err(io::Error::from(io::ErrorKind::BrokenPipe));
-        }
-        self.taken.push(buf[0])?;
-        Ok(1)
-    }
-
-    fn flush(&mut self) -> io::Result<()> {
-        Ok(())
-    }
-}
-
-#[test]
-fn ends_where_a_stream_fails(rt: HostRuntime) -> Result<(), Fail> {
-    let size = Size::new(4, 1, 1).ok().ok_or("a size")?;
-    let mut output = Vec::new(rt.alloc());
-    let mut torn = Torn("0 00080301000000010101\n0 00".as_bytes());
-    let result = hear_lines(rt.alloc(), size, 1, &mut torn, &mut output);
-    assert!(rt; matches!(result, Err(Fault::Stream)));
-    assert_eq!(rt;
-        output.as_slice(),
-        "news\n00080302000000010101\n".as_bytes()
-    );
-    for room in 0..30usize {
-        let mut narrow = Narrow {
-            taken: Vec::new(rt.alloc()),
-            room,
-        };
-        let mut input = "0 00080301000000010101\n3 ff\n".as_bytes();
-        let result = hear_lines(rt.alloc(), size, 1, &mut input, &mut narrow);
-        assert!(rt; matches!(result, Err(Fault::Stream)), "with {room}");
-        let whole = "news\n00080302000000010101\nbroken BadLength\n".as_bytes();
-        assert!(rt; narrow.taken.as_slice() == &whole[..room], "with {room}");
-    }
-    Ok(())
-}
-
-#[test]
-fn numbers_past_a_byte_are_too_many(rt: HostRuntime) {
-    for (n, t, questions, want) in [
-        (256, 1, 1, SizeFault::TooManyMembers),
-        (65535, 65535, 0, SizeFault::TooManyMembers),
-        (4, 256, 1, SizeFault::TooManyLiars),
-        (0, 65535, 0, SizeFault::NoMembers),
-        (4, 1, 65535, SizeFault::TooManyQuestions),
-    ] {
-        assert!(rt;
-            size_from(n, t, questions) == Err(want),
-            "at {n}, {t}, {questions}"
-        );
-    }
-    assert!(rt; size_from(4, 1, 1) == Size::new(4, 1, 1));
-}
+use terms::SizeFault;
 
 #[test]
 fn reads_the_words(rt: HostRuntime) -> Result<(), Fail> {
@@ -214,6 +39,13 @@ fn reads_the_words(rt: HostRuntime) -> Result<(), Fail> {
         (
             ["bracha", "init", "a.toml"],
             Task::Init { settings: "a.toml" },
+        ),
+        (
+            ["bracha", "run", "a.toml"],
+            Task::Run {
+                settings: "a.toml",
+                stay: false,
+            },
         ),
         (
             ["bracha", "dump", "x.journal"],
@@ -304,6 +136,95 @@ fn reads_the_words(rt: HostRuntime) -> Result<(), Fail> {
 }
 
 #[test]
+fn reads_the_words_of_a_member(rt: HostRuntime) -> Result<(), Fail> {
+    for (words, want) in [
+        (
+            ["bracha", "run", "--stay", "a.toml"].as_slice(),
+            Task::Run {
+                settings: "a.toml",
+                stay: true,
+            },
+        ),
+        (
+            ["bracha", "run", "a.toml", "--stay"].as_slice(),
+            Task::Run {
+                settings: "a.toml",
+                stay: true,
+            },
+        ),
+        (
+            ["bracha", "propose", "127.0.0.1:47111", "65535", "255"].as_slice(),
+            Task::Propose {
+                address: "127.0.0.1:47111",
+                question: 65535,
+                bit: 255,
+            },
+        ),
+        (
+            ["bracha", "propose", "localhost:1", "0", "1"].as_slice(),
+            Task::Propose {
+                address: "localhost:1",
+                question: 0,
+                bit: 1,
+            },
+        ),
+        (
+            ["bracha", "ask", "127.0.0.1:47111", "7"].as_slice(),
+            Task::Ask {
+                address: "127.0.0.1:47111",
+                question: 7,
+            },
+        ),
+        (
+            [
+                "bracha",
+                "hear",
+                "--me=3",
+                "--questions=2",
+                "--t=1",
+                "--n=4",
+            ]
+            .as_slice(),
+            Task::Hear {
+                n: 4,
+                t: 1,
+                questions: 2,
+                me: 3,
+            },
+        ),
+    ] {
+        let task = command(rt.alloc(), words).ok().ok_or("a task")?;
+        assert!(rt; task == want, "at {words:?}");
+    }
+    for (words, status) in [
+        (["bracha", "run", "--stay=yes", "a.toml"].as_slice(), 2),
+        (["bracha", "run", "--stay"].as_slice(), 2),
+        (["bracha", "run", "--help"].as_slice(), 0),
+        (["bracha", "propose", "127.0.0.1:47111", "0"].as_slice(), 2),
+        (
+            ["bracha", "propose", "127.0.0.1:47111", "0", "256"].as_slice(),
+            2,
+        ),
+        (
+            ["bracha", "propose", "127.0.0.1:47111", "65536", "1"].as_slice(),
+            2,
+        ),
+        (["bracha", "propose", "--help"].as_slice(), 0),
+        (["bracha", "ask", "127.0.0.1:47111"].as_slice(), 2),
+        (["bracha", "ask", "127.0.0.1:47111", "x"].as_slice(), 2),
+        (["bracha", "ask", "127.0.0.1:47111", "0", "1"].as_slice(), 2),
+        (["bracha", "ask", "--help"].as_slice(), 0),
+        (["bracha", "simulate", "--help"].as_slice(), 0),
+    ] {
+        let error = command(rt.alloc(), words)
+            .err()
+            .ok_or("a fault of the words")?;
+        assert!(rt; error.exit_code() == status, "at {words:?}");
+    }
+    Ok(())
+}
+
+#[test]
 fn reads_the_options_of_simulate(rt: HostRuntime) -> Result<(), Fail> {
     for (words, trace, chart) in [
         (
@@ -378,7 +299,12 @@ fn a_run_of_a_fault_writes_no_file(rt: HostRuntime) -> Result<(), Fail> {
     assert!(rt; matches!(&chart, Err(Fault::Chart)));
     fs::write(&rt, SCRIPT, "n 1\nt 0\nquestions 1\nliars 0\nseed 1\n")?;
     let run = simulate_file(&rt, SCRIPT, Some(PAGE), Some(PAGE));
-    assert!(rt; matches!(&run, Err(Fault::Sim(SimFault::BadLiars))));
+    assert!(rt;
+        matches!(
+            &run,
+            Err(Fault::Simulate(SimulateFault::Sim(SimFault::BadLiars)))
+        )
+    );
     assert!(rt; fs::metadata(&rt, PAGE).is_err(), "a file of a fault");
     fs::remove_file(&rt, SCRIPT)?;
     Ok(())
@@ -388,29 +314,22 @@ fn a_run_of_a_fault_writes_no_file(rt: HostRuntime) -> Result<(), Fail> {
 fn faults_print_so(rt: HostRuntime) -> Result<(), Fail> {
     for (fault, want) in [
         (Fault::Size(SizeFault::TooManyLiars), "size TooManyLiars"),
-        (Fault::Me, "me"),
-        (Fault::Line(7), "line 7"),
         (Fault::Stream, "stream"),
         (Fault::File, "file"),
-        (Fault::SettingsText, "settings text"),
-        (Fault::Setting(Key::Cluster), "settings cluster"),
-        (Fault::Journal(JournalFault::NotEmpty), "journal NotEmpty"),
-        (Fault::from(JournalFault::Memory), "memory"),
-        (Fault::Events, "events"),
+        (Fault::Hear(HearFault::Line(7)), "line 7"),
+        (Fault::Settings(SettingsFault::Text), "settings text"),
+        (
+            Fault::Settings(SettingsFault::Key(Key::Cluster)),
+            "settings cluster",
+        ),
+        (Fault::Init(InitFault::NotEmpty), "journal NotEmpty"),
+        (
+            Fault::Dump(DumpFault::Journal(JournalFault::CutShort)),
+            "journal CutShort",
+        ),
+        (Fault::Simulate(SimulateFault::Events), "events"),
         (Fault::Trace, "trace"),
         (Fault::Chart, "chart"),
-        (Fault::Sim(SimFault::BadLiars), "sim BadLiars"),
-        (Fault::from(SimFault::Memory), "memory"),
-        (Fault::from(ScriptFault::Line(3)), "line 3"),
-        (Fault::from(ScriptFault::Events), "events"),
-        (Fault::from(ScriptFault::Memory), "memory"),
-        (Fault::from(SettingsFault::Text), "settings text"),
-        (Fault::from(SettingsFault::Key(Key::N)), "settings n"),
-        (
-            Fault::from(SettingsFault::Size(SizeFault::NoMembers)),
-            "size NoMembers",
-        ),
-        (Fault::from(SettingsFault::Memory), "memory"),
         (Fault::Memory, "memory"),
     ] {
         let text = format!(in rt.alloc(); "{fault}")?;

@@ -5,3 +5,6 @@ mod Left
 mod Listed
 pub mod Moments
 pub mod Outcomes
+mod Placing
+mod Torn
+mod Walks

@@ -1,7 +1,11 @@
 pub mod Crash
+pub mod Deeds
 pub mod File
 pub mod Fuse
 pub mod Laws
+pub mod Losses
 pub mod Memory
 pub mod Model
+pub mod Real
 pub mod Replay
+pub mod System

@@ -11,7 +11,7 @@ pub struct DeviceFault;
 
 /// One file, reached by calls that may fail.
 ///
-/// A fault is answered only in a call in which the count of failures rose. That holds of every disk. What is said of
+/// A fault is answered just in a call in which the count of failures rose. That holds of every disk. What is said of
 /// bytes, moments and crashes holds where the disk keeps the model.
 pub trait Disk {
     /// This disk keeps the model: what is said of bytes, moments and crashes holds. It is a fact of the disk, and no

@@ -15,6 +15,9 @@ impl Model for Failures {
     ghost also_owns = { λ _. ftrue };
 }
 
+// SAFETY: it has no word of memory.
+unsafe impl Send for Failures {}
+
 impl Failures {
     /// No failure yet.
     pub(crate) fn none() -> Failures

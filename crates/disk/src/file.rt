@@ -1,73 +1,50 @@
 //! A disk that is a file. Nothing is proved of its bytes: that a real file keeps the model is a premise.
-ghost use Rattle.std.specs.Prelude.{◌≡◌, [], IfOk};
+ghost use Rattle.std.specs.Prelude.{◌≡◌, [], true, false, IfOk, OnOk, OnErr};
 ghost use Rattle.disk.specs.Model.{at_rest, HasCause};
+ghost use Rattle.disk.specs.System.{has_told, has_read, has_written, has_synced, WroteSome};
 
-use crate::failures::Failures;
+use crate::named::NamedFile;
+use crate::system::RealFile;
 use crate::{DeviceFault, Disk};
 use std::fs::{File, OpenOptions};
 use std::io;
-use std::os::unix::fs::FileExt;
 use std::path::Path;
 use std::rt::Files;
 
-/// An open file of the operating system. One process at a time has it open.
+/// An open file of the operating system. One process at a time has it open: it holds the file's lock for as long as it
+/// lives.
 ///
 /// A read or a write that the system answers in part is continued, and a call that a signal interrupts is made again.
 /// The first sync that succeeds also puts the folder on the disk, so that the file is found there after a crash.
 #[derive(Drop)]
 pub struct FileDisk {
-    file: File,
-    // The folder that has the file's name, until a sync has put it on the disk.
-    folder: Option<File>,
-    failures: Failures,
+    named: NamedFile<RealFile>,
 }
 
 impl FileDisk {
-    ghost use Rattle.disk.specs.File.{file_failures};
+    ghost use Rattle.disk.specs.File.{file_failures, is_named};
 
     /// Opens a file for reading and writing. A missing one is made, empty, where `make` says so.
     ///
-    /// An error is the system's: the file or its folder is missing, isn't to be read or written, or isn't a file.
-    /// Where it is about the folder no file was made.
+    /// An error is the system's: the file or its folder is missing, isn't to be read or written, isn't a file, or another
+    /// disk has it open. Where it is about the folder no file was made.
     pub fn open(rt: &impl Files<File = File>, path: &str, make: bool) -> io::Result<FileDisk>
-        ensures { IfOk result (λ disk. file_failures disk ≡ 0) }
+        ensures failures { IfOk result (λ disk. file_failures disk ≡ 0) }
+        ensures unnamed { IfOk result (λ disk. is_named disk ≡ false) }
     {
         let folder = File::open(rt, folder_of(path))?;
         let mut options = OpenOptions::new();
         options.read(true).write(true).create(make);
         let file = options.open(rt, path)?;
+        file.try_lock()?;
         Ok(FileDisk {
-            file,
-            folder: Some(folder),
-            failures: Failures::none(),
+            named: NamedFile::new(RealFile::new(file), RealFile::new(folder)),
         })
-    }
-
-    // The answer to a call of the system.
-    fn answer<T: Drop>(&mut self, done: io::Result<T>) -> Result<T, DeviceFault>
-        ensures { HasCause (file_failures self.old) (file_failures self.new) result }
-    {
-        match done {
-            Ok(value) => Ok(value),
-            Err(_) => {
-                self.failures.raise();
-                Err(DeviceFault)
-            }
-        }
-    }
-}
-
-// Puts the file on the disk, and its folder where one is given.
-fn settle(file: &File, folder: Option<&File>) -> io::Result<()> {
-    file.sync_all()?;
-    match folder {
-        Some(folder) => folder.sync_all(),
-        None => Ok(()),
     }
 }
 
 // The folder of a path, which is the working folder for a bare name.
-fn folder_of(path: &str) -> Path<'_> {
+pub(crate) fn folder_of(path: &str) -> Path<'_> {
     match Path::new(path).parent() {
         Some(folder) if !folder.as_os_str().is_empty() => folder,
         _ => Path::new("."),
@@ -75,6 +52,8 @@ fn folder_of(path: &str) -> Path<'_> {
 }
 
 impl Disk for FileDisk {
+    ghost use Rattle.disk.specs.File.{file_failures, is_named, file_done, folder_done};
+
     ghost keeps = { λ _. ⊥ };
 
     ghost state = { λ _. at_rest [] };
@@ -83,7 +62,7 @@ impl Disk for FileDisk {
 
     ghost since = { λ _ t file. ⊥ };
 
-    ghost failures = { λ disk. disk.failures.count };
+    ghost failures = { file_failures };
 
     ghost counts_now = { λ disk t file keeps le may. absurd keeps };
 
@@ -91,25 +70,38 @@ impl Disk for FileDisk {
 
     ghost may_leave_seen = { λ disk keeps. absurd keeps };
 
-    fn len(&mut self) -> Result<usize, DeviceFault> {
-        let length = self.file.metadata().map(|it| it.len() as usize);
-        self.answer(length)
+    fn len(&mut self) -> Result<usize, DeviceFault>
+        ensures told { IfOk result (λ n. file_done self.new ≡ has_told (file_done self.old) n) }
+        ensures folder { (folder_done self.new ≡ folder_done self.old) × (is_named self.new ≡ is_named self.old) }
+        ensures cause { HasCause (file_failures self.old) (file_failures self.new) result }
+    {
+        self.named.len()
     }
 
-    fn read_at(&mut self, at: usize, buf: &mut [u8]) -> Result<(), DeviceFault> {
-        let read = self.file.read_exact_at(buf, at as u64);
-        self.answer(read)
+    fn read_at(&mut self, at: usize, buf: &mut [u8]) -> Result<(), DeviceFault>
+        ensures got { OnOk result (file_done self.new ≡ has_read (file_done self.old) at buf.new) }
+        ensures folder { (folder_done self.new ≡ folder_done self.old) × (is_named self.new ≡ is_named self.old) }
+        ensures cause { HasCause (file_failures self.old) (file_failures self.new) result }
+    {
+        self.named.read_at(at, buf)
     }
 
-    fn write_at(&mut self, at: usize, bytes: &[u8]) -> Result<(), DeviceFault> {
-        let written = self.file.write_all_at(bytes, at as u64);
-        self.answer(written)
+    fn write_at(&mut self, at: usize, bytes: &[u8]) -> Result<(), DeviceFault>
+        ensures whole { OnOk result (file_done self.new ≡ has_written (file_done self.old) at bytes.now) }
+        ensures part { OnErr result (WroteSome (file_done self.old) (file_done self.new) at bytes.now) }
+        ensures folder { (folder_done self.new ≡ folder_done self.old) × (is_named self.new ≡ is_named self.old) }
+        ensures cause { HasCause (file_failures self.old) (file_failures self.new) result }
+    {
+        self.named.write_at(at, bytes)
     }
 
-    fn sync(&mut self) -> Result<(), DeviceFault> {
-        let settled = settle(&self.file, self.folder.as_ref());
-        self.answer(settled)?;
-        self.folder = None;
-        Ok(())
+    fn sync(&mut self) -> Result<(), DeviceFault>
+        ensures file { OnOk result (file_done self.new ≡ has_synced (file_done self.old)) }
+        ensures folder { OnOk result (is_named self.old ≡ false → folder_done self.new ≡ has_synced (folder_done self.old)) }
+        ensures named { OnOk result (is_named self.new ≡ true) }
+        ensures unnamed { OnErr result (is_named self.new ≡ is_named self.old) }
+        ensures cause { HasCause (file_failures self.old) (file_failures self.new) result }
+    {
+        self.named.sync()
     }
 }

@@ -1,15 +1,20 @@
 //! A disk as a journal sees it: what reads give, and what a crash at any moment may leave.
 #![tactic(auto)]
 
+mod account;
 mod call;
 mod crash;
 mod device;
 mod failures;
 mod file;
+pub mod laws;
 mod log;
 mod memory;
+mod named;
+mod system;
 #[cfg(test)]
 mod tests;
+mod whole;
 
 pub use crash::Pick;
 pub use device::{DeviceFault, Disk};

@@ -3,10 +3,13 @@
 //! Where `rt try --test --fail-alloc N` refuses an allocation, the helpers see that nothing else changed, and make the
 //! call again.
 
+mod faulty;
+
 use super::*;
+use crate::file::folder_of;
 use std::alloc::AllocError;
 use std::fs;
-use std::fs::Permissions;
+use std::fs::{File, Permissions};
 use std::os::unix::fs::PermissionsExt;
 use std::process::Abort;
 use std::rt::Files;
@@ -306,7 +309,41 @@ fn what_is_no_open_file_is_refused(rt: HostRuntime) -> Result<(), Fail> {
         );
     }
     fs::remove_file(&rt, CLOSED_FILE)?;
+    // No file is made in a folder that can't be synced.
+    fs::set_permissions(&rt, CLOSED, Permissions::from_mode(0o300))?;
+    if File::open(&rt, CLOSED).is_err() {
+        assert!(rt;
+            FileDisk::open(&rt, CLOSED_FILE, true).is_err(),
+            "no folder"
+        );
+        assert!(rt; fs::metadata(&rt, CLOSED_FILE).is_err(), "a file was made");
+    }
+    fs::set_permissions(&rt, CLOSED, Permissions::from_mode(0o700))?;
+    let _ = fs::remove_file(&rt, CLOSED_FILE);
     fs::remove_dir(&rt, CLOSED)?;
+    Ok(())
+}
+
+#[test]
+fn a_folder_is_that_of_the_path(rt: HostRuntime) {
+    for (path, folder) in [("a/b", "a"), ("b", "."), ("/b", "/"), ("a/b/c", "a/b")] {
+        assert!(&rt; folder_of(path).to_str() == Some(folder), "at {path:?}");
+    }
+}
+
+#[test]
+fn a_file_has_one_disk_at_a_time(rt: HostRuntime) -> Result<(), Fail> {
+    let path = "disk_tests_locked";
+    let _ = fs::remove_file(&rt, path);
+    let mut first = FileDisk::open(&rt, path, true)?;
+    first.write_at(0, b"ab")?;
+    for make in [false, true] {
+        assert!(rt; FileDisk::open(&rt, path, make).is_err(), "a second disk");
+    }
+    assert_eq!(rt; first.len()?, 2);
+    drop(first);
+    assert_eq!(rt; FileDisk::open(&rt, path, false)?.len()?, 2);
+    fs::remove_file(&rt, path)?;
     Ok(())
 }
 

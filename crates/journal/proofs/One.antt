@@ -11,35 +11,18 @@ use Rattle.terms.specs.declared.Record.TheVariants.{Said, Decided}
 use Rattle.terms.specs.declared.Header.{Header}
 use Rattle.terms.specs.Bounds.{IsSize}
 use Rattle.terms.specs.Same.{place_of, statement_of, value_code}
-use Rattle.journal.specs.Texts.{kind_byte, bit_byte, record_text, header_text, Batch, batch_text, texts, records_of}
+use Rattle.spelling.specs.Statements.{kind_byte, kind_of, value_of}
+use Rattle.spelling.proofs.Statements.{kind_again, value_again}
+use Rattle.journal.specs.Texts.{bit_byte, record_text, header_text, Batch, batch_text, texts, records_of}
 use Rattle.journal.specs.WellFormed.{IsWellFormedFor, AreWellFormedFor, IsBatch, AreBatches}
 use Rattle.journal.specs.File.{HasHeader, Holds, IsCut, IsBad}
 use Rattle.journal.proofs.Headers.{same_header}
 use Rattle.journal.proofs.Records.{asked, said_back, decided_back}
 use Rattle.journal.proofs.Texts.{length-header_text, length-record_text, length-records, same_front}
 
--- the kind, the value and the bit of a byte
-abbrev pub kind_from : ℕ → Kind
-kind_from b = if nat_eq b 1 then Initial else (if nat_eq b 2 then Echo else Ready)
-
-abbrev pub value_from : ℕ → Value
-value_from b =
-    if nat_eq b 0 then Zero else (if nat_eq b 1 then One else (if nat_eq b 2 then SureZero else (if nat_eq b 3 then SureOne else Unsure)))
-
+-- the bit of a byte
 abbrev pub bit_from : ℕ → Bool
 bit_from b = nat_eq b 1
-
-kind_again : (k : Kind) → kind_from (kind_byte k) ≡ k
-kind_again Initial = refl
-kind_again Echo = refl
-kind_again Ready = refl
-
-value_again : (v : Value) → value_from (value_code v) ≡ v
-value_again Zero = refl
-value_again One = refl
-value_again SureZero = refl
-value_again SureOne = refl
-value_again Unsure = refl
 
 bit_again : (b : Bool) → bit_from (bit_byte b) ≡ b
 bit_again true = refl
@@ -47,7 +30,7 @@ bit_again false = refl
 
 -- the record that seven bytes are, if they are one
 abbrev pub said_at : List ℕ → Record
-said_at b = Said (statement_of (kind_from (get_or b 0 0)) (place_of (asked b) (get_or b 3 0) (get_or b 4 0) (get_or b 5 0)) (value_from (get_or b 6 0)))
+said_at b = Said (statement_of (kind_of (get_or b 0 0)) (place_of (asked b) (get_or b 3 0) (get_or b 4 0) (get_or b 5 0)) (value_of (get_or b 6 0)))
 
 abbrev pub decided_at : List ℕ → Record
 decided_at b = Decided (asked b) (get_or b 4 0) (bit_from (get_or b 6 0))
@@ -65,8 +48,8 @@ at_said b Ready e = ap (λ (n : ℕ). if nat_eq n 4 then decided_at b else said_
 pub record_back : (b : List ℕ) (h : Header) (r : Record) → IsSize h.size → IsWellFormedFor h r → b ≡ record_text r → record_at b ≡ r
 record_back b h (Said s) size is same =
     let has = said_back b h s size is same in
-    let kind : kind_from (get_or b 0 0) ≡ s.kind = ap (λ (n : ℕ). kind_from n) (sym has.kind_is) ∙ kind_again s.kind in
-    let value : value_from (get_or b 6 0) ≡ s.value = ap (λ (n : ℕ). value_from n) (sym has.value_is) ∙ value_again s.value in
+    let kind : kind_of (get_or b 0 0) ≡ s.kind = ap (λ (n : ℕ). kind_of n) (sym has.kind_is) ∙ kind_again s.kind in
+    let value : value_of (get_or b 6 0) ≡ s.value = ap (λ (n : ℕ). value_of n) (sym has.value_is) ∙ value_again s.value in
     at_said b s.kind (sym has.kind_is) ∙ (λ i. Said (statement_of (kind i) (sym has.place_is i) (value i)))
 record_back b h (Decided question round bit) size is same =
     let has = decided_back b h question round bit size is same in

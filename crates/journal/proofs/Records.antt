@@ -12,7 +12,8 @@ use Rattle.terms.specs.declared.Record.TheVariants.{Said, Decided}
 use Rattle.terms.specs.declared.Header.{Header}
 use Rattle.terms.specs.Bounds.{IsSize}
 use Rattle.terms.specs.Same.{place_of, value_code}
-use Rattle.journal.specs.Texts.{kind_byte, bit_byte, record_text}
+use Rattle.journal.specs.Texts.{bit_byte, record_text}
+use Rattle.spelling.specs.Statements.{kind_byte}
 use Rattle.journal.specs.WellFormed.{IsStatementFor, IsDecisionFor, IsWellFormedFor}
 use Rattle.journal.specs.Reading.{HasBytes}
 use Rattle.journal.proofs.Headers.{two_fit}

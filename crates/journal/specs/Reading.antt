@@ -7,7 +7,8 @@ use Rattle.terms.specs.declared.Header.{Header}
 use Rattle.journal.specs.declared.fault.JournalFault.{JournalFault}
 use Rattle.journal.specs.declared.fault.JournalFault.TheVariants.{NotEmpty, BadHeader, OtherHeader, BadRecord, CutShort, Device, Memory, Stopped, Full}
 use Rattle.terms.specs.Same.{place_of, value_code}
-use Rattle.journal.specs.Texts.{kind_byte, record_text, Batch, texts, records_of}
+use Rattle.journal.specs.Texts.{record_text, Batch, texts, records_of}
+use Rattle.spelling.specs.Statements.{kind_byte}
 use Rattle.journal.specs.WellFormed.{IsWellFormedFor, AreWellFormedFor, AreBatches}
 use Rattle.journal.specs.File.{IsCut, IsBad}
 

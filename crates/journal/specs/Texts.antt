@@ -2,30 +2,15 @@
 use Rattle.std.specs.Prelude.{ℕ, Bool, true, false, codes, List, [], ◌∷◌, ◌++◌, length}
 use Rattle.std.specs.List.{flat_map}
 use Rattle.std.specs.Int.{w16, w64, to_be_bytes}
-use Rattle.terms.specs.declared.Kind.{Kind}
-use Rattle.terms.specs.declared.Kind.TheVariants.{Initial, Echo, Ready}
-use Rattle.terms.specs.declared.Statement.{Statement}
 use Rattle.terms.specs.declared.Record.{Record}
 use Rattle.terms.specs.declared.Record.TheVariants.{Said, Decided}
 use Rattle.terms.specs.declared.Header.{Header}
-use Rattle.terms.specs.Same.{value_code}
-
--- the byte of a kind
-abbrev pub kind_byte : Kind → ℕ
-kind_byte Initial = 1
-kind_byte Echo = 2
-kind_byte Ready = 3
+use Rattle.spelling.specs.Statements.{statement_bytes}
 
 -- the byte of a bit
 abbrev pub bit_byte : Bool → ℕ
 bit_byte false = 0
 bit_byte true = 1
-
--- the seven bytes of a statement
-abbrev pub statement_text : Statement → List ℕ
-statement_text s =
-    kind_byte s.kind
-    ∷ (to_be_bytes w16 s.place.question ++ s.place.origin ∷ s.place.round ∷ s.place.step ∷ value_code s.value ∷ [])
 
 -- the seven bytes of a decision
 abbrev pub decision_text : ℕ → ℕ → Bool → List ℕ
@@ -33,7 +18,7 @@ decision_text question round bit = 4 ∷ (to_be_bytes w16 question ++ 0 ∷ roun
 
 -- the seven bytes of a record
 unfoldable pub record_text : Record → List ℕ
-record_text (Said s) = statement_text s
+record_text (Said s) = statement_bytes s
 record_text (Decided question round bit) = decision_text question round bit
 
 -- the 24 bytes of a header

@@ -102,7 +102,7 @@ impl<D: Disk> Journal<D> {
     }
 
     /// Opens a journal's file, which a crash may have left, and gives the records that it holds: [`adopt`](Journal::adopt)
-    /// where the disk isn't wanted back after a fault.
+    /// where the disk isn't wanted back after a fault. The disk is gone then, so what a fault left of it is said there alone.
     pub fn open(
         alloc: Global,
         disk: D,
@@ -121,11 +121,12 @@ impl<D: Disk> Journal<D> {
 
         ensures refused { D.keeps disk → IfErr result (λ fault. IsOfFile fault → Refuses header.now fault (D.state disk).seen) }
         ensures only { IfErr result IsFaultOfOpening }
-        // The disk is gone; it had failed once more.
+        // That some disk had failed more. The one handed in is gone: `adopt` says it of that one.
         ensures device { IsErrOf result JournalFault.Device → (after : D) × (D.failures disk < D.failures after) }
 
         ensures running { IfOk result (λ opened. is_stopped opened.0 ≡ false) }
         ensures header { IfOk result (λ opened. header_by opened.0 ≡ header.now) }
+        ensures quiet { IfOk result (λ opened. D.failures (disk_by opened.0) ≡ D.failures disk) }
         ensures later { IfOk result (λ opened. D.failures disk ≤ D.failures (disk_by opened.0)) }
         ensures kept { IfOk result (λ opened. D.keeps disk ↔ D.keeps (disk_by opened.0)) }
     {
@@ -170,6 +171,9 @@ impl<D: Disk> Journal<D> {
         ensures same_err { D.keeps disk → IfErr result (λ refused. (D.state refused.1).seen ≡ (D.state disk).seen) }
         ensures only { IfErr result (λ refused. IsFaultOfOpening refused.0) }
         ensures device { IfErr result (λ refused. refused.0 ≡ JournalFault.Device → D.failures disk < D.failures refused.1) }
+        // With any other answer it had not failed.
+        ensures quiet { IfOk result (λ opened. D.failures (disk_by opened.0) ≡ D.failures disk) }
+        ensures quiet_err { IfErr result (λ refused. (refused.0 ≡ JournalFault.Device → ⊥) → D.failures refused.1 ≡ D.failures disk) }
 
         ensures running { IfOk result (λ opened. is_stopped opened.0 ≡ false) }
         ensures header { IfOk result (λ opened. header_by opened.0 ≡ header.now) }

@@ -91,6 +91,7 @@ pub(crate) fn load<D: Disk>(
     ensures three_calls_err { D.keeps disk.old → IfErr result (λ fault. IsOfFile fault → D.moment disk.new ≡ D.moment disk.old + 3) }
 
     ensures device { IsErrOf result JournalFault.Device → D.failures disk.old < D.failures disk.new }
+    ensures quiet { (IsErrOf result JournalFault.Device → ⊥) → D.failures disk.new ≡ D.failures disk.old }
     ensures only { IfErr result IsFaultOfOpening }
     ensures later { D.failures disk.old ≤ D.failures disk.new }
     ensures kept { D.keeps disk.old ↔ D.keeps disk.new }
@@ -108,6 +109,7 @@ fn fetch<D: Disk>(alloc: Global, disk: &mut D) -> Result<Vec<u8>, JournalFault>
     ensures three_calls { D.keeps disk.old → OnOk result (D.moment disk.new ≡ D.moment disk.old + 3) }
     ensures only { IfErr result (λ fault. (fault ≡ Device) ⊎ (fault ≡ Memory)) }
     ensures device { IsErrOf result JournalFault.Device → D.failures disk.old < D.failures disk.new }
+    ensures quiet { (IsErrOf result JournalFault.Device → ⊥) → D.failures disk.new ≡ D.failures disk.old }
     ensures later { D.failures disk.old ≤ D.failures disk.new }
     ensures kept { D.keeps disk.old ↔ D.keeps disk.new }
 {

@@ -1,16 +1,14 @@
 //! A record in bytes.
 ghost use Rattle.std.specs.Prelude.{◌≡◌, ◌≢◌, ◌↔◌, Bool, IsTrue, IfSome, IsNone, MatchOption};
-ghost use Rattle.terms.specs.declared.Kind.{Kind};
-ghost use Rattle.terms.specs.declared.Value.{Value};
 ghost use Rattle.terms.specs.declared.Statement.{Statement};
 ghost use Rattle.terms.specs.declared.Record.{Record};
 ghost use Rattle.terms.specs.declared.Record.TheVariants.{Said, Decided};
-ghost use Rattle.terms.specs.Same.{value_code};
-ghost use Rattle.journal.specs.Texts.{kind_byte, bit_byte, record_text};
+ghost use Rattle.journal.specs.Texts.{bit_byte, record_text};
 ghost use Rattle.journal.specs.WellFormed.{IsStatementFor, IsDecisionFor, IsWellFormedFor};
 ghost use Rattle.journal.specs.Reading.{HasBytes};
 
-use terms::{Header, Kind, LAST_ROUND, Place, Record, Statement, Value};
+use spelling::{kind_of, statement_bytes, value_of};
+use terms::{Header, Kind, LAST_ROUND, Place, Record, Statement};
 
 /// How many bytes a record has.
 pub(crate) const RECORD: usize = 7;
@@ -24,19 +22,7 @@ pub(crate) fn record_bytes(entry: &Record) -> [u8; 7]
     ensures { result ≡ record_text entry.now }
 {
     match *entry {
-        Record::Said(s) => {
-            let place = s.place();
-            let [high, low] = place.question().to_be_bytes();
-            [
-                byte_of_kind(s.kind()),
-                high,
-                low,
-                place.origin(),
-                place.round(),
-                place.step(),
-                byte_of_value(s.value()),
-            ]
-        }
+        Record::Said(s) => statement_bytes(&s),
         Record::Decided {
             question,
             round,
@@ -111,54 +97,6 @@ fn decided_of(header: &Header, question: u16, round: u8, bit: u8) -> Option<Reco
         })
     } else {
         None
-    }
-}
-
-fn byte_of_kind(kind: Kind) -> u8
-    ensures { result ≡ kind_byte kind }
-{
-    match kind {
-        Kind::Initial => 1,
-        Kind::Echo => 2,
-        Kind::Ready => 3,
-    }
-}
-
-fn byte_of_value(value: Value) -> u8
-    ensures { result ≡ value_code value }
-{
-    match value {
-        Value::Zero => 0,
-        Value::One => 1,
-        Value::SureZero => 2,
-        Value::SureOne => 3,
-        Value::Unsure => 4,
-    }
-}
-
-// The kind of a byte.
-fn kind_of(byte: u8) -> Option<Kind>
-    ensures { MatchOption result ((kind : Kind) → kind_byte kind ≢ byte) (λ kind. kind_byte kind ≡ byte) }
-{
-    match byte {
-        1 => Some(Kind::Initial),
-        2 => Some(Kind::Echo),
-        3 => Some(Kind::Ready),
-        _ => None,
-    }
-}
-
-// The value of a byte.
-fn value_of(byte: u8) -> Option<Value>
-    ensures { MatchOption result ((value : Value) → value_code value ≢ byte) (λ value. value_code value ≡ byte) }
-{
-    match byte {
-        0 => Some(Value::Zero),
-        1 => Some(Value::One),
-        2 => Some(Value::SureZero),
-        3 => Some(Value::SureOne),
-        4 => Some(Value::Unsure),
-        _ => None,
     }
 }
 

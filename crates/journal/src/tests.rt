@@ -373,6 +373,37 @@ fn one_echo(rt: HostRuntime) -> Result<(), Fail> {
     Ok(())
 }
 
+/// How many records there are after a batch of two. It is played once: with ample memory nothing is refused.
+fn two_at_once(alloc: Global, header: Header, echo: Record) -> Result<usize, JournalFault>
+    requires header { header ≡ header_of 7 (size_of 4 1 1) 1 }
+    requires echo { echo ≡ Said (statement_of Echo (place_of 0 0 1 1) One) }
+{
+    let (mut journal, _) = Journal::open(alloc, disk_of(alloc, &EMPTY)?, &header)?;
+    journal.append(&[echo, echo])?;
+    let (_, records) = Journal::open(alloc, journal.into_disk(), &header)?;
+    Ok(records.len())
+}
+
+#[test]
+fn a_batch_of_two(rt: HostRuntime) -> Result<(), Fail> {
+    let (header, echo) = (header(1)?, echo()?);
+    assert!(rt; two_at_once(rt.alloc(), header, echo) == Ok(2));
+    Ok(())
+}
+
+#[test]
+fn a_batch_of_many_is_read(rt: HostRuntime) -> Result<(), Fail> {
+    let mut bytes = Vec::from_slice(rt.alloc(), &ONE_ECHO[..24])?;
+    bytes.extend_from_slice(&[0x01, 0x00, 150])?;
+    for _ in 0..150u8 {
+        bytes.extend_from_slice(&ONE_ECHO[27..34])?;
+    }
+    bytes.push(0x00)?;
+    let records = opening(rt.alloc(), header(1)?, bytes.as_slice())?;
+    assert!(rt; records.len() == 150);
+    Ok(())
+}
+
 #[test]
 fn names_of_faults(rt: HostRuntime) -> Result<(), Fail> {
     let rows = [

@@ -156,7 +156,7 @@ module _ {D : Type 0} (disk : DiskGhosts D) (toss : ℕ) (event : Event) (old : 
       (subst (λ (o : Result Answer CoreFault). IfOk o (λ x. (records : List Record) (heard : List (ℕ × Statement)) → Knows old.core records heard
       → IsReply (past_of (size_of old.core) (me_of old.core) (question_of event) records heard) toss event (reply_of x))) e called.reply)
 
-  none_at : (a : Answer) → answer ≡ Ok a → refusal old event ≡ None
+  pub none_at : (a : Answer) → answer ≡ Ok a → refusal old event ≡ None
   none_at a e = refusal_is disk toss event old core answer sound going called formed ∙ ap fault_of (ok_at a e)
 
   pub replies : (result : Result Answer MemberFault) → Kept disk old core answer result new → IfOk result (λ a. IsAnswer old toss event (reply_of a))

@@ -6,3 +6,5 @@ pub mod Calls
 pub mod Lives
 pub mod Opened
 pub mod Once
+pub mod Verdicts
+pub mod Decided

@@ -1,5 +1,5 @@
 -- A call of a member as a step of the world, and what stands over it.
-use Rattle.std.proofs.Common.{◌≡◌, ◌⊎◌, inl, inr, ◌<◌, ◌≤◌, ℕ, Bool, true, false, Option, Some, None, Result, Ok, Err, IfOk, IfErr, OnOk, List, [], ◌∷◌, ◌++◌, refl, sym, ap, subst, ◌∙◌, arith, append-nil}
+use Rattle.std.proofs.Common.{◌≡◌, ◌⊎◌, inl, inr, ◌<◌, ◌≤◌, ℕ, Bool, true, false, Option, Some, None, Result, Ok, Err, IfOk, IfErr, OnOk, List, [], ◌∷◌, ◌++◌, refl, sym, ap, subst, ◌∙◌, arith, append-nil, ⊎_elim}
 use Rattle.std.specs.Prelude.{nat_le, if◌then◌else◌}
 use Rattle.std.specs.List.{list_any}
 use Rattle.terms.specs.declared.Size.{Size}
@@ -27,11 +27,11 @@ use Rattle.member.specs.declared.fault.MemberFault.TheVariants.{Stopped, Device,
 use Rattle.member.specs.declared.member.Member.{Member}
 use Rattle.member.specs.Answers.{question_of, members_of, heard_after, IsAnswer}
 use Rattle.member.specs.Faults.{refusal, told, fault_of, IsFaultOf, Stops}
-use Rattle.member.specs.Life.{IsAt, Goes, Replies, Lives, Comes, step_of}
+use Rattle.member.specs.Life.{IsAt, Goes, Replies, Lives, Comes, step_of, IsCutOff, MayBeCutOff}
 use Rattle.member.specs.Sound.{IsSound}
 use Rattle.member.specs.Stands.{Stands}
 use Rattle.member.specs.Words.{disk_of, header_of, saved_of, is_stopped_of, StandsFor}
-use Rattle.member.proofs.Calls.{Called, Kept, Outcome, outcome, answer_is, replies, stands_for, oks, unmoved, errs}
+use Rattle.member.proofs.Calls.{Called, Kept, Outcome, outcome, answer_is, replies, stands_for, oks, unmoved, errs, none_at}
 use Rattle.member.proofs.Calls.Outcome.{Answered, Failed}
 use Rattle.member.proofs.Formed.{IsFormed, there_is}
 use Rattle.member.proofs.Standing.{settled_holds, begins, stands_on}
@@ -268,6 +268,32 @@ module _ {D : Type 0} (disk : DiskGhosts D)
 
     pub lives : Lives disk header liars w toss event result old new
     lives = lives_as result kept
+
+    cut_at : (a : Answer) → answer ≡ Ok a → IsCutOff disk header liars w toss event old new
+    unfolding Leaves
+    cut_at a e =
+        let h : IsAnswer old toss event (reply_of a) = answer_is disk toss event old core answer sound going called formed new a e in
+        let reply : Replies header w toss event (reply_of a) = replied a h in
+        let one = kept_step header liars w toss event (reply_of a) correct (at.up going).0 comes
+        (asked (none_at disk toss event old core answer sound going called formed new a e)) reply in
+        let l = leaves_at at.keeps a e in
+        record {
+          reply = reply_of a;
+          replies = reply;
+          allowed = one.allowed false;
+          leaves = record {
+            later = l.later;
+            each = λ file left. either file (records_of (reply_of a)) (l.each file left);
+            before = λ t file le left. ⊎_elim (λ was. inl was) (λ may. inr (either file (records_of (reply_of a)) may)) (l.before t file le left);
+          };
+        }
+
+    pub cut : MayBeCutOff disk header liars w toss event old new
+    cut = go (outcome answer result kept.told_is)
+      where
+        go : Outcome answer result → MayBeCutOff disk header liars w toss event old new
+        go (Answered a e) = inr (cut_at a e)
+        go (Failed e a t) = inl (same_at e a)
 
 -- a member that is up hears nothing, and goes down with no record in doubt
 pub stopped : {D : Type 0} (disk : DiskGhosts D) (old new : Member D) → IsSound disk old → is_stopped_of old ≡ false

@@ -1,16 +1,18 @@
 -- What stands over a call.
-use Rattle.std.proofs.Common.{◌≡◌, ◌⊎◌, inl, ⊎_elim, ◌≤◌, ℕ, Result, Ok, Err, IfOk, List, [], ◌++◌, append-nil, sym, ap, ◌∙◌, subst, arith, append_assoc}
+use Rattle.std.proofs.Common.{◌≡◌, ◌⊎◌, inl, ⊎_elim, ◌≤◌, ℕ, Result, Ok, Err, IfOk, List, [], ◌∷◌, ◌++◌, append-nil, sym, ap, ◌∙◌, subst, arith, append_assoc}
 use Rattle.terms.specs.declared.Record.{Record}
 use Rattle.terms.specs.declared.Header.{Header}
 use Rattle.terms.specs.Reply.{records_of}
 use Rattle.questions.specs.declared.answer.Answer.{Answer}
 use Rattle.questions.specs.declared.answer.CoreFault.{CoreFault}
 use Rattle.questions.specs.Replies.{reply_of}
-use Rattle.disk.specs.Model.{MayLeave, LeavesOnly}
+use Rattle.disk.specs.Model.{MayLeave, LeavesOnly, at_rest}
 use Rattle.disk.specs.declared.device.Disk.{Ghosts as DiskGhosts}
 use Rattle.journal.specs.declared.journal.Journal.{Journal}
-use Rattle.journal.specs.File.{Holds}
+use Rattle.journal.specs.File.{Begins, Holds}
+use Rattle.journal.specs.Texts.{header_text, texts}
 use Rattle.journal.specs.Words.{disk_by, gate_by, IsSettled}
+use Rattle.journal.proofs.Crash.{begins_kept}
 use Rattle.journal.proofs.Held.{left_holds}
 use Rattle.journal.proofs.One.{holds_one}
 use Rattle.member.specs.Stands.{Stands}
@@ -20,6 +22,21 @@ pub settled_holds : {D : Type 0} (disk : DiskGhosts D) (header : Header) (all : 
     → IsSettled disk.state header all journal → MayLeave (disk.state (disk_by journal)) file → Holds header all file
 settled_holds disk header all journal file settled may =
     left_holds (disk.state (disk_by journal)) header (gate_by journal) all settled.held file may
+
+-- what a file holds that is all on the disk is what each file holds that a crash may leave of it
+pub rest_holds : (header : Header) (all : List Record) (seen file : List ℕ) → Holds header all seen → MayLeave (at_rest seen) file → Holds header all file
+rest_holds header all seen file held may =
+    let front = header_text header ++ texts held.batches in
+    let begins : Begins (front ++ 0 ∷ []) file =
+    begins_kept (front ++ 0 ∷ []) seen file (held.rest, held.is ∙ sym (append_assoc front (0 ∷ []) held.rest)) may in
+    record {
+      lawful = held.lawful;
+      batches = held.batches;
+      rest = begins.0;
+      good = held.good;
+      is = begins.1 ∙ append_assoc front (0 ∷ []) begins.0;
+      records_are = held.records_are;
+    }
 
 -- all that an open journal holds stands from now on
 pub stands_settled : {D : Type 0} (disk : DiskGhosts D) (only_now : (d : D) (file : List ℕ) → disk.keeps d → disk.since d (disk.moment d) file → MayLeave (disk.state d) file)

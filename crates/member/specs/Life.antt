@@ -1,5 +1,5 @@
 -- One life of a member as a part of a run of the world.
-use Rattle.std.specs.Prelude.{ℕ, ◌≡◌, ◌≤◌, Result, Ok, Err, Bool, true, false, Option, Some, None, List, [], ◌∷◌}
+use Rattle.std.specs.Prelude.{ℕ, ◌≡◌, ◌≤◌, ◌⊎◌, ◌++◌, Result, Ok, Err, Bool, true, false, Option, Some, None, List, [], ◌∷◌}
 use Rattle.terms.specs.declared.Record.{Record}
 use Rattle.terms.specs.declared.Statement.{Statement}
 use Rattle.terms.specs.declared.Header.{Header}
@@ -11,7 +11,9 @@ use Rattle.terms.specs.Reply.{Event, Reply, IsReply, records_of}
 use Rattle.terms.specs.Reply.Event.{Hearing, Proposal}
 use Rattle.questions.specs.declared.answer.Answer.{Answer}
 use Rattle.questions.specs.Replies.{reply_of}
+use Rattle.disk.specs.Model.{LeavesOnly}
 use Rattle.disk.specs.declared.device.Disk.{Ghosts as DiskGhosts}
+use Rattle.journal.specs.File.{Holds}
 use Rattle.world.specs.World.{World, Step, IsAllowed, IsRun, start, after, has_sent}
 use Rattle.world.specs.World.Step.{Hears, Proposes}
 use Rattle.member.specs.declared.fault.MemberFault.{MemberFault}
@@ -75,3 +77,17 @@ Lives disk header liars w toss event (Err JournalFull) old new = Goes disk heade
 Lives disk header liars w toss event (Err Stopped) old new = new ≡ old
 Lives disk header liars w toss event (Err NoSuchQuestion) old new = new ≡ old
 Lives disk header liars w toss event (Err NoSuchMember) old new = new ≡ old
+
+-- A crash within the call: the event may come and go down with all records of its reply in doubt, and each file that a
+-- crash at a moment of the call leaves holds what was saved, or that and all of them.
+pub record IsCutOff {D : Type 0} (disk : DiskGhosts D) (header : Header) (liars : ℕ → Bool) (w : World) (toss : ℕ) (event : Event) (old new : Member D) : Type 0 where
+  pub reply : Reply
+  pub replies : Replies header w toss event reply
+  pub allowed : IsAllowed header.size liars w (step_of header.me event (records_of reply) false)
+  pub leaves : LeavesOnly disk.moment disk.since (disk_of old) (disk_of new)
+      (λ file. Holds header (w.journal header.me) file ⊎ Holds header (w.journal header.me ++ records_of reply) file)
+
+-- the call made no call of the device, or a crash may cut it off so
+abbrev pub MayBeCutOff : {D : Type 0} → DiskGhosts D → Header → (ℕ → Bool) → World → ℕ → Event → Member D → Member D → Type 0
+MayBeCutOff disk header liars w toss event old new =
+    (disk_of new ≡ disk_of old) ⊎ IsCutOff disk header liars w toss event old new

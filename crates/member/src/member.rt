@@ -8,7 +8,7 @@ ghost use Rattle.terms.specs.Reply.{records_of};
 ghost use Rattle.terms.specs.Reply.Event.{Hearing, Proposal};
 ghost use Rattle.terms.specs.Same.{place_of};
 ghost use Rattle.terms.specs.declared.Kind.TheVariants.{Initial};
-ghost use Rattle.disk.specs.Model.{LeavesOnly};
+ghost use Rattle.disk.specs.Model.{LeavesOnly, MayLeave};
 ghost use Rattle.journal.specs.Faults.{IsOfFile, IsFaultOfOpening};
 ghost use Rattle.journal.specs.File.{Holds, Refuses};
 ghost use Rattle.journal.specs.WellFormed.{AreWellFormedFor};
@@ -21,7 +21,7 @@ ghost use Rattle.world.specs.World.{World, IsCorrect, start};
 ghost use Rattle.world.specs.World.Step.{Restart};
 ghost use Rattle.member.specs.Answers.{IsAnswer, StandsAfter, IsFull, gate_after};
 ghost use Rattle.member.specs.Faults.{refusal, told, IsFaultOf, Stops};
-ghost use Rattle.member.specs.Life.{IsAt, Goes, Lives, Comes};
+ghost use Rattle.member.specs.Life.{IsAt, Goes, Lives, Comes, MayBeCutOff};
 ghost use Rattle.member.specs.Sealed.{sealed_from};
 ghost use Rattle.member.specs.Sound.{IsSound, IsFiled};
 ghost use Rattle.member.specs.Stands.{Stands, IsLeft};
@@ -52,7 +52,7 @@ pub struct Member<D: Disk> {
 
 impl<D: Disk> Member<D> {
     /// Opens a member's journal, which a crash may have left: [`adopt`](Member::adopt) where the disk isn't wanted back
-    /// after a fault.
+    /// after a fault. The disk is gone then, so what a fault left of it is said there alone.
     pub fn open(alloc: Global, disk: D, header: &Header) -> Result<Member<D>, JournalFault>
     where
         D: Drop,
@@ -67,6 +67,9 @@ impl<D: Disk> Member<D> {
             IsLeft (D.state disk) header.now (w.journal header.now.me) (w.doubt header.now.me) →
             IfOk result (λ m. (kept : Bool) × Goes D.Disk header.now liars w (Restart header.now.me kept) m) }
         ensures first { D.keeps disk → IsLeft (D.state disk) header.now [] None → IfOk result (λ m. IsAt D.Disk header.now start m) }
+        // A crash at any moment of it leaves nothing but what it might have left before.
+        ensures any_moment { D.keeps disk → IfOk result (λ m.
+            LeavesOnly D.moment D.since disk (disk_of m) (MayLeave (D.state disk))) }
 
         // What stood on the disk stands, and is at the front of its records, all of which stand from now on.
         ensures later { D.keeps disk → IfOk result (λ m. D.moment disk ≤ D.moment (disk_of m)) }
@@ -81,8 +84,9 @@ impl<D: Disk> Member<D> {
 
         ensures only { IfErr result IsFaultOfOpening }
         ensures refused { D.keeps disk → IfErr result (λ fault. IsOfFile fault → Refuses header.now fault (D.state disk).seen) }
-        // The disk is gone; it had failed once more.
+        // That some disk had failed more. The one handed in is gone: `adopt` says it of that one.
         ensures device { IsErrOf result JournalFault.Device → (after : D) × (D.failures disk < D.failures after) }
+        ensures quiet { IfOk result (λ m. D.failures (disk_of m) ≡ D.failures disk) }
         ensures failures { IfOk result (λ m. D.failures disk ≤ D.failures (disk_of m)) }
         ensures kept { IfOk result (λ m. D.keeps disk ↔ D.keeps (disk_of m)) }
     {
@@ -112,6 +116,11 @@ impl<D: Disk> Member<D> {
             IfOk result (λ m. (kept : Bool) × Goes D.Disk header.now liars w (Restart header.now.me kept) m) }
         ensures first { D.keeps disk → IsLeft (D.state disk) header.now [] None →
             IfOk result (λ m. IsAt D.Disk header.now start m) }
+        // A crash at any moment of it leaves nothing but what it might have left before.
+        ensures any_moment { D.keeps disk → IfOk result (λ m.
+            LeavesOnly D.moment D.since disk (disk_of m) (MayLeave (D.state disk))) }
+        ensures any_moment_err { D.keeps disk → IfErr result (λ refused.
+            LeavesOnly D.moment D.since disk refused.1 (MayLeave (D.state disk))) }
         // One that fails leaves what might be left.
         ensures left { D.keeps disk → (saved : List Record) (doubt : Option (List Record)) →
             IsLeft (D.state disk) header.now saved doubt →
@@ -138,6 +147,9 @@ impl<D: Disk> Member<D> {
             IsOfFile refused.0 → Refuses header.now refused.0 (D.state disk).seen) }
         ensures same_err { D.keeps disk → IfErr result (λ refused. (D.state refused.1).seen ≡ (D.state disk).seen) }
         ensures device { IfErr result (λ refused. refused.0 ≡ JournalFault.Device → D.failures disk < D.failures refused.1) }
+        // With any other answer it had not failed.
+        ensures quiet { IfOk result (λ m. D.failures (disk_of m) ≡ D.failures disk) }
+        ensures quiet_err { IfErr result (λ refused. (refused.0 ≡ JournalFault.Device → ⊥) → D.failures refused.1 ≡ D.failures disk) }
         ensures failures { IfOk result (λ m. D.failures disk ≤ D.failures (disk_of m)) }
         ensures failures_err { IfErr result (λ refused. D.failures disk ≤ D.failures refused.1) }
         ensures kept { IfOk result (λ m. D.keeps disk ↔ D.keeps (disk_of m)) }
@@ -184,6 +196,10 @@ impl<D: Disk> Member<D> {
         ensures life { (header : Header) (liars : ℕ → Bool) (w : World) → IsCorrect header.size liars header.me →
             IsAt D.Disk header w self.old → Comes w (Hearing from s.now) →
             Lives D.Disk header liars w toss.0 (Hearing from s.now) result self.old self.new }
+        // A crash within it: either it made no call of the device, or it is that event with all records of its reply in doubt.
+        ensures cut { (header : Header) (liars : ℕ → Bool) (w : World) → IsCorrect header.size liars header.me →
+            IsAt D.Disk header w self.old → Comes w (Hearing from s.now) →
+            MayBeCutOff D.Disk header liars w toss.0 (Hearing from s.now) self.old self.new }
 
         // What stood on the disk stands, and once it answered Ok all that it saved stands from then on.
         ensures later { D.keeps (disk_of self.old) → D.moment (disk_of self.old) ≤ D.moment (disk_of self.new) }
@@ -248,6 +264,10 @@ impl<D: Disk> Member<D> {
         ensures life { (header : Header) (liars : ℕ → Bool) (w : World) → IsCorrect header.size liars header.me →
             IsAt D.Disk header w self.old → Comes w (Proposal question bit) →
             Lives D.Disk header liars w toss.0 (Proposal question bit) result self.old self.new }
+        // A crash within it: either it made no call of the device, or it is that event with all records of its reply in doubt.
+        ensures cut { (header : Header) (liars : ℕ → Bool) (w : World) → IsCorrect header.size liars header.me →
+            IsAt D.Disk header w self.old → Comes w (Proposal question bit) →
+            MayBeCutOff D.Disk header liars w toss.0 (Proposal question bit) self.old self.new }
 
         // What stood on the disk stands, and once it answered Ok all that it saved stands from then on.
         ensures later { D.keeps (disk_of self.old) → D.moment (disk_of self.old) ≤ D.moment (disk_of self.new) }

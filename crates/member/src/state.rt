@@ -1,15 +1,15 @@
 //! What a member has, how it is stopped, and what is left of it.
-ghost use Rattle.std.specs.Prelude.{◌≡◌, ◌≤◌, ℕ, Bool, true, false, None, List, []};
+ghost use Rattle.std.specs.Prelude.{◌≡◌, ◌≤◌, ℕ, Bool, true, false, Some, None, List, []};
 ghost use Rattle.terms.specs.declared.Record.{Record};
 ghost use Rattle.terms.specs.declared.Statement.{Statement};
-ghost use Rattle.terms.specs.Journal.{sayings, decisions};
+ghost use Rattle.terms.specs.Journal.{sayings, decisions, has_decided};
 ghost use Rattle.terms.specs.declared.Kind.{Kind};
 ghost use Rattle.terms.specs.declared.Place.{Place};
 ghost use Rattle.disk.specs.Memory.{with_fuse};
-ghost use Rattle.world.specs.World.{World, Step, IsCorrect, start, after_all};
+ghost use Rattle.world.specs.World.{World, Step, IsCorrect, IsRun, start, after_all};
 ghost use Rattle.world.specs.World.Step.{Hears};
-ghost use Rattle.member.specs.Answers.{verdict_of};
-ghost use Rattle.member.specs.Life.{IsReached, IsAt, Goes};
+ghost use Rattle.member.specs.Answers.{bit_of, verdict_of};
+ghost use Rattle.member.specs.Life.{IsAt, Goes};
 ghost use Rattle.member.specs.Sealed.{sealed_from};
 ghost use Rattle.member.specs.Sound.{IsSound};
 ghost use Rattle.member.specs.Stands.{IsLeft};
@@ -57,14 +57,14 @@ impl<D: Disk> Member<D> {
     /// The saved records, in order. It takes no memory.
     ///
     /// Of a correct member they hold, over all its lives, at most one statement of a kind at a place, and at most one
-    /// decision of a question.
+    /// decision of a question, however many others lie.
     #[tactic(auto, unfolding(crate::specs::Words::saved_of))]
     pub fn records(&self) -> &[Record]
         ensures all { result.now ≡ saved_of self.now }
-        ensures says_once { (header : Header) (liars : ℕ → Bool) (steps : List Step) → IsReached header.size liars steps →
+        ensures says_once { (header : Header) (liars : ℕ → Bool) (steps : List Step) → IsRun header.size liars start steps →
             IsCorrect header.size liars header.me → IsAt D.Disk header (after_all start steps) self.now →
             (kind : Kind) (place : Place) → sayings (saved_of self.now) kind place ≤ 1 }
-        ensures decides_once { (header : Header) (liars : ℕ → Bool) (steps : List Step) → IsReached header.size liars steps →
+        ensures decides_once { (header : Header) (liars : ℕ → Bool) (steps : List Step) → IsRun header.size liars start steps →
             IsCorrect header.size liars header.me → IsAt D.Disk header (after_all start steps) self.now →
             (question : ℕ) → decisions (saved_of self.now) question ≤ 1 }
     {
@@ -81,14 +81,22 @@ impl<D: Disk> Member<D> {
     }
 
     /// The bit that the question was decided for: that of the first decision among the saved records. None where there is
-    /// none, and where there is no such question. It takes no memory.
-    #[tactic(auto, unfolding(crate::specs::Words::saved_of, crate::specs::Words::header_of))]
+    /// none, and where there is no such question. It takes no memory. Only a stopped member looks for it in its records.
+    ///
+    /// Correct members' verdicts on a question are of one bit: [`verdicts`](crate::laws::verdicts).
+    #[tactic(auto, unfolding(crate::specs::Words::saved_of, crate::specs::Words::header_of, crate::specs::Words::is_stopped_of))]
     pub fn verdict(&self, question: u16) -> Option<bool>
         requires sound { IsSound D.Disk self.now }
         ensures first { result ≡ verdict_of (saved_of self.now) question }
         ensures asked { (header_of self.now).size.questions ≤ question → result ≡ None }
+        // It is a decision that the world has of the member.
+        ensures decision { (header : Header) (w : World) → IsAt D.Disk header w self.now → (bit : Bool) → result ≡ Some bit →
+            (round : ℕ) × (has_decided (w.journal header.me) question round bit ≡ true) }
     {
-        verdict_in(&self.records, question)
+        if self.stopped {
+            return verdict_in(&self.records, question);
+        }
+        bit_in(self.core.verdict(question))
     }
 
     /// Its disk. The member is gone; no call of the device is made. A crash leaves what the world has of the member.
@@ -140,6 +148,16 @@ impl Member<MemDisk> {
         ensures stopped { is_stopped_of self.new ≡ is_stopped_of self.old }
     {
         self.journal.fuse(calls);
+    }
+}
+
+// The bit of a decision.
+fn bit_in(decision: Option<(u8, bool)>) -> Option<bool>
+    ensures { result ≡ bit_of decision }
+{
+    match decision {
+        Some((_, bit)) => Some(bit),
+        None => None,
     }
 }
 

@@ -232,6 +232,33 @@ fn refusals(rt: HostRuntime) -> Result<(), Fail> {
     Ok(())
 }
 
+/// The greatest cluster, its last question, its last member.
+#[test]
+fn largest_member_takes_part(rt: HostRuntime) -> Result<(), Fail> {
+    let header = Header::new(7, Size::new(32, 10, 256)?, 31).ok_or("a header")?;
+    let mut member = start(&rt, &header)?;
+    let place = Place::new(255, 31, 1, 1).ok_or("a place")?;
+    let own = Statement::new(Initial, place, One).ok_or("a value of the step")?;
+    let answer = member.propose(255, true, Toss(0))?;
+    assert!(rt; takes(&answer, &[Record::Said(own)]));
+    let place = Place::new(255, 5, 1, 1).ok_or("a place")?;
+    let echo = Statement::new(Echo, place, One).ok_or("a value of the step")?;
+    let answer = hear(&rt, &mut member, 30, &echo)?;
+    assert!(rt; takes(&answer, &[]));
+    Ok(())
+}
+
+#[test]
+fn opening_names_a_disk_that_fails(rt: HostRuntime) -> Result<(), Fail> {
+    let header = header(4, 1, 1)?;
+    let mut disk = MemDisk::new(rt.alloc());
+    journal::create(&mut disk, &header)?;
+    disk.fuse(Some(0));
+    let opened = Member::open(rt.alloc(), disk, &header);
+    assert!(rt; matches!(opened.err(), Some(JournalFault::Device)));
+    Ok(())
+}
+
 #[test]
 fn the_text_of_a_fault_is_its_name(rt: HostRuntime) -> Result<(), Fail> {
     let names = [

@@ -115,6 +115,21 @@ fn play(
     Ok(())
 }
 
+/// The greatest cluster, its last question, its last member.
+#[test]
+fn largest_core_takes_part(rt: HostRuntime) -> Result<(), Fail> {
+    let mut member = Member::open(&rt, Size::new(32, 10, 256)?, 31, &[])?;
+    let own = statement(Initial, (255, 31, 1, 1), One)?;
+    let answer = member.propose(&rt, 255, true)?;
+    assert!(rt; answer == Answer::Taken(vec![in rt.alloc(); Record::Said(own); 1]?));
+    for from in 0..32 {
+        let echo = statement(Echo, (255, 5, 1, 1), One)?;
+        let answer = member.hear(&rt, from, &echo)?;
+        assert!(rt; matches!(answer, Answer::Taken(_)), "from {from}");
+    }
+    Ok(())
+}
+
 #[test]
 fn first_initial_is_echoed_once(rt: HostRuntime) -> Result<(), Fail> {
     let hearings = [

@@ -1,7 +1,10 @@
 -- What a statement of its own does to what a `Broadcasts` stands for, and what changes nothing.
-use Rattle.std.proofs.Common.{ℕ, zero, suc, ◌≡◌, ◌≤◌, false, sym, ap, ◌∙◌, arith, None, [], ◌∷◌, ◌++◌}
+use Rattle.std.proofs.Common.{ℕ, zero, suc, ◌≡◌, ◌<◌, ◌≤◌, ◌⊎◌, inl, inr, false, sym, ap, ◌∙◌, arith, Option, None, IsSome, [], ◌∷◌, ◌++◌, length}
+use Rattle.std.proofs.lemmas.Bool.{cases_lt, false≢true}
+use Rattle.terms.specs.declared.Value.{Value}
 use Rattle.terms.specs.declared.Kind.{Kind}
-use Rattle.terms.specs.declared.Kind.TheVariants.{Echo, Ready}
+use Rattle.terms.specs.declared.Kind.TheVariants.{Initial, Echo, Ready}
+use Rattle.terms.specs.Same.{kind_eq}
 use Rattle.terms.specs.declared.Place.{Place}
 use Rattle.terms.specs.declared.Size.{Size}
 use Rattle.terms.specs.declared.Statement.{Statement}
@@ -12,11 +15,12 @@ use Rattle.terms.specs.Keep.{keep_or, given}
 use Rattle.terms.specs.Past.{Past, no_past, after_record}
 use Rattle.terms.proofs.Journal.{said-append_one}
 use Rattle.rbc.specs.declared.Broadcasts.{Broadcasts}
-use Rattle.rbc.specs.Lists.{reached_in}
+use Rattle.rbc.specs.Table.{spot_of}
+use Rattle.rbc.specs.Answers.{IsTouched}
 use Rattle.rbc.specs.Spots.{is_at}
 use Rattle.rbc.specs.Stands.{Stands}
-use Rattle.rbc.specs.Words.{size_by, me_by, got_by, accepted_by, said_by}
-use Rattle.rbc.proofs.Changes.{IsSame, SaysOne, said_with}
+use Rattle.rbc.specs.Words.{size_by, me_by, accepted_by, said_by}
+use Rattle.rbc.proofs.Changes.{IsSame, SaysOne, said_with, none_got, none_said, none_accepted}
 use Rattle.rbc.proofs.Spots.{about-at}
 
 -- the same words stand for the same pasts
@@ -65,19 +69,59 @@ none_counted : (n : ℕ) → 1 ≤ count_below n (λ a. false) → ⊥
 none_counted zero h = omega (arith, h)
 none_counted (suc n) h = none_counted n (omega (arith, h))
 
--- empty lists stand for nothing heard and nothing said
+-- an empty table stands for nothing heard and nothing said
 pub empty_stands : (b : Broadcasts) (size : Size) (me question : ℕ) → b.size ≡ size → b.me ≡ me
-    → b.heard.items ≡ [] → b.said.items ≡ [] → Stands b (no_past size me question)
-unfolding size_by me_by got_by accepted_by said_by
-empty_stands b size me question same_size same_me h d =
+    → b.cells.items ≡ [] → Stands b (no_past size me question)
+unfolding size_by me_by accepted_by
+empty_stands b size me question same_size same_me h =
     record {
       size = same_size;
       me = same_me;
       facts = record {
-        heard = λ a kind place q. rw h;
-        taken = λ place m q e. let none : reached_in b.size [] b.heard.items place ≡ None = rw h in cc;
+        heard = λ a kind place q. none_got b place (past place) a kind;
+        taken = λ place m q e. let none = none_accepted b place (past place) in cc;
         open_yet = λ place m q e r. none_counted size.n (omega (arith, r));
-        echoed = λ place q. rw d;
-        readied = λ place q. rw d;
+        echoed = λ place q. none_said b place (past place) Echo;
+        readied = λ place q. none_said b place (past place) Ready;
       };
     }
+  where
+    past : (place : Place) → length b.cells.items ≤ spot_of b.size.n place
+    past place = let e : length b.cells.items ≡ 0 = rw h in omega arith
+
+-- at a place of which something is known the table has a spot
+pub touched : (b : Broadcasts) (past : Past) (place : Place) → Stands b past → place.question ≡ past.question
+    → IsTouched past place → spot_of (size_by b).n place < length b.cells.items
+unfolding size_by
+touched b past place stands asked h = step (cases_lt (spot_of b.size.n place) (length b.cells.items)) h
+  where
+    differ : (x y : Option Value) → x ≡ y → x ≡ None → IsSome y → ⊥
+    differ x y e n t = false≢true (rw (sym e ∙ n) at t)
+
+    step : (spot_of b.size.n place < length b.cells.items) ⊎ (length b.cells.items ≤ spot_of b.size.n place)
+        → IsTouched past place → spot_of b.size.n place < length b.cells.items
+    step (inl l) h = l
+    step (inr l) (inl (a, kind, h)) =
+        absurd (differ _ _ (stands.facts.heard a kind place asked) (none_got b place l a kind) h)
+    step (inr l) (inr (inl h)) = absurd (differ _ _ (stands.facts.echoed place asked) (none_said b place l Echo) h)
+    step (inr l) (inr (inr h)) = absurd (differ _ _ (stands.facts.readied place asked) (none_said b place l Ready) h)
+
+-- where the table has no spot nothing was said
+pub not_said : (b : Broadcasts) (past : Past) (s : Statement) → Stands b past → s.place.question ≡ past.question
+    → kind_eq s.kind Initial ≡ false → (spot_of (size_by b).n s.place < length b.cells.items → ⊥)
+    → said past.records s.kind s.place ≡ None
+unfolding size_by
+not_said b past s stands asked other short = step s.kind other
+  where
+    beyond : length b.cells.items ≤ spot_of b.size.n s.place
+    beyond = which (cases_lt (spot_of b.size.n s.place) (length b.cells.items))
+      where
+        which : (spot_of b.size.n s.place < length b.cells.items) ⊎ (length b.cells.items ≤ spot_of b.size.n s.place)
+            → length b.cells.items ≤ spot_of b.size.n s.place
+        which (inl l) = absurd (short l)
+        which (inr l) = l
+
+    step : (kind : Kind) → kind_eq kind Initial ≡ false → said past.records kind s.place ≡ None
+    step Initial h = cc
+    step Echo h = sym (stands.facts.echoed s.place asked) ∙ none_said b s.place beyond Echo
+    step Ready h = sym (stands.facts.readied s.place asked) ∙ none_said b s.place beyond Ready

@@ -1,9 +1,11 @@
 -- The answers that are due for what was heard and said.
-use Rattle.std.specs.Prelude.{ℕ, ◌≡◌, cond, Option, Some, None, List}
+use Rattle.std.specs.Prelude.{ℕ, ◌⊎◌, cond, Option, Some, None, IsSome}
+use Rattle.terms.specs.declared.Kind.{Kind}
+use Rattle.terms.specs.declared.Kind.TheVariants.{Echo, Ready}
+use Rattle.terms.specs.Journal.{said}
 use Rattle.terms.specs.declared.Value.{Value}
 use Rattle.terms.specs.declared.Place.{Place}
 use Rattle.terms.specs.declared.Statement.{Statement}
-use Rattle.terms.specs.declared.Size.{Size}
 use Rattle.terms.specs.Heard.{got, is_foreign, is_none, Accepted}
 use Rattle.terms.specs.Past.{Past}
 use Rattle.rbc.specs.declared.Heard.{Heard}
@@ -18,3 +20,9 @@ heard_as past from s =
 abbrev pub IsAccepted : Past → Place → Option Value → Type 0
 IsAccepted past place None = (m : Value) → Accepted past.size past.heard place m → ⊥
 IsAccepted past place (Some m) = Accepted past.size past.heard place m
+
+-- something that counts was heard at the place, or something was said there
+abbrev pub IsTouched : Past → Place → Type 0
+IsTouched past place =
+    ((a : ℕ) × (kind : Kind) × IsSome (got past.heard a kind place))
+    ⊎ (IsSome (said past.records Echo place) ⊎ IsSome (said past.records Ready place))

@@ -10,21 +10,22 @@
 //! - says Ready m once, after Echo m from an echo quorum, or after Ready m from t + 1 senders;
 //! - accepts the first m for which Ready m from 2t + 1 senders was heard.
 //!
-//! The question of a place isn't looked at: a caller keeps one [`Broadcasts`] for each question. Each call searches
-//! anew all that was heard of it.
+//! The question of a place isn't looked at: a caller keeps one [`Broadcasts`] for each question. What was heard is kept
+//! as one mask of members for each place, kind and value, so a call costs the same however much was heard before.
 #![tactic(auto)]
 
-ghost use Rattle.std.specs.Prelude.{◌≡◌, ◌≢◌, ◌<◌, ℕ, IfOk, IfSome, OnOk, OnErr};
+ghost use Rattle.std.specs.Prelude.{◌≡◌, ◌≢◌, ◌<◌, ℕ, IfOk, IfSome, OnOk, OnErr, IsOk};
 
 use std::alloc::Global;
 use terms::{Kind, Memory, Place, Size, Statement, Value};
 
-mod entries;
+mod known;
 mod rules;
+mod table;
 #[cfg(test)]
 mod tests;
 
-use entries::Entry;
+use known::Known;
 
 /// How a statement was taken.
 #[derive(Clone, Copy, Debug, PartialEq, Eq)]
@@ -51,8 +52,8 @@ pub struct Due {
 pub struct Broadcasts {
     size: Size,
     me: u8,
-    heard: Vec<Entry>,
-    said: Vec<Statement>,
+    /// What is known of each place, at its spot: beyond the last one nothing is known.
+    cells: Vec<Known>,
 }
 
 impl Broadcasts {
@@ -63,10 +64,9 @@ impl Broadcasts {
     ghost use Rattle.terms.specs.Journal.{said};
     ghost use Rattle.terms.specs.Past.{Past, no_past, after_hearing, after_record};
     ghost use Rattle.rbc.specs.declared.Heard.TheVariants.{News};
-    ghost use Rattle.rbc.specs.Words.{size_by, got_by, said_by};
+    ghost use Rattle.rbc.specs.Words.{size_by};
     ghost use Rattle.rbc.specs.Stands.{Stands};
-    ghost use Rattle.rbc.specs.Answers.{heard_as, IsAccepted};
-    ghost use Rattle.rbc.specs.Due.{due_of};
+    ghost use Rattle.rbc.specs.Answers.{heard_as, IsAccepted, IsTouched};
 
     /// Those of the member `me`, below `size.n()`, that heard and said nothing yet. It takes no memory: `alloc` is
     /// kept for [`hear`](Broadcasts::hear) and [`say`](Broadcasts::say).
@@ -77,8 +77,7 @@ impl Broadcasts {
         Broadcasts {
             size,
             me,
-            heard: Vec::new(alloc),
-            said: Vec::new(alloc),
+            cells: Vec::new(alloc),
         }
     }
 
@@ -87,7 +86,8 @@ impl Broadcasts {
     /// `from` and the origin of the place are below n: the caller sees to it.
     ///
     /// [`Memory`]: the statement is news, and there was no memory to note it. Nothing changed, so it may be heard
-    /// again.
+    /// again. A place at which something that counts was heard, or something was said, has its memory already.
+    #[tactic(auto, unfolding(crate::specs::Words::got_by, crate::specs::Words::size_by))]
     pub fn hear(&mut self, from: u8, s: &Statement) -> Result<Heard, Memory>
         requires from { from < (size_by self.old).n }
         requires origin { s.now.place.origin < (size_by self.old).n }
@@ -105,22 +105,27 @@ impl Broadcasts {
         ensures err_only_at_news { OnErr result (
             (past : Past) → Stands self.old past → s.now.place.question ≡ past.question →
             heard_as past from s.now ≡ News) }
+        ensures no_memory { (past : Past) → Stands self.old past → s.now.place.question ≡ past.question →
+            IsTouched past s.now.place → IsOk result }
         ensures size { size_by self.new ≡ size_by self.old }
     {
-        if entries::is_foreign(from, *s) {
+        let _members = self.size.n();
+        if known::is_foreign(from, *s) {
             return Ok(Heard::Foreign);
         }
-        if self.got(from, s.kind(), s.place()).is_some() {
+        let place = s.place();
+        let _value = s.value();
+        let before = table::known_at(&self.cells, self.size, place);
+        if known::value(before, place, from, s.kind()).is_some() {
             return Ok(Heard::Repeat);
         }
-        self.heard.push(Entry {
-            from,
-            statement: *s,
-        })?;
+        let after = known::heard(before, self.size, from, *s);
+        table::keep(&mut self.cells, self.size, place, after)?;
         Ok(Heard::News)
     }
 
     /// What is to be said at the place, whose origin is below n. It takes no memory.
+    #[tactic(auto, unfolding(crate::specs::Words::size_by))]
     pub fn due(&self, place: Place) -> Due
         requires { place.origin < (size_by self.now).n }
         ensures echo { (past : Past) → Stands self.now past → place.question ≡ past.question →
@@ -128,10 +133,12 @@ impl Broadcasts {
         ensures ready { (past : Past) → Stands self.now past → place.question ≡ past.question →
             IsLeast (MaySay past Ready place) result.ready }
     {
-        let initial = self.got(place.origin(), Kind::Initial, place);
+        let _members = self.size.n();
+        let known = table::known_at(&self.cells, self.size, place);
+        let initial = known::value(known, place, place.origin(), Kind::Initial);
         Due {
-            echo: self.due_as(Kind::Echo, place, initial),
-            ready: self.due_as(Kind::Ready, place, None),
+            echo: rules::due(known, self.size, Kind::Echo, place, initial),
+            ready: rules::due(known, self.size, Kind::Ready, place, None),
         }
     }
 
@@ -141,7 +148,9 @@ impl Broadcasts {
     /// The origin of the place is below n: the caller sees to it.
     ///
     /// [`Memory`]: the statement is the first of its kind at the place, and there was no memory to note it. Nothing
-    /// changed, so it may be said again.
+    /// changed, so it may be said again. A place at which something that counts was heard, or something was said, has
+    /// its memory already.
+    #[tactic(auto, unfolding(crate::specs::Words::size_by))]
     pub fn say(&mut self, s: &Statement) -> Result<(), Memory>
         requires { s.now.place.origin < (size_by self.old).n }
 
@@ -153,49 +162,29 @@ impl Broadcasts {
         ensures err_only_at_first { OnErr result (
             (past : Past) → Stands self.old past → s.now.place.question ≡ past.question →
             said past.records s.now.kind s.now.place ≡ None) }
+        ensures no_memory { (past : Past) → Stands self.old past → s.now.place.question ≡ past.question →
+            IsTouched past s.now.place → IsOk result }
         ensures size { size_by self.new ≡ size_by self.old }
     {
-        if entries::is_initial(s.kind()) || self.said(s.kind(), s.place()).is_some() {
+        if known::is_initial(s.kind()) {
             return Ok(());
         }
-        self.said.push(*s)?;
+        let place = s.place();
+        let before = table::known_at(&self.cells, self.size, place);
+        let after = known::say(before, s.kind(), s.value());
+        table::keep(&mut self.cells, self.size, place, after)?;
         Ok(())
     }
 
     /// The value that is accepted at the place, whose origin is below n: the first of which 2t + 1 senders of a Ready
     /// were heard. None where there is none yet. It takes no memory.
+    #[tactic(auto, unfolding(crate::specs::Words::size_by))]
     pub fn accepted(&self, place: Place) -> Option<Value>
         requires { place.origin < (size_by self.now).n }
         ensures value { (past : Past) → Stands self.now past → place.question ≡ past.question →
             IsAccepted past place result }
         ensures fits { IfSome result (λ m. FitsStep place.step m) }
     {
-        rules::first_reached(&self.heard, self.size, place)
-    }
-
-    /// The value of the sender's statement of that kind at that place, if one counts.
-    #[tactic(auto, unfolding(crate::specs::Words::got_by))]
-    fn got(&self, from: u8, kind: Kind, place: Place) -> Option<Value>
-        ensures { result ≡ got_by self.now from kind place }
-    {
-        entries::first_value(&self.heard, from, kind, place)
-    }
-
-    /// The value that the member itself said as that kind at that place, if it did.
-    #[tactic(auto, unfolding(crate::specs::Words::said_by))]
-    fn said(&self, kind: Kind, place: Place) -> Option<Value>
-        ensures { result ≡ said_by self.now kind place }
-    {
-        entries::first_said(&self.said, kind, place)
-    }
-
-    /// The value to be said as that kind, where that of the Initial, if it is given, may be said too.
-    fn due_as(&self, kind: Kind, place: Place, initial: Option<Value>) -> Option<Value>
-        ensures { result ≡ due_of self.now kind place initial }
-    {
-        if self.said(kind, place).is_some() {
-            return None;
-        }
-        rules::least_due(&self.heard, self.size, place, initial)
+        known::accepted(table::known_at(&self.cells, self.size, place), place)
     }
 }

@@ -1,11 +1,10 @@
-//! What the statements that were heard are reason for: to say a value, and to accept one.
-ghost use Rattle.std.specs.Prelude.{◌≡◌, [], ◌+◌, ◌*◌, ◌||◌, nat_lt, IfSome};
-ghost use Rattle.terms.specs.Bounds.{FitsStep};
+//! What is known of a place is reason for: to say a value.
+ghost use Rattle.std.specs.Prelude.{◌≡◌, ◌+◌, ◌*◌, ◌||◌, nat_lt};
 ghost use Rattle.terms.specs.Same.{value_is};
-ghost use Rattle.rbc.specs.Due.{is_backed, least_of};
-ghost use Rattle.rbc.specs.Lists.{value_in, reached_in};
+ghost use Rattle.rbc.specs.Due.{is_backed, least_of, due_known};
+ghost use Rattle.rbc.specs.Known.{got_known};
 
-use crate::entries::{self, Entry};
+use crate::known::{self, Known};
 use terms::{Kind, Place, Size, Value};
 
 /// The values in the order of their codes, the least first.
@@ -26,39 +25,38 @@ fn is_echo_quorum(size: Size, senders: u8) -> bool
 }
 
 /// Whether the value is the Initial's, or an echo quorum sent its Echo, or a help set, t + 1 senders, its Ready.
-fn is_due(heard: &[Entry], size: Size, place: Place, initial: Option<Value>, m: Value) -> bool
-    ensures { result ≡ (value_is initial m || is_backed size (value_in heard.now) place m) }
+fn is_due(known: Known, size: Size, place: Place, initial: Option<Value>, m: Value) -> bool
+    ensures { result ≡ (value_is initial m || is_backed size (got_known known) place m) }
 {
     initial == Some(m)
-        || is_echo_quorum(size, entries::count(heard, size.n(), Kind::Echo, place, m))
-        || entries::count(heard, size.n(), Kind::Ready, place, m) >= size.ready_help()
+        || is_echo_quorum(size, known::count(known, size, place, Kind::Echo, m))
+        || known::count(known, size, place, Kind::Ready, m) >= size.ready_help()
 }
 
 /// The value of least code that is due, where that of the Initial, if it is given, is due too.
-pub fn least_due(heard: &[Entry], size: Size, place: Place, initial: Option<Value>) -> Option<Value>
-    ensures { result ≡ least_of (λ m. value_is initial m || is_backed size (value_in heard.now) place m) }
+fn least_due(known: Known, size: Size, place: Place, initial: Option<Value>) -> Option<Value>
+    ensures { result ≡ least_of (λ m. value_is initial m || is_backed size (got_known known) place m) }
 {
     for m in VALUES {
-        if is_due(heard, size, place, initial, m) {
+        if is_due(known, size, place, initial, m) {
             return Some(m);
         }
     }
     None
 }
 
-/// The first value whose Ready an accept set, 2t + 1 senders, sent.
-pub fn first_reached(heard: &[Entry], size: Size, place: Place) -> Option<Value>
-    ensures value { result ≡ reached_in size [] heard.now place }
-    ensures fits { IfSome result (λ m. FitsStep place.step m) }
+/// The value to be said as that kind, if nothing was, where that of the Initial, if it is given, may be said too.
+pub fn due(
+    known: Known,
+    size: Size,
+    kind: Kind,
+    place: Place,
+    initial: Option<Value>,
+) -> Option<Value>
+    ensures { result ≡ due_known size place known kind initial }
 {
-    for (i, entry) in heard.iter().enumerate() {
-        let value = entry.statement.value();
-        if entries::is_at(entry.statement, Kind::Ready, place)
-            && entries::count(&heard[..i + 1], size.n(), Kind::Ready, place, value)
-                >= size.accept()
-        {
-            return Some(value);
-        }
+    if known::said(known, kind).is_some() {
+        return None;
     }
-    None
+    least_due(known, size, place, initial)
 }

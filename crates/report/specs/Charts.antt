@@ -3,7 +3,7 @@ use Rattle.std.specs.Prelude.{ℕ, ◌+◌, ◌^◌, ◌≡◌, ◌<◌, ◌==�
 use Rattle.hex.specs.Hex.{encode_lower}
 use Rattle.disk.specs.declared.crash.Pick.{Pick}
 use Rattle.disk.specs.declared.crash.Pick.TheVariants.{Kept, Lost, Fill}
-use Rattle.sim.specs.Texts.{sentence}
+use Rattle.words.specs.Sentences.{sentence}
 use Rattle.terms.specs.declared.Record.{Record}
 use Rattle.terms.specs.declared.Record.TheVariants.{Said, Decided}
 use Rattle.terms.specs.declared.Statement.{Statement}

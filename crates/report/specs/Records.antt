@@ -1,7 +1,7 @@
 -- Records in words.
 use Rattle.std.specs.Prelude.{ℕ, List, [], ◌∷◌, ◌++◌, codes}
 use Rattle.std.specs.Fmt.{decimal}
-use Rattle.sim.specs.Texts.{sentence, bit_digit}
+use Rattle.words.specs.Sentences.{sentence, bit_digit}
 use Rattle.terms.specs.declared.Kind.{Kind}
 use Rattle.terms.specs.declared.Kind.TheVariants.{Initial, Echo, Ready}
 use Rattle.terms.specs.declared.Value.{Value}
@@ -9,10 +9,6 @@ use Rattle.terms.specs.declared.Value.TheVariants.{Zero, One, SureZero, SureOne,
 use Rattle.terms.specs.declared.Statement.{Statement}
 use Rattle.terms.specs.declared.Record.{Record}
 use Rattle.terms.specs.declared.Record.TheVariants.{Said, Decided}
-
--- the words and a line's end
-abbrev pub line : List ℕ → List ℕ
-line words = words ++ 10 ∷ []
 
 -- the word of a kind
 abbrev pub kind_word : Kind → List ℕ

@@ -7,9 +7,11 @@ use Rattle.terms.specs.declared.Record.{Record}
 use Rattle.sim.specs.declared.events.Event.{Event}
 use Rattle.sim.specs.declared.events.Mark.{Mark}
 use Rattle.sim.specs.declared.events.Mark.TheVariants.{Done, Failed, Skipped}
-use Rattle.sim.specs.Texts.{sentence, event_text}
+use Rattle.sim.specs.Texts.{event_text}
+use Rattle.words.specs.Sentences.{sentence}
 use Rattle.sim.specs.declared.events.Reason.TheVariants.{NoSuch, WrongSide, NotUp, Running, Nothing}
-use Rattle.report.specs.Records.{line, record_text}
+use Rattle.report.specs.Records.{record_text}
+use Rattle.words.specs.Lines.{line}
 
 -- the event was skipped
 abbrev pub is_skipped : Mark → Bool

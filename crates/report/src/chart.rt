@@ -1,7 +1,7 @@
 //! What `simulate --chart` draws: the events of a run as a sequence chart in SVG.
 
 ghost use Rattle.std.specs.Prelude.{◌≡◌, ◌+◌, ◌*◌, ◌≤◌, IfOk, OnOk, string_bytes};
-ghost use Rattle.script.specs.declared.TheConstants.{MOST_EVENTS};
+ghost use Rattle.sim.specs.declared.TheConstants.{MOST_EVENTS};
 ghost use Rattle.sim.specs.Texts.{calls_text};
 ghost use Rattle.report.specs.Charts.{pick_text, bytes_label, IsSvg};
 
@@ -167,7 +167,7 @@ struct Scene {
 
 impl Scene {
     ghost use Rattle.std.specs.Prelude.{ℕ, ◌≡◌, ◌+◌, ◌<◌, IfOk, OnOk, Some, slice_get, string_bytes};
-    ghost use Rattle.script.specs.declared.TheConstants.{MOST_EVENTS};
+    ghost use Rattle.sim.specs.declared.TheConstants.{MOST_EVENTS};
     ghost use Rattle.report.specs.Scenes.{DrawsOnly};
     ghost use Rattle.report.specs.Charts.{delivered, text_if, IsSvg};
     ghost use Rattle.report.specs.Columns.{FollowAll};
@@ -469,6 +469,3 @@ pub fn chart_text(
     }
     scene.finish()
 }
-
-#[cfg(test)]
-mod tests;

@@ -98,6 +98,3 @@ pub fn trace_text(
     }
     Ok(text)
 }
-
-#[cfg(test)]
-mod tests;

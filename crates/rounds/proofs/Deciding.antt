@@ -1,8 +1,9 @@
 -- What a tally of step 3 decides.
-use Rattle.std.proofs.Common.{ℕ, zero, suc, ◌≡◌, ◌+◌, ◌*◌, ◌<◌, ◌≤◌, ◌⊎◌, inl, inr, Bool, true, false, refl, sym, ap, subst, arith, Some}
+use Rattle.std.proofs.Common.{ℕ, zero, suc, ◌≡◌, ◌+◌, ◌*◌, ◌<◌, ◌≤◌, ◌⊎◌, inl, inr, Bool, true, false, refl, sym, ap, subst, ◌∙◌, arith, Option, Some, None}
 use Rattle.std.proofs.lemmas.Bool.{cases_lt}
 use Rattle.terms.specs.declared.Value.{Value}
 use Rattle.terms.specs.declared.Value.TheVariants.{SureZero, SureOne}
+use Rattle.terms.specs.declared.Place.{Place}
 use Rattle.terms.specs.declared.Size.{Size}
 use Rattle.terms.specs.Bounds.{IsPlace}
 use Rattle.terms.specs.Count.{count_below, AtLeast}
@@ -60,17 +61,32 @@ count-nobody : (n : ℕ) → count_below n (λ a. false) ≡ 0
 count-nobody zero = refl
 count-nobody (suc n) = let e : count_below n (λ a. false) ≡ 0 = count-nobody n in omega arith
 
--- a round that decides is one of the 32
-pub decides_within : (steps : Steps) → IsSound (taken_by steps) → (round : ℕ) (bit : Bool) → DecidesBy steps round bit → round < 33
-decides_within steps sound round bit h =
+-- some value of a round that decides was taken
+record Decider (steps : Steps) (round : ℕ) (bit : Bool) : Type 0 where
+  member : ℕ
+  taken : IsTakenBy steps (place_of (question_by steps) member round 3) (sure bit)
+
+decider : (steps : Steps) (round : ℕ) (bit : Bool) → DecidesBy steps round bit → Decider steps round bit
+decider steps round bit h =
     let z = count-nobody (size_by steps).n in
     let s = h.size in
     let o : Outside (size_by steps).n h.set (λ a. false) = has_outside (size_by steps).n h.set (λ a. false) (omega arith) in
-    let p : IsPlace (place_of (question_by steps) o.member round 3) =
-    sound.place (place_of (question_by steps) o.member round 3) (sure bit)
-    (valid_taken (size_by steps) (IsTakenBy steps) (question_by steps) round 3 o.member (sure bit) (h.each o.member o.below o.passes)) in
+    record { member = o.member; taken = valid_taken (size_by steps) (IsTakenBy steps) (question_by steps) round 3 o.member (sure bit) (h.each o.member o.below o.passes) }
+
+-- a round that decides is one of the 32
+pub decides_within : (steps : Steps) → IsSound (taken_by steps) → (round : ℕ) (bit : Bool) → DecidesBy steps round bit → round < 33
+decides_within steps sound round bit h =
+    let d = decider steps round bit h in
+    let p : IsPlace (place_of (question_by steps) d.member round 3) = sound.place (place_of (question_by steps) d.member round 3) (sure bit) d.taken in
     let l = p.to_last in
     omega arith
+
+-- where nothing was taken nothing is decided
+pub nothing_decides : (steps : Steps) → ((p : Place) → taken_by steps p ≡ None) → FirstDecisionBy steps None
+nothing_decides steps none round bit h =
+    let d = decider steps round bit h in
+    let e : ◌≡◌ {A = Option Value} None (Some (sure bit)) = sym (none (place_of (question_by steps) d.member round 3)) ∙ d.taken in
+    cc e
 
 -- the first round that is found to decide is the least
 pub first_at : (steps : Steps) (round : ℕ) (bit : Bool) → NoneBefore steps round → DecidesBy steps round bit → (bit ≡ true → DecidesBy steps round false → ⊥)

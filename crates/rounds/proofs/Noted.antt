@@ -1,6 +1,5 @@
 -- What one more record of its own does to a question.
-use Rattle.std.proofs.Common.{ℕ, zero, suc, ◌≡◌, ◌+◌, ◌-◌, ◌*◌, ◌<◌, Bool, true, false, not, ◌&&◌, ◌||◌, ◌==◌, refl, sym, ap, subst, ◌∙◌, arith, Option, Some, None, is_some, List, [], ◌∷◌, length, take, get_or, set, get_or-set_same, get_or-set_other, ⊎_elim, eq-eqb, ne_eqb}
-use Rattle.std.proofs.lemmas.Bool.{and_parts, not-true, or_right, cases_eq}
+use Rattle.std.proofs.Common.{ℕ, zero, suc, ◌≡◌, ◌+◌, ◌-◌, ◌*◌, Bool, true, false, ◌||◌, ◌==◌, refl, sym, ap, ◌∙◌, arith, Option, Some, None, is_some, List, [], take, get_or}
 use Rattle.terms.specs.declared.Kind.TheVariants.{Initial}
 use Rattle.terms.specs.declared.Value.{Value}
 use Rattle.terms.specs.declared.Place.{Place}
@@ -21,19 +20,7 @@ use Rattle.rounds.specs.declared.questions.Question.{Question}
 use Rattle.rounds.specs.Rounded.{begins_at, decision_after}
 use Rattle.rounds.specs.Words.{size_for, me_for, question_for, taken_for, own_for, decision_for}
 use Rattle.rounds.specs.Stands.{Stands}
-
--- nothing more leaves a flag as it is
-or_none : (x y : Bool) → y ≡ false → x ≡ (x || y)
-or_none true y e = refl
-or_none false y e = sym e
-
--- what is set after one more flag
-set_flag : (s : List Bool) (i p : ℕ) → i < length s → get_or (set s i true) p false ≡ (get_or s p false || (i == p))
-set_flag s i p l =
-    ⊎_elim
-    (λ e. subst (λ q. get_or (set s i true) q false ≡ (get_or s q false || (i == q))) e (get_or-set_same s i true false l ∙ sym (or_right (get_or s i false) (i == i) (eq-eqb i i refl))))
-    (λ n. get_or-set_other s i p true false (λ e. n (sym e)) ∙ or_none (get_or s p false) (i == p) (ne_eqb i p n))
-    (cases_eq i p)
+use Rattle.rounds.proofs.Reaching.{or_none}
 
 -- a value is there after one more if one was there or comes
 is_some-keep : (o : Option Value) (b : Bool) (v : Value) → is_some (keep_or o (given b v)) ≡ (is_some o || b)
@@ -73,27 +60,15 @@ module _ (old new : Question) (x : Record) (steps : new.steps ≡ old.steps) (me
       }
 
 -- an own Initial sets its flag
-pub own_set : (xs ys : List Bool) (i : ℕ) (x : Record) (p : Place) → i < length xs → ys ≡ set xs i true → begins_at x p ≡ (i == 3 * p.round + p.step - 4)
+pub own_set : (xs ys : List Bool) (number : ℕ) (x : Record) (p : Place) → ((i : ℕ) → get_or ys i false ≡ (get_or xs i false || (number == i))) → begins_at x p ≡ (number == 3 * p.round + p.step - 4)
     → get_or ys (3 * p.round + p.step - 4) false ≡ (get_or xs (3 * p.round + p.step - 4) false || begins_at x p)
-own_set xs ys i x p l e h =
-    ap (λ s. get_or s (3 * p.round + p.step - 4) false) e
-    ∙ (set_flag xs i (3 * p.round + p.step - 4) l ∙ ap (λ b. get_or xs (3 * p.round + p.step - 4) false || b) (sym h))
+own_set xs ys number x p e h =
+    e (3 * p.round + p.step - 4) ∙ ap (λ b. get_or xs (3 * p.round + p.step - 4) false || b) (sym h)
 
 -- any other record sets none
 pub own_same : (xs ys : List Bool) (x : Record) (p : Place) → ys ≡ xs → begins_at x p ≡ false
     → get_or ys (3 * p.round + p.step - 4) false ≡ (get_or xs (3 * p.round + p.step - 4) false || begins_at x p)
 own_same xs ys x p e h = ap (λ s. get_or s (3 * p.round + p.step - 4) false) e ∙ or_none (get_or xs (3 * p.round + p.step - 4) false) (begins_at x p) h
-
--- nothing is set
-abbrev all_clear : List Bool → Bool
-all_clear [] = true
-all_clear (x ∷ xs) = not x && all_clear xs
-
--- where nothing is set no flag is
-none_set : (xs : List Bool) → all_clear xs ≡ true → (p : ℕ) → get_or xs p false ≡ false
-none_set [] h p = refl
-none_set (x ∷ xs) h zero = not-true x (and_parts (not x) (all_clear xs) h).0
-none_set (x ∷ xs) h (suc p) = none_set xs (and_parts (not x) (all_clear xs) h).1 p
 
 -- nobody passes a test that fails
 nobody : (n : ℕ) → count_below n (λ a. false) ≡ 0
@@ -110,7 +85,7 @@ nothing_accepted size place m a = step a.front a.reached
 
 -- a new question stands for the empty past
 pub begun_new : (q : Question) (size : Size) (me question : ℕ) → size_by q.steps ≡ size → question_by q.steps ≡ question → q.me ≡ me
-    → ((p : Place) → taken_by q.steps p ≡ None) → all_clear q.said ≡ true → q.decision ≡ None → Stands q (no_past size me question)
+    → ((p : Place) → taken_by q.steps p ≡ None) → ((i : ℕ) → get_or q.said i false ≡ false) → q.decision ≡ None → Stands q (no_past size me question)
 unfolding size_for me_for question_for taken_for own_for decision_for
 begun_new q size me question s k m t c d =
     record {
@@ -120,7 +95,7 @@ begun_new q size me question s k m t c d =
       rounds = record {
         taken = λ p v e h. let n : ◌≡◌ {A = Option Value} None (Some v) = sym (t p) ∙ h in cc n;
         all = λ p v e h. absurd (nothing_accepted size p v h);
-        own = λ p i e o. none_set q.said c (3 * p.round + p.step - 4);
+        own = λ p i e o. c (3 * p.round + p.step - 4);
         decision = d;
       };
     }

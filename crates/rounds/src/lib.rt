@@ -12,6 +12,9 @@
 //! v is decided in the least round in which at least 2t + 1 valid messages of step 3 are Sure v, 0 before 1, and only
 //! once. A member that decided in round k says no Initial of a round past k + 1, and none past round 32.
 //!
+//! What is due is read off what is kept: the tallies of the steps, the decision that follows from them, and how far the
+//! member's own Initials go. So a call costs the same however much was accepted and said before.
+//!
 //! The coin is the member's own: a bit of a [`Toss`] that its caller hands in. [`ChaChaTosser`] draws tosses from the
 //! key stream of ChaCha20. What is proved of a question holds for every toss. Nothing is claimed of how likely a toss
 //! is, that it can't be foreseen, or that some round decides: the chance that a question is settled soon rests on
@@ -19,7 +22,9 @@
 #![tactic(auto)]
 
 mod choices;
+mod own;
 mod questions;
+mod settling;
 #[cfg(test)]
 mod tests;
 mod tosses;

@@ -7,23 +7,21 @@ ghost use Rattle.terms.specs.Same.{place_of, statement_of};
 ghost use Rattle.rounds.specs.Due.{MaySayAt};
 ghost use Rattle.rounds.specs.Rounded.{begins_at, decision_after};
 
-use super::choices::{first_decision, value_for};
+use super::choices::value_for;
+use super::own::Own;
+use super::settling::Settling;
 use super::tosses::Toss;
 use std::alloc::Global;
 use terms::{Kind, Memory, Place, Record, Size, Statement, Value};
-use validate::Steps;
-
-/// How many places of one origin there are: three of each of 32 rounds.
-const PLACES: usize = 96;
 
 /// The rounds of one question, as one member takes part in them: the values that it accepted, and its own Initials
 /// and decision, once they are noted.
 #[derive(Drop)]
 pub struct Question {
     me: u8,
-    steps: Steps,
-    /// Whether its own Initial was noted, for each place in order: step s of round r is at 3r + s - 4.
-    said: [bool; PLACES],
+    steps: Settling,
+    said: Own,
+    /// The decision that was noted first.
     decision: Option<(u8, bool)>,
 }
 
@@ -46,8 +44,8 @@ impl Question {
     {
         Question {
             me,
-            steps: Steps::new(alloc, size, question),
-            said: [false; PLACES],
+            steps: Settling::new(alloc, size, question),
+            said: Own::none(),
             decision: None,
         }
     }
@@ -81,7 +79,7 @@ impl Question {
     {
         match self.decision {
             Some(_) => None,
-            None => first_decision(&self.steps),
+            None => self.steps.first(),
         }
     }
 
@@ -90,12 +88,16 @@ impl Question {
     pub fn next(&self, toss: Toss) -> Option<Statement>
         ensures { (past : Past) → Stands self.now past → IsNextInitial past toss.0 result }
     {
-        for code in 5..100 {
+        let steps = self.steps.values();
+        // One place alone, where its own Initials have no gap.
+        let first = (self.said.front() + 4).max(5);
+        let end = (self.said.end() + 5).min(100);
+        for code in first..end {
             let round = (code - 1) / 3;
             let step = (code - 1) % 3 + 1;
             if may_say(&self.said, self.decision, code) {
-                if let Some(value) = value_for(&self.steps, round, step, toss) {
-                    return initial(self.steps.question(), self.me, round, step, value);
+                if let Some(value) = value_for(steps, round, step, toss) {
+                    return initial(steps.question(), self.me, round, step, value);
                 }
             }
         }
@@ -109,9 +111,9 @@ impl Question {
         ensures size { size_for self.new ≡ size_for self.old }
         ensures question { question_for self.new ≡ question_for self.old }
     {
-        let question = self.steps.question();
-        if let Some(index) = own_initial(self.me, question, noted) {
-            self.said[usize::from(index)] = true;
+        let question = self.steps.values().question();
+        if let Some(number) = own_initial(self.me, question, noted) {
+            self.said.note(number);
         }
         self.decision = decision_from(question, self.decision, noted);
     }
@@ -127,7 +129,7 @@ impl Question {
 
 /// Whether the member's own records let its own Initial of that place be said. Places of one origin in order are
 /// numbered 3 * round + step: from 4, round 1 step 1, to 99, round 32 step 3.
-fn may_say(said: &[bool; PLACES], decision: Option<(u8, bool)>, code: u8) -> bool
+fn may_say(said: &Own, decision: Option<(u8, bool)>, code: u8) -> bool
     requires low { 5 ≤ code }
     requires high { code < 100 }
     ensures { IsTrue result ↔ MaySayAt said.now decision code }
@@ -136,7 +138,7 @@ fn may_say(said: &[bool; PLACES], decision: Option<(u8, bool)>, code: u8) -> boo
         Some((round, _)) => u16::from((code - 1) / 3) <= u16::from(round) + 1,
         None => true,
     };
-    in_time && said[usize::from(code - 5)] && !said[usize::from(code - 4)]
+    in_time && said.has(code - 5) && !said.has(code - 4)
 }
 
 /// An own Initial.
@@ -149,7 +151,7 @@ fn initial(question: u16, me: u8, round: u8, step: u8, value: Value) -> Option<S
     Statement::new(Kind::Initial, place, value)
 }
 
-/// The index of an own Initial of the question, or none where the record is none.
+/// The number of an own Initial of the question, or none where the record is none.
 fn own_initial(me: u8, question: u16, noted: &Record) -> Option<u8>
     ensures { MatchOption result
         ((p : Place) → IsPlace p → p.question ≡ question → p.origin ≡ me → begins_at noted.now p ≡ false)

@@ -10,6 +10,8 @@ use terms::Kind::{Echo, Initial, Ready};
 use terms::Value::{One, SureOne, SureZero, Unsure, Zero};
 use terms::{Kind, Memory, Place, Record, Size, Statement, Value};
 
+mod plain;
+
 /// Question 0 at member 0, and the size that it was made for.
 #[derive(Drop)]
 struct Asked {
@@ -28,9 +30,13 @@ fn statement(kind: Kind, origin: u8, round: u8, step: u8, value: Value) -> Resul
 impl Asked {
     /// Of so many members, of which one may lie.
     fn new(rt: &impl AllocGlobal, n: u8) -> Result<Asked, Fail> {
-        let size = Size::new(n, 1, 1)?;
+        Ok(Asked::of(rt, Size::new(n, 1, 1)?))
+    }
+
+    /// Of that size.
+    fn of(rt: &impl AllocGlobal, size: Size) -> Asked {
         let question = Question::new(rt.alloc(), size, 0, 0);
-        Ok(Asked { size, question })
+        Asked { size, question }
     }
 
     /// Accepts the value at the place of those numbers.
@@ -164,6 +170,49 @@ fn accept_set_decides_once(rt: HostRuntime) -> Result<(), Fail> {
     }
     assert!(rt; asked.question.decision_due().is_none());
     assert!(rt; asked.question.verdict() == Some((1, true)));
+    Ok(())
+}
+
+#[test]
+fn lower_round_may_come_to_decide(rt: HostRuntime) -> Result<(), Fail> {
+    let mut asked = Asked::of(&rt, Size::new(7, 2, 1)?);
+    asked.take(&rt, 1, 1, &[Zero, Zero, Zero, One, One, One])?;
+    asked.take(&rt, 1, 2, &[Zero, Zero, One, One, One, One])?;
+    asked.take(&rt, 1, 3, &[Unsure, SureOne, SureOne, SureOne, SureOne])?;
+    asked.take(&rt, 2, 1, &[One; 5])?;
+    asked.take(&rt, 2, 2, &[One; 5])?;
+    assert!(rt; asked.question.decision_due().is_none());
+    asked.take(&rt, 2, 3, &[SureOne; 5])?;
+    assert!(rt; asked.question.decision_due() == Some((2, true)));
+    asked.take(
+        &rt,
+        1,
+        3,
+        &[Unsure, SureOne, SureOne, SureOne, SureOne, SureOne],
+    )?;
+    assert!(rt; asked.question.decision_due() == Some((1, true)));
+    Ok(())
+}
+
+/// Accepts a message of each of 32 members in every step but the first: One, and SureOne in step 3.
+fn take_later_steps(rt: &impl Abort, asked: &mut Asked) -> Result<(), Fail> {
+    for code in 5..100_u8 {
+        let step = (code - 1) % 3 + 1;
+        let value = if step == 3 { SureOne } else { One };
+        asked.take(rt, (code - 1) / 3, step, &[value; 32])?;
+    }
+    Ok(())
+}
+
+#[test]
+fn large_history_decides_at_once(rt: HostRuntime) -> Result<(), Fail> {
+    let mut asked = Asked::of(&rt, Size::new(32, 10, 1)?);
+    take_later_steps(&rt, &mut asked)?;
+    asked.take(&rt, 1, 1, &[One; 21])?;
+    assert!(rt; asked.question.decision_due().is_none());
+    asked.take(&rt, 1, 1, &[One; 22])?;
+    assert!(rt; asked.question.decision_due() == Some((1, true)));
+    assert!(rt; asked.question.verdict().is_none());
     Ok(())
 }
 

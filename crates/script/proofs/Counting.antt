@@ -2,7 +2,7 @@
 use Rattle.std.proofs.Common.{ℕ, zero, suc, ◌≡◌, ◌+◌, ◌*◌, ◌-◌, ◌<◌, ◌≤◌, refl, sym, ap, ◌∙◌, subst, arith, List, [], ◌∷◌, ◌++◌, length, drop, length-append, get_or, add-one, ◌^◌, min, mul-le-mul_left, Result, Ok, Err, OnOk, IfErr}
 use Rattle.script.specs.declared.fault.ScriptFault.{ScriptFault}
 use Rattle.script.specs.declared.fault.ScriptFault.TheVariants as faults
-use Rattle.script.specs.declared.TheConstants.{MOST_EVENTS}
+use Rattle.sim.specs.declared.TheConstants.{MOST_EVENTS}
 use Rattle.std.proofs.Math.Seq.{drop-cons}
 use Rattle.sim.specs.declared.events.Which.TheVariants.{Next}
 use Rattle.script.specs.Acts.Act.{Deliver}

@@ -4,7 +4,8 @@ use Rattle.disk.specs.declared.Pick.TheVariants.{Kept, Lost, Fill}
 use Rattle.sim.specs.declared.events.Which.TheVariants.{Next, At}
 use Rattle.script.specs.declared.step.Verb.{Verb}
 use Rattle.script.specs.declared.step.Verb.TheVariants as verb
-use Rattle.script.specs.Words.{IsNumber, IsBelow, IsMember, IsCount, IsLong, IsBit, IsWhich, IsFuse, AreBytes, ArePick, AreMembers}
+use Rattle.script.specs.Words.{IsMember, IsCount, IsLong, IsBit, IsWhich, IsFuse, ArePick, AreMembers}
+use Rattle.words.specs.Numbers.{IsNumber, IsBelow, AreBytes}
 use Rattle.script.specs.Steps.{Step, name_of, One, Two, Three, SaysBehind, Says}
 
 -- a form that a thing has at most once

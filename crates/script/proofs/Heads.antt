@@ -9,7 +9,7 @@ use Rattle.script.specs.declared.fault.ScriptFault.{ScriptFault}
 use Rattle.script.specs.declared.fault.ScriptFault.TheVariants as faults
 use Rattle.script.specs.Words.{words_of}
 use Rattle.script.specs.Lines.{Page, page_of, HasLine, number_or}
-use Rattle.script.specs.Scripts.{IsNamed, AreLiars, IsSeed, MakeSize, IsHead, IsHeadFault, HeadFailsOr, IsFirstFault, Lacks, as_byte, at_start}
+use Rattle.script.specs.Scripts.{IsNamed, AreLiars, IsSeed, MakeSize, IsHead, IsHeadFault, HeadFailsOr, IsFirstFault, Lacks, at_start}
 use Rattle.script.specs.Making.{Made, correct_below, BreakBy}
 use Rattle.terms.specs.declared.Size.{Size}
 use Rattle.terms.specs.declared.SizeFault.{SizeFault}
@@ -61,7 +61,7 @@ all_listed words i items most l =
 -- the first fault is in the size
 pub of_size : (page : Page) (n t questions : ℕ) (wrong : SizeFault)
     → HasLine page 0 (IsNamed (codes "n")) n → HasLine page 1 (IsNamed (codes "t")) t → HasLine page 2 (IsNamed (codes "questions")) questions
-    → size_fault (as_byte n) (as_byte t) questions ≡ Some wrong → IsHeadFault page (faults.Size wrong)
+    → size_fault n t questions ≡ Some wrong → IsHeadFault page (faults.Size wrong)
 of_size page n t questions wrong a b c e = inr (n, a, inr (t, b, inr (questions, c, inl (wrong, e, refl))))
 
 -- it is in the line of liars, or memory was refused there

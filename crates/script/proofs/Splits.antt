@@ -3,7 +3,8 @@ use Rattle.std.proofs.Common.{ℕ, suc, ◌≡◌, ◌+◌, ◌-◌, ◌≤◌, 
 use mir.Val.{bool_byte}
 use Rattle.std.specs.Prelude.{if◌then◌else◌}
 use Rattle.std.specs.List.{slice_split, onto_first}
-use Rattle.script.specs.Lines.{Page, onto_line, lines_of, is_skipped, said_from, page_of}
+use Rattle.script.specs.Lines.{Page, is_skipped, said_from, page_of}
+use Rattle.words.specs.Lines.{onto_line, lines_of}
 use Rattle.script.specs.Untossed.{texts, is_empty, ends_empty}
 
 -- all but an empty last one

@@ -18,15 +18,16 @@ use Rattle.script.specs.declared.fault.ScriptFault.{ScriptFault}
 use Rattle.script.specs.declared.fault.ScriptFault.TheVariants as faults
 use Rattle.script.specs.declared.step.Verb.{Verb}
 use Rattle.script.specs.declared.step.Verb.TheVariants as verb
-use Rattle.script.specs.declared.TheConstants.{MOST_EVENTS}
-use Rattle.script.specs.Words.{words_of, IsNumber, IsBelow, IsMember, IsCount, IsLong, IsBit, IsWhich, IsFuse, AreBytes, ArePick, AreMembers}
+use Rattle.sim.specs.declared.TheConstants.{MOST_EVENTS}
+use Rattle.script.specs.Words.{words_of, IsMember, IsCount, IsLong, IsBit, IsWhich, IsFuse, ArePick, AreMembers}
+use Rattle.words.specs.Numbers.{IsNumber, IsBelow, AreBytes}
 use Rattle.script.specs.Lines.{Page, page_of, HasLine, number_at}
 use Rattle.script.specs.Acts.{Told}
 use Rattle.script.specs.Acts.Act.{Propose, Deliver, Lie, Fuse, Crash, Restart, Reset}
 use Rattle.script.specs.Steps.{Step, name_of, One, Two, Three, SaysBehind, Says}
 use Rattle.script.specs.Steps.Step.{Once, Rounds, Random}
 use Rattle.script.specs.Making.{Made, after_step, correct_below, LeadTo, BreakBy}
-use Rattle.script.specs.Scripts.{IsNamed, AreLiars, IsSeed, as_byte, MakeSize, IsTold, at_start, Lacks, IsFirstFault}
+use Rattle.script.specs.Scripts.{IsNamed, AreLiars, IsSeed, MakeSize, IsTold, at_start, Lacks, IsFirstFault}
 use Rattle.script.proofs.Exact.{one_number, one_bytes, one_verb}
 
 -- a form that a thing has, or has not
@@ -447,12 +448,12 @@ seed (v ∷ w ∷ []) = step (same_list v (codes "seed")) (below 64 w)
     step (inr isnt) r = inr (λ n (x, f, g). let e : v ≡ codes "seed" = cc in isnt e)
     step (inl e) (inr isnt) = inr (λ n (x, f, g). let e : w ≡ x = cc in isnt n (subst (λ (y : List ℕ). IsLong y n) (sym e) g))
 
-sized : (n t questions : ℕ) → ((size : Size) × MakeSize n t questions size) ⊎ ((wrong : SizeFault) × (size_fault (as_byte n) (as_byte t) questions ≡ Some wrong))
-sized n t questions = step (size_fault (as_byte n) (as_byte t) questions) refl
+sized : (n t questions : ℕ) → ((size : Size) × MakeSize n t questions size) ⊎ ((wrong : SizeFault) × (size_fault n t questions ≡ Some wrong))
+sized n t questions = step (size_fault n t questions) refl
   where
-    step : (o : Option SizeFault) → size_fault (as_byte n) (as_byte t) questions ≡ o
-        → ((size : Size) × MakeSize n t questions size) ⊎ ((wrong : SizeFault) × (size_fault (as_byte n) (as_byte t) questions ≡ Some wrong))
-    step None e = inl (size_of (as_byte n) (as_byte t) questions, record { size_is = refl; sound = e })
+    step : (o : Option SizeFault) → size_fault n t questions ≡ o
+        → ((size : Size) × MakeSize n t questions size) ⊎ ((wrong : SizeFault) × (size_fault n t questions ≡ Some wrong))
+    step None e = inl (size_of n t questions, record { size_is = refl; sound = e })
     step (Some wrong) e = inr (wrong, e)
 
 -- each text says something, or has a first fault

@@ -1,16 +1,7 @@
--- The lines of a text, and which of them say something.
+-- Which lines of a text say something.
 use Rattle.std.specs.Prelude.{ℕ, ◌+◌, ◌≡◌, ◌==◌, Bool, true, if◌then◌else◌, Option, Some, None, List, [], ◌∷◌, length, slice_get}
+use Rattle.words.specs.Lines.{lines_of}
 use Rattle.script.specs.Words.{words_of}
-
--- a byte before the lines that follow
-abbrev pub onto_line : ℕ → List (List ℕ) → List (List ℕ)
-onto_line byte [] = (byte ∷ []) ∷ []
-onto_line byte (line ∷ lines) = (byte ∷ line) ∷ lines
-
--- the lines of a text, without the byte 10 that ends each. Bytes behind the last one are a line too
-abbrev pub lines_of : List ℕ → List (List ℕ)
-lines_of [] = []
-lines_of (byte ∷ bytes) = if byte == 10 then [] ∷ lines_of bytes else onto_line byte (lines_of bytes)
 
 -- an empty line is skipped, and one that begins with `#`
 abbrev pub is_skipped : List ℕ → Bool

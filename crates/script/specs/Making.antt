@@ -7,7 +7,7 @@ use Rattle.sim.specs.declared.events.Which.TheVariants.{Next}
 use Rattle.sim.specs.Outcomes.{among}
 use Rattle.script.specs.declared.fault.ScriptFault.{ScriptFault}
 use Rattle.script.specs.declared.fault.ScriptFault.TheVariants as faults
-use Rattle.script.specs.declared.TheConstants.{MOST_EVENTS}
+use Rattle.sim.specs.declared.TheConstants.{MOST_EVENTS}
 use Rattle.script.specs.Words.{words_of}
 use Rattle.script.specs.Acts.{Act, Told}
 use Rattle.script.specs.Acts.Act.{Deliver}

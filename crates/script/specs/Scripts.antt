@@ -24,14 +24,10 @@ AreLiars words liars = (listed : List (List ℕ)) × (words ≡ codes "liars" �
 abbrev pub IsSeed : List (List ℕ) → ℕ → Type 0
 IsSeed words seed = (word : List ℕ) × (words ≡ codes "seed" ∷ word ∷ []) × IsLong word seed
 
--- a number as one byte: those that no byte holds count as the greatest that one does
-abbrev pub as_byte : ℕ → ℕ
-as_byte number = if nat_lt 255 number then 255 else number
-
 -- the numbers of the first three lines make this size
 pub record MakeSize (n t questions : ℕ) (size : Size) : Type 0 where
-  pub size_is : size ≡ size_of (as_byte n) (as_byte t) questions
-  pub sound : size_fault (as_byte n) (as_byte t) questions ≡ None
+  pub size_is : size ≡ size_of n t questions
+  pub sound : size_fault n t questions ≡ None
 
 -- the first five lines
 pub record IsHead (page : Page) (size : Size) (liars : List ℕ) (seed : ℕ) : Type 0 where
@@ -75,7 +71,7 @@ FailsOr {A} page place Form Later fault =
 -- the numbers make no size, or they do and the fault is a later one
 abbrev pub SizeFailsOr : ℕ → ℕ → ℕ → (Size → ScriptFault → Type 0) → ScriptFault → Type 0
 SizeFailsOr n t questions Later fault =
-    ((wrong : SizeFault) × (size_fault (as_byte n) (as_byte t) questions ≡ Some wrong) × (fault ≡ faults.Size wrong))
+    ((wrong : SizeFault) × (size_fault n t questions ≡ Some wrong) × (fault ≡ faults.Size wrong))
     ⊎ ((size : Size) × MakeSize n t questions size × Later size fault)
 
 -- the fault is the first of the first five lines, or they are those of a head and the fault is a later one

@@ -4,7 +4,8 @@ use Rattle.disk.specs.declared.Pick.{Pick}
 use Rattle.sim.specs.declared.events.Which.{Which}
 use Rattle.script.specs.declared.step.Verb.{Verb}
 use Rattle.script.specs.declared.step.Verb.TheVariants as verb
-use Rattle.script.specs.Words.{IsMember, IsCount, IsLong, IsBit, IsWhich, IsFuse, AreBytes, ArePick}
+use Rattle.script.specs.Words.{IsMember, IsCount, IsLong, IsBit, IsWhich, IsFuse, ArePick}
+use Rattle.words.specs.Numbers.{AreBytes}
 use Rattle.script.specs.Acts.{Act}
 use Rattle.script.specs.Acts.Act.{Propose, Deliver, Lie, Fuse, Crash, Restart, Reset}
 

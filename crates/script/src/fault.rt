@@ -14,7 +14,7 @@ pub enum ScriptFault {
     /// behind the last one.
     #[error("line {0}")]
     Line(u64),
-    /// 2: with this many events there are more than [`MOST_EVENTS`](crate::MOST_EVENTS).
+    /// 2: with this many events there are more than [`MOST_EVENTS`](sim::MOST_EVENTS).
     #[error("events")]
     Events,
     /// 3: the first three lines make no size.

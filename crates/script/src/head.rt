@@ -1,19 +1,16 @@
 //! The first five lines of a script.
 
 ghost use Rattle.std.specs.Prelude.{ℕ, List, ◌≡◌, ◌⊎◌, ◌<◌, ◌^◌, Some, IfOk, IfErr, IfSome, MatchOption};
-ghost use Rattle.terms.specs.declared.Size.{Size};
-ghost use Rattle.terms.specs.Sizes.{size_fault};
-ghost use Rattle.script.specs.declared.fault.ScriptFault.{ScriptFault};
 ghost use Rattle.script.specs.Words.{AreMembers};
-ghost use Rattle.script.specs.Scripts.{IsNamed, AreLiars, IsSeed, MakeSize, IsHead, IsHeadFault, Lacks, as_byte};
+ghost use Rattle.script.specs.Scripts.{IsNamed, AreLiars, IsSeed, IsHead, IsHeadFault, Lacks};
 ghost use Rattle.script.specs.Lines.{HasLine};
 ghost use Rattle.script.specs.Untossed.{texts};
 
 use crate::fault::ScriptFault;
 use crate::lines::Lines;
-use crate::words::{is, member, number, number16};
 use std::alloc::{AllocError, Global};
 use terms::{Size, SizeFault};
+use words::{is, number, number8, number16, size_from};
 
 /// The number below 2^16 behind this name.
 fn named(words: &[&[u8]], name: &str) -> Option<u16>
@@ -46,7 +43,7 @@ fn members(alloc: Global, words: &[&[u8]]) -> Result<Option<Vec<u8>>, AllocError
 {
     let mut members = Vec::new(alloc);
     for word in words {
-        let Some(member) = member(word) else {
+        let Some(member) = number8(word) else {
             return Ok(None);
         };
         members.push(member)?;
@@ -102,16 +99,6 @@ fn seed_at(alloc: Global, lines: &Lines, place: usize) -> Result<u64, ScriptFaul
     }
 }
 
-/// The size that these numbers make. A number that no byte holds is too many, as one just above the limit is.
-fn size(n: u16, t: u16, questions: u16) -> Result<Size, SizeFault>
-    ensures ok { IfOk result (MakeSize n t questions) }
-    ensures err { IfErr result (λ fault. size_fault (as_byte n) (as_byte t) questions ≡ Some fault) }
-{
-    let n = u8::try_from(n).unwrap_or(u8::MAX);
-    let t = u8::try_from(t).unwrap_or(u8::MAX);
-    Size::new(n, t, questions)
-}
-
 /// How many lines a head has.
 pub const HEAD_LINES: usize = 5;
 
@@ -132,7 +119,7 @@ impl Head {
         let n = named_at(alloc, lines, 0, "n")?;
         let t = named_at(alloc, lines, 1, "t")?;
         let questions = named_at(alloc, lines, 2, "questions")?;
-        let size = size(n, t, questions)?;
+        let size = size_from(n, t, questions)?;
         let liars = liars_at(alloc, lines, 3)?;
         let seed = seed_at(alloc, lines, 4)?;
         Ok(Head { size, liars, seed })

@@ -17,18 +17,15 @@ pub mod laws;
 mod lines;
 mod making;
 mod step;
-mod words;
+mod values;
 
 pub use fault::ScriptFault;
 use head::{HEAD_LINES, Head};
 use lines::Lines;
 use making::Making;
-use sim::Event;
+use sim::{Event, MOST_EVENTS};
 use std::alloc::{AllocError, Global};
 use terms::Size;
-
-/// How many events a script may have.
-pub const MOST_EVENTS: usize = 1_000_000;
 
 /// A cluster, and what happens in it.
 #[derive(Drop)]

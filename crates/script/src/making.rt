@@ -1,17 +1,16 @@
 //! The events that a script's lines stand for.
 
 ghost use Rattle.std.specs.Prelude.{◌≡◌, ◌<◌, ◌≤◌, ◌+◌, ◌*◌, ◌-◌, ◌^◌, length, map, min, OnOk, IfErr, ◌⊎◌};
-ghost use Rattle.script.specs.declared.TheConstants.{MOST_EVENTS};
+ghost use Rattle.sim.specs.declared.TheConstants.{MOST_EVENTS};
 ghost use Rattle.script.specs.Acts.{told};
 ghost use Rattle.script.specs.Untossed.{act_of, step_of, numbered};
 ghost use Rattle.script.specs.Making.{Made, add, add_drawn, adds, draws, row, round, times, AreFew, Goes, IsOver, Fails, after_step, LeadsBy, LeadTo, BreaksAt, BreakBy};
 
-use crate::MOST_EVENTS;
 use crate::draw::{Draw, Untossed};
 use crate::fault::ScriptFault;
 use crate::lines::Line;
 use crate::step::Order;
-use sim::{Event, Which};
+use sim::{Event, MOST_EVENTS, Which};
 use std::alloc::Global;
 use std::marker::Model;
 use terms::Size;

@@ -8,10 +8,11 @@ ghost use Rattle.script.specs.declared.step.Verb.{Verb};
 ghost use Rattle.script.specs.Untossed.{step_of, texts};
 
 use crate::draw::Untossed;
-use crate::words::{bit, byte, bytes, fuse, is, member, number, number16, which};
+use crate::values::{bit, fuse, which};
 use disk::Pick;
 use std::alloc::Global;
 use terms::Memory;
+use words::{byte, bytes, is, number, number8, number16};
 
 /// The word that a line of events begins with.
 #[derive(Clone, Copy, Debug, PartialEq, Eq)]
@@ -56,7 +57,7 @@ fn propose(words: &[&[u8]]) -> Option<Order>
         return None;
     };
     Some(Order::Once(Untossed::Propose {
-        member: member(m)?,
+        member: number8(m)?,
         question: number16(q)?,
         bit: bit(b)?,
     }))
@@ -71,8 +72,8 @@ fn deliver(words: &[&[u8]]) -> Option<Order>
         return None;
     };
     Some(Order::Once(Untossed::Deliver {
-        from: member(a)?,
-        to: member(b)?,
+        from: number8(a)?,
+        to: number8(b)?,
         which: which(i)?,
     }))
 }
@@ -86,7 +87,7 @@ fn fuse_of(words: &[&[u8]]) -> Option<Order>
         return None;
     };
     Some(Order::Once(Untossed::Fuse {
-        member: member(m)?,
+        member: number8(m)?,
         calls: fuse(k)?,
     }))
 }
@@ -99,7 +100,9 @@ fn restart(words: &[&[u8]]) -> Option<Order>
     let [m] = words else {
         return None;
     };
-    Some(Order::Once(Untossed::Restart { member: member(m)? }))
+    Some(Order::Once(Untossed::Restart {
+        member: number8(m)?,
+    }))
 }
 
 /// What the words behind `lie` say.
@@ -110,7 +113,7 @@ fn lie(alloc: Global, words: &[&[u8]]) -> Result<Option<Order>, Memory>
     let [l, m, hex] = words else {
         return Ok(None);
     };
-    let (Some(liar), Some(to), Some(bytes)) = (member(l), member(m), bytes(alloc, hex)?) else {
+    let (Some(liar), Some(to), Some(bytes)) = (number8(l), number8(m), bytes(alloc, hex)?) else {
         return Ok(None);
     };
     Ok(Some(Order::Once(Untossed::Lie { liar, to, bytes })))
@@ -140,7 +143,7 @@ fn crash(alloc: Global, words: &[&[u8]]) -> Result<Option<Order>, Memory>
     let [m, behind @ ..] = words else {
         return Ok(None);
     };
-    let Some(member) = member(m) else {
+    let Some(member) = number8(m) else {
         return Ok(None);
     };
     match pick(alloc, behind)? {
@@ -158,8 +161,8 @@ fn reset(words: &[&[u8]]) -> Option<Order>
         return None;
     };
     Some(Order::Once(Untossed::Reset {
-        from: member(a)?,
-        to: member(b)?,
+        from: number8(a)?,
+        to: number8(b)?,
     }))
 }
 

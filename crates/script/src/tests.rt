@@ -180,6 +180,7 @@ fn draws_a_toss_for_each_event_that_needs_one(rt: HostRuntime) -> Result<(), Fai
         None,
         Some(0x9d6986d369148d6d),
     ];
+    assert_eq!(rt; script.events.len(), want.len());
     for (event, toss) in script.events.iter().zip(want) {
         assert!(rt; toss_of(event).map(|toss| toss.0) == toss, "{event}");
     }
@@ -330,6 +331,20 @@ fn has_a_million_events_at_most(rt: HostRuntime) -> Result<(), Fail> {
     let text = b"n 1\nt 0\nquestions 1\nliars 0\nseed 1\nrounds 18446744073709551615\n";
     let script = read_again(&rt, text).ok().ok_or("a script")?;
     assert_eq!(rt; script.events.len(), 0);
+    Ok(())
+}
+
+#[test]
+fn reads_many_lines(rt: HostRuntime) -> Result<(), Fail> {
+    let mut text = String::from_str(rt.alloc(), "n 4\nt 1\nquestions 1\nliars\nseed 1\n")?;
+    for _ in 0..2_000u32 {
+        text.push_str("propose 1 0 1\n")?;
+    }
+    // It is read once: with ample memory nothing is refused.
+    let script = read(rt.alloc(), text.as_str().as_bytes())
+        .ok()
+        .ok_or("a script")?;
+    assert_eq!(rt; script.events.len(), 2_000);
     Ok(())
 }
 

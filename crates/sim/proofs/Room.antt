@@ -14,8 +14,7 @@ use Rattle.questions.specs.declared.answer.Answer.{Answer}
 use Rattle.world.specs.World.{World, Step, IsCorrect, IsAllowed, IsRun, start, in_doubt, after, after_all}
 use Rattle.world.specs.Laws.{AreWellFormed}
 use Rattle.world.proofs.Runs.{IsRun-append, after_all-append}
-use Rattle.world.proofs.Keeps.{reached_ok}
-use Rattle.world.proofs.Broadcast.{decides_once, says_once}
+use Rattle.world.proofs.Single.{decides_once, says_once}
 use Rattle.world.proofs.Order.{reached_order, saved_formed}
 use Rattle.world.proofs.Formed.{AreWellFormed-front}
 use Rattle.member.specs.declared.fault.MemberFault.{MemberFault}
@@ -64,13 +63,12 @@ few_saved : (size : Size) (liars : ℕ → Bool) (w : World) (p : ℕ) → MayCo
 few_saved size liars w p may correct =
     let r = may.reached in
     let last = after_all start may.steps in
-    let ok = reached_ok size liars r.lawful r.few may.steps r.is_run in
     let formed : AreWellFormed size (last.journal p) =
     AreWellFormed-front size (last.journal p) (in_doubt (last.doubt p)) (saved_formed size liars last (reached_order size liars r.lawful r.few may.steps r.is_run) p correct) in
     subst (λ (v : World). length (v.journal p) ≤ 2359552) (sym may.world_is)
     (few_records size r.lawful (last.journal p) formed
-    (λ kind place. says_once size liars r.lawful r.few last ok p kind place correct)
-    (λ question. decides_once size liars r.lawful r.few last ok p question correct))
+    (λ kind place. says_once size liars may.steps r.is_run p kind place correct)
+    (λ question. decides_once size liars may.steps r.is_run p question correct))
 
 module _ (size : Size) (liars : ℕ → Bool) (p : ℕ) (w : World) (toss : ℕ) (event : Happening) (old : Member MemDisk) (correct : IsCorrect size liars p) (free : w.doubt p ≡ None)
     (may : MayCome size liars w) (sound : IsSound memory_disk old) (at : IsAt memory_disk (mine size p) w old) (comes : Comes w event) where

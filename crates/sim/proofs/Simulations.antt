@@ -5,10 +5,8 @@ use Rattle.terms.specs.declared.Size.{Size}
 use Rattle.terms.specs.declared.Record.{Record}
 use Rattle.terms.specs.Bounds.{IsSize}
 use Rattle.terms.specs.Count.{count_below}
-use Rattle.world.specs.World.{World, start, after_all}
+use Rattle.world.specs.World.{World, EveryRun}
 use Rattle.world.specs.Claims.{Agree, Unanimous}
-use Rattle.world.proofs.Keeps.{reached_ok}
-use Rattle.world.proofs.Rounds.{agree, unanimous}
 use Rattle.sim.specs.declared.events.Event.{Event}
 use Rattle.sim.specs.declared.events.Mark.{Mark}
 use Rattle.sim.specs.declared.posts.Post.{Post}
@@ -34,15 +32,15 @@ simulated size liars fused script marks saved old new verdicts cluster run are =
 
 module _ (size : Size) (liars fused : ℕ → Bool) (script : List Event) (marks : List Mark) (saved : List (Vec Record)) (verdicts : List Verdict) (ok : IsSize size) (few : count_below size.n liars ≤ size.t)
     (s : IsSimulation size liars fused script marks saved verdicts) where
-  pub simulations_agree : HaveOneBit verdicts
-  simulations_agree =
+  pub simulations_agree : EveryRun Agree → HaveOneBit verdicts
+  simulations_agree agree =
       verdicts_agree size liars s.last.world verdicts
-      (subst (λ (w : World). Agree size liars w) (sym s.world_is) (agree size liars ok few (after_all start s.steps) (reached_ok size liars ok few s.steps s.is_run)))
+      (subst (λ (w : World). Agree size liars w) (sym s.world_is) (agree size liars ok few s.steps s.is_run))
       s.verdicts_are
 
-  pub simulations_unanimous : AreUnanimous script marks verdicts
-  simulations_unanimous question v only =
+  pub simulations_unanimous : EveryRun Unanimous → AreUnanimous script marks verdicts
+  simulations_unanimous unanimous question v only =
       verdicts_unanimous size liars s.last.world verdicts question v
-      (subst (λ (w : World). Unanimous size liars w) (sym s.world_is) (unanimous size liars ok few (after_all start s.steps) (reached_ok size liars ok few s.steps s.is_run)))
+      (subst (λ (w : World). Unanimous size liars w) (sym s.world_is) (unanimous size liars ok few s.steps s.is_run))
       (script_on question v size liars (opening fused) script marks saved s.steps s.last only s.run (λ a b h. cc))
       s.verdicts_are

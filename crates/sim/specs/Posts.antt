@@ -1,5 +1,5 @@
 -- What a post has of the scene, and what a task does to it.
-use Rattle.std.specs.Prelude.{ℕ, ◌≡◌, ◌<◌, Bool, true, false, Some, None, List, [], length, get_or}
+use Rattle.std.specs.Prelude.{ℕ, ◌≡◌, ◌<◌, Bool, true, false, Option, Some, None, List, [], length, get_or}
 use Rattle.terms.specs.declared.Size.{Size}
 use Rattle.terms.specs.declared.Record.{Record}
 use Rattle.terms.specs.declared.Header.{Header}
@@ -14,7 +14,8 @@ use Rattle.sim.specs.declared.tasks.Task.{Task}
 use Rattle.sim.specs.declared.tasks.Task.TheVariants as task
 use Rattle.sim.specs.declared.faults.SimFault.{SimFault}
 use Rattle.sim.specs.declared.faults.SimFault.TheVariants as faults
-use Rattle.sim.specs.Seats.{IsOneSound, IsSeat, IsFresh, is_liar, mine}
+use Rattle.disk.specs.declared.memory.MemDisk.{MemDisk}
+use Rattle.sim.specs.Seats.{IsOneSound, IsSeat, IsFresh, HasFuse, HasCrashed, is_liar, mine}
 use Rattle.sim.specs.Scene.{Scene, Does, scene_after}
 
 -- the link is at that place, and has read those bytes; one from a correct member holds no part of a frame
@@ -88,6 +89,16 @@ pub record IsOneReady (size : Size) (post : Post) : Type 0 where
 pub record AreReady (size : Size) (posts : List Post) : Type 0 where
   pub count : length posts ≡ size.n
   pub each : (p : ℕ) (d : Post) → p < size.n → IsOneReady size (get_or posts p d)
+
+-- what the task of setting a fuse, or of a crash, does to the member's disk
+abbrev pub DoesToDisk : Task → Option MemDisk → Option MemDisk → Type 0
+DoesToDisk (task.Fuse calls) old new = HasFuse calls old new
+DoesToDisk (task.Crash pick) old new = HasCrashed pick old new
+DoesToDisk (task.Propose question bit toss) old new = Unit {0}
+DoesToDisk (task.Deliver from statement place toss) old new = Unit {0}
+DoesToDisk (task.Lie liar toss) old new = Unit {0}
+DoesToDisk task.Restart old new = Unit {0}
+DoesToDisk (task.Reset from) old new = Unit {0}
 
 -- a fault that a task may end with, whatever the posts are
 abbrev pub IsOfRun : SimFault → Type 0

@@ -10,13 +10,16 @@ use Rattle.terms.specs.Headers.{header_of}
 use Rattle.terms.specs.Reply.{Event as Happening, Reply, records_of}
 use Rattle.terms.specs.Reply.Event.{Hearing}
 use Rattle.disk.specs.declared.memory.MemDisk.{MemDisk}
-use Rattle.disk.specs.Memory.{memory_state}
+use Rattle.disk.specs.declared.crash.Pick.{Pick}
+use Rattle.disk.specs.Model.{at_rest}
+use Rattle.disk.specs.Crash.{left}
+use Rattle.disk.specs.Memory.{memory_state, fuse_left, with_fuse}
 use Rattle.questions.specs.declared.answer.Answer.{Answer}
 use Rattle.world.specs.World.{World, Step, IsRun, start, after, after_all}
 use Rattle.world.specs.World.Step.{Lie, Restart as RestartStep}
 use Rattle.member.specs.declared.fault.MemberFault.{MemberFault}
 use Rattle.member.specs.declared.fault.MemberFault.TheVariants.{Stopped, Device, Memory, JournalFull, NoSuchQuestion, NoSuchMember}
-use Rattle.member.specs.Words.{saved_of, is_stopped_of}
+use Rattle.member.specs.Words.{disk_of, saved_of, is_stopped_of}
 use Rattle.member.specs.Sound.{IsSound}
 use Rattle.member.specs.Memory.{memory_disk}
 use Rattle.member.specs.Stands.{IsLeft}
@@ -46,6 +49,23 @@ abbrev pub is_up : Seat → Bool
 is_up (Here m) = not (is_stopped_of m)
 is_up (Down disk records) = false
 is_up Liar = false
+
+-- its member's disk
+abbrev pub disk_in : Seat → Option MemDisk
+disk_in (Here m) = Some (disk_of m)
+disk_in (Down disk records) = Some disk
+disk_in Liar = None
+
+-- the next calls of the disk pass, as many as this, and nothing else of it is changed
+abbrev pub HasFuse : Option ℕ → Option MemDisk → Option MemDisk → Type 0
+HasFuse calls (Some old) new = new ≡ Some (with_fuse old calls)
+HasFuse calls None new = new ≡ None
+
+-- the disk has the file that the pick names, and no fuse
+abbrev pub HasCrashed : Pick → Option MemDisk → Option MemDisk → Type 0
+HasCrashed pick (Some old) (Some new) = (memory_state new ≡ at_rest (left (memory_state old) pick)) × (fuse_left new ≡ None)
+HasCrashed pick (Some old) None = ⊥
+HasCrashed pick None new = new ≡ None
 
 -- what its member has saved
 abbrev pub saved_in : Seat → List Record
@@ -86,6 +106,11 @@ AreParts header w None = ⊥
 AreParts header w (Some parts) =
     (parts.1.items ≡ w.journal header.me)
     × IsLeft (memory_state parts.0) header (w.journal header.me) (w.doubt header.me)
+
+-- the disk among the parts
+abbrev pub disk_among : Option (MemDisk × Vec Record) → Option MemDisk
+disk_among None = None
+disk_among (Some parts) = Some parts.0
 
 -- the disk of a journal that was created, on which nothing was saved
 abbrev pub AreFresh : Header → Option (MemDisk × Vec Record) → Type 0

@@ -2,6 +2,7 @@
 use Rattle.std.specs.Prelude.{ℕ, ◌/◌, ◌%◌, Bool, true, false, Option, Some, None, List, [], ◌∷◌, ◌++◌, codes}
 use Rattle.std.specs.List.{flat_map}
 use Rattle.std.specs.Fmt.{decimal, digit_glyph}
+use Rattle.words.specs.Sentences.{sentence, bit_digit}
 use Rattle.disk.specs.declared.crash.Pick.{Pick}
 use Rattle.disk.specs.declared.crash.Pick.TheVariants.{Kept, Lost, Fill}
 use Rattle.sim.specs.declared.events.Event.{Event}
@@ -16,17 +17,6 @@ byte_text byte = digit_glyph false (byte / 16) ∷ digit_glyph false (byte % 16)
 -- bytes in these
 abbrev pub hex_text : List ℕ → List ℕ
 hex_text bytes = flat_map byte_text bytes
-
--- words, with a space between each two
-abbrev pub sentence : List (List ℕ) → List ℕ
-sentence [] = []
-sentence (word ∷ []) = word
-sentence (word ∷ next ∷ words) = word ++ 32 ∷ sentence (next ∷ words)
-
--- the digit of a bit
-abbrev pub bit_digit : Bool → ℕ
-bit_digit false = 0
-bit_digit true = 1
 
 -- which of a sender's statements
 abbrev pub which_text : Which → List ℕ

@@ -19,6 +19,7 @@ use crate::{Event, Mark, SimFault};
 use disk::MemDisk;
 use std::alloc::Global;
 use terms::{Header, Record, Size};
+use world::safety;
 
 /// What became of a script.
 #[derive(Debug, PartialEq, Eq, Drop)]
@@ -47,6 +48,7 @@ pub struct Outcome {
 ///   that the event has there, and the verdicts are all decisions that correct members have saved in the end, by
 ///   member and then by question. What an event saved is all that its member's journal has there behind what it had
 ///   before, in order; an event whose plan is to skip it saved nothing.
+/// - `few_lie`: at most t lie in it, so what the theorem says of settled worlds can be asked of its last world too.
 /// - `agree`: two verdicts of one question have one bit.
 /// - `unanimous`: where all proposals of a question that weren't skipped are of one bit, so is each verdict of it.
 /// - `never_full`: `Full` never comes, whatever the size and the script: all that a correct member may ever save, at most
@@ -65,6 +67,7 @@ pub fn run(
     ensures device { IsErrOf result faults.Device → HasFuse liars.now disks.items }
     ensures run { IfOk result (λ outcome. IsSimulation size (among liars.now) (fused_in disks.items) script.now
         outcome.marks.items outcome.saved.items outcome.verdicts.items) }
+    ensures few_lie { IfOk result (λ _. count_below size.n (among liars.now) ≤ size.t) }
     ensures agree { IfOk result (λ outcome. HaveOneBit outcome.verdicts.items) }
     ensures unanimous { IfOk result (λ outcome. AreUnanimous script.now outcome.marks.items outcome.verdicts.items) }
     ensures never_full { result ≡ Err faults.Full → ⊥ }
@@ -75,6 +78,8 @@ pub fn run(
     if !are_disks(size, &disks) {
         return Err(SimFault::BadDisks);
     }
+    // The theorem, which does nothing: `agree` and `unanimous` are its promises of this run.
+    safety();
     let _members = size.n();
     let mut posts = opened(alloc, size, liars, disks)?;
     let all = posts.as_mut_slice();

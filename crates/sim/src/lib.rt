@@ -11,6 +11,9 @@ mod tasks;
 #[cfg(test)]
 mod tests;
 
+/// How many events a script may have.
+pub const MOST_EVENTS: usize = 1_000_000;
+
 pub use cluster::{Outcome, run};
 pub use events::{Event, Mark, Reason, Which};
 pub use faults::SimFault;

@@ -12,9 +12,9 @@ ghost use Rattle.disk.specs.Memory.{memory_state};
 ghost use Rattle.sim.specs.declared.tasks.Task.TheVariants as tasks;
 ghost use Rattle.sim.specs.declared.faults.SimFault.TheVariants as faults;
 ghost use Rattle.sim.specs.declared.links.Link.{Link};
-ghost use Rattle.sim.specs.Seats.{is_liar, is_up, saved_in, nth_said, IsFresh, IsSeat, MayCome, mine};
+ghost use Rattle.sim.specs.Seats.{is_liar, is_up, saved_in, nth_said, disk_in, HasFuse, HasCrashed, IsFresh, IsSeat, MayCome, mine};
 ghost use Rattle.sim.specs.Scene.{Scene};
-ghost use Rattle.sim.specs.Posts.{IsPost, IsReady, IsDone, IsNewLink, Fits, HasSender, IsCreated, IsOpened, IsOfOpening, IsOfRun};
+ghost use Rattle.sim.specs.Posts.{IsPost, IsReady, IsDone, IsNewLink, Fits, HasSender, IsCreated, IsOpened, IsOfOpening, IsOfRun, DoesToDisk};
 
 use crate::links::Link;
 use crate::seats::Seat;
@@ -142,6 +142,7 @@ impl Post {
         ensures ready { IsReady self.new }
         ensures header { self.new.header ≡ self.old.header }
         ensures only { IfErr result IsOfRun }
+        ensures disk { OnOk result (DoesToDisk task (disk_in self.old.seat) (disk_in self.new.seat)) }
         ensures done { (size : Size) (liars : ℕ → Bool) (c : Scene) (p : ℕ) → IsSize size → p < size.n →
             IsPost size liars c p self.old → Fits size liars c p task →
             IfOk result (λ mark. IsDone size liars c p task bytes.now mark self.new) }
@@ -239,6 +240,7 @@ impl Post {
     fn fuse(&mut self, calls: Option<u64>) -> Result<Mark, SimFault>
         requires ready { IsReady self.old }
         ensures ready { IsReady self.new }
+        ensures disk { HasFuse calls (disk_in self.old.seat) (disk_in self.new.seat) }
         ensures header { self.new.header ≡ self.old.header }
         ensures only { IfErr result (λ fault. fault ≡ faults.Memory) }
         ensures done { (size : Size) (liars : ℕ → Bool) (c : Scene) (p : ℕ) → IsSize size → p < size.n →
@@ -254,6 +256,7 @@ impl Post {
     fn crash(&mut self, pick: Pick) -> Result<Mark, SimFault>
         requires ready { IsReady self.old }
         ensures ready { IsReady self.new }
+        ensures disk { OnOk result (HasCrashed pick (disk_in self.old.seat) (disk_in self.new.seat)) }
         ensures header { self.new.header ≡ self.old.header }
         ensures only { IfErr result (λ fault. fault ≡ faults.Memory) }
         ensures done { (size : Size) (liars : ℕ → Bool) (c : Scene) (p : ℕ) → IsSize size → p < size.n →

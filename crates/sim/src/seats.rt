@@ -13,7 +13,7 @@ ghost use Rattle.sim.specs.Posts.{IsOfRun};
 ghost use Rattle.sim.specs.declared.faults.SimFault.TheVariants as faults;
 ghost use Rattle.member.specs.declared.fault.MemberFault.TheVariants as refusals;
 ghost use Rattle.sim.specs.declared.events.Mark.TheVariants as marks;
-ghost use Rattle.sim.specs.Seats.{IsOneSound, IsSeat, IsFresh, IsMarkOf, IsMove, IsBegun, MayCome, Answers, AreLies, Reopens, AreParts, AreFresh, mine, is_liar, is_up, saved_in, nth_said};
+ghost use Rattle.sim.specs.Seats.{IsOneSound, IsSeat, IsFresh, IsMarkOf, IsMove, IsBegun, MayCome, Answers, AreLies, Reopens, AreParts, AreFresh, HasFuse, HasCrashed, disk_in, disk_among, mine, is_liar, is_up, saved_in, nth_said};
 
 use crate::{Mark, Reason, SimFault};
 use disk::{MemDisk, Pick};
@@ -169,6 +169,7 @@ impl Seat {
     pub(crate) fn fuse(&mut self, calls: Option<u64>)
         requires sound { IsOneSound self.old }
         ensures sound { IsOneSound self.new }
+        ensures fuse { HasFuse calls (disk_in self.old) (disk_in self.new) }
         ensures side { is_liar self.new ≡ is_liar self.old }
         ensures at { (header : Header) (w : World) → IsSeat header w self.old → IsSeat header w self.new }
     {
@@ -183,6 +184,7 @@ impl Seat {
     pub(crate) fn crash(&mut self, pick: Pick) -> Result<(), SimFault>
         requires sound { IsOneSound self.old }
         ensures sound { IsOneSound self.new }
+        ensures disk { OnOk result (HasCrashed pick (disk_in self.old) (disk_in self.new)) }
         ensures only { IfErr result (λ fault. fault ≡ faults.Memory) }
         ensures side { OnOk result (is_liar self.new ≡ is_liar self.old) }
         ensures at { (header : Header) (w : World) → IsSeat header w self.old →
@@ -236,6 +238,7 @@ impl Seat {
         requires sound { IsOneSound self }
         ensures parts { (header : Header) (w : World) → IsSeat header w self → AreParts header w result }
         ensures fresh { (header : Header) → IsFresh header self → AreFresh header result }
+        ensures disk { disk_among result ≡ disk_in self }
         ensures side { MatchOption result (is_liar self ≡ true) (λ _. is_liar self ≡ false) }
     {
         match self {

@@ -329,11 +329,18 @@ fn saves_what_an_event_made_it_say(rt: HostRuntime) -> Result<(), Fail> {
 
 #[test]
 fn a_restart_saves_what_the_disk_kept(rt: HostRuntime) -> Result<(), Fail> {
-    for (pick, kept) in [(Pick::Kept, true), (Pick::Lost, false)] {
+    for (calls, pick, kept) in [
+        (3, Pick::Kept, true),
+        (3, Pick::Lost, false),
+        (2, Pick::Kept, false),
+        (2, Pick::Fill(0), false),
+        (2, Pick::Fill(0x7f), true),
+        (2, Pick::Fill(0xff), true),
+    ] {
         let script = [
             Event::Fuse {
                 member: 0,
-                calls: Some(3),
+                calls: Some(calls),
             },
             propose(0, true),
             Event::Crash { member: 0, pick },
@@ -354,6 +361,43 @@ fn a_restart_saves_what_the_disk_kept(rt: HostRuntime) -> Result<(), Fail> {
         assert!(rt; outcome.saved[3].as_slice() == opened);
         assert!(rt; outcome.saved[4].as_slice() == proposed);
     }
+    Ok(())
+}
+
+#[test]
+fn a_fuse_is_set_while_a_member_is_down(rt: HostRuntime) -> Result<(), Fail> {
+    let restart = || Event::Restart { member: 0 };
+    let crash = Event::Crash {
+        member: 0,
+        pick: Pick::Lost,
+    };
+    let fuse = |calls| Event::Fuse { member: 0, calls };
+    let script = [crash, fuse(Some(0)), restart(), fuse(None), restart()];
+    let outcome = outcome(&rt, four()?, &[], &script)?;
+    let wanted = [Mark::Done, Mark::Done, Mark::Failed, Mark::Done, Mark::Done];
+    assert!(rt; outcome.marks.as_slice() == &wanted[..]);
+    Ok(())
+}
+
+/// The greatest cluster, its last question, its last member. It is run once: with ample memory nothing is refused.
+#[test]
+fn largest_cluster_runs(rt: HostRuntime) -> Result<(), Fail> {
+    let propose = Event::Propose {
+        member: 31,
+        question: 255,
+        bit: true,
+        toss: TOSS,
+    };
+    let script = [propose, next(31, 30), next(31, 31), next(30, 31)];
+    let outcome = once(&rt, Size::new(32, 10, 256)?, &[0, 1], &script)?;
+    assert_eq!(rt; count(&outcome.marks, Mark::Done), 4);
+    // An Initial, and the Echos of two.
+    let saved = outcome
+        .saved
+        .iter()
+        .filter(|saved| saved.len() == 1)
+        .count();
+    assert_eq!(rt; saved, 3);
     Ok(())
 }
 

@@ -1,5 +1,5 @@
--- What is lawful stays lawful as more is heard.
-use Rattle.std.proofs.Common.{length, ℕ, ◌≡◌, ◌<◌, ◌≤◌, Bool, true, false, cond, ◌⊎◌, inl, inr, arith, Some, List, [], ◌∷◌, ◌++◌, take, append-nil, append_assoc, length-append}
+-- What is lawful is the first of its kind, and stays lawful as more is heard.
+use Rattle.std.proofs.Common.{length, ℕ, ◌≡◌, ◌<◌, ◌≤◌, Bool, true, false, cond, ◌⊎◌, inl, inr, arith, Some, None, List, [], ◌∷◌, ◌++◌, take, append-nil, append_assoc, length-append}
 use Rattle.std.proofs.lemmas.List.{take-append-le, take_all}
 use Rattle.terms.specs.declared.Kind.{Kind}
 use Rattle.terms.specs.declared.Kind.TheVariants.{Initial, Echo, Ready}
@@ -12,6 +12,7 @@ use Rattle.terms.specs.declared.Size.{Size}
 use Rattle.terms.specs.Count.{count_below, IsEchoQuorum, IsHelpSet, IsAcceptSet}
 use Rattle.terms.specs.Same.{sure}
 use Rattle.terms.specs.Heard.{got, is_entry, backs, Accepted}
+use Rattle.terms.specs.Journal.{said}
 use Rattle.terms.specs.Lawful.{IsLawful, IsLawfulStatement, IsLawfulBatch}
 use Rattle.terms.proofs.Count.{count-mono}
 use Rattle.terms.proofs.Same.{value_is-true, value_is-from}
@@ -102,3 +103,10 @@ Accepted-last size H e place m none h =
         let c = count-mono size.n (backs (take k H) Ready place v) (backs H Ready place v)
         (λ a i q. value_is-from (got H a Ready place) v (got-take k H a Ready place v (value_is-true (got (take k H) a Ready place) v q))) in
         none v (omega arith)
+
+-- what is lawful to say was not said
+pub is_first : (size : Size) (me : ℕ) (records : List Record) (heard : List (ℕ × Statement)) (kind : Kind) (place : Place) (m : Value)
+    → IsLawfulStatement size me records heard kind place m → said records kind place ≡ None
+is_first size me records heard Initial place m h = h.1
+is_first size me records heard Echo place m h = h.0
+is_first size me records heard Ready place m h = h.0

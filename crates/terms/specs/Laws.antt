@@ -1,7 +1,7 @@
 -- Laws of these definitions: each fixes words that no use of them would fix.
-use Rattle.std.specs.Prelude.{ℕ, ◌≡◌, ◌+◌, ◌<◌, ◌≤◌, Bool, true, not, ◌&&◌, ◌⊎◌, Option, Some, None, IsSome, List, ◌++◌}
+use Rattle.std.specs.Prelude.{ℕ, ◌≡◌, ◌+◌, ◌*◌, ◌<◌, ◌≤◌, Bool, true, not, ◌&&◌, ◌⊎◌, Option, Some, None, IsSome, List, ◌++◌}
 use Rattle.terms.specs.declared.Kind.{Kind}
-use Rattle.terms.specs.declared.Kind.TheVariants.{Initial}
+use Rattle.terms.specs.declared.Kind.TheVariants.{Initial, Echo, Ready}
 use Rattle.terms.specs.declared.Value.{Value}
 use Rattle.terms.specs.declared.Value.TheVariants.{Zero, One}
 use Rattle.terms.specs.declared.Place.{Place}
@@ -9,12 +9,12 @@ use Rattle.terms.specs.declared.Statement.{Statement}
 use Rattle.terms.specs.declared.Record.{Record}
 use Rattle.terms.specs.declared.Record.TheVariants.{Said, Decided}
 use Rattle.terms.specs.declared.Size.{Size}
-use Rattle.terms.specs.Count.{count_below, IsEchoQuorum, IsHelpSet, IsAcceptSet, IsWaitSet}
+use Rattle.terms.specs.Count.{count_below, IsEchoQuorum, IsHelpSet, IsAcceptSet, IsWaitSet, AtLeast}
 use Rattle.terms.specs.Bounds.{IsSize}
-use Rattle.terms.specs.Same.{place_of, sure}
-use Rattle.terms.specs.Heard.{got, hear, hear_all, Accepted}
+use Rattle.terms.specs.Same.{place_of, sure, statement_of}
+use Rattle.terms.specs.Heard.{got, backs, hear, hear_all, Accepted}
 use Rattle.terms.specs.Next.{votes, Next, Gives}
-use Rattle.terms.specs.Valid.{IsValid}
+use Rattle.terms.specs.Valid.{IsValid, IsGiven}
 use Rattle.terms.specs.Journal.{said, decided}
 use Rattle.terms.specs.Lawful.{IsLawful, IsLawfulBatch, before, round_before, step_before}
 use Rattle.terms.specs.Past.{Past}
@@ -165,3 +165,34 @@ ProposalLeavesNothing =
     (past : Past) (toss question : ℕ) (bit : Bool) (records : List Record) (x : Record)
     → IsReply past toss (Proposal question bit) (Taken records) → question_of x ≡ question
     → IsLawful past.size past.me (past.records ++ records) past.heard x → ⊥
+
+-- each of the three causes makes an Echo lawful where none was said
+abbrev pub EchoIsLawful : Type 0
+EchoIsLawful =
+    (size : Size) (me : ℕ) (records : List Record) (heard : List (ℕ × Statement)) (place : Place) (m : Value)
+    → said records Echo place ≡ None
+    → (got heard place.origin Initial place ≡ Some m) ⊎ (IsEchoQuorum size (backs heard Echo place m) ⊎ IsHelpSet size (backs heard Ready place m))
+    → IsLawful size me records heard (Said (statement_of Echo place m))
+
+-- each of the two makes a Ready lawful where none was said
+abbrev pub ReadyIsLawful : Type 0
+ReadyIsLawful =
+    (size : Size) (me : ℕ) (records : List Record) (heard : List (ℕ × Statement)) (place : Place) (m : Value)
+    → said records Ready place ≡ None → IsEchoQuorum size (backs heard Echo place m) ⊎ IsHelpSet size (backs heard Ready place m)
+    → IsLawful size me records heard (Said (statement_of Ready place m))
+
+-- its own Initial is lawful where it stands on the records and valid messages of the step before give it
+abbrev pub InitialIsLawful : Type 0
+InitialIsLawful =
+    (size : Size) (me : ℕ) (records : List Record) (heard : List (ℕ × Statement)) (place : Place) (m : Value)
+    → StandsOn me records place → IsSome (said records Initial (before place))
+    → IsGiven size (Accepted size heard) place.question place.round place.step m
+    → IsLawful size me records heard (Said (statement_of Initial place m))
+
+-- a decision is lawful where there is none and an accept set is validly sure of it
+abbrev pub DecisionIsLawful : Type 0
+DecisionIsLawful =
+    (size : Size) (me : ℕ) (records : List Record) (heard : List (ℕ × Statement)) (question round : ℕ) (bit : Bool)
+    → decided records question ≡ None
+    → AtLeast size.n (2 * size.t + 1) (λ a. IsValid size (Accepted size heard) question round 3 a (sure bit))
+    → IsLawful size me records heard (Decided question round bit)

@@ -15,9 +15,10 @@ use Rattle.terms.specs.WellFormed.{IsWellFormed}
 use Rattle.wire.specs.declared.message.Message.{Message}
 use Rattle.wire.specs.declared.message.Message.TheVariants as message
 use Rattle.wire.specs.declared.message.WireFault.TheVariants.{BadType, BadKind, BadPlace, BadValue}
-use Rattle.wire.specs.Texts.{kind_byte, statement_bytes, text, Fits}
+use Rattle.wire.specs.Texts.{text, Fits}
+use Rattle.spelling.specs.Statements.{kind_byte, statement_bytes, kind_of, value_of}
 use Rattle.wire.specs.Reading.{AreBytes, Begins, IsPartial}
-use Rattle.wire.specs.Looking.{kind_of, value_of, most_low, least_value, most_value, statement_at}
+use Rattle.wire.specs.Looking.{most_low, least_value, most_value, statement_at}
 use Rattle.wire.proofs.Values.{value_fits}
 use Rattle.wire.proofs.Telling.{Tells, In, step, step_one}
 

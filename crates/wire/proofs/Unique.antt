@@ -11,10 +11,11 @@ use Rattle.terms.specs.declared.Value.TheVariants.{Zero, One, SureZero, SureOne,
 use Rattle.terms.specs.declared.Size.{Size}
 use Rattle.terms.specs.Bounds.{IsSize}
 use Rattle.terms.specs.Same.{value_code, place_of, statement_of}
+use Rattle.spelling.proofs.Statements.{kind_again, value_again}
 use Rattle.wire.specs.declared.message.Message.{Message}
 use Rattle.wire.specs.declared.message.Message.TheVariants as message
-use Rattle.wire.specs.Texts.{kind_byte, text, body, Fits}
-use Rattle.wire.specs.Looking.{kind_of, value_of}
+use Rattle.wire.specs.Texts.{text, body, Fits}
+use Rattle.spelling.specs.Statements.{kind_byte, kind_of, value_of}
 use Rattle.wire.specs.Reading.{Begins, IsPartial, End, Rest, Broken, Ends, Reads, fault_after}
 use Rattle.wire.proofs.Frames.{begins_with, cell}
 
@@ -45,20 +46,6 @@ same_text m n x y e =
     let rests : x ≡ y = sym (drop_at (body m) x (length (body n)) long)
     ∙ ap (λ (t : List ℕ). drop (length (body n)) t) both ∙ drop_at (body n) y (length (body n)) refl in
     (a.0 ∙ ap (λ (t : List ℕ). 0 ∷ length t ∷ t) bodies ∙ sym b.0, rests)
-
--- the kind of the byte of a kind
-kind_again : (k : Kind) → kind_of (kind_byte k) ≡ k
-kind_again Initial = refl
-kind_again Echo = refl
-kind_again Ready = refl
-
--- the value of the byte of a value
-value_again : (v : Value) → value_of (value_code v) ≡ v
-value_again Zero = refl
-value_again One = refl
-value_again SureZero = refl
-value_again SureOne = refl
-value_again Unsure = refl
 
 -- the message that a text spells, read off its bytes
 abbrev message_of : Size → List ℕ → Message

@@ -1,7 +1,8 @@
 -- The number of a value of a step.
 use Rattle.std.proofs.Common.{ℕ, zero, suc, ◌≤◌, arith}
 use Rattle.terms.specs.Bounds.{FitsStep}
-use Rattle.wire.specs.Looking.{least_value, most_value, value_of}
+use Rattle.wire.specs.Looking.{least_value, most_value}
+use Rattle.spelling.specs.Statements.{value_of}
 
 -- a value in the range of the step fits the step
 pub value_fits : (step b : ℕ) → 1 ≤ step → step ≤ 3 → least_value step ≤ b → b ≤ most_value step

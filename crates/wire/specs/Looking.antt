@@ -7,6 +7,7 @@ use Rattle.terms.specs.declared.Value.{Value}
 use Rattle.terms.specs.declared.Value.TheVariants.{Zero, One, SureZero, SureOne, Unsure}
 use Rattle.terms.specs.declared.Size.{Size}
 use Rattle.terms.specs.Same.{place_of, statement_of}
+use Rattle.spelling.specs.Statements.{kind_of, value_of}
 use Rattle.wire.specs.declared.message.Message.{Message}
 use Rattle.wire.specs.declared.message.Message.TheVariants as message
 use Rattle.wire.specs.declared.message.Stop.{Stop}
@@ -33,22 +34,6 @@ byte_at least most fault (b ∷ bytes) = if within least most b then Ok (b, byte
 abbrev pub number_at : List ℕ → Result (ℕ × List ℕ) Stop
 number_at bytes =
     if nat_lt (length bytes) 8 then Err Partial else Ok (from_be_bytes w64 (take 8 bytes), drop 8 bytes)
-
--- the kind of a byte
-abbrev pub kind_of : ℕ → Kind
-kind_of b =
-    if nat_eq b 1 then Initial
-    else (if nat_eq b 2 then Echo
-    else Ready)
-
--- the value of a byte
-abbrev pub value_of : ℕ → Value
-value_of b =
-    if nat_eq b 0 then Zero
-    else (if nat_eq b 1 then One
-    else (if nat_eq b 2 then SureZero
-    else (if nat_eq b 3 then SureOne
-    else Unsure)))
 
 -- the greatest low byte of a question up to the last one, behind this high byte
 abbrev pub most_low : ℕ → ℕ → ℕ

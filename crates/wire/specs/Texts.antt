@@ -1,26 +1,11 @@
 -- The one spelling of each message, and which messages there are in a cluster of a given size.
 use Rattle.std.specs.Prelude.{ℕ, ◌≡◌, ◌<◌, ◌^◌, List, [], ◌∷◌, ◌++◌, length}
 use Rattle.std.specs.Int.{w16, w64, to_be_bytes}
-use Rattle.terms.specs.declared.Kind.{Kind}
-use Rattle.terms.specs.declared.Kind.TheVariants.{Initial, Echo, Ready}
 use Rattle.terms.specs.declared.Size.{Size}
-use Rattle.terms.specs.declared.Statement.{Statement}
-use Rattle.terms.specs.Same.{value_code}
 use Rattle.terms.specs.WellFormed.{IsWellFormed}
+use Rattle.spelling.specs.Statements.{statement_bytes}
 use Rattle.wire.specs.declared.message.Message.{Message}
 use Rattle.wire.specs.declared.message.Message.TheVariants as message
-
--- the byte of a kind
-abbrev pub kind_byte : Kind → ℕ
-kind_byte Initial = 1
-kind_byte Echo = 2
-kind_byte Ready = 3
-
--- the seven bytes of a statement
-abbrev pub statement_bytes : Statement → List ℕ
-statement_bytes s =
-    kind_byte s.kind
-    ∷ (to_be_bytes w16 s.place.question ++ s.place.origin ∷ s.place.round ∷ s.place.step ∷ value_code s.value ∷ [])
 
 -- the type's byte, and what stands behind it: in a hello the version first
 abbrev pub body : Message → List ℕ

@@ -1,34 +1,12 @@
 //! A message in bytes.
 
 ghost use Rattle.std.specs.Prelude.{◌≡◌, ◌++◌, OnOk, OnErr};
-ghost use Rattle.wire.specs.Texts.{text, kind_byte};
+ghost use Rattle.wire.specs.Texts.{text};
 ghost use Rattle.wire.specs.declared.message.Message.TheVariants as message;
-ghost use Rattle.terms.specs.Same.{value_code};
 
 use crate::message::Message;
-use terms::{Kind, Memory, Size, Statement, Value};
-
-fn byte_of_kind(kind: Kind) -> u8
-    ensures { result ≡ kind_byte kind }
-{
-    match kind {
-        Kind::Initial => 1,
-        Kind::Echo => 2,
-        Kind::Ready => 3,
-    }
-}
-
-fn byte_of_value(value: Value) -> u8
-    ensures { result ≡ value_code value }
-{
-    match value {
-        Value::Zero => 0,
-        Value::One => 1,
-        Value::SureZero => 2,
-        Value::SureOne => 3,
-        Value::Unsure => 4,
-    }
-}
+use spelling::statement_bytes;
+use terms::{Memory, Size, Statement};
 
 /// Appends the frame of a hello to `out`.
 fn encode_hello(cluster: u64, size: Size, from: u8, to: u8, out: &mut Vec<u8>) -> Result<(), Memory>
@@ -77,20 +55,8 @@ fn encode_statement(statement: Statement, out: &mut Vec<u8>) -> Result<(), Memor
     ensures ok { OnOk result (out.new.items ≡ out.old.items ++ text (message.Statement statement)) }
     ensures err { OnErr result (out.new.items ≡ out.old.items) }
 {
-    let place = statement.place();
-    let question = place.question().to_be_bytes();
-    out.extend_from_slice(&[
-        0,
-        8,
-        3,
-        byte_of_kind(statement.kind()),
-        question[0],
-        question[1],
-        place.origin(),
-        place.round(),
-        place.step(),
-        byte_of_value(statement.value()),
-    ])?;
+    let [kind, high, low, origin, round, step, value] = statement_bytes(&statement);
+    out.extend_from_slice(&[0, 8, 3, kind, high, low, origin, round, step, value])?;
     Ok(())
 }
 

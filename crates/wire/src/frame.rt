@@ -3,7 +3,8 @@
 ghost use Rattle.std.specs.Prelude.{◌≡◌, ◌≤◌, ◌++◌, IfOk, IfErr};
 ghost use Rattle.wire.specs.Texts.{text, Fits};
 ghost use Rattle.wire.specs.Feeding.{Stops};
-ghost use Rattle.wire.specs.Looking.{least_value, most_value, most_low, kind_of, value_of, Gives, byte_at, number_at, length_at, idle_at, welcome_at, hello_at, statement_at, body_at, frame_at};
+ghost use Rattle.wire.specs.Looking.{least_value, most_value, most_low, Gives, byte_at, number_at, length_at, idle_at, welcome_at, hello_at, statement_at, body_at, frame_at};
+ghost use Rattle.spelling.specs.Statements.{kind_of, value_of};
 
 use crate::message::{Message, Stop, WireFault};
 use terms::{Kind, Place, Size, Statement, Value};

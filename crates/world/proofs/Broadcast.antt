@@ -13,7 +13,7 @@ use Rattle.terms.specs.Heard.{Accepted}
 use Rattle.terms.proofs.Valid.{IsValid-mono}
 use Rattle.world.specs.World.{World, has_sent, IsCorrect}
 use Rattle.world.specs.Sent.{sends, Backed}
-use Rattle.world.specs.Claims.{HasOneBacked, IsBackedOnceAccepted, IsJustifiedOnceValid, IsDecidableOnceDecided, DecidesOnce, SaysOnce}
+use Rattle.world.specs.Claims.{HasOneBacked, IsBackedOnceAccepted, IsJustifiedOnceValid, IsDecidableOnceDecided}
 use Rattle.world.proofs.Sets.{Witness, accept_has, quorums_share}
 use Rattle.world.proofs.Good.{shown_backed}
 use Rattle.world.proofs.Invariant.{WorldOk, member_good, sent_said, has_echos}
@@ -51,9 +51,3 @@ module _ (size : Size) (liars : ℕ → Bool) (ok : IsSize size) (few : count_be
 
   pub decidable_once_decided : IsDecidableOnceDecided size liars w
   decidable_once_decided p q r b c h = (member_good size liars w wok p c).decision q r b h
-
-  pub decides_once : DecidesOnce size liars w
-  decides_once p q c = (member_good size liars w wok p c).once q
-
-  pub says_once : SaysOnce size liars w
-  says_once p kind place c = (member_good size liars w wok p c).said_once kind place

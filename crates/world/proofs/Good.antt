@@ -1,5 +1,5 @@
 -- What holds of the records of a correct member, and of its records with the batch in doubt.
-use Rattle.std.proofs.Common.{ℕ, ◌≡◌, ◌+◌, ◌*◌, ◌≤◌, Bool, true, false, cond, ◌&&◌, ◌||◌, ◌⊎◌, inl, inr, eqb, refl, sym, ap, subst, ◌∙◌, arith, Some, None, List, [], ◌∷◌, ◌++◌, append_assoc, append-nil, take}
+use Rattle.std.proofs.Common.{ℕ, ◌≡◌, ◌+◌, ◌*◌, ◌≤◌, Bool, true, false, ◌&&◌, ◌||◌, ◌⊎◌, inl, inr, eqb, refl, sym, ap, subst, ◌∙◌, arith, Some, None, List, [], ◌∷◌, ◌++◌, append_assoc, append-nil, take}
 use Rattle.std.proofs.lemmas.Bool.{and_parts, eqb-true, or_cases}
 use Rattle.std.specs.Bool.{beq}
 use Rattle.terms.specs.declared.Kind.{Kind}
@@ -12,13 +12,13 @@ use Rattle.terms.specs.declared.Record.TheVariants.{Said, Decided}
 use Rattle.terms.specs.declared.Size.{Size}
 use Rattle.terms.specs.Count.{count_below, IsEchoQuorum, IsHelpSet, AtLeast}
 use Rattle.terms.specs.Bounds.{IsSize}
-use Rattle.terms.specs.Same.{is_about, statement_of, place_of, plain, sure}
+use Rattle.terms.specs.Same.{statement_of, place_of, plain, sure}
 use Rattle.terms.specs.Heard.{got, backs, Accepted}
 use Rattle.terms.specs.Valid.{IsGiven, IsValid}
-use Rattle.terms.specs.Journal.{sayings, decisions, said, decided, has_said, has_decided}
+use Rattle.terms.specs.Journal.{said, decided, has_said, has_decided}
 use Rattle.terms.specs.Lawful.{IsLawful, IsLawfulStatement, IsLawfulBatch}
 use Rattle.terms.proofs.Count.{count-mono}
-use Rattle.terms.proofs.Same.{value_is-true, is_about-true}
+use Rattle.terms.proofs.Same.{value_is-true}
 use Rattle.terms.proofs.Heard.{got-take}
 use Rattle.terms.proofs.Journal.{has_said-append, has_said-snoc, said-none, has_decided-append}
 use Rattle.terms.proofs.Valid.{IsValid-mono, IsGiven-mono}
@@ -51,8 +51,6 @@ IsSound size liars sent proposed me Ready place m = IsEchoQuorum size (sends sen
 
 pub record Good (size : Size) (liars : ℕ → Bool) (sent : List (ℕ × Statement)) (proposed : List (ℕ × ℕ × Bool)) (me : ℕ) (records : List Record) : Type 0 where
   pub one : (kind : Kind) (place : Place) (m k : Value) → has_said records (statement_of kind place m) ≡ true → has_said records (statement_of kind place k) ≡ true → m ≡ k
-  pub once : (q : ℕ) → decisions records q ≤ 1
-  pub said_once : (kind : Kind) (place : Place) → sayings records kind place ≤ 1
   pub sound : (kind : Kind) (place : Place) (m : Value) → has_said records (statement_of kind place m) ≡ true → IsSound size liars sent proposed me kind place m
   pub decision : (q r : ℕ) (b : Bool) → has_decided records q r b ≡ true → DecidableIn size sent q r b
 
@@ -87,31 +85,10 @@ pub Good-mono : (size : Size) (liars : ℕ → Bool) (sent later : List (ℕ × 
 Good-mono size liars sent later before after me records sub subp g =
     record {
       one = g.one;
-      once = g.once;
-      said_once = g.said_once;
       sound = λ kind place m h. IsSound-mono size liars sent later before after me sub subp kind place m (g.sound kind place m h);
       decision = λ q r b h. AtLeast-mono size.n (2 * size.t + 1) (λ a. Justified size sent q r 3 a (sure b)) (λ a. Justified size later q r 3 a (sure b))
           (λ a j. Justified-mono size sent later sub q r 3 a (sure b) j) (g.decision q r b h);
     }
-
-decisions-append : (xs ys : List Record) (q : ℕ) → decisions (xs ++ ys) q ≡ decisions xs q + decisions ys q
-decisions-append [] ys q = omega arith
-decisions-append (Said s ∷ xs) ys q = decisions-append xs ys q
-decisions-append (Decided p r b ∷ xs) ys q = let e = decisions-append xs ys q in omega arith
-
-sayings-append : (xs ys : List Record) (kind : Kind) (place : Place) → sayings (xs ++ ys) kind place ≡ sayings xs kind place + sayings ys kind place
-sayings-append [] ys kind place = omega arith
-sayings-append (Said s ∷ xs) ys kind place = let e = sayings-append xs ys kind place in omega arith
-sayings-append (Decided p r b ∷ xs) ys kind place = sayings-append xs ys kind place
-
-sayings-none : (xs : List Record) (kind : Kind) (place : Place) → said xs kind place ≡ None → sayings xs kind place ≡ 0
-sayings-none [] kind place h = refl
-sayings-none (Said s ∷ xs) kind place h = step (is_about s kind place) h (sayings-none xs kind place)
-  where
-    step : (e : Bool) → cond e (Some s.value) (said xs kind place) ≡ None → (said xs kind place ≡ None → sayings xs kind place ≡ 0) → cond e 1 0 + sayings xs kind place ≡ 0
-    step true g f = cc
-    step false g f = let e = f g in omega arith
-sayings-none (Decided p r b ∷ xs) kind place h = sayings-none xs kind place h
 
 -- a front of good records is good
 pub Good-front : (size : Size) (liars : ℕ → Bool) (sent : List (ℕ × Statement)) (proposed : List (ℕ × ℕ × Bool)) (me : ℕ) (xs ys : List Record)
@@ -119,23 +96,12 @@ pub Good-front : (size : Size) (liars : ℕ → Bool) (sent : List (ℕ × State
 Good-front size liars sent proposed me xs ys g =
     record {
       one = λ kind place m k h i. g.one kind place m k (more (statement_of kind place m) h) (more (statement_of kind place k) i);
-      once = λ q. let l = g.once q in let e = decisions-append xs ys q in omega arith;
-      said_once = λ kind place. let l = g.said_once kind place in let e = sayings-append xs ys kind place in omega arith;
       sound = λ kind place m h. g.sound kind place m (more (statement_of kind place m) h);
       decision = λ q r b h. g.decision q r b (rw (has_decided-append xs ys q r b, h));
     }
   where
     more : (s : Statement) → has_said xs s ≡ true → has_said (xs ++ ys) s ≡ true
     more s h = rw (has_said-append xs ys s, h)
-
-decisions-none : (xs : List Record) (q : ℕ) → decided xs q ≡ None → decisions xs q ≡ 0
-decisions-none [] q h = refl
-decisions-none (Said s ∷ xs) q h = decisions-none xs q h
-decisions-none (Decided p r b ∷ xs) q h = step (eqb p q) h (decisions-none xs q)
-  where
-    step : (e : Bool) → cond e (Some (r, b)) (decided xs q) ≡ None → (decided xs q ≡ None → decisions xs q ≡ 0) → cond e 1 0 + decisions xs q ≡ 0
-    step true g f = cc
-    step false g f = let e = f g in omega arith
 
 -- one more statement that is the first of its kind and place and rests on what it should
 pub Good-said : (size : Size) (liars : ℕ → Bool) (sent : List (ℕ × Statement)) (proposed : List (ℕ × ℕ × Bool)) (me : ℕ) (xs : List Record) (s : Statement)
@@ -144,8 +110,6 @@ pub Good-said : (size : Size) (liars : ℕ → Bool) (sent : List (ℕ × Statem
 Good-said size liars sent proposed me xs s g none ok =
     record {
       one = λ kind place m k h i. same kind place m k (has_said-snoc xs (Said s) (statement_of kind place m) h) (has_said-snoc xs (Said s) (statement_of kind place k) i);
-      once = λ q. let l = g.once q in let e = decisions-append xs (Said s ∷ []) q in omega arith;
-      said_once = λ kind place. told kind place (is_about s kind place) refl (sayings-append xs (Said s ∷ []) kind place);
       sound = λ kind place m h. rests kind place m (has_said-snoc xs (Said s) (statement_of kind place m) h);
       decision = λ q r b h. g.decision q r b (was (has_decided xs q r b) (rw has_decided-append at h));
     }
@@ -153,18 +117,6 @@ Good-said size liars sent proposed me xs s g none ok =
     was : (b : Bool) → (b || false) ≡ true → b ≡ true
     was true h = refl
     was false h = h
-
-    told : (kind : Kind) (place : Place) (e : Bool) → is_about s kind place ≡ e → sayings (xs ++ Said s ∷ []) kind place ≡ sayings xs kind place + (cond (is_about s kind place) 1 0 + 0) → sayings (xs ++ Said s ∷ []) kind place ≤ 1
-    told kind place true f h =
-        let i = is_about-true s kind place f in
-        let n : said xs kind place ≡ None = rw (i.0, i.1) at none in
-        let z : sayings xs kind place ≡ 0 = sayings-none xs kind place n in
-        let k : sayings (xs ++ Said s ∷ []) kind place ≡ sayings xs kind place + (1 + 0) = rw f at h in
-        omega arith
-    told kind place false f h =
-        let l : sayings xs kind place ≤ 1 = g.said_once kind place in
-        let k : sayings (xs ++ Said s ∷ []) kind place ≡ sayings xs kind place + (0 + 0) = rw f at h in
-        omega arith
 
     clash : (kind : Kind) (place : Place) (m k : Value) → has_said xs (statement_of kind place m) ≡ true → Said s ≡ Said (statement_of kind place k) → ⊥
     clash kind place m k h e =
@@ -204,8 +156,6 @@ pub Good-decided : (size : Size) (liars : ℕ → Bool) (sent : List (ℕ × Sta
 Good-decided size liars sent proposed me xs q r b g none ok =
     record {
       one = λ kind place m k h i. g.one kind place m k (old (statement_of kind place m) h) (old (statement_of kind place k) i);
-      once = λ p. let e = decisions-append xs (Decided q r b ∷ []) p in count p (eqb q p) refl e;
-      said_once = λ kind place. let l = g.said_once kind place in let e = sayings-append xs (Decided q r b ∷ []) kind place in omega arith;
       sound = λ kind place m h. g.sound kind place m (old (statement_of kind place m) h);
       decision = λ p s c h. pick p s c (or_cases (has_decided xs p s c) (((eqb q p) && ((eqb r s) && beq b c)) || false) (rw has_decided-append at h));
     }
@@ -216,18 +166,6 @@ Good-decided size liars sent proposed me xs q r b g none ok =
 
     old : (s : Statement) → has_said (xs ++ Decided q r b ∷ []) s ≡ true → has_said xs s ≡ true
     old s h = was (has_said xs s) (rw has_said-append at h)
-
-    count : (p : ℕ) (e : Bool) → (eqb q p) ≡ e → decisions (xs ++ Decided q r b ∷ []) p ≡ decisions xs p + (cond (eqb q p) 1 0 + 0) → decisions (xs ++ Decided q r b ∷ []) p ≤ 1
-    count p true f h =
-        let i : q ≡ p = eqb-true q p f in
-        let n : decided xs p ≡ None = rw i at none in
-        let z : decisions xs p ≡ 0 = decisions-none xs p n in
-        let k : decisions (xs ++ Decided q r b ∷ []) p ≡ decisions xs p + (1 + 0) = rw f at h in
-        omega arith
-    count p false f h =
-        let l : decisions xs p ≤ 1 = g.once p in
-        let k : decisions (xs ++ Decided q r b ∷ []) p ≡ decisions xs p + (0 + 0) = rw f at h in
-        omega arith
 
     pick : (p s : ℕ) (c : Bool) → (has_decided xs p s c ≡ true) ⊎ ((((eqb q p) && ((eqb r s) && beq b c)) || false) ≡ true) → DecidableIn size sent p s c
     pick p s c (inl h) = g.decision p s c h

@@ -24,7 +24,7 @@ use Rattle.world.proofs.Good.{Good, Sub, SubProposed, Good-mono, Good-front, Goo
 use Rattle.world.proofs.Invariant.{MemberOk, WorldOk, MemberOk-more, member_good, has_echos, has_initial, start_ok, all_of}
 
 -- cases on a test inside a fact
-split : (P : Bool → Type 0) (b : Bool) → (b ≡ true → P true) → (b ≡ false → P false) → P b
+pub split : (P : Bool → Type 0) (b : Bool) → (b ≡ true → P true) → (b ≡ false → P false) → P b
 split P true f g = f refl
 split P false f g = g refl
 
@@ -138,7 +138,7 @@ proposal_good size liars ok few w wok p q bit batch c (inr (rest, is, none, lawf
     handed = rw (eq-eqb p p refl, eq-eqb q q refl, beq_same bit)
 
 -- the same records with what was in doubt after a crash
-doubt_same : (records : List Record) (doubt : Option (List Record)) → all_of records (Some (in_doubt doubt)) ≡ all_of records doubt
+pub doubt_same : (records : List Record) (doubt : Option (List Record)) → all_of records (Some (in_doubt doubt)) ≡ all_of records doubt
 doubt_same records None = append-nil records
 doubt_same records (Some batch) = refl
 

@@ -1,6 +1,8 @@
 -- What a simulator needs: runs that go on, and the steps that members' replies are.
-use Rattle.std.proofs.Common.{ℕ, ◌≡◌, ◌<◌, Bool, false, inl, inr, eqb, eq-eqb, refl, None, List, [], ◌∷◌, ◌++◌}
+use Rattle.std.proofs.Common.{ℕ, ◌≡◌, ◌<◌, Bool, true, false, cond, inl, inr, eqb, eq-eqb, refl, sym, ap, ◌∙◌, None, List, [], ◌∷◌, ◌++◌, append-nil, append_assoc}
+use Rattle.std.proofs.lemmas.Bool.{eqb-true}
 use Rattle.terms.specs.declared.Statement.{Statement}
+use Rattle.terms.specs.declared.Record.{Record}
 use Rattle.terms.specs.declared.Size.{Size}
 use Rattle.terms.specs.Same.{plain}
 use Rattle.terms.specs.Past.{Past, past_of}
@@ -9,8 +11,9 @@ use Rattle.terms.specs.Reply.{Reply, on, IsReply, AreReplies, records_of, record
 use Rattle.terms.specs.Reply.Reply.{Foreign, Repeat, Have, Taken}
 use Rattle.terms.specs.Reply.Event.{Proposal}
 use Rattle.terms.proofs.Answer.{proposed_lawful, group_step}
-use Rattle.world.specs.World.{World, Step, IsCorrect, IsRun, IsAllowed, IsProposalBatch, AllSent, put, after, after_all}
-use Rattle.world.specs.World.Step.{Hears, Proposes}
+use Rattle.world.specs.World.{World, Step, IsCorrect, IsRun, IsAllowed, IsProposalBatch, AllSent, put, in_doubt, after, after_all}
+use Rattle.world.specs.World.Step.{Lie, Hears, Proposes, Crash, Restart}
+use Rattle.world.proofs.Keeps.{split}
 
 -- a run goes on where the world then allows it
 pub IsRun-append : (size : Size) (liars : ℕ → Bool) (w : World) (xs ys : List Step) → IsRun size liars w xs → IsRun size liars (after_all w xs) ys → IsRun size liars w (xs ++ ys)
@@ -50,3 +53,27 @@ pub proposes_allowed : (size : Size) (liars : ℕ → Bool) (w : World) (p any t
     → IsAllowed size liars w (Proposes p question bit (records_of r) kept)
 proposes_allowed size liars w p any toss question bit r kept c up l h =
     (c, up, l, proposal_batch (past_of size p any (w.journal p) (w.heard p)) toss question bit r h)
+
+-- records behind those of one member leave those of each at the front
+put_grows : (journal : ℕ → List Record) (p : ℕ) (batch : List Record) (a : ℕ) → (more : List Record) × (put journal p (journal p ++ batch) a ≡ journal a ++ more)
+put_grows journal p batch a =
+    split (λ b. (more : List Record) × (cond b (journal p ++ batch) (journal a) ≡ journal a ++ more)) (eqb a p)
+    (λ e. (batch, rw (eqb-true a p e) refl)) (λ e. ([], sym (append-nil (journal a))))
+
+-- a step leaves each member's records at the front of its records
+step_grows : (w : World) (x : Step) (a : ℕ) → (more : List Record) × ((after w x).journal a ≡ w.journal a ++ more)
+step_grows w (Lie b s) a = ([], sym (append-nil (w.journal a)))
+step_grows w (Hears p es batch true) a = put_grows w.journal p batch a
+step_grows w (Hears p es batch false) a = ([], sym (append-nil (w.journal a)))
+step_grows w (Proposes p question bit batch true) a = put_grows w.journal p batch a
+step_grows w (Proposes p question bit batch false) a = ([], sym (append-nil (w.journal a)))
+step_grows w (Crash p) a = ([], sym (append-nil (w.journal a)))
+step_grows w (Restart p kept) a = put_grows w.journal p (cond kept (in_doubt (w.doubt p)) []) a
+
+-- and so do any steps
+pub journals_grow : (w : World) (xs : List Step) (a : ℕ) → (more : List Record) × ((after_all w xs).journal a ≡ w.journal a ++ more)
+journals_grow w [] a = ([], sym (append-nil (w.journal a)))
+journals_grow w (x ∷ xs) a =
+    let one = step_grows w x a in
+    let others = journals_grow (after w x) xs a in
+    (one.0 ++ others.0, others.1 ∙ ap (λ (l : List Record). l ++ others.0) one.1 ∙ append_assoc (w.journal a) one.0 others.0)

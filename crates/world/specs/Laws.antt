@@ -17,8 +17,9 @@ use Rattle.terms.specs.Past.{Past, past_of}
 use Rattle.terms.specs.Reply.{Reply, IsReply, AreReplies, records_of, records_of_all, without_tosses}
 use Rattle.terms.specs.Reply.Event.{Hearing, Proposal}
 use Rattle.terms.specs.Laws.{StandsOn}
-use Rattle.world.specs.World.{World, Step, IsCorrect, AllSent, IsAllowed, IsRun, IsProposalBatch, has_sent, in_doubt, start, after, after_all}
-use Rattle.world.specs.Claims.{IsSettled}
+use Rattle.terms.specs.Same.{place_of}
+use Rattle.world.specs.World.{World, Step, IsCorrect, AllSent, first_said, IsAllowed, IsRun, IsProposalBatch, has_sent, in_doubt, start, after, after_all}
+use Rattle.world.specs.Claims.{IsSettled, has_heard}
 use Rattle.world.specs.World.Step.{Lie, Hears, Proposes, Crash, Restart}
 
 -- a record that a journal may hold: a well-formed statement, or a decision of a question and round that there are
@@ -110,6 +111,11 @@ AllSay size liars w =
     → Accepted size (w.heard p) place m
     → IsSome (said (w.journal o) Echo place) × IsSome (said (w.journal o) Ready place)
 
+-- whatever steps come, what a member had saved is at the front of what it has saved then
+abbrev pub JournalsGrow : Type 0
+JournalsGrow =
+    (w : World) (steps : List Step) (p : ℕ) → (more : List Record) × ((after_all w steps).journal p ≡ w.journal p ++ more)
+
 -- a member that restarts is up and has heard nothing
 abbrev pub RestartForgets : Type 0
 RestartForgets =
@@ -142,6 +148,24 @@ HearsAnything =
     → IsCorrect size liars p → w.doubt p ≡ None → AllSent w.sent es → IsLawfulBatch size p (w.journal p) (hear_all (w.heard p) es) batch
     → IsAllowed size liars w (Hears p es batch kept)
 
+-- it may take any proposal of a question that there is, and make any lawful batch, kept or in doubt
+abbrev pub ProposesAnything : Type 0
+ProposesAnything =
+    (size : Size) (liars : ℕ → Bool) (w : World) (p question : ℕ) (bit : Bool) (batch : List Record) (kept : Bool)
+    → IsCorrect size liars p → w.doubt p ≡ None → question < size.questions
+    → IsLawfulBatch size p (w.journal p) (w.heard p) batch
+    → IsAllowed size liars w (Proposes p question bit batch kept)
+
+-- where it has no Initial of round 1 step 1 there, it may also begin with that of the proposal, and make any batch that is
+-- lawful behind it
+abbrev pub ProposesFirst : Type 0
+ProposesFirst =
+    (size : Size) (liars : ℕ → Bool) (w : World) (p question : ℕ) (bit : Bool) (batch : List Record) (kept : Bool)
+    → IsCorrect size liars p → w.doubt p ≡ None → question < size.questions
+    → said (w.journal p) Initial (place_of question p 1 1) ≡ None
+    → IsLawfulBatch size p (w.journal p ++ Said (first_said p question bit) ∷ []) (w.heard p) batch
+    → IsAllowed size liars w (Proposes p question bit (Said (first_said p question bit) ∷ batch) kept)
+
 -- two runs that differ in their last step alone, a restart: in one a statement in doubt is kept, in the other it is lost
 pub record GoesEitherWay : Type 0 where
   pub size : Size
@@ -159,3 +183,16 @@ pub record GoesEitherWay : Type 0 where
   pub is_sent : has_sent ((after_all start (steps ++ Restart p true ∷ [])).sent) p s ≡ true
   pub is_lost : has_said ((after_all start (steps ++ Restart p false ∷ [])).journal p) s ≡ false
   pub is_unsent : has_sent ((after_all start (steps ++ Restart p false ∷ [])).sent) p s ≡ false
+
+-- a world is settled where all correct members are up, each has heard what correct members sent, and nothing is lawful
+abbrev pub SettledIs : Type 0
+SettledIs =
+    (size : Size) (liars : ℕ → Bool) (w : World)
+    → ((p : ℕ) → IsCorrect size liars p → w.doubt p ≡ None)
+    → ((p a : ℕ) (s : Statement) → IsCorrect size liars p → IsCorrect size liars a → has_sent w.sent a s ≡ true → has_heard (w.heard p) a s ≡ true)
+    → ((p : ℕ) (x : Record) → IsCorrect size liars p → IsLawful size p (w.journal p) (w.heard p) x → ⊥)
+    → IsSettled size liars w
+
+-- so is the world at its start, in which no question was proposed or decided
+abbrev pub StartIsSettled : Type 0
+StartIsSettled = (size : Size) (liars : ℕ → Bool) → IsSettled size liars start

@@ -130,3 +130,8 @@ abbrev pub EveryRun : (Size → (ℕ → Bool) → World → Type 0) → Type 0
 EveryRun Claim =
     (size : Size) (liars : ℕ → Bool) → IsSize size → count_below size.n liars ≤ size.t
     → (steps : List Step) → IsRun size liars start steps → Claim size liars (after_all start steps)
+
+-- the same of whoever the liars are, and however many
+abbrev pub AnyRun : (Size → (ℕ → Bool) → World → Type 0) → Type 0
+AnyRun Claim =
+    (size : Size) (liars : ℕ → Bool) (steps : List Step) → IsRun size liars start steps → Claim size liars (after_all start steps)

@@ -11,20 +11,26 @@ ghost use Rattle.world.specs.Laws.{
   HearingsAreStep,
   HearsAnything,
   InitialsStandOn,
+  JournalsGrow,
   LiesAnything,
   MayCrashAndRestart,
   ProposalIsLawful,
   ProposalIsStep,
+  ProposesAnything,
+  ProposesFirst,
   RestartForgets,
   RestartKeepsOrLoses,
   SavedWellFormed,
   SendsWhatItSaved,
   SentWellFormed,
+  SettledIs,
+  StartIsSettled,
   WellFormedAfterHearing,
   WellFormedAfterProposal,
   WellFormedOnceLawful,
 };
-ghost use Rattle.world.specs.World.{EveryRun};
+ghost use Rattle.world.specs.World.{EveryRun, AnyRun};
+ghost use Rattle.world.specs.Claims.{SaysOnce, DecidesOnce};
 
 /// All that members say is well formed: its question is below the number of questions, its origin is a
 /// member, its round is 1 to 32, its step 1 to 3, and its value one of that step. A well-formed decision is
@@ -81,8 +87,13 @@ pub fn answers()
 /// - `any_lie`: a liar may send any well-formed statement at any moment, and it is sent then.
 /// - `any_hearing`: a correct member that is up may hear any list of statements that were sent, and make any
 ///   batch that is lawful then, which is kept or in doubt.
+/// - `any_proposal`: it may take any proposal of a question below the number of questions, and make any batch that
+///   is lawful then, which is kept or in doubt.
+/// - `first_proposal`: where it has no Initial of round 1 step 1 there, it may as well begin with that of the
+///   proposal, and make any batch that is lawful behind it.
 /// - `allowed`: a correct member may crash, and may restart, at any moment, up or down, in either way.
 /// - `crash`: a crash leaves what the member has saved, sent and in doubt, and the member is down.
+/// - `grows`: whatever steps come, what a member had saved is at the front of what it has saved then.
 /// - `forgets`: a member that restarts is up and has heard nothing.
 /// - `keeps_or_loses`: its records are then those before with all of the batch in doubt, or just those before.
 /// - `either_way`: both happen. There are two runs that differ in their last step alone, a restart: a statement
@@ -90,9 +101,31 @@ pub fn answers()
 pub fn steps()
     ensures any_lie { LiesAnything }
     ensures any_hearing { HearsAnything }
+    ensures any_proposal { ProposesAnything }
+    ensures first_proposal { ProposesFirst }
     ensures allowed { MayCrashAndRestart }
     ensures crash { CrashLeaves }
+    ensures grows { JournalsGrow }
     ensures forgets { RestartForgets }
     ensures keeps_or_loses { RestartKeepsOrLoses }
     ensures either_way { GoesEitherWay }
+{}
+
+/// What a correct member keeps to over all of its lives, whatever the size and whoever lies, however many.
+///
+/// - `says`: no correct member's journal has more than one statement of a kind at a place.
+/// - `decides`: nor more than one decision of a question.
+pub fn once()
+    ensures says { AnyRun SaysOnce }
+    ensures decides { AnyRun DecidesOnce }
+{}
+
+/// When a world is settled.
+///
+/// - `enough`: where all correct members are up, each has heard all that correct members ever sent, and nothing is
+///   lawful for any of them. Nothing else is asked, and no question needs to be decided.
+/// - `at_start`: so it is before the first step.
+pub fn settling()
+    ensures enough { SettledIs }
+    ensures at_start { StartIsSettled }
 {}

@@ -4,7 +4,7 @@ use Rattle.script.proofs.step.propose.Goals as goal
 
 pub returns-clause-some : goal.returns-clause-some
 returns-clause-some c = (
-  c.in_ok-member.field-0,
+  c.in_ok-number8.field-0,
   c.in_ok-number16.field-0,
   c.in_ok-bit.field-0,
   record {
@@ -12,7 +12,7 @@ returns-clause-some c = (
     second = (get_or c.args.words.now 1 _).now;
     third = (get_or c.args.words.now 2 _).now;
     words_are = three c.args.words.now _ c.in-len3.len_at_least c.in-len3.len_below;
-    first_is = c.in_ok-member.ensures.some;
+    first_is = c.in_ok-number8.ensures.some;
     second_is = c.in_ok-number16.ensures.some;
     third_is = c.in_ok-bit.ensures.some;
   },

@@ -17,6 +17,9 @@ returns-clause-run c =
     (c.in_ok-marks.ensures.run (among c.args.liars.now) (opening (fused_in c.args.disks.items)) c.n-members.ensures.bounds few refl)
     (c.in_ok-verdicts.ensures.are (among c.args.liars.now))
 
+pub returns-clause-few_lie : goal.returns-clause-few_lie
+returns-clause-few_lie c = few_lie c.args.size c.args.liars.now (c.if-not-are_liars.ensures.0 refl)
+
 pub returns-clause-agree : goal.returns-clause-agree
 returns-clause-agree c =
     let few = few_lie c.args.size c.args.liars.now (c.if-not-are_liars.ensures.0 refl) in
@@ -25,7 +28,7 @@ returns-clause-agree c =
     (subst (λ (l : List Post). IsCluster c.args.size (among c.args.liars.now) (opening (fused_in c.args.disks.items)) l) (sym c.as_mut_slice-all.ensures.value) c.in_ok-posts.ensures.cluster)
     (c.in_ok-marks.ensures.run (among c.args.liars.now) (opening (fused_in c.args.disks.items)) c.n-members.ensures.bounds few refl)
     (c.in_ok-verdicts.ensures.are (among c.args.liars.now)) in
-    simulations_agree c.args.size (among c.args.liars.now) (fused_in c.args.disks.items) c.args.script.now c.in_ok-marks.marks.items c.in_ok-marks.saved.items c.in_ok-verdicts.verdicts.items c.n-members.ensures.bounds few s
+    simulations_agree c.args.size (among c.args.liars.now) (fused_in c.args.disks.items) c.args.script.now c.in_ok-marks.marks.items c.in_ok-marks.saved.items c.in_ok-verdicts.verdicts.items c.n-members.ensures.bounds few s c.safety.ensures.agree
 
 pub returns-clause-unanimous : goal.returns-clause-unanimous
 returns-clause-unanimous c =
@@ -35,7 +38,7 @@ returns-clause-unanimous c =
     (subst (λ (l : List Post). IsCluster c.args.size (among c.args.liars.now) (opening (fused_in c.args.disks.items)) l) (sym c.as_mut_slice-all.ensures.value) c.in_ok-posts.ensures.cluster)
     (c.in_ok-marks.ensures.run (among c.args.liars.now) (opening (fused_in c.args.disks.items)) c.n-members.ensures.bounds few refl)
     (c.in_ok-verdicts.ensures.are (among c.args.liars.now)) in
-    simulations_unanimous c.args.size (among c.args.liars.now) (fused_in c.args.disks.items) c.args.script.now c.in_ok-marks.marks.items c.in_ok-marks.saved.items c.in_ok-verdicts.verdicts.items c.n-members.ensures.bounds few s
+    simulations_unanimous c.args.size (among c.args.liars.now) (fused_in c.args.disks.items) c.args.script.now c.in_ok-marks.marks.items c.in_ok-marks.saved.items c.in_ok-verdicts.verdicts.items c.n-members.ensures.bounds few s c.safety.ensures.unanimous
 
 pub returns-in_err-marks-clause-never_full : goal.returns-in_err-marks-clause-never_full
 returns-in_err-marks-clause-never_full c e =

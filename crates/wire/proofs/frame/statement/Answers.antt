@@ -1,5 +1,5 @@
 use Rattle.terms.specs.Bounds.{FitsStep}
-use Rattle.wire.specs.Looking.{value_of}
+use Rattle.spelling.specs.Statements.{value_of}
 use Rattle.std.proofs.lemmas.Bool.{false≢true}
 use Rattle.wire.proofs.Values.{value_fits}
 use Rattle.wire.proofs.frame.statement.Goals as goal

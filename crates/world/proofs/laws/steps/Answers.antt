@@ -1,9 +1,10 @@
 -- One member alone goes down with its proposal's Initial in doubt.
-use Rattle.std.proofs.Common.{true, false, inr, refl, arith, List, [], ◌∷◌}
+use Rattle.std.proofs.Common.{true, false, inl, inr, refl, arith, List, [], ◌∷◌}
 use Rattle.terms.specs.declared.Record.TheVariants.{Said}
 use Rattle.world.specs.World.{Step, first_said}
 use Rattle.world.specs.World.Step.{Proposes}
 use Rattle.world.proofs.Example.{one, nobody, me, size_ok}
+use Rattle.world.proofs.Runs.{journals_grow}
 use Rattle.world.proofs.laws.steps.Goals as goal
 
 -- it proposes, and goes down with its Initial in doubt
@@ -29,3 +30,12 @@ returns-clause-either_way c =
       is_lost = refl;
       is_unsent = refl;
     }
+
+pub returns-clause-any_proposal : goal.returns-clause-any_proposal
+returns-clause-any_proposal c size liars w p question bit batch kept correct up asked lawful = (correct, up, asked, inl lawful)
+
+pub returns-clause-first_proposal : goal.returns-clause-first_proposal
+returns-clause-first_proposal c size liars w p question bit batch kept correct up asked none lawful = (correct, up, asked, inr (batch, refl, none, lawful))
+
+pub returns-clause-grows : goal.returns-clause-grows
+returns-clause-grows c = journals_grow

@@ -2,7 +2,7 @@ use Rattle.terms.specs.Reply.Event.{Hearing}
 use Rattle.member.specs.Words.{disk_of, header_of, gate_of, saved_of, is_stopped_of}
 use Rattle.member.proofs.Calls.{Called, Kept, well_formed, sounds, replies, stands_for, fulls, news}
 use Rattle.member.proofs.Formed.{comes_formed}
-use Rattle.member.proofs.Lives.{standing, acknowledged, lives}
+use Rattle.member.proofs.Lives.{standing, acknowledged, lives, cut}
 use Rattle.member.proofs.member.Member.hear.Given.{Over}
 use Rattle.member.proofs.member.Member.hear.Goals as goal
 
@@ -66,6 +66,12 @@ pub returns-clause-life : goal.returns-clause-life
 unfolding is_stopped_of
 returns-clause-life g c header liars w correct at comes =
     lives g.D.Disk g.met.D.Disk.counts_now g.met.D.Disk.only_now g.met.D.Disk.may_leave_seen c.args.toss.0 (Hearing c.args.from c.args.s.now) c.args.self.now c.hear-answer.new.self c.hear-answer.result
+    c.requires.sound c.if-self.false (called g c) (comes_formed (header_of c.args.self.now).size c.args.from c.args.s.now c.place.result c.place.ensures c.round-round.ensures.bounds c.value-value.ensures.fits) c.keep.new.self c.keep.result (kept g c) header liars w correct at comes
+
+pub returns-clause-cut : goal.returns-clause-cut
+unfolding is_stopped_of
+returns-clause-cut g c header liars w correct at comes =
+    cut g.D.Disk g.met.D.Disk.counts_now g.met.D.Disk.only_now g.met.D.Disk.may_leave_seen c.args.toss.0 (Hearing c.args.from c.args.s.now) c.args.self.now c.hear-answer.new.self c.hear-answer.result
     c.requires.sound c.if-self.false (called g c) (comes_formed (header_of c.args.self.now).size c.args.from c.args.s.now c.place.result c.place.ensures c.round-round.ensures.bounds c.value-value.ensures.fits) c.keep.new.self c.keep.result (kept g c) header liars w correct at comes
 
 pub returns-clause-stands : goal.returns-clause-stands

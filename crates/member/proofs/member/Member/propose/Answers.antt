@@ -3,7 +3,7 @@ use Rattle.terms.specs.Reply.Event.{Proposal}
 use Rattle.member.specs.Words.{disk_of, header_of, gate_of, saved_of, is_stopped_of}
 use Rattle.member.proofs.Calls.{Called, Kept, well_formed, sounds, replies, stands_for, fulls, news}
 use Rattle.member.proofs.Formed.{there_is}
-use Rattle.member.proofs.Lives.{standing, acknowledged, lives}
+use Rattle.member.proofs.Lives.{standing, acknowledged, lives, cut}
 use Rattle.member.proofs.member.Member.propose.Given.{Over}
 use Rattle.member.proofs.member.Member.propose.Goals as goal
 
@@ -67,6 +67,12 @@ pub returns-clause-life : goal.returns-clause-life
 unfolding is_stopped_of
 returns-clause-life g c header liars w correct at comes =
     lives g.D.Disk g.met.D.Disk.counts_now g.met.D.Disk.only_now g.met.D.Disk.may_leave_seen c.args.toss.0 (Proposal c.args.question c.args.bit) c.args.self.now c.propose-answer.new.self c.propose-answer.result
+    c.requires.sound (sym c.is_stopped.ensures ∙ c.if-is_stopped.false) (called g c) (there_is (header_of c.args.self.now).size c.args.question []) c.keep.new.self c.keep.result (kept g c) header liars w correct at comes
+
+pub returns-clause-cut : goal.returns-clause-cut
+unfolding is_stopped_of
+returns-clause-cut g c header liars w correct at comes =
+    cut g.D.Disk g.met.D.Disk.counts_now g.met.D.Disk.only_now g.met.D.Disk.may_leave_seen c.args.toss.0 (Proposal c.args.question c.args.bit) c.args.self.now c.propose-answer.new.self c.propose-answer.result
     c.requires.sound (sym c.is_stopped.ensures ∙ c.if-is_stopped.false) (called g c) (there_is (header_of c.args.self.now).size c.args.question []) c.keep.new.self c.keep.result (kept g c) header liars w correct at comes
 
 pub returns-clause-stands : goal.returns-clause-stands

@@ -4,7 +4,7 @@ use Rattle.rounds.proofs.Noted.{begun_new}
 use Rattle.rounds.proofs.questions.Question.new.Goals as goal
 
 pub returns-clause-stands : goal.returns-clause-stands
-returns-clause-stands c = begun_new _ c.args.size c.args.me c.args.question c.new.ensures.size c.new.ensures.question refl c.new.ensures.nothing refl refl
+returns-clause-stands c = begun_new _ c.args.size c.args.me c.args.question c.new.ensures.size c.new.ensures.question refl c.new.ensures.nothing c.none.ensures refl
 
 pub returns-clause-size : goal.returns-clause-size
 unfolding size_for

@@ -1,5 +1,5 @@
 use Rattle.std.proofs.Common.{◌≡◌, ◌+◌, ◌-◌, ◌≤◌, length}
-use Rattle.script.specs.declared.TheConstants.{MOST_EVENTS}
+use Rattle.sim.specs.declared.TheConstants.{MOST_EVENTS}
 use Rattle.script.specs.Making.{draws}
 use Rattle.script.proofs.making.Making.add_all_drawn.Given as goal
 

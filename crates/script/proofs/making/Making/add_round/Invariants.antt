@@ -1,6 +1,6 @@
 use Rattle.std.proofs.Common.{◌≡◌, ◌+◌, ◌-◌, ◌*◌, ◌≤◌, drop, length}
 use Rattle.std.specs.List.{flat_map}
-use Rattle.script.specs.declared.TheConstants.{MOST_EVENTS}
+use Rattle.sim.specs.declared.TheConstants.{MOST_EVENTS}
 use Rattle.script.specs.Making.{adds, row, round}
 use Rattle.script.proofs.making.Making.add_round.Given as goal
 

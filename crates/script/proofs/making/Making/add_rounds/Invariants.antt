@@ -1,5 +1,5 @@
 use Rattle.std.proofs.Common.{◌≡◌, ◌+◌, ◌-◌, ◌*◌, ◌≤◌, length}
-use Rattle.script.specs.declared.TheConstants.{MOST_EVENTS}
+use Rattle.sim.specs.declared.TheConstants.{MOST_EVENTS}
 use Rattle.script.specs.Making.{adds, round, times}
 use Rattle.script.proofs.making.Making.add_rounds.Given as goal
 

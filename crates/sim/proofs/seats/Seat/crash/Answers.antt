@@ -1,7 +1,8 @@
-use Rattle.std.proofs.Common.{◌∙◌, sym, subst, ap}
+use Rattle.std.proofs.Common.{◌≡◌, ◌∙◌, sym, subst, ap, Option, Some}
+use Rattle.disk.specs.declared.memory.MemDisk.{MemDisk}
 use Rattle.disk.specs.Memory.{memory_state}
 use Rattle.sim.specs.declared.seats.Seat.{Seat}
-use Rattle.sim.specs.Seats.{IsSeat, is_liar}
+use Rattle.sim.specs.Seats.{IsSeat, is_liar, disk_in, HasCrashed}
 use Rattle.sim.proofs.Moves.{crashed, crash_left}
 use Rattle.sim.proofs.seats.Seat.crash.Goals as goal
 
@@ -18,3 +19,9 @@ returns-in-None-clause-side c = ap is_liar c.replace.ensures.after ∙ sym c.in-
 pub returns-in-None-clause-at : goal.returns-in-None-clause-at
 returns-in-None-clause-at c header w at =
     absurd (c.in-None.ensures.parts header w (subst (λ (x : Seat). IsSeat header w x) (sym c.replace.ensures.value) at))
+
+pub returns-in_ok-crash-in-Some-clause-disk : goal.returns-in_ok-crash-in-Some-clause-disk
+returns-in_ok-crash-in-Some-clause-disk c =
+    let was : disk_in c.args.self.now ≡ Some c.in-Some.disk = sym (c.in-Some.ensures.disk ∙ ap disk_in c.replace.ensures.value) in
+    subst (λ (d : Option MemDisk). HasCrashed c.args.pick d (Some c.in_ok-crash-in-Some.field-0)) (sym was)
+    (c.in_ok-crash-in-Some.ensures.state, c.in_ok-crash-in-Some.ensures.fuse)

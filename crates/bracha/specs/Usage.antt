@@ -1,0 +1,95 @@
+-- The command line, command by command, in the kit's words.
+use Rattle.std.specs.Prelude.{ℕ, true, false, List, [], ◌∷◌, ◌++◌, Some, codes, fold, map, pos}
+use Rattle.clap.specs.Walk.{Rule, Text}
+use Rattle.clap.specs.Simple.{App, Shape, new_rule, new_shape, with_rule}
+use Rattle.clap.specs.declared.builder.action.ArgAction.TheVariants.{SetTrue}
+use Rattle.clap.specs.declared.builder.value_parser.ValueParser.TheVariants as parser
+
+-- a word that must be given
+abbrev pub word_rule : Text → Rule
+word_rule id = record (new_rule id) { value_names = 1; required = true }
+
+-- an option `--id VALUE` that must be given
+abbrev pub number_rule : Text → Rule
+number_rule id = record (word_rule id) { long = Some id }
+
+-- an option `--id VALUE` that may be given
+abbrev pub file_rule : Text → Rule
+file_rule id = record (new_rule id) { long = Some id; value_names = 1 }
+
+-- an option `--id` with no value
+abbrev pub flag_rule : Text → Rule
+flag_rule id = record (new_rule id) { long = Some id; action = Some SetTrue }
+
+-- the value is a number up to `most`
+abbrev pub up_to : ℕ → Rule → Rule
+up_to most rule = record rule { parser = Some (parser.Signed (pos 0) (pos most)) }
+
+-- the value is a u8, or a u16
+abbrev pub as_u8 : Rule → Rule
+as_u8 = up_to 255
+
+abbrev pub as_u16 : Rule → Rule
+as_u16 = up_to 65535
+
+-- a command that takes these too
+abbrev pub with_rules : App → List Rule → App
+with_rules app rules = fold with_rule app rules
+
+-- a command of that name, which takes these
+abbrev pub taking : Text → List Rule → App
+taking name rules = record { top = record (new_shape name) { rules = rules }; subs = [] }
+
+-- `--n N --t T --questions Q`
+abbrev pub size_rules : List Rule
+size_rules = as_u16 (number_rule (codes "n")) ∷ as_u16 (number_rule (codes "t")) ∷ as_u16 (number_rule (codes "questions")) ∷ []
+
+-- `ADDRESS Q`
+abbrev pub desk_rules : List Rule
+desk_rules = word_rule (codes "address") ∷ as_u16 (word_rule (codes "question")) ∷ []
+
+-- `bracha init SETTINGS`
+abbrev pub init_app : App
+init_app = taking (codes "init") (word_rule (codes "settings") ∷ [])
+
+-- `bracha run [--stay] SETTINGS`
+abbrev pub run_app : App
+run_app = taking (codes "run") (word_rule (codes "settings") ∷ flag_rule (codes "stay") ∷ [])
+
+-- `bracha propose ADDRESS Q V`
+abbrev pub propose_app : App
+propose_app = taking (codes "propose") (desk_rules ++ as_u8 (word_rule (codes "bit")) ∷ [])
+
+-- `bracha ask ADDRESS Q`
+abbrev pub ask_app : App
+ask_app = taking (codes "ask") desk_rules
+
+-- `bracha dump JOURNAL`
+abbrev pub dump_app : App
+dump_app = taking (codes "dump") (word_rule (codes "journal") ∷ [])
+
+-- `bracha simulate [--trace FILE] [--chart FILE] SCRIPT`
+abbrev pub simulate_app : App
+simulate_app = taking (codes "simulate") (word_rule (codes "script") ∷ file_rule (codes "trace") ∷ file_rule (codes "chart") ∷ [])
+
+-- `bracha hear --n N --t T --questions Q --me M`
+abbrev pub hear_app : App
+hear_app = taking (codes "hear") (size_rules ++ as_u8 (number_rule (codes "me")) ∷ [])
+
+-- `bracha COMMAND ..`: one command must be given, and help answers no words at all
+abbrev pub bare_shape : Shape
+bare_shape = record (new_shape (codes "bracha")) {
+  has_version = true;
+  subcommand_required = true;
+  arg_required_else_help = true;
+}
+
+abbrev pub bare_app : App
+bare_app = record { top = bare_shape; subs = [] }
+
+-- the commands, in the order of the help
+abbrev pub commands : List App
+commands = init_app ∷ run_app ∷ propose_app ∷ ask_app ∷ dump_app ∷ simulate_app ∷ hear_app ∷ []
+
+abbrev pub program_app : App
+program_app = record { top = record bare_shape { is_leaf = false }; subs = map (λ command. command.top) commands }

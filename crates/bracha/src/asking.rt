@@ -1,0 +1,38 @@
+//! The commands `propose` and `ask`: a line to the desk of a member that runs.
+
+use crate::fault::Fault;
+use crate::live::socket_address;
+use commands::{TalkFault, ask_line, propose_line, talk};
+use settings::Address;
+use std::io;
+use std::net::TcpStream;
+use std::time::Duration;
+
+/// A connection to the desk at this address. A member that doesn't answer for half a minute doesn't answer.
+fn connect(rt: &HostRuntime, address: &Address) -> io::Result<TcpStream> {
+    let socket = TcpStream::connect_timeout(rt, &socket_address(address), Duration::from_secs(10))?;
+    socket.set_read_timeout(Some(Duration::from_secs(30)))?;
+    socket.set_write_timeout(Some(Duration::from_secs(30)))?;
+    Ok(socket)
+}
+
+/// Sends the line to the desk at the address, and prints the reply.
+fn ask_desk(rt: &HostRuntime, address: &str, line: &str) -> Result<u8, Fault> {
+    let address = Address::parse(address).ok_or(Fault::Address)?;
+    let socket = connect(rt, &address).map_err(|_| TalkFault::NoAnswer)?;
+    let mut to = &socket;
+    let mut from = &socket;
+    Ok(talk(rt.alloc(), line, &mut to, &mut from, &mut io::writer(rt))?)
+}
+
+/// Proposes a bit to the member whose desk is at the address, and prints its reply. The status is that of the reply.
+pub fn propose_at(rt: &HostRuntime, address: &str, question: u16, bit: u8) -> Result<u8, Fault> {
+    let line = propose_line(rt.alloc(), question, bit)?;
+    ask_desk(rt, address, line.as_str())
+}
+
+/// Asks the member whose desk is at the address for its decision, and prints its reply. The status is that of the reply.
+pub fn ask_at(rt: &HostRuntime, address: &str, question: u16) -> Result<u8, Fault> {
+    let line = ask_line(rt.alloc(), question)?;
+    ask_desk(rt, address, line.as_str())
+}

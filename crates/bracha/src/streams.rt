@@ -1,0 +1,20 @@
+//! Standard streams that were closed when the program was started.
+
+use std::fs::File;
+use std::io;
+use std::os::fd::AsRawFd;
+
+/// A file for each standard stream that is closed. Without them the next files that are opened would get the numbers of
+/// these streams, and what is printed would be written into them. They are to be kept as long as the program runs: a
+/// write to them fails, and a read is at its end.
+pub fn hold_streams(rt: &HostRuntime) -> io::Result<Vec<File>> {
+    let mut held = Vec::new(rt.alloc());
+    for _ in 0..3u8 {
+        let file = File::open(rt, "/dev/null")?;
+        if file.as_raw_fd() > 2 {
+            break;
+        }
+        held.push(file)?;
+    }
+    Ok(held)
+}

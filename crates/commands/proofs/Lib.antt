@@ -1,0 +1,5 @@
+pub mod Disks
+pub mod Running
+pub mod Dumping
+pub mod Simulating
+pub mod Reading

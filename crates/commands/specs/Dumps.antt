@@ -1,0 +1,43 @@
+-- The text of a journal.
+use Rattle.std.specs.Prelude.{ℕ, List, [], ◌∷◌, ◌++◌, codes}
+use Rattle.std.specs.List.{flat_map}
+use Rattle.std.specs.Fmt.{decimal}
+use Rattle.terms.specs.declared.Record.{Record}
+use Rattle.terms.specs.declared.Header.{Header}
+use Rattle.journal.specs.declared.fault.JournalFault.{JournalFault}
+use Rattle.journal.specs.declared.fault.JournalFault.TheVariants.{NotEmpty, BadHeader, OtherHeader, BadRecord, CutShort, Device, Memory, Stopped, Full}
+use Rattle.journal.specs.File.{HasHeader, Refuses}
+use Rattle.words.specs.Sentences.{sentence}
+use Rattle.report.specs.Records.{record_text}
+use Rattle.words.specs.Lines.{line}
+
+-- the line of a header
+abbrev pub header_line : Header → List ℕ
+header_line h =
+    line (sentence (codes "cluster" ∷ decimal h.cluster ∷ codes "n" ∷ decimal h.size.n ∷ codes "t" ∷ decimal h.size.t
+    ∷ codes "questions" ∷ decimal h.size.questions ∷ codes "me" ∷ decimal h.me ∷ []))
+
+-- the line of a record
+abbrev pub record_line : Record → List ℕ
+record_line r = line (record_text r)
+
+-- the lines of the records, in order
+abbrev pub record_lines : List Record → List ℕ
+record_lines records = flat_map record_line records
+
+-- the line of the header, and those of the records
+abbrev pub dump_text : Header → List Record → List ℕ
+dump_text header records = header_line header ++ record_lines records
+
+-- what is wrong with a file of no journal: it begins with no header, or it begins with one and goes wrong behind that. The
+-- other faults are none of a file that is only read
+abbrev pub IsUnreadable : JournalFault → List ℕ → Type 0
+IsUnreadable NotEmpty file = ⊥
+IsUnreadable BadHeader file = (header : Header) → HasHeader header file → ⊥
+IsUnreadable OtherHeader file = ⊥
+IsUnreadable BadRecord file = (header : Header) × Refuses header BadRecord file
+IsUnreadable CutShort file = (header : Header) × Refuses header CutShort file
+IsUnreadable Device file = Unit {0}
+IsUnreadable Memory file = ⊥
+IsUnreadable Stopped file = ⊥
+IsUnreadable Full file = ⊥

@@ -1,0 +1,5 @@
+pub mod Faults
+pub mod Dumps
+pub mod Simulations
+pub mod Pages
+pub mod Talks

@@ -1,0 +1,23 @@
+-- What a client asks a member that runs, and what its reply means.
+use Rattle.std.specs.Prelude.{ℕ, ◌≡◌, ◌⊎◌, List, [], ◌∷◌, codes}
+use Rattle.std.specs.Fmt.{decimal}
+use Rattle.words.specs.Lines.{line}
+use Rattle.words.specs.Sentences.{sentence}
+
+-- the line that proposes a bit on a question
+abbrev pub propose_line : ℕ → ℕ → List ℕ
+propose_line question bit = line (sentence (codes "PROPOSE" ∷ decimal question ∷ decimal bit ∷ []))
+
+-- the line that asks for the decision of a question
+abbrev pub ask_line : ℕ → List ℕ
+ask_line question = line (sentence (codes "ASK" ∷ decimal question ∷ []))
+
+-- the member did as it was asked
+abbrev pub IsGood : List ℕ → Type 0
+IsGood reply =
+    (reply ≡ codes "OK") ⊎ ((reply ≡ codes "HAVE 0") ⊎ ((reply ≡ codes "HAVE 1") ⊎ ((reply ≡ codes "DECIDED 0")
+    ⊎ ((reply ≡ codes "DECIDED 1") ⊎ (reply ≡ codes "UNDECIDED")))))
+
+-- the status for a reply: 0 where the member did as it was asked, and 1 else
+abbrev pub HasStatus : List ℕ → ℕ → Type 0
+HasStatus reply status = ((status ≡ 0) × IsGood reply) ⊎ ((status ≡ 1) × (IsGood reply → ⊥))

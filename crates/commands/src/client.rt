@@ -1,0 +1,130 @@
+//! The commands `propose` and `ask`: one line to the desk of a member that runs, and its reply.
+
+ghost use Rattle.std.specs.Prelude.{ℕ, List, [], ◌≡◌, ◌∷◌, ◌++◌, ◌↔◌, IsTrue, IfOk, IfErr, IfSome, ◌≢◌, string_bytes, Err};
+ghost use Rattle.std.specs.Io.KnownBytes.{Appends, Consumes};
+ghost use Rattle.words.specs.Lines.{NoEnd};
+ghost use Rattle.commands.specs.Talks.{propose_line, ask_line, IsGood, HasStatus};
+ghost use Rattle.commands.specs.declared.fault.TalkFault.TheVariants.{NoAnswer};
+
+use crate::fault::TalkFault;
+use std::alloc::{AllocError, Global};
+use std::io::{Read, Write};
+use words::is;
+
+/// How many bytes a reply has at most.
+const LONGEST_REPLY: usize = 64;
+
+/// The line that proposes a bit on a question. Another number than 0 and 1 is no bit, which the desk says.
+pub fn propose_line(alloc: Global, question: u16, bit: u8) -> Result<String, AllocError>
+    ensures { IfOk result (λ text. string_bytes text ≡ propose_line question bit) }
+{
+    format!(in alloc; "PROPOSE {question} {bit}\n")
+}
+
+/// The line that asks for the decision of a question.
+pub fn ask_line(alloc: Global, question: u16) -> Result<String, AllocError>
+    ensures { IfOk result (λ text. string_bytes text ≡ ask_line question) }
+{
+    format!(in alloc; "ASK {question}\n")
+}
+
+/// Whether the reply says that the member did as it was asked.
+fn is_good(reply: &[u8]) -> bool
+    ensures { IsTrue result ↔ IsGood reply.now }
+{
+    is(reply, "OK")
+        || is(reply, "HAVE 0")
+        || is(reply, "HAVE 1")
+        || is(reply, "DECIDED 0")
+        || is(reply, "DECIDED 1")
+        || is(reply, "UNDECIDED")
+}
+
+/// The status for a reply.
+fn status_of(reply: &[u8]) -> u8
+    ensures { HasStatus reply.now result }
+{
+    if is_good(reply) { 0 } else { 1 }
+}
+
+/// The next byte of the connection, if there is one.
+fn next_byte<R: Read>(connection: &mut R) -> Option<u8>
+    ensures { IfSome result (λ byte. Consumes (R.remaining connection.old) (R.remaining connection.new) (byte ∷ [])) }
+{
+    let mut byte = [0];
+    match connection.read(&mut byte) {
+        Ok(1) => Some(byte[0]),
+        _ => None,
+    }
+}
+
+/// The reply: a line without its end.
+fn reply_of<R: Read>(alloc: Global, connection: &mut R) -> Result<Vec<u8>, TalkFault>
+    ensures { IfOk result (λ reply. NoEnd reply.items
+        × Consumes (R.remaining connection.old) (R.remaining connection.new) (reply.items ++ 10 ∷ [])) }
+{
+    let mut reply = Vec::new(alloc);
+    for _ in 0..LONGEST_REPLY {
+        match next_byte(connection) {
+            None => return Err(TalkFault::NoAnswer),
+            Some(b'\n') => return Ok(reply),
+            Some(byte) => reply.push(byte)?,
+        }
+    }
+    Err(TalkFault::NoAnswer)
+}
+
+/// Sends the line.
+fn send<W: Write>(line: &str, connection: &mut W) -> Result<(), TalkFault>
+    ensures sent { IfOk result (λ _. Appends (W.contents connection.old) (W.contents connection.new) line.now) }
+    ensures only { IfErr result (λ fault. fault ≡ NoAnswer) }
+{
+    match connection.write_all(line.as_bytes()) {
+        Ok(()) => {}
+        Err(_) => return Err(TalkFault::NoAnswer),
+    }
+    match connection.flush() {
+        Ok(()) => Ok(()),
+        Err(_) => Err(TalkFault::NoAnswer),
+    }
+}
+
+/// Sends the line over a connection to a member's desk, reads one reply, and writes it with its end. The status is 0 for
+/// `OK`, `HAVE b`, `DECIDED b` and `UNDECIDED`, and 1 for any other reply.
+///
+/// [`TalkFault::NoAnswer`]: the connection failed or ended before a whole reply came, and nothing was written.
+/// [`TalkFault::Stream`]: the write failed. [`TalkFault::Memory`]: memory was refused.
+pub fn talk<R: Read, S: Write, W: Write>(
+    alloc: Global,
+    line: &str,
+    to: &mut S,
+    from: &mut R,
+    output: &mut W,
+) -> Result<u8, TalkFault>
+    ensures all { IfOk result (λ status. (reply : List ℕ) × NoEnd reply
+        × Appends (S.contents to.old) (S.contents to.new) line.now
+        × Consumes (R.remaining from.old) (R.remaining from.new) (reply ++ 10 ∷ [])
+        × Appends (W.contents output.old) (W.contents output.new) (reply ++ 10 ∷ [])
+        × HasStatus reply status) }
+    ensures nothing { result ≡ Err NoAnswer → output.new ≡ output.old }
+{
+    send(line, to)?;
+    let mut reply = reply_of(alloc, from)?;
+    let status = status_of(&reply);
+    reply.push(b'\n')?;
+    print_reply(&reply, output)?;
+    Ok(status)
+}
+
+/// Writes the reply.
+fn print_reply<W: Write>(reply: &[u8], output: &mut W) -> Result<(), TalkFault>
+    ensures written { IfOk result (λ _. Appends (W.contents output.old) (W.contents output.new) reply.now) }
+    ensures only { result ≢ Err NoAnswer }
+{
+    output.write_all(reply)?;
+    output.flush()?;
+    Ok(())
+}
+
+#[cfg(test)]
+mod tests;

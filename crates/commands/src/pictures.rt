@@ -1,0 +1,5 @@
+//! Traces and charts of worked scripts.
+
+mod charts;
+mod golden;
+mod traces;

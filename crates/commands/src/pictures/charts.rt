@@ -1,0 +1,129 @@
+//! Charts of worked scripts.
+
+use disk::MemDisk;
+use report::chart_text;
+use std::alloc::Global;
+use std::test::Fail;
+
+/// The events of the script, what became of them, and the chart.
+pub(crate) fn drawn(alloc: Global, script: &str) -> Result<String, Fail> {
+    let script = script::read(alloc, script.as_bytes())
+        .ok()
+        .ok_or("a script")?;
+    let mut disks = Vec::new(alloc);
+    for _ in 0..script.size.n() {
+        disks.push(MemDisk::new(alloc))?;
+    }
+    let outcome = sim::run(alloc, script.size, &script.liars, disks, &script.events)
+        .ok()
+        .ok_or("a run")?;
+    let chart = chart_text(
+        alloc,
+        script.size,
+        &script.liars,
+        &script.events,
+        &outcome.marks,
+        &outcome.saved,
+    )?;
+    Ok(chart)
+}
+
+/// How often the words stand in the chart.
+fn count(chart: &str, words: &str) -> usize {
+    chart.matches(words).count()
+}
+
+/// A crash, a restart, and events that are skipped for each reason.
+const CRASH: &str = "n 4
+t 1
+questions 1
+liars 3
+seed 1
+propose 1 0 1
+deliver 1 0 next
+deliver 1 0 next
+crash 0 lost
+deliver 1 0 0
+restart 0
+restart 0
+deliver 1 0 next
+deliver 3 0 next
+lie 3 0 ff
+lie 3 0 000100
+reset 3 0
+lie 3 0 000100
+fuse 4 off
+";
+
+#[test]
+fn draws_a_crash(rt: HostRuntime) -> Result<(), Fail> {
+    let chart = drawn(rt.alloc(), CRASH)?;
+    let chart = chart.as_str();
+    assert!(rt; chart.starts_with("<svg "));
+    assert!(rt; chart.ends_with("</svg>\n"));
+    for (words, times) in [
+        (">member 0<", 1),
+        (">member 1<", 1),
+        (">member 2<", 1),
+        (">member 3 (lies)<", 1),
+        (">proposes 1<", 1),
+        (">says initial<", 1),
+        // It comes a second time behind the restart, and is the same.
+        (">initial 0 1 1 1 one<", 2),
+        (">says echo<", 1),
+        (">crash lost<", 1),
+        (">restart<", 1),
+        (">ff<", 1),
+        (">000100<", 1),
+        (">reset 3<", 1),
+        (">4<", 1),
+        // What was skipped has no row.
+        (">3<", 0),
+        (">14<", 0),
+        ("fuse", 0),
+        // Member 0 is down between the crash and the restart alone.
+        ("class=\"down\"", 1),
+        ("M110 138V174", 1),
+    ] {
+        assert!(rt; count(chart, words) == times, "at {words}");
+    }
+    Ok(())
+}
+
+#[test]
+fn draws_disks_that_fail_and_decisions(rt: HostRuntime) -> Result<(), Fail> {
+    let head = "n 1\nt 0\nquestions 2\nliars\nseed 1\n";
+    for (events, words) in [
+        ("propose 0 1 0\n", ">proposes 0 on 1<"),
+        ("propose 0 1 1\nrounds 18\n", ">decides 1 on 1<"),
+        ("fuse 0 2\n", ">fuse 2<"),
+        ("fuse 0 off\n", ">fuse off<"),
+        ("fuse 0 0\npropose 0 1 0\n", ">disk fails<"),
+        ("crash 0 fill 0F\n", ">crash fill 0f<"),
+        // The batch that failed is on the disk, and was said for good.
+        (
+            "fuse 0 3\npropose 0 1 0\ncrash 0 kept\nrestart 0\n",
+            ">keeps initial<",
+        ),
+        (
+            "fuse 0 3\npropose 0 1 0\ncrash 0 kept\nrestart 0\ndeliver 0 0 next\n",
+            ">initial 1 0 1 1 zero<",
+        ),
+    ] {
+        let script = format!(in rt.alloc(); "{head}{events}")?;
+        let chart = drawn(rt.alloc(), script.as_str())?;
+        assert!(rt; count(chart.as_str(), words) == 1, "at {words}");
+    }
+    Ok(())
+}
+
+#[test]
+fn draws_no_events(rt: HostRuntime) -> Result<(), Fail> {
+    let chart = drawn(rt.alloc(), "n 2\nt 0\nquestions 1\nliars\nseed 1\n")?;
+    let chart = chart.as_str();
+    assert!(rt; chart.starts_with("<svg "));
+    assert!(rt; chart.ends_with("</svg>\n"));
+    assert!(rt; count(chart, "<text") == count(chart, "</text>"));
+    assert!(rt; count(chart, ">member 1<") == 1);
+    Ok(())
+}

@@ -1,0 +1,149 @@
+//! Traces of worked scripts: of a run, and of marks and saved records that are written by hand.
+
+use disk::MemDisk;
+use report::trace_text;
+use sim::{Event, Mark, Reason};
+use std::alloc::Global;
+use std::test::Fail;
+use terms::{Kind, Place, Record, Statement, Value};
+
+/// A head, and then the events.
+const HEAD: &str = "n 4\nt 1\nquestions 1\nliars 3\nseed 1\n";
+
+/// The statement One of question 0, origin 1, round 1, step 1.
+fn one(kind: Kind) -> Result<Record, Fail> {
+    let place = Place::new(0, 1, 1, 1).ok_or("a place")?;
+    let statement = Statement::new(kind, place, Value::One).ok_or("a statement")?;
+    Ok(Record::Said(statement))
+}
+
+/// The events of those lines.
+fn events_of(alloc: Global, lines: &str) -> Result<Vec<Event>, Fail> {
+    let text = format!(in alloc; "{HEAD}{lines}")?;
+    let script = script::read(alloc, text.as_bytes()).ok().ok_or("a script")?;
+    Ok(script.events)
+}
+
+/// What was saved, event by event.
+fn saved_of(alloc: Global, lists: &[&[Record]]) -> Result<Vec<Vec<Record>>, Fail> {
+    let mut saved = Vec::new(alloc);
+    for records in lists {
+        let mut list = Vec::new(alloc);
+        list.extend_from_slice(records)?;
+        saved.push(list)?;
+    }
+    Ok(saved)
+}
+
+/// The events of a crash and a restart.
+const CRASH: &str = "propose 1 0 1
+deliver 1 0 next
+deliver 1 0 next
+crash 0 lost
+deliver 1 0 0
+restart 0
+restart 0
+deliver 1 0 next
+deliver 3 0 next
+lie 3 0 ff
+lie 3 0 000100
+reset 3 0
+lie 3 0 000100
+fuse 4 off
+";
+
+/// The trace of a run of the script.
+fn traced(alloc: Global, script: &[u8]) -> Result<String, Fail> {
+    let script = script::read(alloc, script).ok().ok_or("a script")?;
+    let mut disks = Vec::new(alloc);
+    for _ in 0..script.size.n() {
+        disks.push(MemDisk::new(alloc))?;
+    }
+    let outcome = sim::run(alloc, script.size, &script.liars, disks, &script.events)
+        .ok()
+        .ok_or("a run")?;
+    Ok(trace_text(alloc, &script.events, &outcome.marks, &outcome.saved)?)
+}
+
+#[test]
+fn writes_a_line_for_each_event(rt: HostRuntime) -> Result<(), Fail> {
+    let script = format!(in rt.alloc(); "{HEAD}{CRASH}")?;
+    let text = traced(rt.alloc(), script.as_bytes())?;
+    assert_eq!(rt;
+        text.as_str(),
+        "1 propose 1 0 1: done: initial 0 1 1 1 one
+2 deliver 1 0 next: done: echo 0 1 1 1 one
+3 deliver 1 0 next: skipped nothing
+4 crash 0 lost: done
+5 deliver 1 0 0: skipped not-up
+6 restart 0: done
+7 restart 0: skipped running
+8 deliver 1 0 next: done
+9 deliver 3 0 next: skipped wrong-side
+10 lie 3 0 ff: done
+11 lie 3 0 000100: skipped nothing
+12 reset 3 0: done
+13 lie 3 0 000100: done
+14 fuse 4 off: skipped no-such
+"
+    );
+    Ok(())
+}
+
+#[test]
+fn writes_the_other_words(rt: HostRuntime) -> Result<(), Fail> {
+    let alloc = rt.alloc();
+    let lines =
+        "fuse 2 7\npropose 2 0 0\ncrash 2 kept\ncrash 2 fill 7F\ndeliver 0 2 012\nlie 3 255 0AfF\n";
+    let events = events_of(alloc, lines)?;
+    let marks = [
+        Mark::Done,
+        Mark::Failed,
+        Mark::Done,
+        Mark::Done,
+        Mark::Done,
+        Mark::Skipped(Reason::NoSuch),
+    ];
+    let decided = Record::Decided {
+        question: 9,
+        round: 2,
+        bit: true,
+    };
+    let records = [one(Kind::Echo)?, one(Kind::Ready)?, decided];
+    let none: &[Record] = &[];
+    let saved = saved_of(alloc, &[none, none, none, none, &records, none])?;
+    let text = trace_text(alloc, &events, &marks, &saved)?;
+    assert_eq!(rt;
+        text.as_str(),
+        "1 fuse 2 7: done
+2 propose 2 0 0: failed
+3 crash 2 kept: done
+4 crash 2 fill 7f: done
+5 deliver 0 2 12: done: echo 0 1 1 1 one, ready 0 1 1 1 one, decided 9 2 1
+6 lie 3 255 0aff: skipped no-such
+"
+    );
+    Ok(())
+}
+
+#[test]
+fn goes_as_far_as_the_shortest(rt: HostRuntime) -> Result<(), Fail> {
+    let alloc = rt.alloc();
+    let events = events_of(alloc, "restart 0\nrestart 1\nrestart 2\n")?;
+    let marks = [Mark::Done, Mark::Done, Mark::Done, Mark::Done];
+    let none: &[Record] = &[];
+    let saved = saved_of(alloc, &[none, none])?;
+    for (marks, saved, want) in [
+        (
+            marks.as_slice(),
+            saved.as_slice(),
+            "1 restart 0: done\n2 restart 1: done\n",
+        ),
+        (&marks[..1], saved.as_slice(), "1 restart 0: done\n"),
+        (marks.as_slice(), &saved[..0], ""),
+    ] {
+        let text = trace_text(alloc, &events, marks, saved)?;
+        assert_eq!(rt; text.as_str(), want);
+    }
+    Ok(())
+}

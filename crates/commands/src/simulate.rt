@@ -1,0 +1,208 @@
+//! The command `simulate`: a script's cluster, run in memory.
+
+ghost use Rattle.std.specs.Prelude.{◌≡◌, ℕ, false, Err, IfOk, IfErr, OnOk, string_bytes};
+ghost use Rattle.std.specs.List.{flat_map};
+ghost use Rattle.std.specs.Io.KnownBytes.{Appends};
+ghost use Rattle.script.specs.declared.Script.{Script};
+ghost use Rattle.sim.specs.declared.cluster.Outcome.{Outcome};
+ghost use Rattle.sim.specs.Outcomes.{AreDisks, fused_in};
+ghost use Rattle.script.specs.Scripts.{IsScript};
+ghost use Rattle.commands.specs.Faults.{IsOfSimulate, IsOfStream};
+ghost use Rattle.commands.specs.declared.fault.SimulateFault.{SimulateFault};
+ghost use Rattle.report.specs.Charts.{IsSvg};
+ghost use Rattle.commands.specs.Pages.{IsOutcome, IsPage, IsTrace, ArePages};
+ghost use Rattle.commands.specs.Simulations.{verdict_line, count_line, simulation_text, skipped};
+
+use crate::fault::SimulateFault;
+use disk::MemDisk;
+use report::{chart_text, is_skipped, trace_text};
+use script::Script;
+use sim::{Mark, Outcome};
+use std::alloc::{AllocError, Global};
+use std::io::Write;
+use terms::{Memory, Size};
+
+/// The line of a verdict: member, question, round and bit.
+fn verdict_line(alloc: Global, verdict: &(u8, u16, u8, bool)) -> Result<String, AllocError>
+    ensures { IfOk result (λ text. string_bytes text ≡ verdict_line verdict.now) }
+{
+    let (member, question, round, bit) = *verdict;
+    format!(in alloc;
+        "member {member} question {question} round {round} bit {}\n",
+        u8::from(bit)
+    )
+}
+
+/// How many of the marks are of events that were skipped.
+fn skipped(marks: &[Mark]) -> usize
+    ensures { result ≡ skipped marks.now }
+{
+    let mut count = 0;
+    for mark in marks {
+        count += usize::from(is_skipped(mark));
+    }
+    count
+}
+
+/// The line that counts the events.
+fn count_line(alloc: Global, marks: &[Mark]) -> Result<String, AllocError>
+    ensures { IfOk result (λ text. string_bytes text ≡ count_line marks.now) }
+{
+    format!(in alloc; "events {} skipped {}\n", marks.len(), skipped(marks))
+}
+
+/// The lines of the verdicts.
+fn verdict_lines(alloc: Global, verdicts: &[(u8, u16, u8, bool)]) -> Result<String, AllocError>
+    ensures { IfOk result (λ text. string_bytes text ≡ flat_map verdict_line verdicts.now) }
+{
+    let mut text = String::new(alloc);
+    for verdict in verdicts {
+        text.push_str(verdict_line(alloc, verdict)?.as_str())?;
+    }
+    Ok(text)
+}
+
+/// The text of an outcome: a line for each verdict, and one that counts the events.
+fn simulation_text(alloc: Global, outcome: &Outcome) -> Result<String, AllocError>
+    ensures { IfOk result (λ text. string_bytes text ≡ simulation_text outcome.now) }
+{
+    let mut text = verdict_lines(alloc, &outcome.verdicts)?;
+    text.push_str(count_line(alloc, &outcome.marks)?.as_str())?;
+    Ok(text)
+}
+
+/// An empty disk for each member, without a fuse.
+fn empty_disks(alloc: Global, size: Size) -> Result<Vec<MemDisk>, Memory>
+    ensures empty { IfOk result (λ disks. AreDisks size disks.items) }
+    ensures no_fuse { IfOk result (λ disks. (p : ℕ) → fused_in disks.items p ≡ false) }
+{
+    let mut disks = Vec::new(alloc);
+    for _ in 0..size.n() {
+        disks.push(MemDisk::new(alloc))?;
+    }
+    Ok(disks)
+}
+
+/// Reads the script, and runs it over empty disks in memory.
+fn run(alloc: Global, text: &[u8]) -> Result<(Script, Outcome), SimulateFault>
+    ensures says { IfOk result (λ ran. IsScript text.now ran.0) }
+    ensures run { IfOk result (λ ran. IsOutcome ran.0 ran.1) }
+    ensures only { IfErr result (IsOfSimulate text.now) }
+{
+    let script = script::read(alloc, text)?;
+    let disks = empty_disks(alloc, script.size)?;
+    let outcome = sim::run(alloc, script.size, &script.liars, disks, &script.events)?;
+    Ok((script, outcome))
+}
+
+/// The trace of a run, if it is wanted.
+fn trace_page(
+    alloc: Global,
+    wanted: bool,
+    script: &Script,
+    outcome: &Outcome,
+) -> Result<Option<String>, AllocError>
+    ensures { IfOk result (IsPage wanted (IsTrace script.now outcome.now)) }
+{
+    if !wanted {
+        return Ok(None);
+    }
+    let text = trace_text(alloc, &script.events, &outcome.marks, &outcome.saved)?;
+    Ok(Some(text))
+}
+
+/// The chart of a run, if it is wanted.
+fn chart_page(
+    alloc: Global,
+    wanted: bool,
+    script: &Script,
+    outcome: &Outcome,
+) -> Result<Option<String>, AllocError>
+    ensures { IfOk result (IsPage wanted IsSvg) }
+{
+    if !wanted {
+        return Ok(None);
+    }
+    let text = chart_text(
+        alloc,
+        script.size,
+        &script.liars,
+        &script.events,
+        &outcome.marks,
+        &outcome.saved,
+    )?;
+    Ok(Some(text))
+}
+
+/// What a simulation makes: texts to be printed and written.
+#[derive(Drop)]
+pub struct Pages {
+    /// For each verdict, by member and then by question, `member M question Q round R bit B`, and last
+    /// `events E skipped S`.
+    pub verdicts: String,
+    /// A line for each event.
+    pub trace: Option<String>,
+    /// A sequence chart in SVG.
+    pub chart: Option<String>,
+}
+
+/// Runs the script over empty disks in memory, and makes the text of its outcome, and a trace and a chart where they are
+/// wanted.
+///
+/// [`SimulateFault::Line`], [`SimulateFault::Size`] and [`SimulateFault::Events`] for a text that is no script, [`SimulateFault::Sim`] for a script that
+/// can't be run, [`SimulateFault::Memory`] where a growth failed.
+pub fn simulate_pages(
+    alloc: Global,
+    text: &[u8],
+    trace: bool,
+    chart: bool,
+) -> Result<Pages, SimulateFault>
+    // They are of a simulation of the script that the text says, which is a run of the world.
+    ensures all { IfOk result (λ made. (script : Script) × (outcome : Outcome)
+        × IsScript text.now script × IsOutcome script outcome × ArePages trace chart script outcome made) }
+    ensures only { IfErr result (IsOfSimulate text.now) }
+{
+    let (script, outcome) = run(alloc, text)?;
+    Ok(Pages {
+        verdicts: simulation_text(alloc, &outcome)?,
+        trace: trace_page(alloc, trace, &script, &outcome)?,
+        chart: chart_page(alloc, chart, &script, &outcome)?,
+    })
+}
+
+/// Writes the text. The status is 0. [`SimulateFault::Stream`] and [`SimulateFault::Memory`]: the write failed.
+pub fn print<W: Write>(text: &str, output: &mut W) -> Result<u8, SimulateFault>
+    ensures status { IfOk result (λ status. status ≡ 0) }
+    ensures all { OnOk result (Appends (W.contents output.old) (W.contents output.new) text.now) }
+    ensures only { IfErr result IsOfStream }
+{
+    output.write_all(text.as_bytes())?;
+    output.flush()?;
+    Ok(0)
+}
+
+/// Runs the script over empty disks in memory, and writes its outcome: for each verdict, by member and then by question,
+/// `member M question Q round R bit B`, and last `events E skipped S`. The status is 0.
+///
+/// [`SimulateFault::Line`], [`SimulateFault::Size`] and [`SimulateFault::Events`] for a text that is no script, [`SimulateFault::Sim`] for a script that
+/// can't be run: nothing was written. [`SimulateFault::Stream`] and [`SimulateFault::Memory`]: the write or a growth failed.
+pub fn simulate_text<W: Write>(
+    alloc: Global,
+    text: &[u8],
+    output: &mut W,
+) -> Result<u8, SimulateFault>
+    ensures status { IfOk result (λ status. status ≡ 0) }
+    // What is written is the text of a simulation of the script that the text says, which is a run of the world.
+    ensures all { OnOk result ((script : Script) × (outcome : Outcome)
+        × IsScript text.now script × IsOutcome script outcome
+        × Appends (W.contents output.old) (W.contents output.new) (simulation_text outcome)) }
+    // A fault of the script comes before anything is written.
+    ensures nothing { (fault : SimulateFault) → result ≡ Err fault → (IsOfStream fault → ⊥) → output.new ≡ output.old }
+    ensures only { IfErr result (IsOfSimulate text.now) }
+{
+    let pages = simulate_pages(alloc, text, false, false)?;
+    print(pages.verdicts.as_str(), output)
+}
+
+#[cfg(test)]
+mod tests;

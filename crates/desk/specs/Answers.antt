@@ -1,0 +1,62 @@
+-- The replies to commands.
+use Rattle.std.specs.Prelude.{ℕ, ◌≡◌, ◌⊎◌, ◌<◌, nat_lt, Bool, true, Option, Some, None, length, if◌then◌else◌}
+use Rattle.terms.specs.Reply.{Reply as Answers}
+use Rattle.terms.specs.Reply.Event.{Proposal}
+use Rattle.terms.specs.Reply.Reply.{Foreign as AsForeign, Repeat as AsRepeat, Have as AsHave, Taken as AsTaken}
+use Rattle.questions.specs.Replay.Entry.{Proposed}
+use Rattle.questions.specs.Replies.{reply_of}
+use Rattle.questions.specs.declared.answer.Answer.{Answer}
+use Rattle.member.specs.Answers.{verdict_of, IsFull}
+use Rattle.member.specs.Sealed.{sealed_from}
+use Rattle.member.specs.Words.{disk_of, header_of, saved_of, is_stopped_of}
+use Rattle.member.specs.declared.fault.MemberFault.{MemberFault}
+use Rattle.member.specs.declared.fault.MemberFault.TheVariants as member
+use Rattle.node.specs.Books.{Applies, Refuses, decided_below}
+use Rattle.node.specs.Views.{BookView}
+use Rattle.desk.specs.declared.reply.Reply.{Reply}
+use Rattle.desk.specs.declared.reply.Reply.TheVariants.{Taken, Have, Stopped, Decided, Undecided, Up, BadQuestion, Memory}
+
+-- the reply to a proposal that the member answered so; it calls none foreign or a repeat
+abbrev pub IsReplyFor : Answers → Reply → Type 0
+IsReplyFor AsForeign reply = ⊥
+IsReplyFor AsRepeat reply = ⊥
+IsReplyFor (AsHave bit) reply = reply ≡ Have bit
+IsReplyFor (AsTaken records) reply = reply ≡ Taken
+
+-- the reply where the member refuses
+abbrev pub refusal_reply : MemberFault → Reply
+refusal_reply member.Stopped = Stopped
+refusal_reply member.Device = Stopped
+refusal_reply member.Memory = Memory
+refusal_reply member.JournalFull = Stopped
+refusal_reply member.NoSuchQuestion = BadQuestion
+refusal_reply member.NoSuchMember = Stopped
+
+-- The bit was proposed to the book with this toss, and this is the reply to what the book answered
+abbrev pub Proposes : {D : Type 0} → BookView D → ℕ → Bool → ℕ → Reply → BookView D → Type 0
+Proposes old question bit toss reply new =
+    ((answer : Answer) × Applies old (Proposed question bit toss) answer new × IsReplyFor (reply_of answer) reply)
+    ⊎ ((fault : MemberFault) × Refuses old (Proposal question bit) fault new × (reply ≡ refusal_reply fault))
+
+-- why a proposal is answered by a member that is stopped: it was so before, its disk failed in this call, or its journal
+-- has no room for the records of the proposal
+abbrev pub WhyStopped : {D : Type 0} → (D → ℕ) → BookView D → ℕ → Bool → ℕ → BookView D → Type 0
+WhyStopped failures old question bit toss new =
+    (is_stopped_of old.member ≡ true)
+    ⊎ ((failures (disk_of old.member) < failures (disk_of new.member)) ⊎ IsFull old.member toss (Proposal question bit))
+
+-- the reply for a verdict
+abbrev pub verdict_reply : Option Bool → Reply
+verdict_reply None = Undecided
+verdict_reply (Some bit) = Decided bit
+
+-- the reply to a question's asking: the book's decision, if there is such a question
+abbrev pub asking_reply : {D : Type 0} → BookView D → ℕ → Reply
+asking_reply b question =
+    if nat_lt question (header_of b.member).size.questions then verdict_reply (verdict_of (saved_of b.member) question) else BadQuestion
+
+-- how far the member is
+abbrev pub status_reply : {D : Type 0} → BookView D → Reply
+status_reply b =
+    if is_stopped_of b.member then Stopped
+    else Up (length (sealed_from 0 (saved_of b.member))) (decided_below (header_of b.member).size.questions (saved_of b.member))

@@ -1,0 +1,5 @@
+pub mod Lines
+pub mod Commands
+pub mod Replies
+pub mod Answers
+pub mod Held

@@ -1,0 +1,52 @@
+-- What the lines of clients ask.
+use Rattle.std.specs.Prelude.{ℕ, ◌≡◌, ◌-◌, ◌<◌, ◌≤◌, ◌==◌, Bool, false, true, Option, Some, None, List, [], ◌∷◌, ◌++◌, codes, length, take, slice_get, if◌then◌else◌}
+use Rattle.std.specs.Str.Parse.{IsNumeral, digits_value}
+use Rattle.words.specs.Spaces.{NoSpace}
+use Rattle.desk.specs.declared.line.Line.{Line}
+use Rattle.desk.specs.declared.line.Line.TheVariants.{Propose, Ask, Status}
+
+-- decimal digits alone, one to five of them, that write the number
+pub record IsQuestion (digits : List ℕ) (question : ℕ) : Type 0 where
+  pub digits_are : IsNumeral 10 digits
+  pub few : length digits ≤ 5
+  pub value : digits_value 10 digits ≡ question
+
+-- one word
+pub record IsWord (text : List ℕ) : Type 0 where
+  pub some : 0 < length text
+  pub no_space : NoSpace text
+
+-- the bit that a word is, none where it is another word
+abbrev pub IsBit : List ℕ → Option Bool → Type 0
+IsBit word (Some false) = word ≡ codes "0"
+IsBit word (Some true) = word ≡ codes "1"
+IsBit word None = (word ≡ codes "0" → ⊥) × (word ≡ codes "1" → ⊥)
+
+-- digits that write the question, a space, and the word where the bit should be
+pub record IsProposal (text : List ℕ) (question : ℕ) (bit : Option Bool) : Type 0 where
+  pub digits : List ℕ
+  pub word : List ℕ
+  pub whole : text ≡ digits ++ 32 ∷ word
+  pub question_is : IsQuestion digits question
+  pub word_is : IsWord word
+  pub bit_is : IsBit word bit
+
+-- the line asks this
+abbrev pub Asks : List ℕ → Line → Type 0
+Asks text (Propose question bit) = (rest : List ℕ) × (text ≡ codes "PROPOSE " ++ rest) × IsProposal rest question bit
+Asks text (Ask question) = (digits : List ℕ) × (text ≡ codes "ASK " ++ digits) × IsQuestion digits question
+Asks text Status = text ≡ codes "STATUS"
+
+-- a byte 13
+abbrev pub is_return : Option ℕ → Bool
+is_return None = false
+is_return (Some byte) = byte == 13
+
+-- a line without its last byte where that is a 13
+abbrev pub trimmed : List ℕ → List ℕ
+trimmed line = if is_return (slice_get line (length line - 1)) then take (length line - 1) line else line
+
+-- a line of a client, which has at most 4,096 bytes, asks this
+pub record LineAsks (line : List ℕ) (asked : Line) : Type 0 where
+  pub short : length line ≤ 4096
+  pub asks : Asks (trimmed line) asked

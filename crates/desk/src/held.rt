@@ -1,0 +1,77 @@
+//! The line that is being read.
+
+ghost use Rattle.std.specs.Prelude.{◌≡◌, ◌≤◌, []};
+ghost use Rattle.desk.specs.Held.{taken};
+ghost use Rattle.desk.specs.declared.line.TheConstants.{LONGEST};
+
+use crate::line::LONGEST;
+use std::marker::Model;
+
+/// The bytes of a line so far, at most 4,096. Contracts see these bytes, so that a line is the same in whatever pieces it
+/// came. It takes no memory.
+#[derive(Drop)]
+pub(crate) struct Held {
+    bytes: [u8; LONGEST],
+    length: usize,
+    ghost within: { length ≤ LONGEST },
+}
+
+impl Model for Held {
+    ghost use Rattle.std.specs.Prelude.{ℕ, List, take};
+
+    ghost Value = { List ℕ };
+
+    ghost view = { λ held. take held.length held.bytes };
+}
+
+/// What a byte does to the line.
+#[derive(Clone, Copy, Debug, PartialEq, Eq)]
+pub(crate) enum Step {
+    /// It belongs to the line.
+    More,
+    /// It ends the line.
+    Ends,
+    /// It would be the 4,097th.
+    TooLong,
+}
+
+impl Held {
+    /// No bytes.
+    pub(crate) fn new() -> Held
+        ensures { result ≡ [] }
+    {
+        Held {
+            bytes: [0; LONGEST],
+            length: 0,
+        }
+    }
+
+    /// Takes a byte. The byte 10, and one that is too many, change nothing.
+    pub(crate) fn take(&mut self, byte: u8) -> Step
+        ensures { (result, self.new) ≡ taken self.old byte }
+    {
+        if byte == b'\n' {
+            return Step::Ends;
+        }
+        if self.length >= LONGEST {
+            return Step::TooLong;
+        }
+        self.bytes[self.length] = byte;
+        self.length += 1;
+        Step::More
+    }
+
+    /// The bytes.
+    pub(crate) fn line(&self) -> &[u8]
+        ensures { result.now ≡ self.now }
+    {
+        &self.bytes[..self.length]
+    }
+
+    /// Begins a new line.
+    pub(crate) fn clear(&mut self)
+        ensures { self.new ≡ [] }
+    {
+        self.length = 0;
+    }
+}

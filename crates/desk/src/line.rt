@@ -1,0 +1,151 @@
+//! What a line asks, whether or not there is such a question.
+
+ghost use Rattle.std.specs.Prelude.{ℕ, ◌≡◌, ◌-◌, ◌<◌, ◌↔◌, ◌∷◌, ◌++◌, List, Bool, Option, Some, length, slice_get, IfSome, IsTrue, MatchOption};
+ghost use Rattle.desk.specs.Lines.{IsQuestion, IsWord, IsBit, IsProposal, Asks, LineAsks, is_return, trimmed};
+ghost use Rattle.desk.specs.declared.line.Line.{Line};
+
+use words::{first_space, is, number, split_at_space};
+
+/// The most bytes of a line before the byte 10 that ends it.
+pub(crate) const LONGEST: usize = 4096;
+
+/// What a line asks.
+#[derive(Clone, Copy, Debug, PartialEq, Eq)]
+pub(crate) enum Line {
+    /// A proposal. The bit is none where another word stands in its place.
+    Propose { question: u64, bit: Option<bool> },
+    /// The verdict of a question.
+    Ask { question: u64 },
+    /// How far the member is.
+    Status,
+}
+
+/// The number that one to five decimal digits write.
+fn question(digits: &[u8]) -> Option<u64>
+    ensures some { IfSome result (IsQuestion digits.now) }
+    ensures exact { (question : ℕ) → IsQuestion digits.now question → result ≡ Some question }
+{
+    if digits.len() > 5 {
+        return None;
+    }
+    match number(digits) {
+        Some(question) => Some(question),
+        None => None,
+    }
+}
+
+/// The bit that the word is, none where it is another word.
+fn bit(word: &[u8]) -> Option<bool>
+    ensures is { IsBit word.now result }
+    ensures exact { (bit : Option Bool) → IsBit word.now bit → result ≡ bit }
+{
+    if is(word, "0") {
+        Some(false)
+    } else if is(word, "1") {
+        Some(true)
+    } else {
+        None
+    }
+}
+
+/// Whether the text is one word.
+fn is_word(text: &[u8]) -> bool
+    ensures { IsTrue result ↔ IsWord text.now }
+{
+    if text.is_empty() {
+        return false;
+    }
+    match first_space(text) {
+        Some(_) => false,
+        None => true,
+    }
+}
+
+/// What stands behind these words, if the text begins with them.
+fn behind<'a>(text: &'a [u8], words: &str) -> Option<&'a [u8]>
+    ensures some { IfSome result (λ rest. text.now ≡ words.now ++ rest.now) }
+    ensures exact { (rest : List ℕ) → text.now ≡ words.now ++ rest → MatchOption result ⊥ (λ found. found.now ≡ rest) }
+{
+    let length = words.len();
+    if text.len() < length {
+        return None;
+    }
+    if is(&text[..length], words) {
+        Some(&text[length..])
+    } else {
+        None
+    }
+}
+
+/// The question and the bit that a proposal has.
+fn proposal(text: &[u8]) -> Option<(u64, Option<bool>)>
+    ensures some { IfSome result (λ found. IsProposal text.now found.0 found.1) }
+    ensures exact { (question : ℕ) (bit : Option Bool) → IsProposal text.now question bit → result ≡ Some (question, bit) }
+{
+    let Some((digits, word)) = split_at_space(text) else {
+        return None;
+    };
+    let Some(question) = question(digits) else {
+        return None;
+    };
+    if is_word(word) {
+        Some((question, bit(word)))
+    } else {
+        None
+    }
+}
+
+/// What the text asks.
+fn asked(text: &[u8]) -> Option<Line>
+    ensures some { IfSome result (Asks text.now) }
+    ensures exact { (asked : Line) → Asks text.now asked → result ≡ Some asked }
+{
+    if is(text, "STATUS") {
+        return Some(Line::Status);
+    }
+    match behind(text, "ASK ") {
+        Some(digits) => match question(digits) {
+            Some(question) => Some(Line::Ask { question }),
+            None => None,
+        },
+        None => match behind(text, "PROPOSE ") {
+            Some(rest) => match proposal(rest) {
+                Some((question, bit)) => Some(Line::Propose { question, bit }),
+                None => None,
+            },
+            None => None,
+        },
+    }
+}
+
+/// Whether the line ends in a byte 13.
+fn ends_in_return(line: &[u8]) -> bool
+    ensures { result ≡ is_return (slice_get line.now (length line.now - 1)) }
+{
+    match line.last() {
+        Some(byte) => *byte == b'\r',
+        None => false,
+    }
+}
+
+/// The line without its last byte where that is a 13.
+fn trimmed(line: &[u8]) -> &[u8]
+    ensures { result.now ≡ trimmed line.now }
+{
+    if ends_in_return(line) {
+        &line[..line.len().saturating_sub(1)]
+    } else {
+        line
+    }
+}
+
+/// What a line of a client asks.
+pub(crate) fn read(line: &[u8]) -> Option<Line>
+    ensures some { IfSome result (LineAsks line.now) }
+    ensures exact { (asked : Line) → LineAsks line.now asked → result ≡ Some asked }
+{
+    if line.len() > LONGEST {
+        return None;
+    }
+    asked(trimmed(line))
+}

@@ -1,0 +1,60 @@
+//! The replies to lines.
+
+use std::fmt;
+
+/// The reply to a line, one variant for each. Its text is the reply's line without the byte 10 at its end.
+#[derive(Clone, Copy, Debug, PartialEq, Eq)]
+pub enum Reply {
+    /// The proposal was taken.
+    Taken,
+    /// A bit was proposed before: this one, which stands.
+    Have(bool),
+    /// The member is stopped.
+    Stopped,
+    /// The question was decided for this bit.
+    Decided(bool),
+    /// The question isn't decided.
+    Undecided,
+    /// The member goes on.
+    Up {
+        /// How many statements are in its outbox.
+        statements: u64,
+        /// How many questions it has decided.
+        decided: u16,
+    },
+    /// 1: there is no such line.
+    BadLine,
+    /// 2: there is no such question.
+    BadQuestion,
+    /// 3: it isn't a bit.
+    BadBit,
+    /// 4: memory was refused in this call. Where it was refused to the member, that is stopped from now on.
+    Memory,
+}
+
+impl fmt::Display for Reply {
+    ghost use Rattle.std.specs.Prelude.{Some};
+    ghost use Rattle.desk.specs.Replies.{reply_text};
+
+    ghost output = { λ reply. Some (reply_text reply) };
+
+    fn fmt<W: fmt::Write>(&self, f: &mut fmt::Formatter<W>) -> fmt::Result {
+        match *self {
+            Reply::Taken => f.write_str("OK"),
+            Reply::Have(false) => f.write_str("HAVE 0"),
+            Reply::Have(true) => f.write_str("HAVE 1"),
+            Reply::Stopped => f.write_str("STOPPED"),
+            Reply::Decided(false) => f.write_str("DECIDED 0"),
+            Reply::Decided(true) => f.write_str("DECIDED 1"),
+            Reply::Undecided => f.write_str("UNDECIDED"),
+            Reply::Up {
+                statements,
+                decided,
+            } => write!(f, "UP {statements} {decided}"),
+            Reply::BadLine => f.write_str("ERR 1 line"),
+            Reply::BadQuestion => f.write_str("ERR 2 question"),
+            Reply::BadBit => f.write_str("ERR 3 bit"),
+            Reply::Memory => f.write_str("ERR 4 memory"),
+        }
+    }
+}

@@ -1,0 +1,7 @@
+use Rattle.std.proofs.Common.{rules, ◌∙◌}
+use Rattle.disk.proofs.Placing.{interrupted}
+use Rattle.disk.proofs.whole.length_of.Goals as goal
+
+pub loop-preserved : goal.loop-preserved
+loop-preserved g c =
+    interrupted c.len-done.result c.is_interrupted.result c.is_interrupted.ensures (search (rules, c.if-not-is_interrupted.false)) c.len-done.ensures.err ∙ c.loop.invariant

@@ -1,0 +1,113 @@
+//! An open file and the folder that has its name.
+ghost use Rattle.std.specs.Prelude.{◌≡◌, ◌↔◌, true, false, Ok, IfOk, IsOk, OnOk, OnErr};
+ghost use Rattle.disk.specs.Model.{HasCause};
+ghost use Rattle.disk.specs.System.{has_told, has_read, has_written, has_synced, WroteSome};
+
+use crate::DeviceFault;
+use crate::failures::Failures;
+use crate::system::SystemFile;
+use crate::whole::{length_of, read_whole, settle, write_whole};
+use std::io;
+
+/// An open file, and the folder in which its name stands. Each call that fails is counted.
+#[derive(Drop)]
+pub(crate) struct NamedFile<F: SystemFile> {
+    pub(crate) file: F,
+    pub(crate) folder: F,
+    /// Whether a sync has put the folder on the disk, and so the file's name.
+    pub(crate) named: bool,
+    pub(crate) failures: Failures,
+}
+
+// The answer to a call of the system.
+fn answer<T: Drop>(failures: &mut Failures, done: io::Result<T>) -> Result<T, DeviceFault>
+    ensures ok { IfOk result (λ value. done ≡ Ok value) }
+    ensures err { OnErr result (OnErr done (Unit {0})) }
+    ensures cause { HasCause failures.old.count failures.new.count result }
+{
+    match done {
+        Ok(value) => Ok(value),
+        Err(_) => {
+            failures.raise();
+            Err(DeviceFault)
+        }
+    }
+}
+
+impl<F: SystemFile> NamedFile<F> {
+    /// A file that was just opened, with its folder.
+    pub(crate) fn new(file: F, folder: F) -> NamedFile<F>
+        ensures file { result.file ≡ file }
+        ensures folder { result.folder ≡ folder }
+        ensures unnamed { result.named ≡ false }
+        ensures failures { result.failures.count ≡ 0 }
+    {
+        NamedFile {
+            file,
+            folder,
+            named: false,
+            failures: Failures::none(),
+        }
+    }
+
+    /// How many bytes the file has.
+    pub(crate) fn len(&mut self) -> Result<usize, DeviceFault>
+        ensures told { IfOk result (λ n. F.done self.new.file ≡ has_told (F.done self.old.file) n) }
+        ensures folder { (self.new.folder ≡ self.old.folder) × (self.new.named ≡ self.old.named) }
+        ensures cause { HasCause self.old.failures.count self.new.failures.count result }
+    {
+        let length = length_of(&mut self.file);
+        answer(&mut self.failures, length)
+    }
+
+    /// Fills the buffer with the bytes from a place on.
+    pub(crate) fn read_at(&mut self, at: usize, buf: &mut [u8]) -> Result<(), DeviceFault>
+        ensures got { OnOk result (F.done self.new.file ≡ has_read (F.done self.old.file) at buf.new) }
+        ensures folder { (self.new.folder ≡ self.old.folder) × (self.new.named ≡ self.old.named) }
+        ensures cause { HasCause self.old.failures.count self.new.failures.count result }
+    {
+        let read = read_whole(&mut self.file, at, buf);
+        answer(&mut self.failures, read)
+    }
+
+    /// Writes the bytes from a place on. After a fault a beginning of them was written.
+    pub(crate) fn write_at(&mut self, at: usize, bytes: &[u8]) -> Result<(), DeviceFault>
+        ensures whole { OnOk result (F.done self.new.file ≡ has_written (F.done self.old.file) at bytes.now) }
+        ensures part { OnErr result (WroteSome (F.done self.old.file) (F.done self.new.file) at bytes.now) }
+        ensures folder { (self.new.folder ≡ self.old.folder) × (self.new.named ≡ self.old.named) }
+        ensures cause { HasCause self.old.failures.count self.new.failures.count result }
+    {
+        let written = write_whole(&mut self.file, at, bytes);
+        answer(&mut self.failures, written)
+    }
+
+    /// Puts the file on the disk, and the folder too until that has once succeeded.
+    pub(crate) fn sync(&mut self) -> Result<(), DeviceFault>
+        ensures file { OnOk result (F.done self.new.file ≡ has_synced (F.done self.old.file)) }
+        ensures folder { OnOk result (self.old.named ≡ false → F.done self.new.folder ≡ has_synced (F.done self.old.folder)) }
+        ensures named { OnOk result (self.new.named ≡ true) }
+        ensures unnamed { OnErr result (self.new.named ≡ self.old.named) }
+        ensures cause { HasCause self.old.failures.count self.new.failures.count result }
+    {
+        let settled = settle_both(&mut self.file, &mut self.folder, self.named);
+        match answer(&mut self.failures, settled) {
+            Ok(()) => {
+                self.named = true;
+                Ok(())
+            }
+            Err(fault) => Err(fault),
+        }
+    }
+}
+
+// Puts the file on the disk, and the folder where it isn't there yet.
+fn settle_both<F: SystemFile>(file: &mut F, folder: &mut F, named: bool) -> io::Result<()>
+    ensures file { OnOk result (F.done file.new ≡ has_synced (F.done file.old)) }
+    ensures folder { OnOk result (named ≡ false → F.done folder.new ≡ has_synced (F.done folder.old)) }
+{
+    settle(file)?;
+    if named {
+        return Ok(());
+    }
+    settle(folder)
+}

@@ -1,0 +1,254 @@
+//! What `hear` keeps from line to line, and what it answers to each.
+
+ghost use Rattle.std.specs.Prelude.{ℕ, ◌≡◌, ◌<◌, ◌++◌, OnOk, IfOk, IfErr, List, length, codes, true, false};
+ghost use Rattle.std.specs.Io.KnownBytes.{Appends};
+ghost use Rattle.std.specs.List.{flat_map, AllByRecursion};
+ghost use Rattle.terms.specs.declared.Size.{Size as SizeOf};
+ghost use Rattle.terms.specs.Bounds.{IsSize, FitsStep};
+ghost use Rattle.terms.specs.Past.{Past, no_past};
+ghost use Rattle.terms.specs.Answer.{said_if, after_records};
+ghost use Rattle.terms.specs.Fit.{AllFit, FitsIf};
+ghost use Rattle.wire.specs.Texts.{text as text_of, Fits};
+ghost use Rattle.wire.specs.Reading.{End};
+ghost use Rattle.hex.specs.Hex.{encode_lower};
+ghost use Rattle.rbc.specs.Words.{size_by};
+ghost use Rattle.rbc.specs.Stands.{Stands};
+ghost use Rattle.hearing.specs.InTurn.{InTurn};
+ghost use Rattle.words.specs.Lines.{line};
+ghost use Rattle.hearing.specs.Replies.{frame_line, name_of, broken_line, AnswersStatement, AnswersMessage, AnswersPiece, AnswersLine, Hearing, no_hearing};
+ghost use Rattle.hearing.specs.Pieces.{IsNoPiece};
+ghost use Rattle.hearing.specs.Faults.{IsOfStream};
+ghost use Rattle.hearing.specs.Sessions.{HasFeeders, HasBroadcasts, AreFed, AreStanding};
+
+use crate::fault::HearFault;
+use crate::piece::Piece;
+use rbc::{Broadcasts, Heard};
+use std::alloc::Global;
+use std::io::Write;
+use terms::{Kind, Memory, Place, Size, Statement, Value};
+use wire::{Fed, Feeder, Message, WireFault, encode};
+
+/// Adds the frame in lower case hexadecimal digits, and the end of a line.
+fn show_frame(alloc: Global, message: &Message, text: &mut Vec<u8>) -> Result<(), Memory>
+    ensures { OnOk result (text.new.items ≡ text.old.items ++ line (encode_lower (text_of message.now))) }
+{
+    let mut frame = Vec::new(alloc);
+    encode(message, &mut frame)?;
+    let digits = hex::encode(alloc, frame.as_slice())?;
+    text.extend_from_slice(digits.as_bytes())?;
+    text.push(b'\n')?;
+    Ok(())
+}
+
+/// Says what is due of that kind, if anything is, and adds its frame.
+fn say(
+    alloc: Global,
+    broadcasts: &mut Broadcasts,
+    kind: Kind,
+    place: Place,
+    due: Option<Value>,
+    text: &mut Vec<u8>,
+) -> Result<(), Memory>
+    requires { place.origin < (size_by broadcasts.old).n }
+    ensures text { OnOk result (FitsIf place due → text.new.items ≡ text.old.items ++ flat_map frame_line (said_if kind place due)) }
+    ensures stands { OnOk result (FitsIf place due → (past : Past) → Stands broadcasts.old past → place.question ≡ past.question →
+        Stands broadcasts.new (after_records past (said_if kind place due))) }
+    ensures size { size_by broadcasts.new ≡ size_by broadcasts.old }
+{
+    let Some(value) = due else {
+        return Ok(());
+    };
+    match Statement::new(kind, place, value) {
+        None => Ok(()),
+        Some(statement) => {
+            show_frame(alloc, &Message::Statement(statement), text)?;
+            broadcasts.say(&statement)
+        }
+    }
+}
+
+/// Hears the statement, and adds a line for how it was taken and one for each frame that is then due.
+fn hear(
+    alloc: Global,
+    broadcasts: &mut Broadcasts,
+    from: u8,
+    statement: &Statement,
+    text: &mut Vec<u8>,
+) -> Result<(), Memory>
+    requires from { from < (size_by broadcasts.old).n }
+    requires origin { statement.now.place.origin < (size_by broadcasts.old).n }
+    ensures answers { OnOk result ((past : Past) → Stands broadcasts.old past → statement.now.place.question ≡ past.question → AllFit past →
+        FitsStep statement.now.place.step statement.now.value →
+        (after : Past) × (others : List ℕ) × AnswersStatement from past statement.now after others
+        × Stands broadcasts.new after × (text.new.items ≡ text.old.items ++ others)) }
+    ensures size { size_by broadcasts.new ≡ size_by broadcasts.old }
+{
+    match broadcasts.hear(from, statement)? {
+        Heard::Foreign => text.extend_from_slice(b"foreign\n")?,
+        Heard::Repeat => text.extend_from_slice(b"repeat\n")?,
+        Heard::News => {
+            text.extend_from_slice(b"news\n")?;
+            let place = statement.place();
+            let due = broadcasts.due(place);
+            say(alloc, broadcasts, Kind::Echo, place, due.echo, text)?;
+            say(alloc, broadcasts, Kind::Ready, place, due.ready, text)?;
+        }
+    }
+    Ok(())
+}
+
+/// Hears the sender's message, and adds the answer. One that is no statement has none.
+fn hear_message(
+    alloc: Global,
+    size: Size,
+    broadcasts: &mut Vec<Broadcasts>,
+    from: u8,
+    message: &Message,
+    text: &mut Vec<u8>,
+) -> Result<(), Memory>
+    requires has { HasBroadcasts size broadcasts.old.items }
+    requires from { from < size.n }
+    requires fits { Fits size message.now }
+    ensures answers { OnOk result ((h : Hearing) → AreStanding size broadcasts.old.items h →
+        (after : Hearing) × (others : List ℕ) × AnswersMessage from h message.now after others
+        × AreStanding size broadcasts.new.items after × (text.new.items ≡ text.old.items ++ others)) }
+    ensures has { OnOk result (HasBroadcasts size broadcasts.new.items) }
+{
+    match *message {
+        Message::Statement(statement) => {
+            let question = usize::from(statement.place().question());
+            hear(alloc, &mut broadcasts[question], from, &statement, text)?;
+            Ok(())
+        }
+        Message::Idle | Message::Hello { .. } | Message::Welcome { .. } => Ok(()),
+    }
+}
+
+/// Hears the sender's messages in turn, and adds the answers.
+fn hear_all(
+    alloc: Global,
+    size: Size,
+    broadcasts: &mut Vec<Broadcasts>,
+    from: u8,
+    messages: &[Message],
+    text: &mut Vec<u8>,
+) -> Result<(), Memory>
+    requires has { HasBroadcasts size broadcasts.old.items }
+    requires from { from < size.n }
+    requires fits { AllByRecursion (Fits size) messages.now }
+    ensures answers { OnOk result ((h : Hearing) → AreStanding size broadcasts.old.items h →
+        (after : Hearing) × (others : List ℕ) × InTurn (AnswersMessage from) h messages.now after others
+        × AreStanding size broadcasts.new.items after × (text.new.items ≡ text.old.items ++ others)) }
+    ensures has { OnOk result (HasBroadcasts size broadcasts.new.items) }
+{
+    for message in messages {
+        hear_message(alloc, size, broadcasts, from, message, text)?;
+    }
+    Ok(())
+}
+
+/// Adds the line that names the fault.
+fn show_fault(fault: WireFault, text: &mut Vec<u8>) -> Result<(), Memory>
+    ensures { OnOk result (text.new.items ≡ text.old.items ++ line (codes "broken " ++ name_of fault)) }
+{
+    let name: &str = match fault {
+        WireFault::BadLength => "BadLength",
+        WireFault::BadType => "BadType",
+        WireFault::BadKind => "BadKind",
+        WireFault::BadPlace => "BadPlace",
+        WireFault::BadValue => "BadValue",
+        WireFault::BadHello => "BadHello",
+    };
+    text.extend_from_slice(b"broken ")?;
+    text.extend_from_slice(name.as_bytes())?;
+    text.push(b'\n')?;
+    Ok(())
+}
+
+/// A feeder for each sender, and the broadcasts of each question.
+#[derive(Drop)]
+pub struct Session {
+    alloc: Global,
+    size: Size,
+    feeders: Vec<Feeder>,
+    broadcasts: Vec<Broadcasts>,
+}
+
+impl Session {
+    ghost use Rattle.hearing.specs.Keeping.{IsSound, IsAt};
+
+    /// The session of member `me`, at the beginning of all streams.
+    pub fn new(alloc: Global, size: Size, me: u8) -> Result<Session, Memory>
+        ensures sound { IfOk result (IsSound size) }
+        ensures start { IfOk result (λ session. IsAt session (no_hearing size me)) }
+    {
+        let mut feeders = Vec::new(alloc);
+        for _ in 0..size.n() {
+            feeders.push(Feeder::new(size))?;
+        }
+        let mut broadcasts = Vec::new(alloc);
+        for _ in 0..size.questions() {
+            broadcasts.push(Broadcasts::new(alloc, size, me))?;
+        }
+        Ok(Session {
+            alloc,
+            size,
+            feeders,
+            broadcasts,
+        })
+    }
+
+    /// Takes the next piece of the sender's stream, and adds the answers to the text.
+    pub fn take(&mut self, sender: u8, piece: &[u8], text: &mut Vec<u8>) -> Result<(), Memory>
+        requires sound { IsSound self.old.size self.old }
+        requires sender { sender < self.old.size.n }
+        ensures answers { OnOk result ((h : Hearing) → IsAt self.old h →
+            (after : Hearing) × (others : List ℕ) × AnswersPiece self.old.size sender h piece.now after others
+            × IsAt self.new after × (text.new.items ≡ text.old.items ++ others)) }
+        ensures sound { OnOk result (IsSound self.old.size self.new) }
+    {
+        let mut messages = Vec::new(self.alloc);
+        let fed = self.feeders[usize::from(sender)].feed(piece, &mut messages)?;
+        hear_all(
+            self.alloc,
+            self.size,
+            &mut self.broadcasts,
+            sender,
+            &messages,
+            text,
+        )?;
+        match fed {
+            Fed::More => Ok(()),
+            Fed::Broken(fault) => {
+                show_fault(fault, text)?;
+                Ok(())
+            }
+        }
+    }
+
+    /// Answers a line of the input: a piece of a sender's stream is taken, and what it is answered is written. False
+    /// where the line isn't one: then nothing changed and nothing was written.
+    ///
+    /// [`HearFault::Stream`] and [`HearFault::Memory`]: a write or a growth failed, and the session is not to be used again.
+    pub fn answer<W: Write>(&mut self, line: &[u8], output: &mut W) -> Result<bool, HearFault>
+        requires { IsSound self.old.size self.old }
+        ensures answers { result ≡ Ok true → (h : Hearing) → IsAt self.old h →
+            (after : Hearing) × (text : List ℕ) × AnswersLine self.old.size h line.now after text
+            × IsAt self.new after × Appends (W.contents output.old) (W.contents output.new) text }
+        ensures sound { result ≡ Ok true → IsSound self.old.size self.new }
+        ensures no_piece { result ≡ Ok false → IsNoPiece self.old.size.n line.now }
+        ensures nothing { result ≡ Ok false → output.new ≡ output.old }
+        ensures fault { IfErr result IsOfStream }
+    {
+        match Piece::parse(self.alloc, self.size.n(), line)? {
+            None => Ok(false),
+            Some(piece) => {
+                let mut text = Vec::new(self.alloc);
+                self.take(piece.sender, &piece.bytes, &mut text)?;
+                output.write_all(&text)?;
+                output.flush()?;
+                Ok(true)
+            }
+        }
+    }
+}

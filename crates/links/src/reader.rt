@@ -1,0 +1,227 @@
+//! The reader of a link.
+ghost use Rattle.std.specs.Prelude.{◌≡◌, ◌⊎◌, [], ◌∷◌, List, ℕ, true, false, IfOk, IfErr, IsErrOf, OnOk, OnErr};
+ghost use Rattle.wire.specs.Reading.{AreBytes};
+ghost use Rattle.links.specs.Handing.{in_order, all_in_place, HandsInSome, HandsInFewer, HandsInAll, ReadsLink};
+ghost use Rattle.links.specs.Turns.{Waits, ReadsOn, ReadsOff};
+
+use crate::ends::LinkEnd;
+use crate::sending::write_message;
+use crate::stream::Stream;
+use disk::Disk;
+use member::MemberFault;
+use node::{Hub, Naming, Seat};
+use questions::Answer;
+use rounds::Tosser;
+use std::alloc::Global;
+use std::sync::Wait;
+use terms::Statement;
+use wire::{Fed, Feeder, Message};
+
+/// The most bytes of a read.
+const PIECE: usize = 512;
+
+/// A moment of a reader: round each statement that it hands in, while it doesn't hold the book's lock.
+#[derive(Clone, Copy, Debug, PartialEq, Eq)]
+pub enum Point {
+    /// Before a statement of that peer, a number below n, is handed in.
+    Before(u8),
+    /// After a statement of that peer was handed in or refused, and before the bell rings for it.
+    After(u8),
+}
+
+/// What a reader passes at each point. It may hold the reader up in a test, and returns at once in a program.
+pub trait Gate {
+    /// Passes a point.
+    fn pass(&self, point: Point);
+}
+
+/// A gate that holds nobody up.
+#[derive(Clone, Copy, Debug)]
+pub struct Open;
+
+impl Gate for Open {
+    fn pass(&self, _point: Point) {}
+}
+
+// Hands in one statement. Where it is answered with records the bell rings for them.
+fn hand_in_one<D: Disk, J: Naming, G: Gate, T: Tosser, R: Wait>(
+    rt: &R,
+    hub: &Hub<D, J>,
+    seat: &mut Seat,
+    statement: &Statement,
+    gate: &G,
+    tosser: &mut T,
+) -> Result<(), LinkEnd>
+    ensures ok { OnOk result (HandsInAll seat.old seat.new (statement.now ∷ [])) }
+    ensures err { OnErr result (seat.new ≡ seat.old) }
+    ensures only { IfErr result (λ why. (why ≡ LinkEnd.Stopped) ⊎ (why ≡ LinkEnd.Memory)) }
+{
+    gate.pass(Point::Before(seat.peer()));
+    let toss = tosser.toss();
+    let answer = hub.lock(rt).apply(seat, statement, toss);
+    gate.pass(Point::After(seat.peer()));
+    match answer {
+        Ok(Answer::Taken(records)) => {
+            if !records.is_empty() {
+                hub.ring();
+            }
+            Ok(())
+        }
+        Ok(_) => Ok(()),
+        Err(MemberFault::Memory) => Err(LinkEnd::Memory),
+        Err(_) => Err(LinkEnd::Stopped),
+    }
+}
+
+// Hands in the statements of these messages, up to one that is out of place.
+fn hand_in<D: Disk, J: Naming, G: Gate, T: Tosser, R: Wait>(
+    rt: &R,
+    hub: &Hub<D, J>,
+    seat: &mut Seat,
+    messages: &[Message],
+    gate: &G,
+    tosser: &mut T,
+) -> Result<(), LinkEnd>
+    ensures ok { OnOk result (HandsInAll seat.old seat.new (in_order messages.now)) }
+    ensures in_place { OnOk result (all_in_place messages.now ≡ true) }
+    ensures some { OnErr result (HandsInSome seat.old seat.new (in_order messages.now)) }
+    ensures refused { IsErrOf result LinkEnd.Stopped → HandsInFewer seat.old seat.new (in_order messages.now) }
+    ensures order { IsErrOf result LinkEnd.OutOfOrder → HandsInAll seat.old seat.new (in_order messages.now) }
+    ensures out_of_order { IsErrOf result LinkEnd.OutOfOrder → all_in_place messages.now ≡ false }
+    ensures only { IfErr result (λ why.
+        (why ≡ LinkEnd.OutOfOrder) ⊎ ((why ≡ LinkEnd.Stopped) ⊎ (why ≡ LinkEnd.Memory))) }
+{
+    let _peer = seat.peer();
+    for message in messages {
+        match message {
+            Message::Statement(statement) => {
+                match hand_in_one(rt, hub, seat, statement, gate, tosser) {
+                    Ok(()) => {}
+                    Err(why) => return Err(why),
+                }
+            }
+            Message::Idle => {}
+            Message::Hello {
+                cluster: _,
+                size: _,
+                from: _,
+                to: _,
+            } => return Err(LinkEnd::OutOfOrder),
+            Message::Welcome { next: _ } => return Err(LinkEnd::OutOfOrder),
+        }
+    }
+    Ok(())
+}
+
+// Each of them is below 256. It does nothing.
+fn are_bytes(bytes: &[u8])
+    ensures { AreBytes bytes.now }
+{}
+
+// Reads a piece, and hands in what it gives: `on` where the session goes on, `off` where it ended.
+fn turn<D: Disk, J: Naming, S: Stream, G: Gate, T: Tosser, R: Wait>(
+    rt: &R,
+    hub: &Hub<D, J>,
+    seat: &mut Seat,
+    stream: &mut S,
+    feeder: &mut Feeder,
+    messages: &mut Vec<Message>,
+    gate: &G,
+    tosser: &mut T,
+) -> Result<(), LinkEnd>
+    ensures on { (rest : List ℕ) → Waits feeder.old rest →
+        OnOk result (ReadsOn (S.told stream.old) (S.told stream.new) feeder.old.size rest feeder.new seat.old seat.new) }
+    ensures off { (rest : List ℕ) → Waits feeder.old rest →
+        IfErr result (λ why. ReadsOff (S.told stream.old) (S.told stream.new) feeder.old.size rest seat.old seat.new why) }
+{
+    let _peer = seat.peer();
+    let mut piece = [0u8; PIECE];
+    let count = match stream.read(&mut piece) {
+        Ok(0) => return Err(LinkEnd::Ended),
+        Ok(count) => count,
+        Err(_) => return Err(LinkEnd::Lost),
+    };
+    are_bytes(&piece[..count]);
+    messages.clear();
+    let fed = match feeder.feed(&piece[..count], messages) {
+        Ok(fed) => fed,
+        Err(_) => return Err(LinkEnd::Memory),
+    };
+    match hand_in(rt, hub, seat, messages, gate, tosser) {
+        Ok(()) => match fed {
+            Fed::More => Ok(()),
+            Fed::Broken(fault) => Err(LinkEnd::Broken(fault)),
+        },
+        Err(why) => Err(why),
+    }
+}
+
+// A session but for the closing of its stream.
+fn read_session<D: Disk, J: Naming, S: Stream, G: Gate, T: Tosser, R: Wait>(
+    rt: &R,
+    alloc: Global,
+    hub: &Hub<D, J>,
+    mut seat: Seat,
+    stream: &mut S,
+    gate: &G,
+    tosser: &mut T,
+) -> (Seat, LinkEnd)
+    ensures { ReadsLink hub.now.size (S.told stream.old) (S.told stream.new) seat result.0 result.1 }
+{
+    let _peer = seat.peer();
+    let size = hub.header().size();
+    let _members = size.n();
+    let welcome = Message::Welcome { next: seat.next() };
+    match write_message(alloc, stream, &welcome) {
+        Ok(()) => {}
+        Err(why) => return (seat, why),
+    }
+    let mut feeder = Feeder::new(size);
+    let mut messages = Vec::new(alloc);
+    for _ in rt.forever() {
+        if let Err(why) = turn(
+            rt,
+            hub,
+            &mut seat,
+            stream,
+            &mut feeder,
+            &mut messages,
+            gate,
+            tosser,
+        ) {
+            return (seat, why);
+        }
+    }
+    unreachable!()
+}
+
+/// A session of the link from the seat's peer, whose Hello was read: writes the Welcome with the seat's next, and then
+/// hands in each statement that the stream gives, until the session ends. It gives the seat back, and the stream is
+/// closed.
+///
+/// A draw of the tosser goes with each statement. The hub's bell rings where a statement was answered with records.
+///
+/// It ends:
+///
+/// - `Ended`, `Lost`: the input ended, also within a frame; a read or a write failed.
+/// - `Broken`, `OutOfOrder`: behind what was handed in come bytes that begin no frame; a Hello or a Welcome.
+/// - `Stopped`: the member, which is stopped, refused a statement that was read. It and what was read behind it weren't
+///   handed in.
+/// - `Memory`: there was no memory, and a beginning of what was read was handed in.
+pub fn read_link<D: Disk, J: Naming, S: Stream, G: Gate, T: Tosser, R: Wait>(
+    rt: &R,
+    alloc: Global,
+    hub: &Hub<D, J>,
+    seat: Seat,
+    stream: &mut S,
+    gate: &G,
+    tosser: &mut T,
+) -> (Seat, LinkEnd)
+    // It hands in what it read.
+    ensures reads { ReadsLink hub.now.size (S.told stream.old) (S.told stream.new) seat result.0 result.1 }
+    ensures closed { S.is_closed stream.new ≡ true }
+{
+    let (seat, why) = read_session(rt, alloc, hub, seat, stream, gate, tosser);
+    stream.close();
+    (seat, why)
+}

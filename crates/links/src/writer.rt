@@ -1,0 +1,231 @@
+//! The writer of a link.
+ghost use Rattle.std.specs.Prelude.{◌≡◌, ◌+◌, ◌<◌, ◌^◌, true, length, vec_len, IfOk, IfErr};
+ghost use Rattle.wire.specs.Texts.{text};
+ghost use Rattle.wire.specs.declared.message.Message.TheVariants as message;
+ghost use Rattle.node.specs.Books.{is_numbered};
+ghost use Rattle.links.specs.Told.{has_read};
+ghost use Rattle.links.specs.Pulls.{IsEndOrMemory};
+ghost use Rattle.links.specs.Writing.{WritesTokens, WritesOn, Unwelcomed, WritesLink, hello_to};
+
+use crate::ends::LinkEnd;
+use crate::first::read_first;
+use crate::reader::Gate;
+use crate::sending::{send, write_message};
+use crate::stream::Stream;
+use disk::Disk;
+use member::Sealed;
+use node::{Book, Hub, Naming};
+use std::alloc::Global;
+use std::sync::Wait;
+use terms::{Header, Size};
+use wire::Message;
+
+/// The most statements that are written at a time.
+const PULL: usize = 64;
+
+/// The length of a Welcome.
+const WELCOME: usize = 11;
+
+// The next of the Welcome that the stream gives.
+fn read_welcome<S: Stream>(alloc: Global, stream: &mut S, size: Size) -> Result<u64, LinkEnd>
+    ensures ok { IfOk result (λ next. S.told stream.new ≡ has_read (S.told stream.old) (text (message.Welcome next))) }
+    ensures err { IfErr result (λ why. Unwelcomed size (S.told stream.old) (S.told stream.new) why) }
+{
+    match read_first(alloc, stream, size, WELCOME) {
+        Ok(Message::Welcome { next }) => Ok(next),
+        Ok(Message::Idle) => Err(LinkEnd::OutOfOrder),
+        Ok(
+            Message::Hello {
+                cluster: _,
+                size: _,
+                from: _,
+                to: _,
+            },
+        ) => Err(LinkEnd::OutOfOrder),
+        Ok(Message::Statement(_)) => Err(LinkEnd::OutOfOrder),
+        Err(why) => Err(why),
+    }
+}
+
+// The Hello of the header's member to another.
+fn hello(header: &Header, peer: u8) -> Message
+    ensures { result ≡ hello_to header.now peer }
+{
+    Message::Hello {
+        cluster: header.cluster(),
+        size: header.size(),
+        from: header.me(),
+        to: peer,
+    }
+}
+
+// The statements of the outbox from a number on, none where there are none yet.
+fn pull<D: Disk, J: Naming>(book: &Book<D, J>, from: u64) -> Result<Vec<Sealed>, LinkEnd>
+    ensures numbered { IfOk result (λ v. is_numbered from v.items ≡ true) }
+    ensures fits { IfOk result (λ v. 0 < vec_len v → from + vec_len v < 2 ^ 64) }
+    ensures only { IfErr result IsEndOrMemory }
+{
+    match book.pull(from, PULL) {
+        Ok(items) => Ok(items),
+        Err(_) => Err(LinkEnd::Memory),
+    }
+}
+
+// What is new in the outbox from a number on, once the bell rang for it; nothing where it rang for nothing.
+fn next_items<D: Disk, J: Naming, R: Wait>(
+    rt: &R,
+    hub: &Hub<D, J>,
+    from: u64,
+) -> Result<Vec<Sealed>, LinkEnd>
+    ensures numbered { IfOk result (λ v. is_numbered from v.items ≡ true) }
+    ensures fits { IfOk result (λ v. 0 < vec_len v → from + vec_len v < 2 ^ 64) }
+    ensures only { IfErr result IsEndOrMemory }
+{
+    let book = hub.lock(rt);
+    match pull(&book, from) {
+        Err(why) => return Err(why),
+        Ok(items) => {
+            if !items.is_empty() {
+                return Ok(items);
+            }
+        }
+    }
+    if hub.is_shut() {
+        return Err(LinkEnd::Ended);
+    }
+    let book = hub.wait(rt, book);
+    match pull(&book, from) {
+        Err(why) => Err(why),
+        Ok(items) => {
+            if items.is_empty() && hub.is_shut() {
+                return Err(LinkEnd::Ended);
+            }
+            Ok(items)
+        }
+    }
+}
+
+// Writes an Idle frame.
+fn write_idle<S: Stream>(alloc: Global, stream: &mut S, from: u64) -> Result<(), LinkEnd>
+    ensures ok { IfOk result (λ _. WritesTokens (S.told stream.old) (S.told stream.new) from from) }
+    ensures err { IfErr result (λ why. WritesOn (S.told stream.old) (S.told stream.new) from why) }
+{
+    match write_message(alloc, stream, &Message::Idle) {
+        Ok(()) => Ok(()),
+        Err(why) => Err(why),
+    }
+}
+
+// Writes statements with numbers from this one on.
+fn write_items<S: Stream>(
+    alloc: Global,
+    stream: &mut S,
+    from: u64,
+    items: &[Sealed],
+) -> Result<u64, LinkEnd>
+    requires numbered { is_numbered from items.now ≡ true }
+    requires fits { from + length items.now < 2 ^ 64 }
+    ensures ok { IfOk result (λ next. WritesTokens (S.told stream.old) (S.told stream.new) from next) }
+    ensures err { IfErr result (λ why. WritesOn (S.told stream.old) (S.told stream.new) from why) }
+{
+    match send(alloc, stream, items) {
+        Ok(()) => Ok(from + items.len() as u64),
+        Err(why) => Err(why),
+    }
+}
+
+// Writes what is new, or one Idle frame.
+fn write_some<D: Disk, J: Naming, S: Stream, R: Wait>(
+    rt: &R,
+    alloc: Global,
+    hub: &Hub<D, J>,
+    stream: &mut S,
+    from: u64,
+) -> Result<u64, LinkEnd>
+    ensures ok { IfOk result (λ next. WritesTokens (S.told stream.old) (S.told stream.new) from next) }
+    ensures err { IfErr result (λ why. WritesOn (S.told stream.old) (S.told stream.new) from why) }
+{
+    match next_items(rt, hub, from) {
+        Err(why) => Err(why),
+        Ok(items) => {
+            if items.is_empty() {
+                return match write_idle(alloc, stream, from) {
+                    Ok(()) => Ok(from),
+                    Err(why) => Err(why),
+                };
+            }
+            write_items(alloc, stream, from, items.as_slice())
+        }
+    }
+}
+
+// Writes from a number on until the session ends.
+fn write_on<D: Disk, J: Naming, S: Stream, R: Wait>(
+    rt: &R,
+    alloc: Global,
+    hub: &Hub<D, J>,
+    stream: &mut S,
+    first: u64,
+) -> LinkEnd
+    ensures { WritesOn (S.told stream.old) (S.told stream.new) first result }
+{
+    let mut number = first;
+    for _ in rt.forever() {
+        match write_some(rt, alloc, hub, stream, number) {
+            Ok(next) => number = next,
+            Err(why) => return why,
+        }
+    }
+    unreachable!()
+}
+
+// A session but for the closing of its stream.
+fn write_session<D: Disk, J: Naming, S: Stream, R: Wait>(
+    rt: &R,
+    alloc: Global,
+    hub: &Hub<D, J>,
+    peer: u8,
+    stream: &mut S,
+) -> LinkEnd
+    ensures { WritesLink hub.now peer (S.told stream.old) (S.told stream.new) result }
+{
+    let header = hub.header();
+    let greeting = hello(&header, peer);
+    match write_message(alloc, stream, &greeting) {
+        Ok(()) => {}
+        Err(why) => return why,
+    }
+    match read_welcome(alloc, stream, header.size()) {
+        Ok(next) => return write_on(rt, alloc, hub, stream, next),
+        Err(why) => return why,
+    }
+}
+
+/// A session of the link to a peer, a number below n: writes the Hello, reads the Welcome, at most 11 bytes in all, and
+/// then writes the statements of the outbox from its next on, in order and at most 64 at a time, until the session ends.
+/// Woken by the bell with nothing new it writes an Idle. The stream is closed.
+///
+/// It ends:
+///
+/// - `Ended`: the input ended before the Welcome; behind it, the hub was shut, and what was in the outbox is written.
+/// - `Lost`: a read or a write failed, or a write took nothing.
+/// - `Broken`, `OutOfOrder`: before the Welcome came bytes that begin no frame; another message.
+/// - `Memory`: there was none. What was written ends with a whole frame.
+///
+/// It is never `Stopped`: what a stopped member said stands, and is sent. No point of the gate lies on its way.
+pub fn write_link<D: Disk, J: Naming, S: Stream, G: Gate, R: Wait>(
+    rt: &R,
+    alloc: Global,
+    hub: &Hub<D, J>,
+    peer: u8,
+    stream: &mut S,
+    _gate: &G,
+) -> LinkEnd
+    // What it wrote begins its Hello and then the numbered frames.
+    ensures writes { WritesLink hub.now peer (S.told stream.old) (S.told stream.new) result }
+    ensures closed { S.is_closed stream.new ≡ true }
+{
+    let why = write_session(rt, alloc, hub, peer, stream);
+    stream.close();
+    why
+}

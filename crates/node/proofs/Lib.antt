@@ -1,0 +1,9 @@
+pub mod Cells
+pub mod Published
+pub mod Settling
+pub mod Replaying
+pub mod Handing
+pub mod Numbers
+pub mod Linking
+pub mod Living
+pub mod Marking

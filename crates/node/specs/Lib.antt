@@ -1,0 +1,10 @@
+pub mod Entries
+pub mod Verdicts
+pub mod Firsts
+pub mod Views
+pub mod Books
+pub mod Keeps
+pub mod Settled
+pub mod Laws
+pub mod Lives
+pub mod Marks

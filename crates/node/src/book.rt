@@ -1,0 +1,422 @@
+//! The book: a member, what happened since its opening, and what it published.
+ghost use Rattle.std.specs.Prelude.{◌≡◌, ◌⊎◌, ◌↔◌, ◌+◌, ◌<◌, ◌≤◌, ◌^◌, ℕ, List, [], ◌∷◌, ◌++◌, length, take, drop, map, Bool, true, false, IfOk, IfErr, IfSome, OnOk, OnErr, Some, None, IsErrOf, IsSome, IfNone, slice_get, vec_len, vec_capacity};
+ghost use Rattle.std.specs.Arc.{arc_value};
+ghost use Rattle.terms.specs.Reply.Event.{Hearing, Proposal};
+ghost use Rattle.terms.specs.Reply.{records_of};
+ghost use Rattle.questions.specs.Replay.Entry.{Heard, Proposed};
+ghost use Rattle.questions.specs.Replies.{reply_of};
+ghost use Rattle.terms.specs.declared.Header.{Header};
+ghost use Rattle.world.specs.World.{World, IsCorrect};
+ghost use Rattle.member.specs.Answers.{verdict_of, IsFull};
+ghost use Rattle.member.specs.Life.{IsAt, Comes};
+ghost use Rattle.member.specs.Stands.{Stands};
+ghost use Rattle.member.specs.Sealed.{sealed_from};
+ghost use Rattle.member.specs.Sound.{IsSound};
+ghost use Rattle.member.specs.Words.{disk_of, header_of, saved_of, is_stopped_of, StandsFor};
+ghost use Rattle.node.specs.Books.{Applies, Refuses, Opens, IsReplayed, lengthened, is_numbered, decided_below};
+ghost use Rattle.node.specs.Entries.{noted};
+ghost use Rattle.node.specs.Firsts.{HandsIn};
+ghost use Rattle.node.specs.Keeps.{AreDecided};
+ghost use Rattle.node.specs.Lives.{LivesOn, Saves};
+ghost use Rattle.node.specs.Settled.{is_settled};
+ghost use Rattle.node.specs.Verdicts.{known_at, KnowsMore};
+
+use crate::board::{Board, Pass};
+use crate::entry::Entry;
+use crate::notes::Notes;
+use crate::seat::{Seat, keep_first};
+use crate::settle::is_settled;
+use disk::Disk;
+use member::{Member, MemberFault, Sealed};
+use questions::Answer;
+use rounds::Toss;
+use std::alloc::Global;
+use std::marker::{Brand, Model, PhantomData};
+use std::sync::Arc;
+use terms::{Header, Memory, Record, Statement};
+
+/// Which board it is, by the names of its cells: contracts say by it that a book, its hub and a pass are of one board. A
+/// program is generic over it, and is called at `Brand`.
+pub trait Naming {
+    ghost names: { List ℕ };
+}
+
+impl Naming for Brand {
+    ghost use Rattle.std.specs.Prelude.{[]};
+
+    ghost names = { [] };
+}
+
+/// A member with what happened since its opening: its history has each event that it took, in order, and a member that
+/// opens with the same records and is told the history with its tosses does the same.
+///
+/// The history stays in memory, at 24 bytes an entry. Of each sender one Echo and one Ready a place are taken, one Initial
+/// of each of its own places, and of each question one proposal. With 32 members and 256 questions these are 51,118,336
+/// entries at most, or 1.2 GB; where all are honest and each question is decided in round 1 they are some 3.2 million, or
+/// 77 MB. The list doubles when it is full, so for a moment it takes up to three times as much.
+#[derive(Drop)]
+pub struct Book<D: Disk, J: Naming> {
+    alloc: Global,
+    member: Member<D>,
+    opened: usize,
+    history: Vec<Entry>,
+    notes: Notes,
+    of: PhantomData<J>,
+}
+
+impl<D: Disk, J: Naming> Model for Book<D, J> {
+    ghost use Rattle.std.specs.Prelude.{map, take};
+    ghost use Rattle.member.specs.Words.{saved_of};
+    ghost use Rattle.node.specs.Views.{BookView};
+
+    ghost Value = { BookView D };
+
+    ghost use Rattle.node.specs.Entries.{noted};
+    ghost use Rattle.node.specs.Keeps.{IsKept};
+
+    ghost view = { λ b. record { member = b.member; opening = take b.opened (saved_of b.member); history = map noted b.history.items; known = b.notes.known } };
+
+    ghost invariant = { λ b. IsKept D.Disk J.names b.notes.cells b.member b.opened (map noted b.history.items) b.notes.known };
+}
+
+impl<D: Disk, J: Naming> Book<D, J> {
+    /// A book over a member that heard nothing since its opening, with an empty history. Its decisions are published at
+    /// once.
+    pub(crate) fn open(
+        alloc: Global,
+        member: Member<D>,
+        board: Arc<Board>,
+    ) -> Result<Book<D, J>, Memory>
+    where
+        D: Drop,
+        requires sound { IsSound D.Disk member }
+        requires fresh { is_stopped_of member ≡ false → StandsFor member (saved_of member) [] }
+        requires board { arc_value board ≡ J.names }
+        ensures { IfOk result (λ book. Opens member book) }
+    {
+        let opened = member.records().len();
+        let mut notes = Notes::new(alloc, board)?;
+        publish(&member, &mut notes, member.records());
+        Ok(Book {
+            alloc,
+            member,
+            opened,
+            history: Vec::new(alloc),
+            notes,
+            of: PhantomData,
+        })
+    }
+
+    /// Hands in a statement of the seat's peer, with this toss. The answer is that of [`Member::hear`]; one that takes the
+    /// statement lengthens the history by it. Each answer counts for the seat, and a fault doesn't.
+    ///
+    /// Room in history and seat is made first: where a member that isn't stopped has none, it is stopped, with
+    /// [`MemberFault::Memory`], and no call of the device is made. The other faults are the member's, and those that stop
+    /// it stop the book. After each fault the records, the history and the seat are as they were.
+    pub fn apply(
+        &mut self,
+        seat: &mut Seat,
+        statement: &Statement,
+        toss: Toss,
+    ) -> Result<Answer, MemberFault>
+        ensures answer { IfOk result (λ a. Applies self.old (Heard seat.old.peer statement.now toss.0) a self.new) }
+        ensures seat { OnOk result (HandsIn seat.old seat.new (statement.now ∷ []) 1) }
+        ensures no_call { IfOk result (λ a. length (records_of (reply_of a)) ≡ 0 →
+            disk_of self.new.member ≡ disk_of self.old.member) }
+        // In the world it is the member's event, or the member hears nothing and goes down; what stood on its disk stands.
+        ensures life { (header : Header) (liars : ℕ → Bool) (w : World) → IsCorrect header.size liars header.me →
+            IsAt D.Disk header w self.old.member → Comes w (Hearing seat.old.peer statement.now) →
+            LivesOn D.Disk header liars w toss.0 (Hearing seat.old.peer statement.now) result self.old.member self.new.member }
+        ensures stands { D.keeps (disk_of self.old.member) → Saves D.Disk self.old.member self.new.member }
+        ensures acknowledged { D.keeps (disk_of self.old.member) → OnOk result (
+            Stands (D.since (disk_of self.new.member)) (header_of self.old.member)
+            (D.moment (disk_of self.new.member)) (saved_of self.new.member)) }
+
+        ensures fault { IfErr result (λ f. Refuses self.old (Hearing seat.old.peer statement.now) f self.new) }
+        ensures kept { OnErr result (seat.new ≡ seat.old) }
+        ensures same_disk { IsErrOf result MemberFault.Memory ⊎ IsErrOf result MemberFault.JournalFull →
+            disk_of self.new.member ≡ disk_of self.old.member }
+        ensures device { IsErrOf result MemberFault.Device →
+            D.failures (disk_of self.old.member) < D.failures (disk_of self.new.member) }
+        ensures full { IsErrOf result MemberFault.JournalFull →
+            IsFull self.old.member toss.0 (Hearing seat.old.peer statement.now) }
+        ensures failures { D.failures (disk_of self.old.member) ≤ D.failures (disk_of self.new.member) }
+        ensures keeps { D.keeps (disk_of self.old.member) ↔ D.keeps (disk_of self.new.member) }
+    {
+        if self.member.is_stopped() {
+            return Err(MemberFault::Stopped);
+        }
+        if !make_room_for_both(&mut self.history, &mut seat.firsts) {
+            self.member.stop();
+            return Err(MemberFault::Memory);
+        }
+        match self.member.hear(seat.peer, statement, toss) {
+            Ok(answer) => {
+                keep_first(seat.peer, &mut seat.firsts, &mut seat.marks, statement);
+                seat.next = seat.next.saturating_add(1);
+                note(
+                    &mut self.history,
+                    Entry::Heard {
+                        from: seat.peer,
+                        statement: *statement,
+                        toss,
+                    },
+                    &answer,
+                );
+                publish(&self.member, &mut self.notes, records_in(&answer));
+                Ok(answer)
+            }
+            Err(fault) => Err(fault),
+        }
+    }
+
+    /// Takes a bit that is proposed for the question, with this toss. The answer is that of [`Member::propose`]; one that
+    /// takes the bit lengthens the history by it.
+    ///
+    /// Room in the history is made first: where a member that isn't stopped has none, it is stopped, with
+    /// [`MemberFault::Memory`], and no call of the device is made. The other faults are the member's, and those that stop
+    /// it stop the book. After each fault the records and the history are as they were.
+    pub fn propose(&mut self, question: u16, bit: bool, toss: Toss) -> Result<Answer, MemberFault>
+        ensures answer { IfOk result (λ a. Applies self.old (Proposed question bit toss.0) a self.new) }
+        ensures no_call { IfOk result (λ a. length (records_of (reply_of a)) ≡ 0 →
+            disk_of self.new.member ≡ disk_of self.old.member) }
+        // In the world it is the member's event, or the member hears nothing and goes down; what stood on its disk stands.
+        ensures life { (header : Header) (liars : ℕ → Bool) (w : World) → IsCorrect header.size liars header.me →
+            IsAt D.Disk header w self.old.member → Comes w (Proposal question bit) →
+            LivesOn D.Disk header liars w toss.0 (Proposal question bit) result self.old.member self.new.member }
+        ensures stands { D.keeps (disk_of self.old.member) → Saves D.Disk self.old.member self.new.member }
+        ensures acknowledged { D.keeps (disk_of self.old.member) → OnOk result (
+            Stands (D.since (disk_of self.new.member)) (header_of self.old.member)
+            (D.moment (disk_of self.new.member)) (saved_of self.new.member)) }
+
+        ensures fault { IfErr result (λ f. Refuses self.old (Proposal question bit) f self.new) }
+        ensures same_disk { IsErrOf result MemberFault.Memory ⊎ IsErrOf result MemberFault.JournalFull →
+            disk_of self.new.member ≡ disk_of self.old.member }
+        ensures device { IsErrOf result MemberFault.Device →
+            D.failures (disk_of self.old.member) < D.failures (disk_of self.new.member) }
+        ensures full { IsErrOf result MemberFault.JournalFull →
+            IsFull self.old.member toss.0 (Proposal question bit) }
+        ensures failures { D.failures (disk_of self.old.member) ≤ D.failures (disk_of self.new.member) }
+        ensures keeps { D.keeps (disk_of self.old.member) ↔ D.keeps (disk_of self.new.member) }
+    {
+        if self.member.is_stopped() {
+            return Err(MemberFault::Stopped);
+        }
+        if !make_room(&mut self.history) {
+            self.member.stop();
+            return Err(MemberFault::Memory);
+        }
+        match self.member.propose(question, bit, toss) {
+            Ok(answer) => {
+                note(
+                    &mut self.history,
+                    Entry::Proposed {
+                        question,
+                        bit,
+                        toss,
+                    },
+                    &answer,
+                );
+                publish(&self.member, &mut self.notes, records_in(&answer));
+                Ok(answer)
+            }
+            Err(fault) => Err(fault),
+        }
+    }
+
+    /// The saved records, in order. They are those of the replay of the history over the opening records.
+    pub fn records(&self) -> &[Record]
+        ensures saved { result.now ≡ saved_of self.now.member }
+        ensures replay { IsReplayed self.now.member self.now.opening self.now.history }
+        ensures sound { IsSound D.Disk self.now.member }
+    {
+        self.member.records()
+    }
+
+    /// The statements of the saved records, numbered from 0 without a gap.
+    pub fn outbox(&self) -> &[Sealed]
+        ensures statements { result.now ≡ sealed_from 0 (saved_of self.now.member) }
+        ensures numbered { is_numbered 0 result.now ≡ true }
+        ensures replay { IsReplayed self.now.member self.now.opening self.now.history }
+    {
+        self.member.outbox()
+    }
+
+    /// The statements of the outbox from that number on, at most so many: none where it is past the end. Where there is no
+    /// memory for them nothing changes.
+    pub fn pull(&self, from: u64, max: usize) -> Result<Vec<Sealed>, Memory>
+        ensures items { IfOk result (λ v. v.items ≡ take max (drop from (sealed_from 0 (saved_of self.now.member)))) }
+        ensures numbered { IfOk result (λ v. is_numbered from v.items ≡ true) }
+        ensures fits { IfOk result (λ v. 0 < vec_len v → from + vec_len v < 2 ^ 64) }
+    {
+        part(self.alloc, self.outbox(), from, max)
+    }
+
+    /// The bit that the question was decided for, in this life or an earlier one; none where there is no such question.
+    pub fn verdict(&self, question: u16) -> Option<bool>
+        ensures decided { result ≡ verdict_of (saved_of self.now.member) question }
+        ensures asked { (header_of self.now.member).size.questions ≤ question → result ≡ None }
+    {
+        self.member.verdict(question)
+    }
+
+    /// Whether its member is stopped: then it takes no event.
+    pub fn is_stopped(&self) -> bool
+        ensures { result ≡ is_stopped_of self.now.member }
+    {
+        self.member.is_stopped()
+    }
+
+    /// Whose journal it is.
+    pub fn header(&self) -> Header
+        ensures { result ≡ header_of self.now.member }
+    {
+        self.member.header()
+    }
+
+    /// How many statements are in the outbox, and how many questions are decided; none where the member is stopped. It
+    /// asks once for each question, and goes through no records.
+    pub fn status(&self) -> Option<(u64, u16)>
+        ensures outbox { IfSome result (λ status. status.0 ≡ length (sealed_from 0 (saved_of self.now.member))) }
+        ensures decided { IfSome result (λ status.
+            status.1 ≡ decided_below (header_of self.now.member).size.questions (saved_of self.now.member)) }
+        ensures up { IsSome result ↔ (is_stopped_of self.now.member ≡ false) }
+    {
+        if self.member.is_stopped() {
+            return None;
+        }
+        Some((self.outbox().len() as u64, decided(&self.member)))
+    }
+
+    /// How many events the history has.
+    pub fn events(&self) -> usize
+        ensures { result ≡ length self.now.history }
+    {
+        self.history.len()
+    }
+
+    /// The event at this place of the history, counted from 0.
+    pub fn event(&self, at: usize) -> Option<Entry>
+        ensures some { IfSome result (λ entry. slice_get self.now.history at ≡ Some (noted entry)) }
+        ensures none { IfNone result (length self.now.history ≤ at) }
+    {
+        self.history.get(at).copied()
+    }
+
+    /// Whether the seats are those of all members, each with the link part of its peer.
+    pub(crate) fn is_settled(&self, seats: &[Seat]) -> bool
+        ensures { result ≡ is_settled (header_of self.now.member).size.n self.now.history seats.now }
+    {
+        is_settled(
+            self.member.header().size().n(),
+            self.history.as_slice(),
+            seats,
+        )
+    }
+
+    /// What the book knows to stand on its board for the question is its decision, and a pass of the board that knows a
+    /// verdict of the question knows the same one. Nothing changes.
+    pub fn meet(&mut self, pass: &mut Pass, question: u16)
+        requires { pass.old.cells ≡ J.names }
+        ensures same { (self.new ≡ self.old) × (pass.new ≡ pass.old) }
+        ensures decision { IfSome (known_at self.old.known question) (λ b.
+            verdict_of (saved_of self.old.member) question ≡ Some b) }
+        ensures agree { IfSome (known_at pass.old.known question) (λ b.
+            IfSome (known_at self.old.known question) (λ c. c ≡ b)) }
+    {
+        self.notes.meet(pass, question);
+    }
+}
+
+// Makes room for one more entry and one more statement, if there is memory. Both lists stay.
+fn make_room_for_both(history: &mut Vec<Entry>, firsts: &mut Vec<Statement>) -> bool
+    ensures history { history.new.items ≡ history.old.items }
+    ensures firsts { firsts.new.items ≡ firsts.old.items }
+    ensures room { result ≡ true → (vec_len history.new < vec_capacity history.new)
+        × (vec_len firsts.new < vec_capacity firsts.new) }
+{
+    make_room(history) && firsts.reserve(1).is_ok()
+}
+
+// Makes room for one more entry, if there is memory. The list stays.
+fn make_room(history: &mut Vec<Entry>) -> bool
+    ensures history { history.new.items ≡ history.old.items }
+    ensures room { result ≡ true → vec_len history.new < vec_capacity history.new }
+{
+    history.reserve(1).is_ok()
+}
+
+// Notes the entry where the answer takes it.
+fn note(history: &mut Vec<Entry>, entry: Entry, answer: &Answer)
+    requires { vec_len history.old < vec_capacity history.old }
+    ensures { map noted history.new.items ≡ lengthened (map noted history.old.items) (noted entry) (reply_of answer.now) }
+{
+    if let Answer::Taken(_) = answer {
+        history.push_reserved(entry);
+    }
+}
+
+// The records of the answer.
+fn records_in(answer: &Answer) -> &[Record]
+    ensures { result.now ≡ records_of (reply_of answer.now) }
+{
+    match answer {
+        Answer::Taken(records) => records.as_slice(),
+        _ => &[],
+    }
+}
+
+// Publishes the decisions of the questions that these records decide.
+fn publish<D: Disk>(member: &Member<D>, notes: &mut Notes, records: &[Record])
+    requires sound { IsSound D.Disk member.now }
+    requires decided { AreDecided (saved_of member.now) notes.old.known }
+    ensures cells { notes.new.cells ≡ notes.old.cells }
+    ensures decided { AreDecided (saved_of member.now) notes.new.known }
+    ensures more { KnowsMore notes.old.known notes.new.known }
+{
+    for one in records {
+        if let Record::Decided { question, .. } = *one {
+            publish_one(member, notes, question);
+        }
+    }
+}
+
+// Publishes the decision of the question, if there is one.
+fn publish_one<D: Disk>(member: &Member<D>, notes: &mut Notes, question: u16)
+    requires sound { IsSound D.Disk member.now }
+    requires decided { AreDecided (saved_of member.now) notes.old.known }
+    ensures cells { notes.new.cells ≡ notes.old.cells }
+    ensures decided { AreDecided (saved_of member.now) notes.new.known }
+    ensures more { KnowsMore notes.old.known notes.new.known }
+{
+    if let Some(bit) = member.verdict(question) {
+        notes.publish(question, bit);
+    }
+}
+
+// How many questions the member has decided.
+fn decided<D: Disk>(member: &Member<D>) -> u16
+    requires { IsSound D.Disk member.now }
+    ensures { result ≡ decided_below (header_of member.now).size.questions (saved_of member.now) }
+{
+    let mut count = 0;
+    for question in 0..member.header().size().questions() {
+        if member.verdict(question).is_some() {
+            count += 1;
+        }
+    }
+    count
+}
+
+// A part of the outbox.
+fn part(alloc: Global, outbox: &[Sealed], from: u64, max: usize) -> Result<Vec<Sealed>, Memory>
+    ensures items { IfOk result (λ v. v.items ≡ take max (drop from outbox.now)) }
+    ensures fits { IfOk result (λ v. 0 < vec_len v → from + vec_len v < 2 ^ 64) }
+{
+    if from >= outbox.len() as u64 {
+        return Ok(Vec::new(alloc));
+    }
+    let rest = &outbox[from as usize..];
+    let end = max.min(rest.len());
+    Ok(Vec::from_slice(alloc, &rest[..end])?)
+}

@@ -1,0 +1,25 @@
+//! A member that threads share. Threads lend it one after another, as a [`Book`] that keeps what happened since the
+//! member was opened; each link hands in what it reads from a [`Seat`] of its own, and whoever wants a verdict asks the
+//! [`Board`], which takes no lock.
+#![tactic(auto)]
+
+mod board;
+mod book;
+mod entry;
+mod hub;
+pub mod laws;
+mod marks;
+mod notes;
+mod rack;
+mod seat;
+mod settle;
+#[cfg(test)]
+mod tests;
+
+pub use board::{Board, Pass};
+pub use book::{Book, Naming};
+pub use entry::Entry;
+pub use hub::Hub;
+pub use rack::Rack;
+pub use seat::Seat;
+pub use settle::{Closing, close};

@@ -1,0 +1,69 @@
+//! The places of one question, each at its spot: by round, then by step, then by origin.
+ghost use Rattle.std.specs.Prelude.{◌≡◌, ◌<◌, ℕ, IsOk, OnOk, OnErr, cond, get_or, length};
+ghost use Rattle.terms.specs.declared.Place.{Place};
+ghost use Rattle.terms.specs.Bounds.{IsPlace};
+ghost use Rattle.rbc.specs.Spots.{same_spot};
+ghost use Rattle.rbc.specs.Known.{no_known};
+ghost use Rattle.rbc.specs.Table.{spot_of, known_in};
+
+use crate::known::{self, Known};
+use std::alloc::AllocError;
+use terms::{Place, Size};
+
+/// Where the place stands.
+fn spot(size: Size, place: Place) -> usize
+    requires { place.origin < size.n }
+    ensures value { result ≡ spot_of size.n place }
+    ensures few { result < 4000 }
+    ensures place { IsPlace place }
+{
+    let row = 3 * place.round() + place.step() - 4;
+    usize::from(row) * usize::from(size.n()) + usize::from(place.origin())
+}
+
+/// What is known of the place.
+pub fn known_at(cells: &[Known], size: Size, place: Place) -> Known
+    requires { place.origin < size.n }
+    ensures { result ≡ known_in cells.now size.n place }
+{
+    let spot = spot(size, place);
+    if spot < cells.len() {
+        cells[spot]
+    } else {
+        known::nothing()
+    }
+}
+
+/// Keeps what is known of the place, in place of what was. Nothing is asked of memory where the table reaches it.
+pub fn keep(
+    cells: &mut Vec<Known>,
+    size: Size,
+    place: Place,
+    known: Known,
+) -> Result<(), AllocError>
+    requires { place.origin < size.n }
+    ensures ok { OnOk result ((q : Place) → known_in cells.new.items size.n q
+        ≡ cond (same_spot place q) known (known_in cells.old.items size.n q)) }
+    ensures err { OnErr result (cells.new.items ≡ cells.old.items) }
+    ensures reached { spot_of size.n place < length cells.old.items → IsOk result }
+{
+    let spot = spot(size, place);
+    reach(cells, spot)?;
+    cells[spot] = known;
+    Ok(())
+}
+
+/// Makes the table reach a spot. Of what it adds nothing is known.
+fn reach(cells: &mut Vec<Known>, spot: usize) -> Result<(), AllocError>
+    requires { spot < 4000 }
+    ensures same { OnOk result ((i : ℕ) → get_or cells.new.items i no_known ≡ get_or cells.old.items i no_known) }
+    ensures within { OnOk result (spot < length cells.new.items) }
+    ensures err { OnErr result (cells.new.items ≡ cells.old.items) }
+    ensures reached { spot < length cells.old.items → IsOk result }
+{
+    if spot < cells.len() {
+        return Ok(());
+    }
+    cells.resize(spot + 1, known::nothing())?;
+    Ok(())
+}

@@ -1,0 +1,26 @@
+//! A member that runs: its links, its desk and its clock, in threads of one process.
+//!
+//! [`run_member`] takes a member that was just opened, over any disk, and serves its peers and clients until its
+//! [`Operator`] ends it. Nothing here decides: threads hand in what links read, write what the book has, and answer clients.
+#![tactic(auto)]
+
+mod clients;
+mod fault;
+mod linking;
+mod machine;
+mod places;
+mod run;
+mod shared;
+mod slots;
+mod sockets;
+mod tossers;
+
+pub use fault::RunFault;
+pub use machine::Machine;
+pub use places::Places;
+pub use run::{Addresses, Operator, run_member};
+pub use slots::Slots;
+pub use tossers::{Tossers, tosser_for, tossers_of};
+
+#[cfg(test)]
+mod tests;

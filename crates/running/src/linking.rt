@@ -1,0 +1,174 @@
+//! The threads of links.
+
+use crate::machine::Machine;
+use crate::shared::Shared;
+use disk::Disk;
+use links::{LinkEnd, NetStream, Open, greet, read_link, write_link};
+use node::Naming;
+use std::net::{SocketAddr, TcpListener, TcpStream};
+use std::sync::Wait;
+use std::thread;
+use std::time::Duration;
+
+/// How many seconds a link waits for its peer, which says something once a second.
+const PATIENCE: u64 = 10;
+
+/// A stream over the socket at a place.
+fn stream_at<D: Disk, J: Naming, R: Machine>(
+    rt: &R,
+    it: &Shared<D, J>,
+    place: usize,
+) -> Option<NetStream> {
+    let socket = it.sockets.lock(rt).copy(place)?;
+    match NetStream::with_limit(socket, Duration::from_secs(PATIENCE)) {
+        Ok(stream) => Some(stream),
+        Err(_) => None,
+    }
+}
+
+/// Writes the link to a peer over the socket at a place.
+fn write_at<D: Disk, J: Naming, R: Machine>(
+    rt: &R,
+    it: &Shared<D, J>,
+    peer: u8,
+    place: usize,
+) -> LinkEnd {
+    match stream_at(rt, it, place) {
+        Some(mut stream) => write_link(rt, it.alloc, &it.hub, peer, &mut stream, &Open),
+        None => LinkEnd::Lost,
+    }
+}
+
+/// One session of the link to a peer; none where nobody listens there.
+fn dial_once<D: Disk, J: Naming, R: Machine>(
+    rt: &R,
+    it: &Shared<D, J>,
+    peer: u8,
+    address: SocketAddr,
+) -> Option<LinkEnd> {
+    let Ok(socket) = TcpStream::connect_timeout(rt, &address, Duration::from_secs(1)) else {
+        return None;
+    };
+    let place = it.sockets.lock(rt).enter(socket)?;
+    let end = write_at(rt, it, peer, place);
+    it.sockets.lock(rt).leave(place);
+    Some(end)
+}
+
+/// The link to a peer: a session, and at the next tick another, until the end.
+fn dial_on<D: Disk, J: Naming, R: Machine>(
+    rt: &R,
+    it: &Shared<D, J>,
+    peer: u8,
+    address: SocketAddr,
+) {
+    for _ in rt.forever() {
+        if it.is_closing() {
+            return;
+        }
+        let _end = dial_once(rt, it, peer, address);
+        it.wait_tick(rt);
+    }
+    unreachable!()
+}
+
+/// Where this member listens; none at the end, and past the last member.
+fn address_of<D: Disk, J: Naming>(it: &Shared<D, J>, peer: u8) -> Option<SocketAddr> {
+    if it.is_closing() || peer >= it.hub.header().size().n() {
+        return None;
+    }
+    it.peers.get(usize::from(peer)).copied()
+}
+
+/// Dials each member, itself too, in a thread of its own, until the end. A thread that the system refuses is asked for
+/// again at the next tick.
+pub(crate) fn dial_all<D: Disk + Send, J: Naming + Send + Sync, R: Machine>(
+    rt: &R,
+    it: &Shared<D, J>,
+) {
+    thread::scope(thread::scope_env(), rt, |scope| {
+        let mut peer = 0u8;
+        for _ in 0..u64::MAX {
+            let Some(address) = address_of(it, peer) else {
+                break;
+            };
+            if scope.spawn(move || dial_on(rt, it, peer, address)).is_ok() {
+                peer = peer.saturating_add(1);
+            } else {
+                it.wait_tick(rt);
+            }
+        }
+    });
+}
+
+/// Reads the link of a peer that greeted, with its seat and its tosser.
+fn read_from<D: Disk, J: Naming, R: Machine>(
+    rt: &R,
+    it: &Shared<D, J>,
+    peer: u8,
+    stream: &mut NetStream,
+) -> LinkEnd {
+    let Some(tosser) = it.link_tossers.get(usize::from(peer)) else {
+        return LinkEnd::Stranger;
+    };
+    let Some(seat) = it.rack.take(rt, peer) else {
+        return LinkEnd::Busy;
+    };
+    let mut tosser = tosser.lock(rt);
+    let (seat, end) = read_link(rt, it.alloc, &it.hub, seat, stream, &Open, &mut *tosser);
+    it.rack.put(rt, seat);
+    end
+}
+
+/// Reads the Hello of the peer at a place. It has greeted then, or is gone.
+fn greet_at<D: Disk, J: Naming, R: Machine>(
+    rt: &R,
+    it: &Shared<D, J>,
+    place: usize,
+    stream: &mut Option<NetStream>,
+) -> Result<u8, LinkEnd> {
+    let greeted = match stream {
+        Some(stream) => greet(it.alloc, stream, &it.hub.header()),
+        None => Err(LinkEnd::Lost),
+    };
+    it.sockets.lock(rt).greeted(place);
+    it.greetings.lock(rt).leave();
+    greeted
+}
+
+/// Greets the peer at a place, and reads its link.
+fn read_at<D: Disk, J: Naming, R: Machine>(rt: &R, it: &Shared<D, J>, place: usize) -> LinkEnd {
+    let mut stream = stream_at(rt, it, place);
+    match greet_at(rt, it, place, &mut stream) {
+        Ok(peer) => match &mut stream {
+            Some(stream) => read_from(rt, it, peer, stream),
+            None => LinkEnd::Lost,
+        },
+        Err(end) => end,
+    }
+}
+
+/// One session of a link from the peer at a place.
+pub(crate) fn take_in<D: Disk, J: Naming, R: Machine>(rt: &R, it: &Shared<D, J>, place: usize) {
+    let _end = read_at(rt, it, place);
+    it.sockets.lock(rt).leave(place);
+}
+
+/// Takes the links in that peers dial, each in a thread of its own, until the end.
+pub(crate) fn accept_links<D: Disk + Send, J: Naming + Send + Sync, R: Machine>(
+    rt: &R,
+    it: &Shared<D, J>,
+    listener: &TcpListener,
+) {
+    thread::scope(thread::scope_env(), rt, |scope| {
+        for _ in 0..u64::MAX {
+            let admit = |socket| it.admit_peer(rt, socket);
+            let Some(place) = it.next(rt, listener, admit) else {
+                break;
+            };
+            if scope.spawn(move || take_in(rt, it, place)).is_err() {
+                it.turn_away(rt, place);
+            }
+        }
+    });
+}

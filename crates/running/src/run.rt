@@ -1,0 +1,195 @@
+//! The life of a member, from its opening to its end.
+
+ghost use Rattle.std.specs.Prelude.{◌≡◌, [], false, length};
+ghost use Rattle.std.specs.Arc.{arc_value};
+ghost use Rattle.member.specs.Sound.{IsSound};
+ghost use Rattle.member.specs.Words.{header_of, saved_of, is_stopped_of, StandsFor};
+
+use crate::clients::accept_clients;
+use crate::fault::RunFault;
+use crate::linking::{accept_links, dial_all};
+use crate::machine::Machine;
+use crate::places::Places;
+use crate::shared::Shared;
+use crate::slots::Slots;
+use crate::sockets::{Sockets, shut_listener};
+use crate::tossers::{Tossers, tossers_of};
+use disk::Disk;
+use member::Member;
+use node::{Board, Hub, Naming, Rack};
+use rounds::ChaChaTosser;
+use std::alloc::Global;
+use std::marker::Brand;
+use std::net::{SocketAddr, TcpListener};
+use std::sync::atomic::AtomicBool;
+use std::sync::{Arc, Condvar, Mutex, Wait};
+use std::thread;
+use terms::Memory;
+
+/// Where the members listen.
+#[derive(Drop)]
+pub struct Addresses {
+    /// The link address of each member, by its number. The own one is listened at and, like the others, dialled.
+    pub peers: Vec<SocketAddr>,
+    /// The own address for clients.
+    pub desk: SocketAddr,
+}
+
+/// Who starts a member and says when it ends.
+pub trait Operator {
+    /// Is told that both listeners stand. Threads start when it returns; where it fails the run ends with its fault.
+    fn ready(&mut self) -> Result<(), RunFault>;
+
+    /// Returns when the member is to end. Where it fails the member ends too, and the run with its fault.
+    fn until_end(&mut self) -> Result<(), RunFault>;
+}
+
+/// Each tosser behind a lock of its own.
+fn locked(alloc: Global, tossers: Vec<ChaChaTosser>) -> Result<Vec<Mutex<ChaChaTosser>>, Memory> {
+    let mut locked = Vec::new(alloc);
+    for tosser in tossers {
+        locked.push(Mutex::new(tosser))?;
+    }
+    Ok(locked)
+}
+
+/// What the threads of a member share that was just opened.
+fn share<D: Disk + Drop, J: Naming>(
+    alloc: Global,
+    member: Member<D>,
+    board: Arc<Board>,
+    peers: Vec<SocketAddr>,
+    seed: [u8; 32],
+) -> Result<Shared<D, J>, Memory>
+    requires sound { IsSound D.Disk member }
+    requires fresh { is_stopped_of member ≡ false → StandsFor member (saved_of member) [] }
+    requires board { arc_value board ≡ J.names }
+    requires cells { length (arc_value board) ≡ (header_of member).size.questions }
+{
+    let Tossers { links, desk } = tossers_of(alloc, seed, &member)?;
+    let link_tossers = locked(alloc, links)?;
+    let desk_tossers = locked(alloc, desk)?;
+    let (hub, seats) = Hub::<D, J>::open(alloc, member, board)?;
+    Ok(Shared {
+        alloc,
+        peers,
+        hub,
+        rack: Rack::new(seats),
+        link_tossers,
+        desk_tossers,
+        slots: Mutex::new(Slots::new()),
+        greetings: Mutex::new(Places::new()),
+        sockets: Mutex::new(Sockets::new(alloc)),
+        closing: AtomicBool::new(false),
+        ticks: Mutex::new(0),
+        ticked: Condvar::new(),
+    })
+}
+
+/// Runs all threads until the operator ends the member.
+fn run_threads<D: Disk + Send, J: Naming + Send + Sync, O: Operator, R: Machine>(
+    rt: &R,
+    operator: &mut O,
+    it: &Shared<D, J>,
+    listener: &TcpListener,
+    desk: &TcpListener,
+) -> Result<(), RunFault> {
+    thread::scope(thread::scope_env(), rt, |scope| -> Result<(), RunFault> {
+        let clock = scope.spawn(move || it.tick_on(rt));
+        let links = scope.spawn(move || accept_links(rt, it, listener));
+        let clients = scope.spawn(move || accept_clients(rt, it, desk));
+        let dialler = scope.spawn(move || dial_all(rt, it));
+        let started = clock.is_ok() && links.is_ok() && clients.is_ok() && dialler.is_ok();
+        let end = if started {
+            operator.until_end()
+        } else {
+            Err(RunFault::Memory)
+        };
+        it.close(rt);
+        shut_listener(listener);
+        shut_listener(desk);
+        end
+    })
+}
+
+/// Runs a member whose board has been named.
+fn run_named<D: Disk + Drop + Send, J: Naming + Send + Sync, O: Operator, R: Machine>(
+    rt: &R,
+    alloc: Global,
+    member: Member<D>,
+    board: Arc<Board>,
+    peers: Vec<SocketAddr>,
+    seed: [u8; 32],
+    listeners: (TcpListener, TcpListener),
+    operator: &mut O,
+) -> Result<(), RunFault>
+    requires sound { IsSound D.Disk member }
+    requires fresh { is_stopped_of member ≡ false → StandsFor member (saved_of member) [] }
+    requires board { arc_value board ≡ J.names }
+    requires cells { length (arc_value board) ≡ (header_of member).size.questions }
+{
+    let (listener, desk) = listeners;
+    let shared = share::<D, J>(alloc, member, board, peers, seed)?;
+    operator.ready()?;
+    run_threads(rt, operator, &shared, &listener, &desk)?;
+    if shared.hub.lock(rt).is_stopped() {
+        return Err(RunFault::Stopped);
+    }
+    Ok(())
+}
+
+/// Binds a listener.
+fn listen<R: Machine>(rt: &R, address: SocketAddr) -> Result<TcpListener, RunFault> {
+    match TcpListener::bind(rt, address) {
+        Ok(listener) => Ok(listener),
+        Err(_) => Err(RunFault::Listen),
+    }
+}
+
+/// Runs a member that was just opened, over any disk, until its operator ends it.
+///
+/// It listens at its own two addresses, tells the operator that it is ready, and then starts its threads: a clock, a
+/// dialler for each member, one that takes links in and one that takes clients in, and one for each of these. At the end
+/// all of them end, and with them every connection.
+///
+/// # Errors
+///
+/// [`RunFault::Listen`], [`RunFault::Memory`] and what the operator says when it is told come before any thread starts,
+/// but for `Memory` where a thread is refused. [`RunFault::Stopped`] is told at the end, where the member is stopped by then.
+/// Whatever comes, the member is gone with its threads; what it saved is on its disk.
+///
+/// It may wait: for its operator, for locks and for its threads.
+pub fn run_member<D: Disk + Drop + Send, O: Operator, R: Machine>(
+    rt: &R,
+    alloc: Global,
+    member: Member<D>,
+    addresses: Addresses,
+    seed: [u8; 32],
+    operator: &mut O,
+) -> Result<(), RunFault>
+    requires sound { IsSound D.Disk member }
+    requires fresh { is_stopped_of member ≡ false → StandsFor member (saved_of member) [] }
+{
+    let Addresses { peers, desk } = addresses;
+    let header = member.header();
+    let Some(own) = peers.get(usize::from(header.me())) else {
+        return Err(RunFault::Listen);
+    };
+    let listener = listen(rt, *own)?;
+    let desk = listen(rt, desk)?;
+    let board = Board::new(alloc, header.size().questions())?;
+    let board = match Arc::new(alloc, board) {
+        Ok(board) => board,
+        Err(_) => return Err(RunFault::Memory),
+    };
+    run_named::<D, Brand, O, R>(
+        rt,
+        alloc,
+        member,
+        board,
+        peers,
+        seed,
+        (listener, desk),
+        operator,
+    )
+}

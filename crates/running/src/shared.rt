@@ -1,0 +1,159 @@
+//! What the threads of a member share.
+
+use crate::machine::Machine;
+use crate::places::Places;
+use crate::slots::Slots;
+use crate::sockets::Sockets;
+use disk::Disk;
+use node::{Hub, Naming, Rack};
+use rounds::ChaChaTosser;
+use std::alloc::Global;
+use std::net::{SocketAddr, TcpListener, TcpStream};
+use std::sync::atomic::{AtomicBool, Ordering};
+use std::sync::{Condvar, Mutex};
+use std::thread;
+use std::time::Duration;
+
+/// How many connections there may be that have given no Hello.
+pub(crate) const GREETINGS: u32 = 64;
+
+/// What the threads of a member share.
+#[derive(Drop)]
+pub(crate) struct Shared<D: Disk, J: Naming> {
+    pub(crate) alloc: Global,
+    /// Where the members listen, by their numbers.
+    pub(crate) peers: Vec<SocketAddr>,
+    pub(crate) hub: Hub<D, J>,
+    pub(crate) rack: Rack,
+    /// The tosser of the link from each member, for the whole life.
+    pub(crate) link_tossers: Vec<Mutex<ChaChaTosser>>,
+    /// The tosser of each slot of the desk, for the whole life.
+    pub(crate) desk_tossers: Vec<Mutex<ChaChaTosser>>,
+    pub(crate) slots: Mutex<Slots>,
+    pub(crate) greetings: Mutex<Places<GREETINGS>>,
+    pub(crate) sockets: Mutex<Sockets>,
+    pub(crate) closing: AtomicBool,
+    /// How many seconds have passed; it counts on from 0 after 2^64 - 1.
+    pub(crate) ticks: Mutex<u64>,
+    pub(crate) ticked: Condvar,
+}
+
+/// The slot of a client at the desk, and the place of its socket.
+#[derive(Clone, Copy, Drop)]
+pub(crate) struct Chair {
+    pub(crate) slot: u8,
+    pub(crate) place: usize,
+}
+
+impl<D: Disk, J: Naming> Shared<D, J> {
+    /// Whether the member is coming to its end.
+    pub(crate) fn is_closing(&self) -> bool {
+        self.closing.load(Ordering::SeqCst)
+    }
+
+    /// From now on the member comes to its end: who waits for a tick or for the bell goes on, and each socket is shut down.
+    pub(crate) fn close<R: Machine>(&self, rt: &R) {
+        self.closing.store(true, Ordering::SeqCst);
+        self.tick(rt);
+        self.hub.shut(rt);
+        self.sockets.lock(rt).close();
+    }
+
+    /// Counts a tick, and wakes who waits for it.
+    fn tick<R: Machine>(&self, rt: &R) {
+        let mut ticks = self.ticks.lock(rt);
+        *ticks = ticks.wrapping_add(1);
+        self.ticked.notify_all();
+    }
+
+    /// Waits for the next tick.
+    pub(crate) fn wait_tick<R: Machine>(&self, rt: &R) {
+        let mut ticks = self.ticks.lock(rt);
+        let seen = *ticks;
+        for _ in rt.forever() {
+            if *ticks != seen || self.is_closing() {
+                return;
+            }
+            ticks = self.ticked.wait(rt, ticks);
+        }
+        unreachable!()
+    }
+
+    /// Ticks and rings the bell about once a second, and gives peers up that don't greet, until the end.
+    pub(crate) fn tick_on<R: Machine>(&self, rt: &R) {
+        for _ in rt.forever() {
+            for _ in 0..10u32 {
+                if self.is_closing() {
+                    return;
+                }
+                thread::sleep(rt, Duration::from_millis(100));
+            }
+            self.tick(rt);
+            self.sockets.lock(rt).tick();
+            self.hub.ring();
+        }
+        unreachable!()
+    }
+
+    /// What the next connection that is admitted has; none at the end. One that isn't admitted is closed.
+    pub(crate) fn next<R: Machine, A, F: Fn(TcpStream) -> Option<A>>(
+        &self,
+        rt: &R,
+        listener: &TcpListener,
+        admit: F,
+    ) -> Option<A>
+        requires { F.IsAlwaysCallable admit }
+    {
+        for _ in rt.forever() {
+            if self.is_closing() {
+                return None;
+            }
+            match listener.accept() {
+                Ok((socket, _)) => {
+                    if let Some(admitted) = admit(socket) {
+                        return Some(admitted);
+                    }
+                }
+                // The listener was shut down, or the system has no descriptor left.
+                Err(_) => thread::sleep(rt, Duration::from_millis(100)),
+            }
+        }
+        unreachable!()
+    }
+
+    /// Takes in the socket of a peer that is to greet, and gives its place. It is closed where 64 are to greet already.
+    pub(crate) fn admit_peer<R: Machine>(&self, rt: &R, socket: TcpStream) -> Option<usize> {
+        if !self.greetings.lock(rt).take() {
+            return None;
+        }
+        let place = self.sockets.lock(rt).enter_to_greet(socket);
+        if place.is_none() {
+            self.greetings.lock(rt).leave();
+        }
+        place
+    }
+
+    /// Ends the session of a peer that no thread can be made for.
+    pub(crate) fn turn_away<R: Machine>(&self, rt: &R, place: usize) {
+        self.greetings.lock(rt).leave();
+        self.sockets.lock(rt).leave(place);
+    }
+
+    /// Takes in the socket of a client, and gives it a chair. It is closed where all 32 slots are taken.
+    pub(crate) fn admit_client<R: Machine>(&self, rt: &R, socket: TcpStream) -> Option<Chair> {
+        let slot = self.slots.lock(rt).take()?;
+        match self.sockets.lock(rt).enter(socket) {
+            Some(place) => Some(Chair { slot, place }),
+            None => {
+                self.slots.lock(rt).put(slot);
+                None
+            }
+        }
+    }
+
+    /// Ends a client's session: its slot is free, and its socket closed.
+    pub(crate) fn leave_chair<R: Machine>(&self, rt: &R, chair: Chair) {
+        self.slots.lock(rt).put(chair.slot);
+        self.sockets.lock(rt).leave(chair.place);
+    }
+}

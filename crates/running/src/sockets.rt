@@ -1,0 +1,186 @@
+//! The sockets of a member, which its end shuts down.
+
+use std::alloc::Global;
+use std::io;
+use std::io::{ErrorKind, Read, Write};
+use std::net::{Shutdown, TcpListener, TcpStream};
+use std::os::fd::OwnedFd;
+use std::time::Duration;
+
+/// How often a call that a signal interrupted is made again.
+const TRIES: u32 = 1_000_000;
+
+/// How many ticks, of about a second, a peer has for its whole greeting.
+const GREETING_TICKS: u8 = 10;
+
+/// A socket of a session that is under way.
+#[derive(Drop)]
+struct Held {
+    socket: TcpStream,
+    /// How many ticks are left for the greeting; none where none is awaited.
+    patience: Option<u8>,
+}
+
+/// The sockets of the sessions that are under way. A session has a copy of its socket, so that a shutdown here ends a read
+/// or write in which its thread waits.
+#[derive(Drop)]
+pub(crate) struct Sockets {
+    held: Vec<Option<Held>>,
+    closed: bool,
+}
+
+impl Sockets {
+    /// No sockets. It takes no memory yet.
+    pub(crate) fn new(alloc: Global) -> Sockets {
+        Sockets {
+            held: Vec::new(alloc),
+            closed: false,
+        }
+    }
+
+    /// Takes a socket in, and gives its place. It is closed, and has none, where memory is refused or all were shut down.
+    pub(crate) fn enter(&mut self, socket: TcpStream) -> Option<usize> {
+        self.hold(Held {
+            socket,
+            patience: None,
+        })
+    }
+
+    /// Takes in the socket of a peer that is to greet within ten ticks, like `enter`.
+    pub(crate) fn enter_to_greet(&mut self, socket: TcpStream) -> Option<usize> {
+        self.hold(Held {
+            socket,
+            patience: Some(GREETING_TICKS),
+        })
+    }
+
+    fn hold(&mut self, held: Held) -> Option<usize> {
+        if self.closed {
+            return None;
+        }
+        if let Some(free) = self.held.iter().position(|held| held.is_none()) {
+            self.held[free] = Some(held);
+            return Some(free);
+        }
+        let last = self.held.len();
+        if self.held.push(Some(held)).is_err() {
+            return None;
+        }
+        Some(last)
+    }
+
+    /// The peer at a place has greeted: ticks don't end its session any more.
+    pub(crate) fn greeted(&mut self, place: usize) {
+        if let Some(Some(held)) = self.held.get_mut(place) {
+            held.patience = None;
+        }
+    }
+
+    /// Counts a tick: a socket whose peer has had ten ticks for its greeting is shut down.
+    pub(crate) fn tick(&mut self) {
+        for held in self.held.iter_mut() {
+            if let Some(held) = held {
+                held.tick();
+            }
+        }
+    }
+
+    /// A copy of the socket at a place, if there is one.
+    pub(crate) fn copy(&self, place: usize) -> Option<TcpStream> {
+        match self.held.get(place) {
+            Some(Some(held)) => match held.socket.try_clone() {
+                Ok(copy) => Some(copy),
+                Err(_) => None,
+            },
+            _ => None,
+        }
+    }
+
+    /// Shuts the socket at a place down, and frees the place.
+    pub(crate) fn leave(&mut self, place: usize) {
+        if place < self.held.len() {
+            if let Some(held) = self.held[place].take() {
+                shut(&held.socket);
+            }
+        }
+    }
+
+    /// Shuts all sockets down. None is taken in from now on.
+    pub(crate) fn close(&mut self) {
+        self.closed = true;
+        for held in &self.held {
+            if let Some(held) = held {
+                shut(&held.socket);
+            }
+        }
+    }
+}
+
+impl Held {
+    fn tick(&mut self) {
+        match self.patience {
+            Some(left) if left > 1 => self.patience = Some(left - 1),
+            Some(_) => shut(&self.socket),
+            None => {}
+        }
+    }
+}
+
+/// Shuts a socket down. One that the peer closed before stays so.
+fn shut(socket: &TcpStream) {
+    let _already = socket.shutdown(Shutdown::Both).is_err();
+}
+
+/// Shuts a listener down: a thread that waits in its `accept` gets an error, now and from now on.
+pub(crate) fn shut_listener(listener: &TcpListener) {
+    if let Ok(copy) = listener.try_clone() {
+        let descriptor: OwnedFd = copy.into();
+        let socket: TcpStream = descriptor.into();
+        shut(&socket);
+    }
+}
+
+/// A client's socket. A read or write that a signal interrupts is made again.
+#[derive(Drop)]
+pub(crate) struct Client {
+    socket: TcpStream,
+}
+
+impl Client {
+    /// The client at this socket, whose bytes leave at once, however few they are. One that says nothing for ten minutes,
+    /// or takes nothing for ten seconds, is given up: the read or the write fails.
+    pub(crate) fn new(socket: TcpStream) -> io::Result<Client> {
+        socket.set_nodelay(true)?;
+        socket.set_read_timeout(Some(Duration::from_secs(600)))?;
+        socket.set_write_timeout(Some(Duration::from_secs(10)))?;
+        Ok(Client { socket })
+    }
+}
+
+impl Read for Client {
+    fn read(&mut self, buf: &mut [u8]) -> io::Result<usize> {
+        for _ in 0..TRIES {
+            match self.socket.read(buf) {
+                Err(error) if error.kind() == ErrorKind::Interrupted => {}
+                done => return done,
+            }
+        }
+        Err(io::Error::from(ErrorKind::Interrupted))
+    }
+}
+
+impl Write for Client {
+    fn write(&mut self, buf: &[u8]) -> io::Result<usize> {
+        for _ in 0..TRIES {
+            match self.socket.write(buf) {
+                Err(error) if error.kind() == ErrorKind::Interrupted => {}
+                done => return done,
+            }
+        }
+        Err(io::Error::from(ErrorKind::Interrupted))
+    }
+
+    fn flush(&mut self) -> io::Result<()> {
+        self.socket.flush()
+    }
+}

@@ -1,0 +1,85 @@
+//! The tossers of links and of the desk's places.
+
+ghost use Rattle.std.specs.Prelude.{◌≡◌, ◌+◌, ◌*◌, ◌<◌, ◌^◌, length, IfOk};
+ghost use Rattle.member.specs.Sound.{IsSound};
+ghost use Rattle.member.specs.Words.{header_of, saved_of};
+ghost use Rattle.rounds.specs.Tossing.{stream_of};
+ghost use Rattle.running.specs.Streams.{streams};
+
+use disk::Disk;
+use member::Member;
+use rounds::ChaChaTosser;
+use std::alloc::Global;
+use terms::Memory;
+
+/// The place of the desk's first client among the streams.
+const DESK: u8 = 128;
+
+/// How many clients the desk has a place for.
+pub(crate) const CLIENTS: u8 = 32;
+
+/// The tosses of a place, in a life that began with so many records in the journal: those of the stream
+/// `records * 256 + place` of the seed. A journal has fewer than 2^55 records.
+///
+/// A link's place is its peer's number; the place of a client of the desk is 128 and the slot that it has, 0 to 31. So two
+/// lives, two links, and two slots toss from streams of their own.
+pub fn tosser_for(seed: [u8; 32], records: u64, place: u8) -> ChaChaTosser
+    ensures { records < 2 ^ 55 → result ≡ stream_of seed (records * 256 + place) }
+{
+    ChaChaTosser::from_seed(
+        seed,
+        records.wrapping_mul(256).wrapping_add(u64::from(place)),
+    )
+}
+
+/// The tossers of so many places from this one on.
+fn tossers_from(
+    alloc: Global,
+    seed: [u8; 32],
+    records: u64,
+    first: u8,
+    count: u8,
+) -> Result<Vec<ChaChaTosser>, Memory>
+    requires { first + count < 2 ^ 8 }
+    ensures { records < 2 ^ 55 →
+        IfOk result (λ tossers. tossers.items ≡ streams seed (records * 256 + first) count) }
+{
+    let mut tossers = Vec::new(alloc);
+    for at in 0..count {
+        tossers.push(tosser_for(seed, records, first + at))?;
+    }
+    Ok(tossers)
+}
+
+/// The tossers of a member's life, which its links and its desk keep over all sessions.
+#[derive(Drop)]
+pub struct Tossers {
+    /// Those of the links from each member, by the members' numbers.
+    pub links: Vec<ChaChaTosser>,
+    /// Those of the desk's 32 slots, by the slots' numbers.
+    pub desk: Vec<ChaChaTosser>,
+}
+
+/// The tossers of the life of a member that was just opened. The records in its journal say which streams of the seed they
+/// are.
+///
+/// # Errors
+///
+/// [`Memory`], where there is no room for them.
+pub fn tossers_of<D: Disk>(
+    alloc: Global,
+    seed: [u8; 32],
+    member: &Member<D>,
+) -> Result<Tossers, Memory>
+    requires { IsSound D.Disk member.now }
+    ensures links { length (saved_of member.now) < 2 ^ 55 → IfOk result (λ tossers.
+        tossers.links.items ≡ streams seed (length (saved_of member.now) * 256) (header_of member.now).size.n) }
+    ensures desk { length (saved_of member.now) < 2 ^ 55 → IfOk result (λ tossers.
+        tossers.desk.items ≡ streams seed (length (saved_of member.now) * 256 + 128) 32) }
+{
+    let records = member.records().len() as u64;
+    let members = member.header().size().n();
+    let links = tossers_from(alloc, seed, records, 0, members)?;
+    let desk = tossers_from(alloc, seed, records, DESK, CLIENTS)?;
+    Ok(Tossers { links, desk })
+}

@@ -1,0 +1,5 @@
+pub mod Marks
+pub mod Members
+pub mod First
+pub mod Fitting
+pub mod Single

@@ -1,0 +1,87 @@
+use Rattle.std.proofs.Common.{◌≡◌, rules, Result, Err, [], ◌∷◌, refl, string_bytes}
+use Rattle.toml.specs.View.{table_view}
+use Rattle.settings.specs.declared.entries.Entries.{Entries}
+use Rattle.settings.specs.declared.fault.SettingsFault.{SettingsFault}
+use Rattle.settings.specs.declared.keys.Key.TheVariants.{Cluster, N, T, Questions, Me, Journal, Peers, Desk, Seed}
+use Rattle.settings.specs.Settings.{HasPath, HasAddresses}
+use Rattle.settings.proofs.First.{first_of, first_or_memory}
+use Rattle.settings.proofs.entries.Entries.read.Goals as goal
+
+pub returns-in_err-number-clause-fault : goal.returns-in_err-number-clause-fault
+returns-in_err-number-clause-fault c =
+    let ends : ◌≡◌ {A = Result Entries SettingsFault} c.from_residual.result (Err c.in_err-number.field-0.0) = search (rules, c.from_residual.ensures) in
+    let lack = c.in_err-number.ensures.fault in
+    first_of (table_view c.args.table.now) [] Cluster (N ∷ T ∷ Questions ∷ Me ∷ Journal ∷ Peers ∷ Desk ∷ Seed ∷ [])
+    c.in_err-number.field-0.0 c.from_residual.result ends refl
+    tt
+    (lack.0, (λ h. lack.1 h.0 h.1))
+
+pub returns-in_err-small-clause-fault : goal.returns-in_err-small-clause-fault
+returns-in_err-small-clause-fault c =
+    let ends : ◌≡◌ {A = Result Entries SettingsFault} c.from_residual-in_err-small.result (Err c.in_err-small.field-0.0) = search (rules, c.from_residual-in_err-small.ensures) in
+    let lack = c.in_err-small.ensures.fault in
+    first_of (table_view c.args.table.now) (Cluster ∷ []) N (T ∷ Questions ∷ Me ∷ Journal ∷ Peers ∷ Desk ∷ Seed ∷ [])
+    c.in_err-small.field-0.0 c.from_residual-in_err-small.result ends refl
+    ((c.in_ok-number.field-0, c.in_ok-number.ensures.ok), tt)
+    (lack.0, (λ h. lack.1 h.0 h.1))
+
+pub returns-in_err-small-2-clause-fault : goal.returns-in_err-small-2-clause-fault
+returns-in_err-small-2-clause-fault c =
+    let ends : ◌≡◌ {A = Result Entries SettingsFault} c.from_residual-in_err-small-2.result (Err c.in_err-small-2.field-0.0) = search (rules, c.from_residual-in_err-small-2.ensures) in
+    let lack = c.in_err-small-2.ensures.fault in
+    first_of (table_view c.args.table.now) (Cluster ∷ N ∷ []) T (Questions ∷ Me ∷ Journal ∷ Peers ∷ Desk ∷ Seed ∷ [])
+    c.in_err-small-2.field-0.0 c.from_residual-in_err-small-2.result ends refl
+    ((c.in_ok-number.field-0, c.in_ok-number.ensures.ok), ((c.in_ok-small.field-0, c.in_ok-small.ensures.ok), tt))
+    (lack.0, (λ h. lack.1 h.0 h.1))
+
+pub returns-in_err-small-3-clause-fault : goal.returns-in_err-small-3-clause-fault
+returns-in_err-small-3-clause-fault c =
+    let ends : ◌≡◌ {A = Result Entries SettingsFault} c.from_residual-in_err-small-3.result (Err c.in_err-small-3.field-0.0) = search (rules, c.from_residual-in_err-small-3.ensures) in
+    let lack = c.in_err-small-3.ensures.fault in
+    first_of (table_view c.args.table.now) (Cluster ∷ N ∷ T ∷ []) Questions (Me ∷ Journal ∷ Peers ∷ Desk ∷ Seed ∷ [])
+    c.in_err-small-3.field-0.0 c.from_residual-in_err-small-3.result ends refl
+    ((c.in_ok-number.field-0, c.in_ok-number.ensures.ok), ((c.in_ok-small.field-0, c.in_ok-small.ensures.ok), ((c.in_ok-small-2.field-0, c.in_ok-small-2.ensures.ok), tt)))
+    (lack.0, (λ h. lack.1 h.0 h.1))
+
+pub returns-in_err-number-2-clause-fault : goal.returns-in_err-number-2-clause-fault
+returns-in_err-number-2-clause-fault c =
+    let ends : ◌≡◌ {A = Result Entries SettingsFault} c.from_residual-in_err-number-2.result (Err c.in_err-number-2.field-0.0) = search (rules, c.from_residual-in_err-number-2.ensures) in
+    let lack = c.in_err-number-2.ensures.fault in
+    first_of (table_view c.args.table.now) (Cluster ∷ N ∷ T ∷ Questions ∷ []) Me (Journal ∷ Peers ∷ Desk ∷ Seed ∷ [])
+    c.in_err-number-2.field-0.0 c.from_residual-in_err-number-2.result ends refl
+    ((c.in_ok-number.field-0, c.in_ok-number.ensures.ok), ((c.in_ok-small.field-0, c.in_ok-small.ensures.ok), ((c.in_ok-small-2.field-0, c.in_ok-small-2.ensures.ok), ((c.in_ok-small-3.field-0, c.in_ok-small-3.ensures.ok), tt))))
+    (lack.0, (λ h. lack.1 h.0 h.1))
+
+pub returns-in_err-journal-clause-fault : goal.returns-in_err-journal-clause-fault
+returns-in_err-journal-clause-fault c =
+    let ends : ◌≡◌ {A = Result Entries SettingsFault} c.from_residual-in_err-journal.result (Err c.in_err-journal.field-0.0) = search (rules, c.from_residual-in_err-journal.ensures) in
+    first_or_memory (table_view c.args.table.now) (Cluster ∷ N ∷ T ∷ Questions ∷ Me ∷ []) Journal (Peers ∷ Desk ∷ Seed ∷ [])
+    c.in_err-journal.field-0.0 c.from_residual-in_err-journal.result ends refl
+    ((c.in_ok-number.field-0, c.in_ok-number.ensures.ok), ((c.in_ok-small.field-0, c.in_ok-small.ensures.ok), ((c.in_ok-small-2.field-0, c.in_ok-small-2.ensures.ok), ((c.in_ok-small-3.field-0, c.in_ok-small-3.ensures.ok), ((c.in_ok-number-2.field-0, c.in_ok-number-2.ensures.ok), tt)))))
+    (HasPath (table_view c.args.table.now) Journal) (λ h. h) c.in_err-journal.ensures.fault
+
+pub returns-in_err-peers-clause-fault : goal.returns-in_err-peers-clause-fault
+returns-in_err-peers-clause-fault c =
+    let ends : ◌≡◌ {A = Result Entries SettingsFault} c.from_residual-in_err-peers.result (Err c.in_err-peers.field-0.0) = search (rules, c.from_residual-in_err-peers.ensures) in
+    first_or_memory (table_view c.args.table.now) (Cluster ∷ N ∷ T ∷ Questions ∷ Me ∷ Journal ∷ []) Peers (Desk ∷ Seed ∷ [])
+    c.in_err-peers.field-0.0 c.from_residual-in_err-peers.result ends refl
+    ((c.in_ok-number.field-0, c.in_ok-number.ensures.ok), ((c.in_ok-small.field-0, c.in_ok-small.ensures.ok), ((c.in_ok-small-2.field-0, c.in_ok-small-2.ensures.ok), ((c.in_ok-small-3.field-0, c.in_ok-small-3.ensures.ok), ((c.in_ok-number-2.field-0, c.in_ok-number-2.ensures.ok), ((string_bytes c.in_ok-journal.field-0, c.in_ok-journal.ensures.ok), tt))))))
+    (HasAddresses (table_view c.args.table.now) Peers) (λ h. h) c.in_err-peers.ensures.fault
+
+pub returns-in_err-address-clause-fault : goal.returns-in_err-address-clause-fault
+returns-in_err-address-clause-fault c =
+    let ends : ◌≡◌ {A = Result Entries SettingsFault} c.from_residual-in_err-address.result (Err c.in_err-address.field-0.0) = search (rules, c.from_residual-in_err-address.ensures) in
+    let lack = c.in_err-address.ensures.fault in
+    first_of (table_view c.args.table.now) (Cluster ∷ N ∷ T ∷ Questions ∷ Me ∷ Journal ∷ Peers ∷ []) Desk (Seed ∷ [])
+    c.in_err-address.field-0.0 c.from_residual-in_err-address.result ends refl
+    ((c.in_ok-number.field-0, c.in_ok-number.ensures.ok), ((c.in_ok-small.field-0, c.in_ok-small.ensures.ok), ((c.in_ok-small-2.field-0, c.in_ok-small-2.ensures.ok), ((c.in_ok-small-3.field-0, c.in_ok-small-3.ensures.ok), ((c.in_ok-number-2.field-0, c.in_ok-number-2.ensures.ok), ((string_bytes c.in_ok-journal.field-0, c.in_ok-journal.ensures.ok), ((c.in_ok-peers.field-0.items, c.in_ok-peers.ensures.ok), tt)))))))
+    (lack.0, (λ h. lack.1 h.0 h.1))
+
+pub returns-in_err-seed-clause-fault : goal.returns-in_err-seed-clause-fault
+returns-in_err-seed-clause-fault c =
+    let ends : ◌≡◌ {A = Result Entries SettingsFault} c.from_residual-in_err-seed.result (Err c.in_err-seed.field-0.0) = search (rules, c.from_residual-in_err-seed.ensures) in
+    let lack = c.in_err-seed.ensures.fault in
+    first_of (table_view c.args.table.now) (Cluster ∷ N ∷ T ∷ Questions ∷ Me ∷ Journal ∷ Peers ∷ Desk ∷ []) Seed []
+    c.in_err-seed.field-0.0 c.from_residual-in_err-seed.result ends refl
+    ((c.in_ok-number.field-0, c.in_ok-number.ensures.ok), ((c.in_ok-small.field-0, c.in_ok-small.ensures.ok), ((c.in_ok-small-2.field-0, c.in_ok-small-2.ensures.ok), ((c.in_ok-small-3.field-0, c.in_ok-small-3.ensures.ok), ((c.in_ok-number-2.field-0, c.in_ok-number-2.ensures.ok), ((string_bytes c.in_ok-journal.field-0, c.in_ok-journal.ensures.ok), ((c.in_ok-peers.field-0.items, c.in_ok-peers.ensures.ok), ((c.in_ok-address.field-0, c.in_ok-address.ensures.ok), tt))))))))
+    (lack.0, (λ h. lack.1 h.0 h.1))

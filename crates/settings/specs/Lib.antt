@@ -1,0 +1,5 @@
+pub mod Marks
+pub mod Addresses
+pub mod Keys
+pub mod Settings
+pub mod Entries

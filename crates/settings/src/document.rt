@@ -1,0 +1,56 @@
+//! The settings that a TOML text gives.
+
+ghost use Rattle.std.specs.Prelude.{◌≡◌, ◌⊎◌, IfOk, IfErr, None, Some};
+ghost use Rattle.toml.specs.Parse.{parse_document};
+ghost use Rattle.toml.specs.View.{table_view};
+
+use crate::address::Address;
+use crate::entries::Entries;
+use crate::fault::SettingsFault;
+use std::alloc::Global;
+use terms::Header;
+use toml::Table;
+
+/// The settings of a member.
+#[derive(Debug, Drop)]
+pub struct Settings {
+    /// The cluster's number, its size, and the member.
+    pub header: Header,
+    /// The path of the member's journal, which isn't empty.
+    pub journal: String,
+    /// Where each member listens to the others, n addresses in the order of the members.
+    pub peers: Vec<Address>,
+    /// Where the member listens to its clients.
+    pub desk: Address,
+    /// What the member tosses its coins by.
+    pub seed: [u8; 32],
+}
+
+impl Settings {
+    ghost use Rattle.settings.specs.Settings.{IsSettings, IsFault};
+    ghost use Rattle.settings.specs.declared.fault.SettingsFault.{SettingsFault};
+
+    /// The settings that the TOML text gives, or the first thing that is wrong with it. Keys of other names are left
+    /// alone.
+    pub fn parse(alloc: Global, text: &str) -> Result<Settings, SettingsFault>
+        ensures ok { IfOk result (IsSettings (parse_document text.now)) }
+        ensures fault { IfErr result (λ ends. IsFault (parse_document text.now) ends ⊎ (ends ≡ SettingsFault.Memory)) }
+        ensures exact { (ends : SettingsFault) → IsFault (parse_document text.now) ends →
+            (result ≡ Err ends) ⊎ (result ≡ Err SettingsFault.Memory) }
+    {
+        let table = table(alloc, text)?;
+        Entries::read(alloc, &table)?.fit()
+    }
+}
+
+/// The table that a TOML text is.
+fn table(alloc: Global, text: &str) -> Result<Table, SettingsFault>
+    ensures ok { IfOk result (λ table. parse_document text.now ≡ Some (table_view table)) }
+    ensures fault { IfErr result (λ ends. ((ends ≡ SettingsFault.Text) × (parse_document text.now ≡ None)) ⊎ (ends ≡ SettingsFault.Memory)) }
+{
+    match toml::table_from_str(alloc, text) {
+        Ok(table) => Ok(table),
+        Err(error) if error.is_memory() => Err(SettingsFault::Memory),
+        Err(_) => Err(SettingsFault::Text),
+    }
+}

@@ -1,0 +1,54 @@
+//! The keys of the settings.
+
+ghost use Rattle.std.specs.Prelude.{◌≡◌};
+ghost use Rattle.settings.specs.Keys.{key_text};
+
+use std::fmt;
+
+/// A key of the settings. The keys are looked at in this order.
+#[derive(Clone, Copy, Debug, PartialEq, Eq)]
+pub enum Key {
+    /// The cluster's number, an integer that isn't negative.
+    Cluster,
+    /// How many members there are.
+    N,
+    /// How many of them may lie.
+    T,
+    /// How many questions there are.
+    Questions,
+    /// The member, an integer below n.
+    Me,
+    /// The path of the member's journal, a text that isn't empty.
+    Journal,
+    /// Where the members listen to one another: an array of n texts `HOST:PORT`.
+    Peers,
+    /// Where the member listens to its clients: a text `HOST:PORT`.
+    Desk,
+    /// What the member tosses coins by: a text of 64 hexadecimal digits.
+    Seed,
+}
+
+impl Key {
+    /// The key as it stands in the text.
+    pub fn text(self) -> &'static str
+        ensures { result.now ≡ key_text self }
+    {
+        match self {
+            Key::Cluster => "cluster",
+            Key::N => "n",
+            Key::T => "t",
+            Key::Questions => "questions",
+            Key::Me => "me",
+            Key::Journal => "journal",
+            Key::Peers => "peers",
+            Key::Desk => "desk",
+            Key::Seed => "seed",
+        }
+    }
+}
+
+impl fmt::Display for Key {
+    fn fmt<W: fmt::Write>(&self, f: &mut fmt::Formatter<W>) -> fmt::Result {
+        f.write_str(self.text())
+    }
+}

@@ -1,0 +1,23 @@
+//! Words with a space between them.
+
+ghost use Rattle.std.specs.Prelude.{◌≡◌, ◌<◌, ◌∷◌, ◌++◌, length, IfSome, MatchOption};
+ghost use Rattle.std.specs.List.{position_from};
+ghost use Rattle.words.specs.Spaces.{is_space, NoSpace};
+
+/// Where the first space stands.
+pub fn first_space(line: &[u8]) -> Option<usize>
+    ensures value { result ≡ position_from is_space 0 line.now }
+    ensures within { IfSome result (λ at. at < length line.now) }
+{
+    line.iter().position(|byte| *byte == b' ')
+}
+
+/// What stands before the first space, and what stands behind it; none where there is no space.
+pub fn split_at_space(line: &[u8]) -> Option<(&[u8], &[u8])>
+    ensures { MatchOption result (NoSpace line.now) (λ parts. (line.now ≡ parts.0.now ++ 32 ∷ parts.1.now) × NoSpace parts.0.now) }
+{
+    match first_space(line) {
+        Some(space) => Some((&line[..space], &line[space + 1..])),
+        None => None,
+    }
+}

@@ -1,0 +1,68 @@
+#!/usr/bin/env bash
+# Runs a cluster of four members on this machine and kills one of them, by SIGKILL, in the middle of the proposals on each
+# of ten questions. All members have to decide each question for the bit that was proposed, and each journal has to have
+# each decision once.
+#
+#   examples/kill-members.sh [PROGRAM]     PROGRAM is bracha; left out, it is crates/bracha/out/bracha of this repository
+set -euo pipefail
+
+here=$(cd "$(dirname "$0")" && pwd)
+program=$(realpath "${1:-$here/../crates/bracha/out/bracha}")
+folder=$(mktemp -d "${TMPDIR:-/tmp}/bracha-kill.XXXXXX")
+cp "$here"/cluster/member-?.toml "$folder"
+cd "$folder"
+declare -A process
+trap 'kill "${process[@]}" 2>/dev/null || true; rm -r "$folder"' EXIT
+
+fail() {
+    echo "$1" >&2
+    exit 1
+}
+
+start() {
+    "$program" run --stay "member-$1.toml" >"output-$1" 2>"log-$1" &
+    process[$1]=$!
+    for _ in {1..200}; do
+        if grep -qs ready "output-$1"; then return; fi
+        sleep 0.02
+    done
+    fail "member $1 isn't ready: $(cat "log-$1")"
+}
+
+# Asks a member until it has decided, and gives what it says.
+decision() {
+    local reply=UNDECIDED
+    for _ in {1..300}; do
+        reply=$("$program" ask "127.0.0.1:4711$1" "$2") || true
+        if [ "$reply" != UNDECIDED ]; then break; fi
+        sleep 0.05
+    done
+    echo "$reply"
+}
+
+for member in 0 1 2 3; do "$program" init "member-$member.toml"; done
+for member in 0 1 2 3; do start "$member"; done
+for question in {0..9}; do
+    bit=$((question % 2))
+    victim=$((question % 4))
+    for member in 0 1 2 3; do
+        "$program" propose "127.0.0.1:4711$member" "$question" "$bit" >/dev/null
+        if [ "$member" = 1 ]; then
+            kill -9 "${process[$victim]}"
+            wait "${process[$victim]}" 2>/dev/null || true
+            start "$victim"
+        fi
+    done
+    for member in 0 1 2 3; do
+        reply=$(decision "$member" "$question")
+        if [ "$reply" != "DECIDED $bit" ]; then fail "member $member on question $question: $reply"; fi
+    done
+done
+for member in 0 1 2 3; do
+    kill "${process[$member]}"
+    wait "${process[$member]}" 2>/dev/null || true
+    count=$("$program" dump "member-$member.journal" | grep -c '^decided')
+    if [ "$count" != 10 ]; then fail "member $member has $count decisions"; fi
+done
+process=()
+echo "ten members were killed, and ten questions decided by all"
