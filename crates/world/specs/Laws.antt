@@ -11,15 +11,16 @@ use Rattle.terms.specs.Count.{count_below}
 use Rattle.terms.specs.Bounds.{IsSize}
 use Rattle.terms.specs.WellFormed.{IsWellFormed}
 use Rattle.terms.specs.Heard.{hear_all, Accepted}
-use Rattle.terms.specs.Journal.{said, has_said}
+use Rattle.terms.specs.Journal.{said, has_said, has_decided}
 use Rattle.terms.specs.Lawful.{IsLawful, IsLawfulBatch}
 use Rattle.terms.specs.Past.{Past, past_of}
 use Rattle.terms.specs.Reply.{Reply, IsReply, AreReplies, records_of, records_of_all, without_tosses}
 use Rattle.terms.specs.Reply.Event.{Hearing, Proposal}
 use Rattle.terms.specs.Laws.{StandsOn}
-use Rattle.terms.specs.Same.{place_of}
+use Rattle.terms.specs.Same.{place_of, statement_of}
+use Rattle.terms.specs.Valid.{IsValid}
 use Rattle.world.specs.World.{World, Step, IsCorrect, AllSent, first_said, IsAllowed, IsRun, IsProposalBatch, has_sent, in_doubt, start, after, after_all}
-use Rattle.world.specs.Claims.{IsSettled, has_heard}
+use Rattle.world.specs.Claims.{IsSettled, has_heard, value_in}
 use Rattle.world.specs.World.Step.{Lie, Hears, Proposes, Crash, Restart}
 
 -- a record that a journal may hold: a well-formed statement, or a decision of a question and round that there are
@@ -196,3 +197,16 @@ SettledIs =
 -- so is the world at its start, in which no question was proposed or decided
 abbrev pub StartIsSettled : Type 0
 StartIsSettled = (size : Size) (liars : ℕ → Bool) → IsSettled size liars start
+
+-- at a place the Readys of correct members are of one value
+abbrev pub HasOneReady : Size → (ℕ → Bool) → World → Type 0
+HasOneReady size liars w =
+    (a b : ℕ) (place : Place) (m k : Value) → IsCorrect size liars a → IsCorrect size liars b
+    → has_sent w.sent a (statement_of Ready place m) ≡ true → has_sent w.sent b (statement_of Ready place k) ≡ true → m ≡ k
+
+-- where a correct member has decided, what correct members find valid in later rounds of the question is of its bit
+abbrev pub FindsTheDecided : Size → (ℕ → Bool) → World → Type 0
+FindsTheDecided size liars w =
+    (p o question round later step a : ℕ) (v : Bool) (m : Value) → IsCorrect size liars p → IsCorrect size liars o
+    → has_decided (w.journal p) question round v ≡ true → round < later
+    → IsValid size (Accepted size (w.heard o)) question later step a m → m ≡ value_in step v
