@@ -32,8 +32,8 @@ not_said (Said s) before h = absurd (h s refl)
 not_said (Decided question round bit) before h = append-nil before
 
 -- a text that begins and ends so
-pub svg_text : (r : Result (String Global) AllocError) (frame lifelines events : List ℕ)
-    → IfOk r (λ s. string_bytes s ≡ codes "<svg " ++ (frame ++ (lifelines ++ (events ++ codes "</svg>\n")))) → IfOk r (λ s. IsSvg (string_bytes s))
-svg_text r frame lifelines events h =
-    IfOk-weaker r (λ s. string_bytes s ≡ codes "<svg " ++ (frame ++ (lifelines ++ (events ++ codes "</svg>\n")))) (λ s. IsSvg (string_bytes s))
-    (λ s e. (frame ++ (lifelines ++ events), e ∙ simp append_assoc)) h
+pub svg_text : (r : Result (String Global) AllocError) (frame lifelines events legend : List ℕ)
+    → IfOk r (λ s. string_bytes s ≡ codes "<svg " ++ (frame ++ (lifelines ++ (events ++ (legend ++ codes "</svg>\n"))))) → IfOk r (λ s. IsSvg (string_bytes s))
+svg_text r frame lifelines events legend h =
+    IfOk-weaker r (λ s. string_bytes s ≡ codes "<svg " ++ (frame ++ (lifelines ++ (events ++ (legend ++ codes "</svg>\n"))))) (λ s. IsSvg (string_bytes s))
+    (λ s e. (frame ++ (lifelines ++ (events ++ legend)), e ∙ simp append_assoc)) h

@@ -1,3 +1,4 @@
 pub mod Wording
 pub mod Tracing
 pub mod Charting
+pub mod Lying

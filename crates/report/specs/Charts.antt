@@ -1,5 +1,5 @@
 -- What the chart of a run makes of its events.
-use Rattle.std.specs.Prelude.{ℕ, ◌+◌, ◌^◌, ◌≡◌, ◌<◌, ◌==◌, nat_le, Bool, true, false, if◌then◌else◌, Option, Some, None, List, [], ◌∷◌, ◌++◌, codes, length, take, slice_get, slice_index}
+use Rattle.std.specs.Prelude.{ℕ, ◌+◌, ◌^◌, ◌≡◌, ◌<◌, ◌==◌, ◌⊎◌, nat_le, Bool, true, false, if◌then◌else◌, Option, Some, None, List, [], ◌∷◌, ◌++◌, codes, length, take, slice_get, slice_index}
 use Rattle.hex.specs.Hex.{encode_lower}
 use Rattle.disk.specs.declared.crash.Pick.{Pick}
 use Rattle.disk.specs.declared.crash.Pick.TheVariants.{Kept, Lost, Fill}
@@ -7,6 +7,9 @@ use Rattle.words.specs.Sentences.{sentence}
 use Rattle.terms.specs.declared.Record.{Record}
 use Rattle.terms.specs.declared.Record.TheVariants.{Said, Decided}
 use Rattle.terms.specs.declared.Statement.{Statement}
+use Rattle.terms.specs.declared.Size.{Size}
+use Rattle.wire.specs.declared.message.Message.TheVariants as message
+use Rattle.wire.specs.Reading.{Reads, Rest}
 use Rattle.report.specs.Records.{statement_text}
 use Rattle.sim.specs.declared.events.Event.{Event}
 use Rattle.sim.specs.declared.events.Event.TheVariants.{Propose, Deliver, LieBytes, Fuse, Crash, Restart, Reset}
@@ -77,6 +80,16 @@ pick_text (Fill byte) = sentence (codes "fill" ∷ encode_lower (byte ∷ []) �
 -- bytes in hexadecimal digits, of which 24 are shown at most
 abbrev pub bytes_label : List ℕ → List ℕ
 bytes_label bytes = if nat_le (length bytes) 12 then encode_lower bytes else encode_lower (take 12 bytes) ++ codes ".."
+
+-- the bytes are the frame of that statement, and nothing else
+abbrev pub IsFrameOf : Size → List ℕ → Statement → Type 0
+IsFrameOf size bytes s = Reads size bytes (message.Statement s ∷ []) (Rest [])
+
+-- what the arrow of a lie carries: the words of the statement whose frame its bytes are, or where they are none the bytes
+abbrev pub IsLieLabel : Size → List ℕ → List ℕ → Type 0
+IsLieLabel size bytes label =
+    ((s : Statement) × IsFrameOf size bytes s × (label ≡ statement_text s))
+    ⊎ (((s : Statement) → IsFrameOf size bytes s → ⊥) × (label ≡ bytes_label bytes))
 
 -- each place is where the link from the sender of its number is after the event, if there is a number for it
 abbrev pub AreMoved : Event → Mark → List ℕ → List ℕ → Type 0

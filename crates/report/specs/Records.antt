@@ -1,5 +1,5 @@
 -- Records in words.
-use Rattle.std.specs.Prelude.{ℕ, List, [], ◌∷◌, ◌++◌, codes}
+use Rattle.std.specs.Prelude.{ℕ, List, [], ◌∷◌, codes}
 use Rattle.std.specs.Fmt.{decimal}
 use Rattle.words.specs.Sentences.{sentence, bit_digit}
 use Rattle.terms.specs.declared.Kind.{Kind}

@@ -1,18 +1,20 @@
 //! What `simulate --chart` draws: the events of a run as a sequence chart in SVG.
 
-ghost use Rattle.std.specs.Prelude.{◌≡◌, ◌+◌, ◌*◌, ◌≤◌, IfOk, OnOk, string_bytes};
+ghost use Rattle.std.specs.Prelude.{◌≡◌, ◌+◌, ◌*◌, ◌/◌, ◌≤◌, IfOk, OnOk, string_bytes};
 ghost use Rattle.sim.specs.declared.TheConstants.{MOST_EVENTS};
 ghost use Rattle.sim.specs.Texts.{calls_text};
-ghost use Rattle.report.specs.Charts.{pick_text, bytes_label, IsSvg};
+ghost use Rattle.report.specs.Charts.{pick_text, IsSvg};
 
 mod column;
 mod drawing;
+mod lie;
 
 use crate::records::{kind_word, statement_text};
 use crate::trace::is_skipped;
 use column::{Column, member_of};
 use disk::Pick;
 use drawing::{Drawing, Sign, Words};
+use lie::lie_label;
 use sim::{Event, Mark, Which};
 use std::alloc::{AllocError, Global};
 use terms::{Kind, Record, Size};
@@ -26,19 +28,40 @@ const TOP: u64 = 66;
 /// How far down the lifelines begin.
 const LIFE: u64 = 34;
 
+/// After so many rows the heads of the columns stand again.
+const HEADS: u64 = 40;
+
 /// Where the events' numbers end.
 const NUMBERS: u64 = 40;
 
-/// How the classes of the elements look.
+/// How the classes of the elements look, on light pages and on dark ones.
 const STYLE: &str =
     "<style>text{font:12px sans-serif;fill:#111;stroke:#fff;stroke-width:3px;paint-order:stroke}\
-path{fill:none;stroke:#111;stroke-width:1.5}\
+path{fill:none;stroke:#111;stroke-width:1.5}.page{fill:#fff}\
 .head{font-weight:bold;text-anchor:middle}.number{text-anchor:end;fill:#777}.middle{text-anchor:middle}\
 .said{fill:#1d4ed8}.note{fill:#777}.lie,.failure{fill:#c81e1e}.failure{text-anchor:end}.opened{fill:#15803d}\
 .arrow,.dot{fill:#111}.liar{fill:#c81e1e;stroke:#c81e1e}\
 .cross{stroke:#c81e1e;stroke-width:2.5}.ring{stroke:#c81e1e;stroke-width:2;fill:#fff}.triangle{fill:#15803d;stroke:#15803d}\
 .runs{stroke:#444}.down{stroke:#aaa;stroke-dasharray:5 4}.lies{stroke:#e79a9a}\
-.badge{fill:#15803d}.verdict{fill:#fff;stroke:none;font-weight:bold;text-anchor:middle}</style>";
+.badge{fill:#15803d}.verdict{fill:#fff;stroke:none;font-weight:bold;text-anchor:middle}\
+@media(prefers-color-scheme:dark){text{fill:#eee;stroke:#14171c}path{stroke:#eee}.page{fill:#14171c}\
+.number,.note{fill:#999}.said{fill:#8ab4f8}.lie,.failure{fill:#f28b82}.opened{fill:#81c995}.arrow,.dot{fill:#eee}\
+.liar{fill:#f28b82;stroke:#f28b82}.cross{stroke:#f28b82}.ring{stroke:#f28b82;fill:#14171c}\
+.triangle{fill:#81c995;stroke:#81c995}.runs{stroke:#bbb}.down{stroke:#777}.lies{stroke:#a05252}.verdict{fill:#fff}}</style>";
+
+/// What the signs mean, a line each.
+const LEGEND: &str = "<path class=\"dot\" d=\"M40 0m-5 0a5 5 0 1 0 10 0a5 5 0 1 0 -10 0z\"/>\
+<text x=\"66\" y=\"4\">a proposal comes</text>\n\
+<path class=\"arrow\" d=\"M20 20H60m0 0l-8 -4v8z\"/><text x=\"66\" y=\"24\">a statement arrives</text>\n\
+<path class=\"liar\" d=\"M20 40H60m0 0l-8 -4v8z\"/><text x=\"66\" y=\"44\">bytes of a liar arrive</text>\n\
+<path class=\"cross\" d=\"M40 60m-7 -7l14 14m0 -14l-14 14\"/><text x=\"66\" y=\"64\">a crash, and what it leaves</text>\n\
+<path class=\"triangle\" d=\"M40 80m0 -8l8 13h-16z\"/><text x=\"66\" y=\"84\">opened again</text>\n\
+<path class=\"ring\" d=\"M40 100m-7 0a7 7 0 1 0 14 0a7 7 0 1 0 -14 0z\"/><text x=\"66\" y=\"104\">the disk fails</text>\n\
+<rect class=\"badge\" x=\"24\" y=\"112\" width=\"32\" height=\"17\" rx=\"8\"/><text x=\"66\" y=\"124\">a decision</text>\n\
+<path class=\"down\" d=\"M20 140H60\"/><text x=\"66\" y=\"144\">down or stopped</text>\n";
+
+/// How far down the legend reaches.
+const LEGEND_HEIGHT: u64 = 160;
 
 /// Where the lifeline of that member stands.
 fn x_of(member: u8) -> u64
@@ -47,11 +70,13 @@ fn x_of(member: u8) -> u64
     220 * u64::from(member) + 110
 }
 
-/// Where the row of that number stands, counted from 0.
+/// Where the row of that number stands, counted from 0. Behind each 40 rows there is room for the heads.
 fn y_of(row: u64) -> u64
-    ensures { row ≤ MOST_EVENTS → result ≡ 36 * row + 66 }
+    ensures { row ≤ MOST_EVENTS → result ≡ 36 * (row + row / 40) + 66 }
 {
-    row.saturating_mul(ROW).saturating_add(TOP)
+    row.saturating_add(row / HEADS)
+        .saturating_mul(ROW)
+        .saturating_add(TOP)
 }
 
 /// The question, where there are several.
@@ -85,17 +110,6 @@ fn pick_text(alloc: Global, pick: Pick) -> Result<String, AllocError>
             format!(in alloc; "fill {digits}")
         }
     }
-}
-
-/// The bytes in hexadecimal digits, of which 24 are shown at most.
-fn bytes_label(alloc: Global, bytes: &[u8]) -> Result<String, AllocError>
-    ensures { IfOk result (λ text. string_bytes text ≡ bytes_label bytes.now) }
-{
-    if bytes.len() <= 12 {
-        return hex::encode(alloc, bytes);
-    }
-    let digits = hex::encode(alloc, &bytes[..12])?;
-    format!(in alloc; "{digits}..")
 }
 
 /// How many statements of that kind are among the records.
@@ -154,6 +168,21 @@ fn draw_piece(
     Ok(())
 }
 
+/// Draws the heads of the columns that far down.
+fn draw_heads(
+    alloc: Global,
+    events: &mut Drawing,
+    columns: &[Column],
+    y: u64,
+) -> Result<(), AllocError> {
+    for (member, column) in (0..=u8::MAX).zip(columns) {
+        let lies = if column.is_liar() { " (lies)" } else { "" };
+        let name = format!(in alloc; "member {member}{lies}")?;
+        events.words(Words::Head, x_of(member), y, name.as_str())?;
+    }
+    Ok(())
+}
+
 /// The run, as far as it is drawn.
 #[derive(Drop)]
 struct Scene {
@@ -173,25 +202,40 @@ impl Scene {
     ghost use Rattle.report.specs.Columns.{FollowAll};
     ghost use Rattle.report.specs.declared.chart.column.Column.{Column};
 
-    /// The heads of the columns.
+    /// The columns, before the first event.
     fn new(alloc: Global, size: Size, liars: &[u8]) -> Result<Scene, AllocError> {
-        let mut events = Drawing::new(alloc);
         let mut columns = Vec::new(alloc);
         for member in 0..size.n() {
             let is_liar = liars.contains(&member);
             columns.push(Column::new(alloc, size.n(), is_liar, LIFE)?)?;
-            let lies = if is_liar { " (lies)" } else { "" };
-            let name = format!(in alloc; "member {member}{lies}")?;
-            events.words(Words::Head, x_of(member), 24, name.as_str())?;
         }
-        Ok(Scene {
+        let mut scene = Scene {
             alloc,
             size,
             columns,
             lifelines: Drawing::new(alloc),
-            events,
+            events: Drawing::new(alloc),
             rows: 0,
-        })
+        };
+        scene.show_heads(24)?;
+        Ok(scene)
+    }
+
+    /// Draws the heads of the columns that far down.
+    fn show_heads(&mut self, y: u64) -> Result<(), AllocError>
+        ensures { DrawsOnly self.old self.new }
+    {
+        draw_heads(self.alloc, &mut self.events, self.columns.as_slice(), y)
+    }
+
+    /// Draws the heads again above a row, where so many rows stand without them.
+    fn show_heads_again(&mut self, y: u64) -> Result<(), AllocError>
+        ensures { DrawsOnly self.old self.new }
+    {
+        if self.rows > 0 && self.rows % HEADS == 0 {
+            self.show_heads(y.saturating_sub(ROW))?;
+        }
+        Ok(())
     }
 
     /// Draws an event that wasn't skipped into a row of its own.
@@ -206,6 +250,7 @@ impl Scene {
         ensures row { OnOk result (self.old.rows < MOST_EVENTS → self.new.rows ≡ self.old.rows + 1) }
     {
         let y = y_of(self.rows);
+        self.show_heads_again(y)?;
         self.rows = self.rows.saturating_add(1);
         let number = format!(in self.alloc; "{number}")?;
         self.events
@@ -307,7 +352,7 @@ impl Scene {
     fn show_lie(&mut self, liar: u8, to: u8, bytes: &[u8], y: u64) -> Result<(), AllocError>
         ensures { DrawsOnly self.old self.new }
     {
-        let label = bytes_label(self.alloc, bytes)?;
+        let label = lie_label(self.alloc, self.size, bytes)?;
         let words = if liar < to {
             Words::LieRightward
         } else {
@@ -425,7 +470,7 @@ impl Scene {
     }
 }
 
-/// The picture of that width, as far down as that and a little farther.
+/// The picture of that width, as far down as that, and the legend below it.
 fn svg(
     alloc: Global,
     width: u64,
@@ -435,21 +480,24 @@ fn svg(
 ) -> Result<String, AllocError>
     ensures { IfOk result (λ text. IsSvg (string_bytes text)) }
 {
-    let height = bottom.saturating_add(12);
+    let below = bottom.saturating_add(36);
+    let height = below.saturating_add(LEGEND_HEIGHT);
     let frame = format!(in alloc;
-        "xmlns=\"http://www.w3.org/2000/svg\" width=\"{width}\" height=\"{height}\" viewBox=\"0 0 {width} {height}\">\n{}\n<rect width=\"{width}\" height=\"{height}\" fill=\"#fff\"/>\n",
+        "xmlns=\"http://www.w3.org/2000/svg\" width=\"{width}\" height=\"{height}\" viewBox=\"0 0 {width} {height}\">\n{}\n<rect class=\"page\" width=\"{width}\" height=\"{height}\"/>\n",
         STYLE
     )?;
+    let legend = format!(in alloc; "<g transform=\"translate(0,{below})\">\n{}</g>\n", LEGEND)?;
     format!(in alloc;
-        "<svg {frame}{}{}</svg>\n",
+        "<svg {frame}{}{}{legend}</svg>\n",
         lifelines.as_str(),
         events.as_str()
     )
 }
 
 /// Draws the events that weren't skipped as a sequence chart in SVG, each in a row with its number, counted from 1. A
-/// member's lifeline is solid while it runs, and dashed while it is down or stopped. Where the lists are of unequal lengths
-/// the chart goes as far as the shortest.
+/// member's lifeline is solid while it runs, and dashed while it is down or stopped. The columns have their heads at the top
+/// and again after each 40 rows; below stands what the signs mean. On a dark page the picture is dark. Where the lists are
+/// of unequal lengths the chart goes as far as the shortest.
 pub fn chart_text(
     alloc: Global,
     size: Size,

@@ -81,9 +81,9 @@ fn draws_a_crash(rt: HostRuntime) -> Result<(), Fail> {
         (">3<", 0),
         (">14<", 0),
         ("fuse", 0),
-        // Member 0 is down between the crash and the restart alone.
-        ("class=\"down\"", 1),
-        ("M110 138V174", 1),
+        // Member 0 is down between the crash and the restart alone; the other dashed line is the legend's.
+        ("class=\"down\"", 2),
+        ("class=\"down\" d=\"M110 138V174\"", 1),
     ] {
         assert!(rt; count(chart, words) == times, "at {words}");
     }
@@ -125,5 +125,43 @@ fn draws_no_events(rt: HostRuntime) -> Result<(), Fail> {
     assert!(rt; chart.ends_with("</svg>\n"));
     assert!(rt; count(chart, "<text") == count(chart, "</text>"));
     assert!(rt; count(chart, ">member 1<") == 1);
+    Ok(())
+}
+
+/// An arrow of a lie carries the words of the statement whose frame its bytes are, and else the bytes.
+#[test]
+fn names_the_statements_of_liars(rt: HostRuntime) -> Result<(), Fail> {
+    let head = "n 4\nt 1\nquestions 2\nliars 3\nseed 1\n";
+    for (bytes, words) in [
+        ("00080301000103010101", ">initial 1 3 1 1 one<"),
+        ("00080302000003200304", ">echo 0 3 32 3 unsure<"),
+        ("00080303000002010302", ">ready 0 2 1 3 sure-zero<"),
+        // A value of another step, a question that isn't, a frame with a byte behind it, one with a byte less, and another message.
+        ("00080303000002010300", ">00080303000002010300<"),
+        ("00080301000203010101", ">00080301000203010101<"),
+        ("0008030100010301010100", ">0008030100010301010100<"),
+        ("000803010001030101", ">000803010001030101<"),
+        ("000902000000000000000000", ">000902000000000000000000<"),
+    ] {
+        let script = format!(in rt.alloc(); "{head}lie 3 0 {bytes}\n")?;
+        let chart = drawn(rt.alloc(), script.as_str())?;
+        assert!(rt; count(chart.as_str(), words) == 1, "at {bytes}");
+    }
+    Ok(())
+}
+
+#[test]
+fn heads_stand_again_after_forty_rows(rt: HostRuntime) -> Result<(), Fail> {
+    let head = "n 1\nt 0\nquestions 1\nliars\nseed 1\n";
+    let forty = "fuse 0 off\n".repeat(rt.alloc(), 40)?;
+    let script = format!(in rt.alloc(); "{head}{forty}")?;
+    let chart = drawn(rt.alloc(), script.as_str())?;
+    assert!(rt; count(chart.as_str(), ">member 0<") == 1);
+    assert!(rt; count(chart.as_str(), "y=\"1470\" class=\"number\" dy=\"4\">40<") == 1);
+    let script = format!(in rt.alloc(); "{head}{forty}fuse 0 off\n")?;
+    let chart = drawn(rt.alloc(), script.as_str())?;
+    assert!(rt; count(chart.as_str(), ">member 0<") == 2);
+    assert!(rt; count(chart.as_str(), "y=\"1506\" class=\"head\">member 0<") == 1);
+    assert!(rt; count(chart.as_str(), "y=\"1542\" class=\"number\" dy=\"4\">41<") == 1);
     Ok(())
 }

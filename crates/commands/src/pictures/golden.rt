@@ -45,9 +45,9 @@ deliver 0 2 2
 deliver 1 2 2
 deliver 2 2 2
 "##,
-    r##"<svg xmlns="http://www.w3.org/2000/svg" width="990" height="978" viewBox="0 0 990 978">
-<style>text{font:12px sans-serif;fill:#111;stroke:#fff;stroke-width:3px;paint-order:stroke}path{fill:none;stroke:#111;stroke-width:1.5}.head{font-weight:bold;text-anchor:middle}.number{text-anchor:end;fill:#777}.middle{text-anchor:middle}.said{fill:#1d4ed8}.note{fill:#777}.lie,.failure{fill:#c81e1e}.failure{text-anchor:end}.opened{fill:#15803d}.arrow,.dot{fill:#111}.liar{fill:#c81e1e;stroke:#c81e1e}.cross{stroke:#c81e1e;stroke-width:2.5}.ring{stroke:#c81e1e;stroke-width:2;fill:#fff}.triangle{fill:#15803d;stroke:#15803d}.runs{stroke:#444}.down{stroke:#aaa;stroke-dasharray:5 4}.lies{stroke:#e79a9a}.badge{fill:#15803d}.verdict{fill:#fff;stroke:none;font-weight:bold;text-anchor:middle}</style>
-<rect width="990" height="978" fill="#fff"/>
+    r##"<svg xmlns="http://www.w3.org/2000/svg" width="990" height="1162" viewBox="0 0 990 1162">
+<style>text{font:12px sans-serif;fill:#111;stroke:#fff;stroke-width:3px;paint-order:stroke}path{fill:none;stroke:#111;stroke-width:1.5}.page{fill:#fff}.head{font-weight:bold;text-anchor:middle}.number{text-anchor:end;fill:#777}.middle{text-anchor:middle}.said{fill:#1d4ed8}.note{fill:#777}.lie,.failure{fill:#c81e1e}.failure{text-anchor:end}.opened{fill:#15803d}.arrow,.dot{fill:#111}.liar{fill:#c81e1e;stroke:#c81e1e}.cross{stroke:#c81e1e;stroke-width:2.5}.ring{stroke:#c81e1e;stroke-width:2;fill:#fff}.triangle{fill:#15803d;stroke:#15803d}.runs{stroke:#444}.down{stroke:#aaa;stroke-dasharray:5 4}.lies{stroke:#e79a9a}.badge{fill:#15803d}.verdict{fill:#fff;stroke:none;font-weight:bold;text-anchor:middle}@media(prefers-color-scheme:dark){text{fill:#eee;stroke:#14171c}path{stroke:#eee}.page{fill:#14171c}.number,.note{fill:#999}.said{fill:#8ab4f8}.lie,.failure{fill:#f28b82}.opened{fill:#81c995}.arrow,.dot{fill:#eee}.liar{fill:#f28b82;stroke:#f28b82}.cross{stroke:#f28b82}.ring{stroke:#f28b82;fill:#14171c}.triangle{fill:#81c995;stroke:#81c995}.runs{stroke:#bbb}.down{stroke:#777}.lies{stroke:#a05252}.verdict{fill:#fff}}</style>
+<rect class="page" width="990" height="1162"/>
 <path class="runs" d="M110 34V282"/>
 <path class="down" d="M110 282V354"/>
 <path class="runs" d="M110 354V966"/>
@@ -73,15 +73,15 @@ deliver 2 2 2
 <text x="330" y="138" class="said" dx="10" dy="15">says echo</text>
 <text x="40" y="174" class="number" dy="4">4</text>
 <path class="liar" d="M770 174H110m0 0l8 -4v8z"/>
-<text x="770" y="174" class="middle lie" dx="-110" dy="-5">00080301000003010101</text>
+<text x="770" y="174" class="middle lie" dx="-110" dy="-5">initial 0 3 1 1 one</text>
 <text x="110" y="174" class="said" dx="10" dy="15">says echo</text>
 <text x="40" y="210" class="number" dy="4">5</text>
 <path class="liar" d="M770 210H550m0 0l8 -4v8z"/>
-<text x="770" y="210" class="middle lie" dx="-110" dy="-5">00080301000003010100</text>
+<text x="770" y="210" class="middle lie" dx="-110" dy="-5">initial 0 3 1 1 zero</text>
 <text x="550" y="210" class="said" dx="10" dy="15">says echo</text>
 <text x="40" y="246" class="number" dy="4">6</text>
 <path class="liar" d="M770 246H330m0 0l8 -4v8z"/>
-<text x="770" y="246" class="middle lie" dx="-110" dy="-5">00080302000001010100</text>
+<text x="770" y="246" class="middle lie" dx="-110" dy="-5">echo 0 1 1 1 zero</text>
 <text x="40" y="282" class="number" dy="4">7</text>
 <path class="cross" d="M110 282m-7 -7l14 14m0 -14l-14 14"/>
 <text x="110" y="282" class="lie" dx="12" dy="4">crash lost</text>
@@ -148,6 +148,16 @@ deliver 2 2 2
 <path class="turn" d="M550 930m0 -12h26v10h-24"/>
 <path class="arrow" d="M550 930m0 -2l8 -4v8z"/>
 <text x="550" y="930" dx="34" dy="-3">ready 0 1 1 1 one</text>
+<g transform="translate(0,1002)">
+<path class="dot" d="M40 0m-5 0a5 5 0 1 0 10 0a5 5 0 1 0 -10 0z"/><text x="66" y="4">a proposal comes</text>
+<path class="arrow" d="M20 20H60m0 0l-8 -4v8z"/><text x="66" y="24">a statement arrives</text>
+<path class="liar" d="M20 40H60m0 0l-8 -4v8z"/><text x="66" y="44">bytes of a liar arrive</text>
+<path class="cross" d="M40 60m-7 -7l14 14m0 -14l-14 14"/><text x="66" y="64">a crash, and what it leaves</text>
+<path class="triangle" d="M40 80m0 -8l8 13h-16z"/><text x="66" y="84">opened again</text>
+<path class="ring" d="M40 100m-7 0a7 7 0 1 0 14 0a7 7 0 1 0 -14 0z"/><text x="66" y="104">the disk fails</text>
+<rect class="badge" x="24" y="112" width="32" height="17" rx="8"/><text x="66" y="124">a decision</text>
+<path class="down" d="M20 140H60"/><text x="66" y="144">down or stopped</text>
+</g>
 </svg>
 "##,
 );
@@ -173,9 +183,9 @@ fuse 1 0
 propose 1 0 1
 reset 3 1
 "##,
-    r##"<svg xmlns="http://www.w3.org/2000/svg" width="990" height="510" viewBox="0 0 990 510">
-<style>text{font:12px sans-serif;fill:#111;stroke:#fff;stroke-width:3px;paint-order:stroke}path{fill:none;stroke:#111;stroke-width:1.5}.head{font-weight:bold;text-anchor:middle}.number{text-anchor:end;fill:#777}.middle{text-anchor:middle}.said{fill:#1d4ed8}.note{fill:#777}.lie,.failure{fill:#c81e1e}.failure{text-anchor:end}.opened{fill:#15803d}.arrow,.dot{fill:#111}.liar{fill:#c81e1e;stroke:#c81e1e}.cross{stroke:#c81e1e;stroke-width:2.5}.ring{stroke:#c81e1e;stroke-width:2;fill:#fff}.triangle{fill:#15803d;stroke:#15803d}.runs{stroke:#444}.down{stroke:#aaa;stroke-dasharray:5 4}.lies{stroke:#e79a9a}.badge{fill:#15803d}.verdict{fill:#fff;stroke:none;font-weight:bold;text-anchor:middle}</style>
-<rect width="990" height="510" fill="#fff"/>
+    r##"<svg xmlns="http://www.w3.org/2000/svg" width="990" height="694" viewBox="0 0 990 694">
+<style>text{font:12px sans-serif;fill:#111;stroke:#fff;stroke-width:3px;paint-order:stroke}path{fill:none;stroke:#111;stroke-width:1.5}.page{fill:#fff}.head{font-weight:bold;text-anchor:middle}.number{text-anchor:end;fill:#777}.middle{text-anchor:middle}.said{fill:#1d4ed8}.note{fill:#777}.lie,.failure{fill:#c81e1e}.failure{text-anchor:end}.opened{fill:#15803d}.arrow,.dot{fill:#111}.liar{fill:#c81e1e;stroke:#c81e1e}.cross{stroke:#c81e1e;stroke-width:2.5}.ring{stroke:#c81e1e;stroke-width:2;fill:#fff}.triangle{fill:#15803d;stroke:#15803d}.runs{stroke:#444}.down{stroke:#aaa;stroke-dasharray:5 4}.lies{stroke:#e79a9a}.badge{fill:#15803d}.verdict{fill:#fff;stroke:none;font-weight:bold;text-anchor:middle}@media(prefers-color-scheme:dark){text{fill:#eee;stroke:#14171c}path{stroke:#eee}.page{fill:#14171c}.number,.note{fill:#999}.said{fill:#8ab4f8}.lie,.failure{fill:#f28b82}.opened{fill:#81c995}.arrow,.dot{fill:#eee}.liar{fill:#f28b82;stroke:#f28b82}.cross{stroke:#f28b82}.ring{stroke:#f28b82;fill:#14171c}.triangle{fill:#81c995;stroke:#81c995}.runs{stroke:#bbb}.down{stroke:#777}.lies{stroke:#a05252}.verdict{fill:#fff}}</style>
+<rect class="page" width="990" height="694"/>
 <path class="runs" d="M110 34V282"/>
 <path class="down" d="M110 282V318"/>
 <path class="runs" d="M330 34V426"/>
@@ -197,7 +207,7 @@ reset 3 1
 <text x="110" y="102" class="said" dx="10" dy="15">says echo</text>
 <text x="40" y="138" class="number" dy="4">3</text>
 <path class="liar" d="M770 138H110m0 0l8 -4v8z"/>
-<text x="770" y="138" class="middle lie" dx="-110" dy="-5">00080301000003010101</text>
+<text x="770" y="138" class="middle lie" dx="-110" dy="-5">initial 0 3 1 1 one</text>
 <text x="110" y="138" class="said" dx="10" dy="15">says echo</text>
 <text x="40" y="174" class="number" dy="4">4</text>
 <path class="liar" d="M770 174H330m0 0l8 -4v8z"/>
@@ -226,6 +236,16 @@ reset 3 1
 <text x="330" y="426" class="failure" dx="-12" dy="15">disk fails</text>
 <text x="40" y="462" class="number" dy="4">12</text>
 <text x="330" y="462" class="note" dx="12" dy="4">reset 3</text>
+<g transform="translate(0,534)">
+<path class="dot" d="M40 0m-5 0a5 5 0 1 0 10 0a5 5 0 1 0 -10 0z"/><text x="66" y="4">a proposal comes</text>
+<path class="arrow" d="M20 20H60m0 0l-8 -4v8z"/><text x="66" y="24">a statement arrives</text>
+<path class="liar" d="M20 40H60m0 0l-8 -4v8z"/><text x="66" y="44">bytes of a liar arrive</text>
+<path class="cross" d="M40 60m-7 -7l14 14m0 -14l-14 14"/><text x="66" y="64">a crash, and what it leaves</text>
+<path class="triangle" d="M40 80m0 -8l8 13h-16z"/><text x="66" y="84">opened again</text>
+<path class="ring" d="M40 100m-7 0a7 7 0 1 0 14 0a7 7 0 1 0 -14 0z"/><text x="66" y="104">the disk fails</text>
+<rect class="badge" x="24" y="112" width="32" height="17" rx="8"/><text x="66" y="124">a decision</text>
+<path class="down" d="M20 140H60"/><text x="66" y="144">down or stopped</text>
+</g>
 </svg>
 "##,
 );

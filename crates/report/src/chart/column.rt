@@ -122,6 +122,13 @@ impl Column {
         delivered(&sender.said, place, which)
     }
 
+    /// Whether it lies.
+    pub(crate) fn is_liar(&self) -> bool
+        ensures { result ≡ self.now.is_liar }
+    {
+        self.is_liar
+    }
+
     /// How its lifeline looks.
     pub(crate) fn line(&self) -> Line
         ensures { result ≡ line_of self.now.is_liar self.now.runs }
