@@ -7,27 +7,27 @@ use Rattle.disk.specs.declared.crash.Pick.{Pick}
 use Rattle.disk.specs.declared.crash.Pick.TheVariants.{Kept, Lost, Fill}
 
 -- a fill changes no length
-length-filled : (s : State) (byte k : ℕ) (bytes : List ℕ) → length (filled_from s byte k bytes) ≡ length bytes
-length-filled s byte k [] = refl
-length-filled s byte k (b ∷ bytes) = ap suc (length-filled s byte (k + 1) bytes)
+pub length-filled : (synced : ℕ) (written : List (ℕ × ℕ)) (byte k : ℕ) (bytes : List ℕ) → length (filled_from synced written byte k bytes) ≡ length bytes
+length-filled synced written byte k [] = refl
+length-filled synced written byte k (b ∷ bytes) = ap suc (length-filled synced written byte (k + 1) bytes)
 
 -- a place that a crash keeps
-filled_kept : (s : State) (byte k i : ℕ) (bytes : List ℕ) → k + i < length s.synced → is_touched (k + i) s.written ≡ false → get_or (filled_from s byte k bytes) i 0 ≡ get_or bytes i 0
-filled_kept s byte k i [] within outside = refl
-filled_kept s byte k zero (b ∷ bytes) within outside =
+filled_kept : (synced : ℕ) (written : List (ℕ × ℕ)) (byte k i : ℕ) (bytes : List ℕ) → k + i < synced → is_touched (k + i) written ≡ false → get_or (filled_from synced written byte k bytes) i 0 ≡ get_or bytes i 0
+filled_kept synced written byte k i [] within outside = refl
+filled_kept synced written byte k zero (b ∷ bytes) within outside =
     let at : k + 0 ≡ k = omega arith in
-    let out : is_touched k s.written ≡ false = subst (λ (n : ℕ). is_touched n s.written ≡ false) at outside in
-    cond-false _ byte b (or_from _ _ (lt-leb (length s.synced) k (omega (arith, within))) out)
-filled_kept s byte k (suc i) (b ∷ bytes) within outside =
+    let out : is_touched k written ≡ false = subst (λ (n : ℕ). is_touched n written ≡ false) at outside in
+    cond-false _ byte b (or_from _ _ (lt-leb synced k (omega (arith, within))) out)
+filled_kept synced written byte k (suc i) (b ∷ bytes) within outside =
     let at : k + suc i ≡ k + 1 + i = omega arith in
-    filled_kept s byte (k + 1) i bytes (omega (arith, within)) (subst (λ (n : ℕ). is_touched n s.written ≡ false) at outside)
+    filled_kept synced written byte (k + 1) i bytes (omega (arith, within)) (subst (λ (n : ℕ). is_touched n written ≡ false) at outside)
 
 pub left_may_leave : (s : State) (pick : Pick) → MayLeave s s.seen → MayLeave s (left s pick)
 left_may_leave s Kept may = may
 left_may_leave s Lost may = record { no_shorter = omega arith; same_outside = λ k within outside. refl }
 left_may_leave s (Fill byte) may = record {
-  no_shorter = omega (arith, may.no_shorter, length-filled s byte 0 s.seen);
+  no_shorter = omega (arith, may.no_shorter, length-filled (length s.synced) s.written byte 0 s.seen);
   same_outside = λ k within outside.
       let at : 0 + k ≡ k = omega arith in
-      filled_kept s byte 0 k s.seen (omega (arith, within)) (subst (λ (n : ℕ). is_touched n s.written ≡ false) (sym at) outside) ∙ may.same_outside k within outside;
+      filled_kept (length s.synced) s.written byte 0 k s.seen (omega (arith, within)) (subst (λ (n : ℕ). is_touched n s.written ≡ false) (sym at) outside) ∙ may.same_outside k within outside;
 }

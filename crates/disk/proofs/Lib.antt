@@ -1,5 +1,4 @@
 mod Answered
-mod Burning
 pub mod Fuses
 mod Left
 mod Listed
@@ -7,4 +6,5 @@ pub mod Moments
 pub mod Outcomes
 mod Placing
 mod Torn
+mod Under
 mod Walks

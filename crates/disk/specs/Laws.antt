@@ -4,9 +4,8 @@ use Rattle.std.proofs.lemmas.Bool.{or_parts, cases_lt}
 use Rattle.std.proofs.lemmas.Bool.Decides.{nat_tests}
 use Rattle.std.proofs.lemmas.List.{take_all, length-take, places}
 use Rattle.disk.specs.Model.{State, MayLeave, at_rest, is_touched, put}
-use Rattle.disk.specs.Replay.{after_call, replay, LeftSince}
-use Rattle.disk.specs.declared.call.Call.{Call}
-use Rattle.disk.specs.declared.call.Call.TheVariants.{Still, Wrote, Failed, Synced}
+use Rattle.disk.specs.Replay.{Call, after_call, replay, LeftSince}
+use Rattle.disk.specs.Replay.Call.{Still, Wrote, Failed, Synced}
 
 -- a place outside these ranges and one more is outside each
 pub untouched_push : (k : ℕ) (ranges : List (ℕ × ℕ)) (at n : ℕ) → is_touched k (ranges ++ (at, n) ∷ []) ≡ false → (is_touched k ranges ≡ false) × ((k < at) ⊎ (at + n ≤ k))
@@ -39,10 +38,10 @@ put_elsewhere file at bytes k within (inr past) = grind (arith, places)
 after_call_may_leave : (s : State) (call : Call) → MayLeave s s.seen → MayLeave (after_call s call) (after_call s call).seen
 after_call_may_leave s Still may = may
 after_call_may_leave s (Wrote at bytes) may = record {
-  no_shorter = omega (arith, may.no_shorter, length_put s.seen at bytes.items);
+  no_shorter = omega (arith, may.no_shorter, length_put s.seen at bytes);
   same_outside = λ k within outside.
-      let parts = untouched_push k s.written at (length bytes.items) outside in
-      put_elsewhere s.seen at bytes.items k (omega (arith, may.no_shorter)) parts.1 ∙ may.same_outside k within parts.0;
+      let parts = untouched_push k s.written at (length bytes) outside in
+      put_elsewhere s.seen at bytes k (omega (arith, may.no_shorter)) parts.1 ∙ may.same_outside k within parts.0;
 }
 after_call_may_leave s (Failed at n) may = record {
   no_shorter = may.no_shorter;

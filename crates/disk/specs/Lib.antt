@@ -1,7 +1,9 @@
+pub mod Content
 pub mod Crash
 pub mod Deeds
 pub mod File
 pub mod Fuse
+pub mod Happened
 pub mod Laws
 pub mod Losses
 pub mod Memory
@@ -9,3 +11,4 @@ pub mod Model
 pub mod Real
 pub mod Replay
 pub mod System
+pub mod Under

@@ -6,15 +6,15 @@ use Rattle.disk.specs.declared.memory.MemDisk.{MemDisk}
 
 -- what reads give, and what a crash may leave
 abbrev pub memory_state : MemDisk → State
-memory_state disk = replay (at_rest disk.log.start.items) disk.log.calls.items
+memory_state disk = replay (at_rest disk.log.start) disk.log.calls
 
--- how many calls it has listed
+-- how many calls it has answered
 abbrev pub memory_moment : MemDisk → ℕ
-memory_moment disk = length disk.log.calls.items
+memory_moment disk = length disk.log.calls
 
 -- what a crash might have left at some moment from that one on
 abbrev pub memory_since : MemDisk → ℕ → List ℕ → Type 0
-memory_since disk = LeftSince disk.log.start.items disk.log.calls.items
+memory_since disk = LeftSince disk.log.start disk.log.calls
 
 -- how often it has failed
 abbrev pub memory_failures : MemDisk → ℕ

@@ -1,9 +1,7 @@
 //! What a crash makes of a file in memory.
-ghost use Rattle.std.specs.Prelude.{◌≡◌, ◌≤◌, ◌||◌, ℕ, length, nat_le, if◌then◌else◌, IfOk};
-ghost use Rattle.disk.specs.Model.{State, is_touched};
+ghost use Rattle.std.specs.Prelude.{◌≡◌, ◌||◌, nat_le, if◌then◌else◌};
+ghost use Rattle.disk.specs.Model.{is_touched};
 ghost use Rattle.disk.specs.Crash.{filled_from};
-
-use std::alloc::{AllocError, Global};
 
 /// Which of the files that a crash may leave it leaves.
 #[derive(Clone, Copy, Debug, PartialEq, Eq)]
@@ -17,22 +15,13 @@ pub enum Pick {
     Fill(u8),
 }
 
-/// What reads give, with one byte wherever a crash may leave any.
-pub(crate) fn filled(
-    alloc: Global,
-    seen: &[u8],
-    synced: &[u8],
-    written: &[(usize, usize)],
-    byte: u8,
-) -> Result<Vec<u8>, AllocError>
-    ensures { let state : State = record { seen = seen.now; synced = synced.now; written = written.now }
-        in IfOk result (λ file. file.items ≡ filled_from state byte 0 seen.now) }
+/// Puts one byte wherever a crash may leave any, in the bytes that reads give.
+pub(crate) fn fill(seen: &mut [u8], synced: usize, written: &[(usize, usize)], byte: u8)
+    ensures { seen.new ≡ filled_from synced written.now byte 0 seen.old }
 {
-    let mut file = Vec::new(alloc);
-    for (place, kept) in seen.iter().enumerate() {
-        file.push(left_at(place, *kept, synced.len(), written, byte))?;
+    for place in 0..seen.len() {
+        seen[place] = left_at(place, seen[place], synced, written, byte);
     }
-    Ok(file)
 }
 
 // What is left at a place, where the file had this length at the last sync.

@@ -2,11 +2,12 @@
 #![tactic(auto)]
 
 mod account;
-mod call;
+mod content;
 mod crash;
 mod device;
 mod failures;
 mod file;
+mod history;
 pub mod laws;
 mod log;
 mod memory;

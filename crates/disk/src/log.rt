@@ -1,107 +1,73 @@
-//! What a disk in memory has at first and each call that it answered, with what they make of the file.
-ghost use Rattle.std.specs.Prelude.{◌≡◌, ◌+◌, ◌≤◌, [], ◌∷◌, ◌++◌, length, take, drop, ℕ, Vec, OnOk, OnErr, IfOk};
-ghost use Rattle.std.specs.declared.alloc.Global.{Global};
-ghost use Rattle.disk.specs.Model.{at_rest, put};
-ghost use Rattle.disk.specs.Replay.{replay, IsListed, IsWrite, IsWriteIf, IsSyncIf};
-ghost use Rattle.disk.specs.declared.call.Call.TheVariants.{Still, Wrote, Failed, Synced};
+//! A file in memory with the calls that it answered, of which its state is the replay.
+ghost use Rattle.std.specs.Prelude.{◌≡◌, ◌≤◌, [], length, take, drop, ◌+◌, OnOk, OnErr};
+ghost use Rattle.disk.specs.Replay.{state_of, begun, listed, write_if, sync_if, Call};
+ghost use Rattle.disk.specs.Replay.Call.{Still, Wrote, Failed, Synced};
+ghost use Rattle.disk.specs.Content.{content_state};
+ghost use Rattle.disk.specs.Crash.{left};
 
-use crate::call::Call;
+use crate::Pick;
+use crate::content::Content;
+use crate::history::{Deed, History};
 use std::alloc::{AllocError, Global};
+use std::marker::Model;
 
-/// A file, as it was at first, each call since then, and what they come to.
+/// A file, and each call since its begin. The calls are known to clauses alone.
 #[derive(Drop)]
 pub struct Log {
-    alloc: Global,
-    start: Vec<u8>,
-    calls: Vec<Call>,
-    // What the calls make of the file at first.
-    seen: Vec<u8>,
-    synced: Vec<u8>,
-    written: Vec<(usize, usize)>,
-    ghost seen_replayed: { seen.items ≡ (replay (at_rest start.items) calls.items).seen },
-    ghost synced_replayed: { synced.items ≡ (replay (at_rest start.items) calls.items).synced },
-    ghost written_replayed: { written.items ≡ (replay (at_rest start.items) calls.items).written },
+    content: Content,
+    history: History,
+}
+
+impl Model for Log {
+    ghost use Rattle.std.specs.Prelude.{◌≡◌};
+    ghost use Rattle.disk.specs.Replay.{Past, state_of};
+    ghost use Rattle.disk.specs.Content.{content_state};
+
+    ghost Value = { Past };
+
+    ghost view = { λ log. log.history.past };
+
+    ghost invariant = { λ log. content_state log.content ≡ state_of log.history.past };
 }
 
 impl Log {
-    /// No call yet, on an empty file.
+    /// No call yet, on an empty file. It takes no memory.
     pub(crate) fn empty(alloc: Global) -> Log
-        ensures start { result.start.items ≡ [] }
-        ensures calls { result.calls.items ≡ [] }
+        ensures { result ≡ begun [] }
     {
         Log {
-            alloc,
-            start: Vec::new(alloc),
-            calls: Vec::new(alloc),
-            seen: Vec::new(alloc),
-            synced: Vec::new(alloc),
-            written: Vec::new(alloc),
+            content: Content::empty(alloc),
+            history: History::new(),
         }
-    }
-
-    /// No call yet, on a file that is all on the disk.
-    pub(crate) fn of_file(alloc: Global, file: Vec<u8>) -> Result<Log, AllocError>
-        ensures start { IfOk result (λ log. log.start.items ≡ file.items) }
-        ensures calls { IfOk result (λ log. log.calls.items ≡ []) }
-    {
-        Ok(Log {
-            alloc,
-            start: Vec::from_slice(alloc, &file)?,
-            calls: Vec::new(alloc),
-            seen: Vec::from_slice(alloc, &file)?,
-            synced: file,
-            written: Vec::new(alloc),
-        })
-    }
-
-    /// Where it gets its memory.
-    pub(crate) fn alloc(&self) -> Global {
-        self.alloc
     }
 
     /// What a read gives.
     pub(crate) fn seen(&self) -> &[u8]
-        ensures { result.now ≡ (replay (at_rest self.now.start.items) self.now.calls.items).seen }
+        ensures { result.now ≡ (state_of self.now).seen }
     {
-        &self.seen
-    }
-
-    /// What the last sync that succeeded left.
-    pub(crate) fn synced(&self) -> &[u8]
-        ensures { result.now ≡ (replay (at_rest self.now.start.items) self.now.calls.items).synced }
-    {
-        &self.synced
-    }
-
-    /// The place and the length of each write since then.
-    pub(crate) fn written(&self) -> &[(usize, usize)]
-        ensures { result.now ≡ (replay (at_rest self.now.start.items) self.now.calls.items).written }
-    {
-        &self.written
+        self.content.seen()
     }
 
     /// Fills the buffer with what a read gives from a place on.
     pub(crate) fn read(&self, at: usize, buf: &mut [u8])
-        requires { at + length buf.old ≤ length (replay (at_rest self.now.start.items) self.now.calls.items).seen }
-        ensures { buf.new ≡ take (length buf.old) (drop at (replay (at_rest self.now.start.items) self.now.calls.items).seen) }
+        requires { at + length buf.old ≤ length (state_of self.now).seen }
+        ensures { buf.new ≡ take (length buf.old) (drop at (state_of self.now).seen) }
     {
-        let end = at + buf.len();
-        buf.copy_from_slice(&self.seen[at..end]);
+        self.content.read(at, buf);
     }
 
-    /// Lists a call that changes nothing.
-    pub(crate) fn look(&mut self) -> Result<(), AllocError>
-        ensures start { self.new.start.items ≡ self.old.start.items }
-        ensures listed { IsListed result (λ call. call ≡ Still) self.old.calls.items self.new.calls.items }
+    /// A call that changes nothing. It takes no memory.
+    pub(crate) fn look(&mut self)
+        ensures { self.new ≡ listed self.old Still }
     {
-        list_call(&mut self.calls, Call::Still)
+        self.history = self.history.then(&Deed::Looked);
     }
 
-    /// Lists a write, and does it where it passes. One that does not counts as written.
+    /// A write, which is done where it passes. One that does not counts as written.
     pub(crate) fn write(&mut self, at: usize, bytes: &[u8], passes: bool) -> Result<(), AllocError>
-        requires { at ≤ length (replay (at_rest self.old.start.items) self.old.calls.items).seen }
-        ensures start { self.new.start.items ≡ self.old.start.items }
-        ensures listed { IsListed result (IsWriteIf passes at bytes.now) self.old.calls.items self.new.calls.items }
+        requires { at ≤ length (state_of self.old).seen }
+        ensures ok { OnOk result (self.new ≡ listed self.old (write_if passes at bytes.now)) }
+        ensures err { OnErr result (self.new ≡ self.old) }
     {
         if passes {
             self.do_write(at, bytes)
@@ -110,93 +76,51 @@ impl Log {
         }
     }
 
-    /// Lists a sync, and does it where it passes.
-    pub(crate) fn sync(&mut self, passes: bool) -> Result<(), AllocError>
-        ensures start { self.new.start.items ≡ self.old.start.items }
-        ensures listed { IsListed result (IsSyncIf passes) self.old.calls.items self.new.calls.items }
+    /// A sync, which is done where it passes. It takes no memory.
+    pub(crate) fn sync(&mut self, passes: bool)
+        ensures { self.new ≡ listed self.old (sync_if passes) }
     {
-        if passes { self.do_sync() } else { self.look() }
+        if passes {
+            self.do_sync();
+        } else {
+            self.look();
+        }
     }
 
-    // Lists a write, and does it.
+    /// A crash, after which there was no call yet. It takes no memory.
+    pub(crate) fn crash(&mut self, pick: Pick)
+        ensures { self.new ≡ begun (left (state_of self.old) pick) }
+    {
+        self.content.crash(pick);
+        self.history = self.history.then(&Deed::Began(self.content.seen()));
+    }
+
+    // A write that passes.
     fn do_write(&mut self, at: usize, bytes: &[u8]) -> Result<(), AllocError>
-        requires { at ≤ length (replay (at_rest self.old.start.items) self.old.calls.items).seen }
-        ensures start { self.new.start.items ≡ self.old.start.items }
-        ensures listed { IsListed result (IsWrite at bytes.now) self.old.calls.items self.new.calls.items }
+        requires { at ≤ length (state_of self.old).seen }
+        ensures ok { OnOk result (self.new ≡ listed self.old (Wrote at bytes.now)) }
+        ensures err { OnErr result (self.new ≡ self.old) }
     {
-        let next = edited(self.alloc, &self.seen, at, bytes)?;
-        let listed = Vec::from_slice(self.alloc, bytes)?;
-        list_write(
-            &mut self.calls,
-            &mut self.written,
-            Call::Wrote(at, listed),
-            (at, bytes.len()),
-        )?;
-        self.seen = next;
+        self.content.write(at, bytes)?;
+        self.history = self.history.then(&Deed::Wrote(at, bytes));
         Ok(())
     }
 
-    // Lists a write that fails.
+    // A write that fails.
     fn fail_write(&mut self, at: usize, len: usize) -> Result<(), AllocError>
-        ensures start { self.new.start.items ≡ self.old.start.items }
-        ensures listed { IsListed result (λ call. call ≡ Failed at len) self.old.calls.items self.new.calls.items }
+        ensures ok { OnOk result (self.new ≡ listed self.old (Failed at len)) }
+        ensures err { OnErr result (self.new ≡ self.old) }
     {
-        list_write(
-            &mut self.calls,
-            &mut self.written,
-            Call::Failed(at, len),
-            (at, len),
-        )
-    }
-
-    // Lists a sync, and does it.
-    fn do_sync(&mut self) -> Result<(), AllocError>
-        ensures start { self.new.start.items ≡ self.old.start.items }
-        ensures listed { IsListed result (λ call. call ≡ Synced) self.old.calls.items self.new.calls.items }
-    {
-        let next = Vec::from_slice(self.alloc, &self.seen)?;
-        list_call(&mut self.calls, Call::Synced)?;
-        self.synced = next;
-        self.written.clear();
+        self.content.fail_write(at, len)?;
+        self.history = self.history.then(&Deed::Failed(at, len));
         Ok(())
     }
-}
 
-// One call more.
-fn list_call(calls: &mut Vec<Call>, call: Call) -> Result<(), AllocError>
-    ensures { IsListed result (λ it. it ≡ call) calls.old.items calls.new.items }
-{
-    Ok(calls.push(call)?)
-}
-
-// A call and its range, both or none.
-fn list_write(
-    calls: &mut Vec<Call>,
-    written: &mut Vec<(usize, usize)>,
-    call: Call,
-    range: (usize, usize),
-) -> Result<(), AllocError>
-    ensures listed { IsListed result (λ it. it ≡ call) calls.old.items calls.new.items }
-    ensures written { OnOk result (written.new.items ≡ written.old.items ++ range ∷ []) }
-    ensures same_written { OnErr result (written.new.items ≡ written.old.items) }
-{
-    written.push(range)?;
-    if let Err(refused) = calls.push(call) {
-        let _ = written.pop();
-        return Err(refused.into());
+    // A sync that passes.
+    fn do_sync(&mut self)
+        ensures { self.new ≡ listed self.old Synced }
+    {
+        self.content.sync();
+        self.history = self.history.then(&Deed::Synced);
     }
-    Ok(())
-}
-
-// The file with these bytes at a place.
-fn edited(alloc: Global, file: &[u8], at: usize, bytes: &[u8]) -> Result<Vec<u8>, AllocError>
-    requires { at ≤ length file.now }
-    ensures { IfOk result (λ next. next.items ≡ put file.now at bytes.now) }
-{
-    let mut next = Vec::from_slice(alloc, &file[..at])?;
-    next.extend_from_slice(bytes)?;
-    if bytes.len() < file.len() - at {
-        next.extend_from_slice(&file[at + bytes.len()..])?;
-    }
-    Ok(next)
 }

@@ -1,18 +1,19 @@
-//! A disk in memory. It keeps what it had at first and each call, so that what a crash at any moment might have left
-//! can be read from it, and it can be told to fail.
-ghost use Rattle.std.specs.Prelude.{◌≡◌, ◌↔◌, [], length, is_some, IsOk, IsTrue, IfOk, OnOk, OnErr};
+//! A disk in memory. It is written in place, and can be told to fail.
+ghost use Rattle.std.specs.Prelude.{◌≡◌, ◌↔◌, ◌+◌, [], length, is_some, IsOk, IsErr, IsTrue, IfOk, OnOk, OnErr};
 ghost use Rattle.disk.specs.Model.{at_rest, MayLeave, HasCause};
 ghost use Rattle.disk.specs.Fuse.{lets_pass, burnt, CountsFault};
 ghost use Rattle.disk.specs.Laws.{counts_now, only_now, may_leave_seen};
 ghost use Rattle.disk.specs.Crash.{left};
 
-use crate::crash::filled;
 use crate::failures::Failures;
 use crate::log::Log;
 use crate::{DeviceFault, Disk, Pick};
 use std::alloc::{AllocError, Global};
 
-/// A disk in memory, which keeps the model. It fails where its fuse stops a call, and where memory is refused.
+/// A disk in memory, which keeps the model. A call fails where its fuse stops it, and a write also where memory is
+/// refused: no other call takes any.
+///
+/// It holds the file's bytes, and what lay under those that were written since the last sync that succeeded.
 #[derive(Drop)]
 pub struct MemDisk {
     log: Log,
@@ -56,20 +57,20 @@ impl MemDisk {
     }
 
     /// The disk after a crash, which leaves one of the files that it may: the one that the pick names. All of it is on
-    /// the disk, no call was made of it, and the fuse is out. Where memory is refused the disk is gone.
-    pub fn crash(self, pick: Pick) -> Result<MemDisk, AllocError>
+    /// the disk, no call was made of it, and the fuse is out. It takes no memory, and is always Ok.
+    pub fn crash(mut self, pick: Pick) -> Result<MemDisk, AllocError>
         ensures state { IfOk result (λ disk. memory_state disk ≡ at_rest (left (memory_state self) pick)) }
         ensures may_leave { IfOk result (λ disk. MayLeave (memory_state self) (memory_state disk).seen) }
         ensures moment { IfOk result (λ disk. memory_moment disk ≡ 0) }
         ensures failures { IfOk result (λ disk. memory_failures disk ≡ 0) }
         ensures fuse { IfOk result (λ disk. fuse_left disk ≡ None) }
+        ensures ok { IsOk result }
     {
-        let alloc = self.log.alloc();
-        let file = self.left(pick)?;
-        Ok(MemDisk::of_log(Log::of_file(alloc, file)?))
+        self.log.crash(pick);
+        Ok(MemDisk::of_log(self.log))
     }
 
-    // A disk that has had these calls, with no fuse in.
+    // A disk with this past, with no fuse in.
     fn of_log(log: Log) -> MemDisk
         ensures log { result.log ≡ log }
         ensures fuse { fuse_left result ≡ None }
@@ -82,24 +83,6 @@ impl MemDisk {
         }
     }
 
-    // The file that a crash leaves.
-    fn left(&self, pick: Pick) -> Result<Vec<u8>, AllocError>
-        ensures { IfOk result (λ file. file.items ≡ left (memory_state self.now) pick) }
-    {
-        let alloc = self.log.alloc();
-        match pick {
-            Pick::Kept => Vec::from_slice(alloc, self.log.seen()),
-            Pick::Lost => Vec::from_slice(alloc, self.log.synced()),
-            Pick::Fill(byte) => filled(
-                alloc,
-                self.log.seen(),
-                self.log.synced(),
-                self.log.written(),
-                byte,
-            ),
-        }
-    }
-
     // Whether the fuse lets the next call pass.
     fn passes(&self) -> bool
         ensures { result ≡ lets_pass (fuse_left self.now) }
@@ -107,21 +90,27 @@ impl MemDisk {
         self.fuse != Some(0)
     }
 
-    // The answer to a call that was listed, or for which there was no memory. One that was listed takes from the fuse.
-    fn answer(&mut self, listed: Result<(), AllocError>, passes: bool) -> Result<(), DeviceFault>
+    // The answer to a call that was listed, which takes from the fuse.
+    fn answer(&mut self) -> Result<(), DeviceFault>
         ensures log { self.new.log ≡ self.old.log }
-        ensures ok { IsOk result ↔ (IsOk listed × IsTrue passes) }
-        ensures burnt { OnOk listed (fuse_left self.new ≡ burnt (fuse_left self.old)) }
-        ensures kept { OnErr listed (fuse_left self.new ≡ fuse_left self.old) }
+        ensures ok { IsOk result ↔ IsTrue (lets_pass (fuse_left self.old)) }
+        ensures burnt { fuse_left self.new ≡ burnt (fuse_left self.old) }
         ensures cause { HasCause (memory_failures self.old) (memory_failures self.new) result }
         ensures counted { CountsFault (memory_failures self.old) (memory_failures self.new) result }
     {
-        if listed.is_ok() {
-            self.burn();
-            if passes {
-                return Ok(());
-            }
-        }
+        let passes = self.passes();
+        self.burn();
+        if passes { Ok(()) } else { self.fail() }
+    }
+
+    // A call that fails.
+    fn fail(&mut self) -> Result<(), DeviceFault>
+        ensures log { self.new.log ≡ self.old.log }
+        ensures err { IsErr result }
+        ensures fuse { fuse_left self.new ≡ fuse_left self.old }
+        ensures cause { HasCause (memory_failures self.old) (memory_failures self.new) result }
+        ensures counted { CountsFault (memory_failures self.old) (memory_failures self.new) result }
+    {
         self.failures.raise();
         Err(DeviceFault)
     }
@@ -152,25 +141,25 @@ impl Disk for MemDisk {
 
     ghost failures = { memory_failures };
 
-    ghost counts_now = { λ disk t file keeps le may. counts_now disk.log.start.items disk.log.calls.items t file le may };
+    ghost counts_now = { λ disk t file keeps le may. counts_now disk.log.start disk.log.calls t file le may };
 
-    ghost only_now = { λ disk file keeps left. only_now disk.log.start.items disk.log.calls.items file left };
+    ghost only_now = { λ disk file keeps left. only_now disk.log.start disk.log.calls file left };
 
-    ghost may_leave_seen = { λ disk keeps. may_leave_seen disk.log.start.items disk.log.calls.items };
+    ghost may_leave_seen = { λ disk keeps. may_leave_seen disk.log.start disk.log.calls };
 
     fn len(&mut self) -> Result<usize, DeviceFault>
         ensures answer { IfOk result (λ n. n ≡ length (memory_state self.old).seen) }
         ensures same { memory_state self.new ≡ memory_state self.old }
         ensures time { Elapses (memory_moment self.old) (memory_moment self.new)
             (memory_since self.old) (memory_since self.new) (memory_state self.old) (memory_state self.new) result }
+        ensures listed { memory_moment self.new ≡ memory_moment self.old + 1 }
         ensures fuse { Burns (memory_moment self.old) (memory_moment self.new)
             (fuse_left self.old) (fuse_left self.new) result }
         ensures cause { HasCause (memory_failures self.old) (memory_failures self.new) result }
         ensures counted { CountsFault (memory_failures self.old) (memory_failures self.new) result }
     {
-        let passes = self.passes();
-        let listed = self.log.look();
-        self.answer(listed, passes)?;
+        self.log.look();
+        self.answer()?;
         Ok(self.log.seen().len())
     }
 
@@ -180,14 +169,14 @@ impl Disk for MemDisk {
         ensures same { memory_state self.new ≡ memory_state self.old }
         ensures time { Elapses (memory_moment self.old) (memory_moment self.new)
             (memory_since self.old) (memory_since self.new) (memory_state self.old) (memory_state self.new) result }
+        ensures listed { memory_moment self.new ≡ memory_moment self.old + 1 }
         ensures fuse { Burns (memory_moment self.old) (memory_moment self.new)
             (fuse_left self.old) (fuse_left self.new) result }
         ensures cause { HasCause (memory_failures self.old) (memory_failures self.new) result }
         ensures counted { CountsFault (memory_failures self.old) (memory_failures self.new) result }
     {
-        let passes = self.passes();
-        let listed = self.log.look();
-        self.answer(listed, passes)?;
+        self.log.look();
+        self.answer()?;
         self.log.read(at, buf);
         Ok(())
     }
@@ -206,8 +195,10 @@ impl Disk for MemDisk {
         ensures counted { CountsFault (memory_failures self.old) (memory_failures self.new) result }
     {
         let passes = self.passes();
-        let listed = self.log.write(at, bytes, passes);
-        self.answer(listed, passes)
+        match self.log.write(at, bytes, passes) {
+            Ok(()) => self.answer(),
+            Err(_) => self.fail(),
+        }
     }
 
     fn sync(&mut self) -> Result<(), DeviceFault>
@@ -215,13 +206,14 @@ impl Disk for MemDisk {
         ensures failed { OnErr result (memory_state self.new ≡ memory_state self.old) }
         ensures time { Elapses (memory_moment self.old) (memory_moment self.new)
             (memory_since self.old) (memory_since self.new) (memory_state self.old) (memory_state self.new) result }
+        ensures listed { memory_moment self.new ≡ memory_moment self.old + 1 }
         ensures fuse { Burns (memory_moment self.old) (memory_moment self.new)
             (fuse_left self.old) (fuse_left self.new) result }
         ensures cause { HasCause (memory_failures self.old) (memory_failures self.new) result }
         ensures counted { CountsFault (memory_failures self.old) (memory_failures self.new) result }
     {
         let passes = self.passes();
-        let listed = self.log.sync(passes);
-        self.answer(listed, passes)
+        self.log.sync(passes);
+        self.answer()
     }
 }

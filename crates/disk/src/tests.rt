@@ -4,6 +4,7 @@
 //! call again.
 
 mod faulty;
+mod replay;
 
 use super::*;
 use crate::file::folder_of;

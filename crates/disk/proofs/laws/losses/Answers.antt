@@ -1,4 +1,4 @@
-use Rattle.std.proofs.Common.{◌++◌, refl}
+use Rattle.std.proofs.Common.{refl}
 use Rattle.disk.specs.Model.{after_write}
 use Rattle.disk.proofs.Torn.{longer, untorn, torn}
 use Rattle.disk.proofs.laws.losses.Goals as goal

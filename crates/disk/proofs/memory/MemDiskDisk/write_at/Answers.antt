@@ -1,26 +1,28 @@
--- Each clause from the list, the fuse and the answer.
-use Rattle.disk.specs.Replay.{IsWriteIf}
-use Rattle.disk.proofs.Answered.{written, torn, stopped, fault_from, log_time}
-use Rattle.disk.proofs.Burning.{burns}
+-- Each clause from what was listed, the fuse and the answer.
+use Rattle.std.proofs.Common.{◌≡◌, ◌∙◌, ap, Bool}
+use Rattle.disk.specs.Fuse.{lets_pass}
+use Rattle.disk.specs.Replay.{listed, state_of, after_call, write_if}
+use Rattle.disk.proofs.Listed.{state_listed, elapses_listed}
+use Rattle.disk.proofs.Answered.{written, torn, stopped}
 use Rattle.disk.proofs.memory.MemDiskDisk.write_at.Goals as goal
 
-pub returns-clause-written : goal.returns-clause-written
-returns-clause-written c =
-    written c.args.self.now.log c.write-listed.new.self c.answer.new.self.log c.answer.ensures.log c.write-listed.ensures.start c.args.at c.args.bytes.now c.passes-passes.result c.write-listed.result c.answer.result c.write-listed.ensures.listed c.answer.ensures.ok
+-- the past has the write more, as the fuse lets it
+was_listed : (c : goal.After-answer) → c.answer.new.self.log ≡ listed c.args.self.now.log (write_if (lets_pass c.args.self.now.fuse) c.args.at c.args.bytes.now)
+was_listed c =
+    c.answer.ensures.log ∙ c.in-Ok.ensures.ok
+    ∙ ap (λ (passes : Bool). listed c.args.self.now.log (write_if passes c.args.at c.args.bytes.now)) c.passes-passes.ensures
 
-pub returns-clause-torn : goal.returns-clause-torn
-returns-clause-torn c =
-    torn c.args.self.now.log c.write-listed.new.self c.answer.new.self.log c.answer.ensures.log c.write-listed.ensures.start c.args.at c.args.bytes.now c.passes-passes.result c.write-listed.result c.answer.result c.write-listed.ensures.listed c.answer.ensures.ok
+state_is : (c : goal.After-answer) → state_of c.answer.new.self.log ≡ after_call (state_of c.args.self.now.log) (write_if (lets_pass c.args.self.now.fuse) c.args.at c.args.bytes.now)
+state_is c = state_listed _ _ _ (was_listed c)
 
-pub returns-clause-time : goal.returns-clause-time
-returns-clause-time c =
-    log_time (IsWriteIf c.passes-passes.result c.args.at c.args.bytes.now) c.args.self.now.log c.write-listed.new.self c.answer.new.self.log c.write-listed.result c.answer.result c.answer.ensures.log c.write-listed.ensures.start c.write-listed.ensures.listed
-    (fault_from c.write-listed.result c.answer.result c.answer.ensures.ok)
+pub returns-in-Ok-clause-written : goal.returns-in-Ok-clause-written
+returns-in-Ok-clause-written c = written _ _ c.args.at c.args.bytes.now _ c.answer.result (state_is c) c.answer.ensures.ok
 
-pub returns-clause-stopped : goal.returns-clause-stopped
-returns-clause-stopped c =
-    stopped c.args.self.now.log c.write-listed.new.self c.answer.new.self.log c.answer.ensures.log c.write-listed.ensures.start c.args.at c.args.bytes.now c.passes-passes.result c.write-listed.result c.answer.result c.write-listed.ensures.listed c.answer.ensures.ok
+pub returns-in-Ok-clause-torn : goal.returns-in-Ok-clause-torn
+returns-in-Ok-clause-torn c = torn _ _ c.args.at c.args.bytes.now _ _ c.answer.result (state_is c) c.answer.ensures.ok
 
-pub returns-clause-fuse : goal.returns-clause-fuse
-returns-clause-fuse c =
-    burns (IsWriteIf c.passes-passes.result c.args.at c.args.bytes.now) c.args.self.now.log c.write-listed.new.self c.answer.new.self.log c.write-listed.result c.answer.result c.passes-passes.result c.args.self.now.fuse c.answer.new.self.fuse c.answer.ensures.log c.write-listed.ensures.listed c.answer.ensures.ok c.passes-passes.ensures c.answer.ensures.burnt c.answer.ensures.kept
+pub returns-in-Ok-clause-stopped : goal.returns-in-Ok-clause-stopped
+returns-in-Ok-clause-stopped c = stopped _ _ c.args.at c.args.bytes.now _ c.answer.result (state_is c) c.answer.ensures.ok
+
+pub returns-in-Ok-clause-time : goal.returns-in-Ok-clause-time
+returns-in-Ok-clause-time c = elapses_listed _ _ _ _ (was_listed c)
