@@ -49,7 +49,7 @@ lawful_for header records heard (Decided question round bit) ok member f h =
     let d = lawful_formed header.size ok header.me member heard f records (Decided question round bit) h in
     record { asked = d.0; from_one = d.1; to_last = d.2 }
 
-batch_for : (header : Header) (records : List Record) (heard : List (ℕ × Statement)) (batch : List Record) → IsSize header.size → header.me < header.size.n
+pub batch_for : (header : Header) (records : List Record) (heard : List (ℕ × Statement)) (batch : List Record) → IsSize header.size → header.me < header.size.n
     → AreHeard header.size heard → IsLawfulBatch header.size header.me records heard batch → AreWellFormedFor header batch
 batch_for header records heard [] ok member f h = tt
 batch_for header records heard (x ∷ xs) ok member f h =

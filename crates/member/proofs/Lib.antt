@@ -8,3 +8,5 @@ pub mod Opened
 pub mod Once
 pub mod Verdicts
 pub mod Decided
+pub mod Turns
+pub mod Groups

@@ -2,6 +2,7 @@
 use Rattle.std.proofs.Common.{◌≡◌, ◌⊎◌, inl, ⊎_elim, ◌≤◌, ℕ, Result, Ok, Err, IfOk, List, [], ◌∷◌, ◌++◌, append-nil, sym, ap, ◌∙◌, subst, arith, append_assoc}
 use Rattle.terms.specs.declared.Record.{Record}
 use Rattle.terms.specs.declared.Header.{Header}
+use Rattle.terms.specs.declared.Memory.{Memory}
 use Rattle.terms.specs.Reply.{records_of}
 use Rattle.questions.specs.declared.answer.Answer.{Answer}
 use Rattle.questions.specs.declared.answer.CoreFault.{CoreFault}
@@ -15,6 +16,7 @@ use Rattle.journal.specs.Words.{disk_by, gate_by, IsSettled}
 use Rattle.journal.proofs.Crash.{begins_kept}
 use Rattle.journal.proofs.Held.{left_holds}
 use Rattle.journal.proofs.One.{holds_one}
+use Rattle.member.specs.declared.group.Group.{Group}
 use Rattle.member.specs.Stands.{Stands}
 
 -- what each file holds that a crash leaves of an open journal
@@ -105,3 +107,15 @@ told_ok {D} disk header all batch old mid new answer a e b n leaves =
 -- a call that has no answer leaves nothing of it
 pub told_err : (P : Answer → Type 0) (answer : Result Answer CoreFault) (fault : CoreFault) → answer ≡ Err fault → IfOk answer P
 told_err P answer fault e = subst (λ (o : Result Answer CoreFault). IfOk o P) (sym e) tt
+
+-- the same of the records of a group
+pub told_all : {D : Type 0} (disk : DiskGhosts D) (header : Header) (all batch : List Record) (old mid new : D) (heard : Result Group Memory) (group : Group)
+    → heard ≡ Ok group → batch ≡ group.records.items → new ≡ mid
+    → LeavesOnly disk.moment disk.since old mid (λ file. Holds header all file ⊎ Holds header (all ++ batch) file)
+    → IfOk heard (λ x. LeavesOnly disk.moment disk.since old new (λ file. Holds header all file ⊎ Holds header (all ++ x.records.items) file))
+told_all disk header all batch old mid new heard group e b n leaves =
+    let one : LeavesOnly disk.moment disk.since old new (λ file. Holds header all file ⊎ Holds header (all ++ group.records.items) file) = rw (n, sym b) leaves in
+    rw e one
+
+pub told_none : (P : Group → Type 0) (heard : Result Group Memory) (fault : Memory) → heard ≡ Err fault → IfOk heard P
+told_none P heard fault e = rw e tt

@@ -6,5 +6,6 @@ pub mod Faults
 pub mod Stands
 pub mod Sound
 pub mod Life
+pub mod Groups
 pub mod Laws
 pub mod Memory

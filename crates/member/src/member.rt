@@ -370,7 +370,7 @@ impl<D: Disk> Member<D> {
 }
 
 // The records of the answer.
-fn records_in(answer: &Answer) -> &[Record]
+pub(crate) fn records_in(answer: &Answer) -> &[Record]
     ensures { result.now ≡ records_of (reply_of answer.now) }
 {
     match answer {

@@ -24,7 +24,7 @@ pub(crate) fn save<D: Disk>(
     outbox: &mut Vec<Sealed>,
     batch: &[Record],
 ) -> Result<(), JournalFault>
-    requires few { length batch.now ≤ 99 }
+    requires few { length batch.now ≤ 65535 }
     requires running { is_stopped journal.old ≡ false }
     requires well_formed { AreWellFormedFor (header_by journal.old) batch.now }
     requires settled { D.keeps (disk_by journal.old) → IsSettled D.state (header_by journal.old) records.old.items journal.old }
@@ -40,6 +40,8 @@ pub(crate) fn save<D: Disk>(
     ensures any_moment { D.keeps (disk_by journal.old) → LeavesOnly D.moment D.since (disk_by journal.old) (disk_by journal.new)
         (λ file. Holds (header_by journal.old) records.old.items file
         ⊎ Holds (header_by journal.old) (records.old.items ++ batch.now) file) }
+    ensures four_calls { D.keeps (disk_by journal.old) → 0 < length batch.now →
+        OnOk result (D.moment (disk_by journal.new) ≡ D.moment (disk_by journal.old) + 4) }
     ensures gate { 0 < length batch.now → OnOk result (gate_by journal.new ≡ gate_by journal.old + 3 + 7 * length batch.now) }
 
     ensures nothing { length batch.now ≡ 0 → OnOk result (journal.new ≡ journal.old) }

@@ -4,6 +4,8 @@ ghost use Rattle.std.specs.Prelude.{IfOk};
 ghost use Rattle.member.specs.Memory.{memory_disk};
 ghost use Rattle.member.specs.Sound.{IsSound};
 
+mod groups;
+
 use super::*;
 use disk::{Disk, MemDisk, Pick};
 use journal::JournalFault;
