@@ -1,18 +1,21 @@
 # Completions of fish for bracha. Put it into ~/.config/fish/completions or /usr/share/fish/vendor_completions.d.
-set -l commands init run propose ask dump simulate hear help
+set -l commands init check run propose ask status dump simulate hear help
 complete -c bracha -f
 complete -c bracha -n "not __fish_seen_subcommand_from $commands" -a init -d "Make the journal of a member"
+complete -c bracha -n "not __fish_seen_subcommand_from $commands" -a check -d "Say whether a member would start"
 complete -c bracha -n "not __fish_seen_subcommand_from $commands" -a run -d "Run a member"
 complete -c bracha -n "not __fish_seen_subcommand_from $commands" -a propose -d "Propose a bit to a member that runs"
 complete -c bracha -n "not __fish_seen_subcommand_from $commands" -a ask -d "Ask a member that runs for a decision"
+complete -c bracha -n "not __fish_seen_subcommand_from $commands" -a status -d "Ask a member whether it is up"
 complete -c bracha -n "not __fish_seen_subcommand_from $commands" -a dump -d "Print a journal"
 complete -c bracha -n "not __fish_seen_subcommand_from $commands" -a simulate -d "Run a script of a whole cluster"
 complete -c bracha -n "not __fish_seen_subcommand_from $commands" -a hear -d "Read pieces of streams"
 complete -c bracha -n "not __fish_seen_subcommand_from $commands" -a help -d "Print help"
 complete -c bracha -n "not __fish_seen_subcommand_from $commands" -l version -d "Print the version"
 complete -c bracha -l help -d "Print help"
-complete -c bracha -F -n "__fish_seen_subcommand_from init run dump simulate"
+complete -c bracha -F -n "__fish_seen_subcommand_from init check run dump simulate"
 complete -c bracha -n "__fish_seen_subcommand_from run" -l stay -d "Run until it is killed"
+complete -c bracha -n "__fish_seen_subcommand_from dump" -l count -d "How many records there are"
 complete -c bracha -n "__fish_seen_subcommand_from simulate" -l trace -r -F -d "A line for each event"
 complete -c bracha -n "__fish_seen_subcommand_from simulate" -l chart -r -F -d "A chart in SVG"
 complete -c bracha -n "__fish_seen_subcommand_from hear" -l n -x -d "Members"

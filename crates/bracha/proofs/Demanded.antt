@@ -20,10 +20,10 @@ use Rattle.clap.specs.Kinds.{or_else}
 use Rattle.clap.proofs.ValueTestLemmas.{accepts-Accepts}
 use Rattle.clap.specs.declared.error.kind.ErrorKind.TheVariants.{DisplayHelp, InvalidSubcommand}
 use Rattle.clap.specs.declared.builder.value_parser.ValueParser.TheVariants as parser
-use Rattle.bracha.specs.Usage.{program_app, init_app, run_app, propose_app, ask_app, dump_app, simulate_app, hear_app}
+use Rattle.bracha.specs.Usage.{program_app, init_app, check_app, run_app, propose_app, ask_app, status_app, dump_app, simulate_app, hear_app}
 use Rattle.bracha.specs.Tasks.{AreFaultless, AskFor, HasFlag, HasNumber, IsAskedFor, MayHaveText, Names as NamesTask, Writes}
 use Rattle.bracha.specs.declared.command.Task.{Task}
-use Rattle.bracha.specs.declared.command.Task.TheVariants.{Hear, Init, Run, Propose, Ask, Simulate, Dump}
+use Rattle.bracha.specs.declared.command.Task.TheVariants.{Hear, Init, Check, Run, Propose, Ask, Status, Simulate, Dump}
 use Rattle.bracha.proofs.Walking.{StopOk, left_of, not_some, right_of, same_under, walk_ok}
 use Rattle.bracha.proofs.Given.{IsSolid, given_in, second_none}
 
@@ -67,7 +67,7 @@ has_number bits most id rows fits given =
     let n = writes_one bits most given.0 fits (accepts-Accepts false (parser.Signed (pos 0) (pos most)) given.0 given.3) in
     (n.0, (without_minus given.0, given.2, n.1))
 
--- ---- the seven commands
+-- ---- the commands
 
 -- a text in some place
 abbrev at_some_place : Text → Bor Text
@@ -107,6 +107,12 @@ init_demands words e =
     let settings = given_in (built_at init_app) words solid e _ (inl refl) refl in
     (Init (at_some_place settings.0), (refl, settings.1))
 
+check_demands : Demanding check_app
+check_demands words e =
+    let solid : IsSolid (built_at check_app) = record { each = refl; apart = refl; demands = refl } in
+    let settings = given_in (built_at check_app) words solid e _ (inl refl) refl in
+    (Check (at_some_place settings.0), (refl, settings.1))
+
 run_demands : Demanding run_app
 run_demands words e =
     let solid : IsSolid (built_at run_app) = record { each = refl; apart = refl; demands = refl } in
@@ -118,7 +124,14 @@ dump_demands : Demanding dump_app
 dump_demands words e =
     let solid : IsSolid (built_at dump_app) = record { each = refl; apart = refl; demands = refl } in
     let journal = given_in (built_at dump_app) words solid e _ (inl refl) refl in
-    (Dump (at_some_place journal.0), (refl, journal.1))
+    let count = flag_in (codes "count") (rows_after (built_at dump_app).rules [] words) in
+    (Dump (at_some_place journal.0) count.0, (refl, journal.1, count.1))
+
+status_demands : Demanding status_app
+status_demands words e =
+    let solid : IsSolid (built_at status_app) = record { each = refl; apart = refl; demands = refl } in
+    let address = given_in (built_at status_app) words solid e _ (inl refl) refl in
+    (Status (at_some_place address.0), (refl, address.1))
 
 ask_demands : Demanding ask_app
 ask_demands words e =
@@ -204,18 +217,24 @@ all_items : Items (built program_app).subs
 all_items = (
   (λ q answers other e. init_demands q.1 e),
   (
-    (λ q answers other e. run_demands q.1 e),
+    (λ q answers other e. check_demands q.1 e),
     (
-      (λ q answers other e. propose_demands q.1 e),
+      (λ q answers other e. run_demands q.1 e),
       (
-        (λ q answers other e. ask_demands q.1 e),
+        (λ q answers other e. propose_demands q.1 e),
         (
-          (λ q answers other e. dump_demands q.1 e),
+          (λ q answers other e. ask_demands q.1 e),
           (
-            (λ q answers other e. simulate_demands q.1 e),
+            (λ q answers other e. status_demands q.1 e),
             (
-              (λ q answers other e. hear_demands q.1 e),
-              (no_help _ refl, tt),
+              (λ q answers other e. dump_demands q.1 e),
+              (
+                (λ q answers other e. simulate_demands q.1 e),
+                (
+                  (λ q answers other e. hear_demands q.1 e),
+                  (no_help _ refl, tt),
+                ),
+              ),
             ),
           ),
         ),

@@ -11,7 +11,7 @@ use Rattle.clap.specs.declared.parser.matches.ArgMatches.{ArgMatches}
 use Rattle.bracha.specs.Tasks.{IsAskedFor, Names}
 use Rattle.bracha.proofs.Reading.{not_none, some_is}
 use Rattle.bracha.specs.declared.command.Task.{Task}
-use Rattle.bracha.specs.declared.command.Task.TheVariants.{Hear, Init, Run, Propose, Ask, Simulate, Dump}
+use Rattle.bracha.specs.declared.command.Task.TheVariants.{Hear, Init, Check, Run, Propose, Ask, Status, Simulate, Dump}
 
 -- two texts differ where the test says so
 pub apart : (a b : Text) → bytes_eq a b ≡ false → a ≡ b → ⊥
@@ -22,65 +22,101 @@ apart a b differ is =
 pub only_hear : (rows : List Row) → ((n : ℕ) (t : ℕ) (questions : ℕ) (me : ℕ) → Names (codes "hear") rows (Hear n t questions me) → ⊥) → (task : Task) → Names (codes "hear") rows task → ⊥
 only_hear rows none (Hear n t questions me) named = none n t questions me named
 only_hear rows none (Init settings) named = apart (codes "hear") (codes "init") refl named.0
+only_hear rows none (Check settings) named = apart (codes "hear") (codes "check") refl named.0
 only_hear rows none (Run settings stay) named = apart (codes "hear") (codes "run") refl named.0
 only_hear rows none (Propose address question bit) named = apart (codes "hear") (codes "propose") refl named.0
 only_hear rows none (Ask address question) named = apart (codes "hear") (codes "ask") refl named.0
+only_hear rows none (Status address) named = apart (codes "hear") (codes "status") refl named.0
 only_hear rows none (Simulate script trace chart) named = apart (codes "hear") (codes "simulate") refl named.0
-only_hear rows none (Dump journal) named = apart (codes "hear") (codes "dump") refl named.0
+only_hear rows none (Dump journal count) named = apart (codes "hear") (codes "dump") refl named.0
 
 pub only_init : (rows : List Row) → ((settings : Bor Text) → Names (codes "init") rows (Init settings) → ⊥) → (task : Task) → Names (codes "init") rows task → ⊥
 only_init rows none (Hear n t questions me) named = apart (codes "init") (codes "hear") refl named.0
 only_init rows none (Init settings) named = none settings named
+only_init rows none (Check settings) named = apart (codes "init") (codes "check") refl named.0
 only_init rows none (Run settings stay) named = apart (codes "init") (codes "run") refl named.0
 only_init rows none (Propose address question bit) named = apart (codes "init") (codes "propose") refl named.0
 only_init rows none (Ask address question) named = apart (codes "init") (codes "ask") refl named.0
+only_init rows none (Status address) named = apart (codes "init") (codes "status") refl named.0
 only_init rows none (Simulate script trace chart) named = apart (codes "init") (codes "simulate") refl named.0
-only_init rows none (Dump journal) named = apart (codes "init") (codes "dump") refl named.0
+only_init rows none (Dump journal count) named = apart (codes "init") (codes "dump") refl named.0
+
+pub only_check : (rows : List Row) → ((settings : Bor Text) → Names (codes "check") rows (Check settings) → ⊥) → (task : Task) → Names (codes "check") rows task → ⊥
+only_check rows none (Hear n t questions me) named = apart (codes "check") (codes "hear") refl named.0
+only_check rows none (Init settings) named = apart (codes "check") (codes "init") refl named.0
+only_check rows none (Check settings) named = none settings named
+only_check rows none (Run settings stay) named = apart (codes "check") (codes "run") refl named.0
+only_check rows none (Propose address question bit) named = apart (codes "check") (codes "propose") refl named.0
+only_check rows none (Ask address question) named = apart (codes "check") (codes "ask") refl named.0
+only_check rows none (Status address) named = apart (codes "check") (codes "status") refl named.0
+only_check rows none (Simulate script trace chart) named = apart (codes "check") (codes "simulate") refl named.0
+only_check rows none (Dump journal count) named = apart (codes "check") (codes "dump") refl named.0
 
 pub only_run : (rows : List Row) → ((settings : Bor Text) (stay : Bool) → Names (codes "run") rows (Run settings stay) → ⊥) → (task : Task) → Names (codes "run") rows task → ⊥
 only_run rows none (Hear n t questions me) named = apart (codes "run") (codes "hear") refl named.0
 only_run rows none (Init settings) named = apart (codes "run") (codes "init") refl named.0
+only_run rows none (Check settings) named = apart (codes "run") (codes "check") refl named.0
 only_run rows none (Run settings stay) named = none settings stay named
 only_run rows none (Propose address question bit) named = apart (codes "run") (codes "propose") refl named.0
 only_run rows none (Ask address question) named = apart (codes "run") (codes "ask") refl named.0
+only_run rows none (Status address) named = apart (codes "run") (codes "status") refl named.0
 only_run rows none (Simulate script trace chart) named = apart (codes "run") (codes "simulate") refl named.0
-only_run rows none (Dump journal) named = apart (codes "run") (codes "dump") refl named.0
+only_run rows none (Dump journal count) named = apart (codes "run") (codes "dump") refl named.0
 
 pub only_propose : (rows : List Row) → ((address : Bor Text) (question : ℕ) (bit : ℕ) → Names (codes "propose") rows (Propose address question bit) → ⊥) → (task : Task) → Names (codes "propose") rows task → ⊥
 only_propose rows none (Hear n t questions me) named = apart (codes "propose") (codes "hear") refl named.0
 only_propose rows none (Init settings) named = apart (codes "propose") (codes "init") refl named.0
+only_propose rows none (Check settings) named = apart (codes "propose") (codes "check") refl named.0
 only_propose rows none (Run settings stay) named = apart (codes "propose") (codes "run") refl named.0
 only_propose rows none (Propose address question bit) named = none address question bit named
 only_propose rows none (Ask address question) named = apart (codes "propose") (codes "ask") refl named.0
+only_propose rows none (Status address) named = apart (codes "propose") (codes "status") refl named.0
 only_propose rows none (Simulate script trace chart) named = apart (codes "propose") (codes "simulate") refl named.0
-only_propose rows none (Dump journal) named = apart (codes "propose") (codes "dump") refl named.0
+only_propose rows none (Dump journal count) named = apart (codes "propose") (codes "dump") refl named.0
 
 pub only_ask : (rows : List Row) → ((address : Bor Text) (question : ℕ) → Names (codes "ask") rows (Ask address question) → ⊥) → (task : Task) → Names (codes "ask") rows task → ⊥
 only_ask rows none (Hear n t questions me) named = apart (codes "ask") (codes "hear") refl named.0
 only_ask rows none (Init settings) named = apart (codes "ask") (codes "init") refl named.0
+only_ask rows none (Check settings) named = apart (codes "ask") (codes "check") refl named.0
 only_ask rows none (Run settings stay) named = apart (codes "ask") (codes "run") refl named.0
 only_ask rows none (Propose address question bit) named = apart (codes "ask") (codes "propose") refl named.0
 only_ask rows none (Ask address question) named = none address question named
+only_ask rows none (Status address) named = apart (codes "ask") (codes "status") refl named.0
 only_ask rows none (Simulate script trace chart) named = apart (codes "ask") (codes "simulate") refl named.0
-only_ask rows none (Dump journal) named = apart (codes "ask") (codes "dump") refl named.0
+only_ask rows none (Dump journal count) named = apart (codes "ask") (codes "dump") refl named.0
+
+pub only_status : (rows : List Row) → ((address : Bor Text) → Names (codes "status") rows (Status address) → ⊥) → (task : Task) → Names (codes "status") rows task → ⊥
+only_status rows none (Hear n t questions me) named = apart (codes "status") (codes "hear") refl named.0
+only_status rows none (Init settings) named = apart (codes "status") (codes "init") refl named.0
+only_status rows none (Check settings) named = apart (codes "status") (codes "check") refl named.0
+only_status rows none (Run settings stay) named = apart (codes "status") (codes "run") refl named.0
+only_status rows none (Propose address question bit) named = apart (codes "status") (codes "propose") refl named.0
+only_status rows none (Ask address question) named = apart (codes "status") (codes "ask") refl named.0
+only_status rows none (Status address) named = none address named
+only_status rows none (Simulate script trace chart) named = apart (codes "status") (codes "simulate") refl named.0
+only_status rows none (Dump journal count) named = apart (codes "status") (codes "dump") refl named.0
 
 pub only_simulate : (rows : List Row) → ((script : Bor Text) (trace : Option (Bor Text)) (chart : Option (Bor Text)) → Names (codes "simulate") rows (Simulate script trace chart) → ⊥) → (task : Task) → Names (codes "simulate") rows task → ⊥
 only_simulate rows none (Hear n t questions me) named = apart (codes "simulate") (codes "hear") refl named.0
 only_simulate rows none (Init settings) named = apart (codes "simulate") (codes "init") refl named.0
+only_simulate rows none (Check settings) named = apart (codes "simulate") (codes "check") refl named.0
 only_simulate rows none (Run settings stay) named = apart (codes "simulate") (codes "run") refl named.0
 only_simulate rows none (Propose address question bit) named = apart (codes "simulate") (codes "propose") refl named.0
 only_simulate rows none (Ask address question) named = apart (codes "simulate") (codes "ask") refl named.0
+only_simulate rows none (Status address) named = apart (codes "simulate") (codes "status") refl named.0
 only_simulate rows none (Simulate script trace chart) named = none script trace chart named
-only_simulate rows none (Dump journal) named = apart (codes "simulate") (codes "dump") refl named.0
+only_simulate rows none (Dump journal count) named = apart (codes "simulate") (codes "dump") refl named.0
 
-pub only_dump : (rows : List Row) → ((journal : Bor Text) → Names (codes "dump") rows (Dump journal) → ⊥) → (task : Task) → Names (codes "dump") rows task → ⊥
+pub only_dump : (rows : List Row) → ((journal : Bor Text) (count : Bool) → Names (codes "dump") rows (Dump journal count) → ⊥) → (task : Task) → Names (codes "dump") rows task → ⊥
 only_dump rows none (Hear n t questions me) named = apart (codes "dump") (codes "hear") refl named.0
 only_dump rows none (Init settings) named = apart (codes "dump") (codes "init") refl named.0
+only_dump rows none (Check settings) named = apart (codes "dump") (codes "check") refl named.0
 only_dump rows none (Run settings stay) named = apart (codes "dump") (codes "run") refl named.0
 only_dump rows none (Propose address question bit) named = apart (codes "dump") (codes "propose") refl named.0
 only_dump rows none (Ask address question) named = apart (codes "dump") (codes "ask") refl named.0
+only_dump rows none (Status address) named = apart (codes "dump") (codes "status") refl named.0
 only_dump rows none (Simulate script trace chart) named = apart (codes "dump") (codes "simulate") refl named.0
-only_dump rows none (Dump journal) named = none journal named
+only_dump rows none (Dump journal count) named = none journal count named
 
 -- the name and the rows of the command that was met, each by itself
 met_of : (met : Option (Text × List Row)) (name : Text) (rows : List Row) → Some name ≡ option_map (λ (p : Text × List Row). p.0) met

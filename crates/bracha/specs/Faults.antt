@@ -1,5 +1,6 @@
 -- Which faults end the program, and with which code.
-use Rattle.std.specs.Prelude.{◌≡◌, ◌≢◌, ◌⊎◌, ℕ, Result, MatchResult}
+use Rattle.std.specs.Prelude.{◌≡◌, ◌≢◌, ◌⊎◌, ℕ, List, Option, Some, Result, MatchResult}
+use Rattle.std.specs.Str.{IsUtf8}
 use Rattle.std.specs.IoError.{error_kind}
 use Rattle.std.specs.Process.{exit_status}
 use Rattle.std.specs.declared.io.Error.{Error}
@@ -30,6 +31,20 @@ of_journal unheld.Device = ends.Journal unheld.Device
 of_journal unheld.Stopped = ends.Journal unheld.Stopped
 of_journal unheld.Full = ends.Journal unheld.Full
 
--- the code that the program ends with: the status of what was done, and 1 after a fault
+-- the status after a fault: 2 for those of the words, and 1 for all others
+abbrev pub fault_status : Fault → ℕ
+fault_status (ends.Argument place) = 2
+fault_status (ends.SameFile path) = 2
+fault_status other = 1
+
+-- the code that the program ends with: the status of what was done, or of the fault
 abbrev pub IsCodeOf : Result ℕ Fault → ExitCode → Type 0
-IsCodeOf ended code = MatchResult ended (λ status. exit_status code ≡ status) (λ _. exit_status code ≡ 1)
+IsCodeOf ended code = MatchResult ended (λ status. exit_status code ≡ status) (λ fault. exit_status code ≡ fault_status fault)
+
+-- the bytes of the argument at the place are no text, and the fault says so
+abbrev pub IsNoText : ℕ → List ℕ → Fault → Type 0
+IsNoText place bytes fault = (IsUtf8 bytes → ⊥) × (fault ≡ ends.Argument place)
+
+-- no two of the paths of a script, a trace and a chart are the same words
+abbrev pub AreApart : List ℕ → Option (List ℕ) → Option (List ℕ) → Type 0
+AreApart script trace chart = (trace ≢ Some script) × (chart ≢ Some script) × ((path : List ℕ) → trace ≡ Some path → chart ≢ Some path)

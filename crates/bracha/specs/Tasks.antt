@@ -8,7 +8,7 @@ use Rattle.clap.specs.Simple.{subcommand_of}
 use Rattle.clap.specs.Faults.{fault_of}
 use Rattle.bracha.specs.Usage.{program_app}
 use Rattle.bracha.specs.declared.command.Task.{Task}
-use Rattle.bracha.specs.declared.command.Task.TheVariants.{Hear, Init, Run, Propose, Ask, Simulate, Dump}
+use Rattle.bracha.specs.declared.command.Task.TheVariants.{Hear, Init, Check, Run, Propose, Ask, Status, Simulate, Dump}
 
 -- the text writes the number in decimal digits, behind a plus or none, and it has at most that many bits
 abbrev pub Writes : ℕ → Text → ℕ → Type 0
@@ -36,6 +36,7 @@ Names name rows (Hear n t questions me) = (name ≡ codes "hear") × HasNumber 1
     × HasNumber 16 (codes "t") rows t × HasNumber 16 (codes "questions") rows questions
     × HasNumber 8 (codes "me") rows me
 Names name rows (Init settings) = (name ≡ codes "init") × HasText (codes "settings") rows settings.now
+Names name rows (Check settings) = (name ≡ codes "check") × HasText (codes "settings") rows settings.now
 Names name rows (Run settings stay) = (name ≡ codes "run") × HasText (codes "settings") rows settings.now
     × HasFlag (codes "stay") rows stay
 Names name rows (Propose address question bit) = (name ≡ codes "propose")
@@ -43,10 +44,12 @@ Names name rows (Propose address question bit) = (name ≡ codes "propose")
     × HasNumber 8 (codes "bit") rows bit
 Names name rows (Ask address question) = (name ≡ codes "ask") × HasText (codes "address") rows address.now
     × HasNumber 16 (codes "question") rows question
+Names name rows (Status address) = (name ≡ codes "status") × HasText (codes "address") rows address.now
 Names name rows (Simulate script trace chart) = (name ≡ codes "simulate") × HasText (codes "script") rows script.now
     × MayHaveText (codes "trace") rows (option_map (λ path. path.now) trace)
     × MayHaveText (codes "chart") rows (option_map (λ path. path.now) chart)
-Names name rows (Dump journal) = (name ≡ codes "dump") × HasText (codes "journal") rows journal.now
+Names name rows (Dump journal count) = (name ≡ codes "dump") × HasText (codes "journal") rows journal.now
+    × HasFlag (codes "count") rows count
 
 -- the command that was met, with what was given for its words, asks for the task
 pub record IsAskedFor (met : Option (Text × List Row)) (task : Task) : Type 0 where

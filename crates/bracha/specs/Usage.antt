@@ -44,13 +44,21 @@ taking name rules = record { top = record (new_shape name) { rules = rules }; su
 abbrev pub size_rules : List Rule
 size_rules = as_u16 (number_rule (codes "n")) ∷ as_u16 (number_rule (codes "t")) ∷ as_u16 (number_rule (codes "questions")) ∷ []
 
+-- `ADDRESS`
+abbrev pub address_rule : Rule
+address_rule = word_rule (codes "address")
+
 -- `ADDRESS Q`
 abbrev pub desk_rules : List Rule
-desk_rules = word_rule (codes "address") ∷ as_u16 (word_rule (codes "question")) ∷ []
+desk_rules = address_rule ∷ as_u16 (word_rule (codes "question")) ∷ []
 
 -- `bracha init SETTINGS`
 abbrev pub init_app : App
 init_app = taking (codes "init") (word_rule (codes "settings") ∷ [])
+
+-- `bracha check SETTINGS`
+abbrev pub check_app : App
+check_app = taking (codes "check") (word_rule (codes "settings") ∷ [])
 
 -- `bracha run [--stay] SETTINGS`
 abbrev pub run_app : App
@@ -64,9 +72,13 @@ propose_app = taking (codes "propose") (desk_rules ++ as_u8 (word_rule (codes "b
 abbrev pub ask_app : App
 ask_app = taking (codes "ask") desk_rules
 
--- `bracha dump JOURNAL`
+-- `bracha status ADDRESS`
+abbrev pub status_app : App
+status_app = taking (codes "status") (address_rule ∷ [])
+
+-- `bracha dump [--count] JOURNAL`
 abbrev pub dump_app : App
-dump_app = taking (codes "dump") (word_rule (codes "journal") ∷ [])
+dump_app = taking (codes "dump") (word_rule (codes "journal") ∷ flag_rule (codes "count") ∷ [])
 
 -- `bracha simulate [--trace FILE] [--chart FILE] SCRIPT`
 abbrev pub simulate_app : App
@@ -89,7 +101,7 @@ bare_app = record { top = bare_shape; subs = [] }
 
 -- the commands, in the order of the help
 abbrev pub commands : List App
-commands = init_app ∷ run_app ∷ propose_app ∷ ask_app ∷ dump_app ∷ simulate_app ∷ hear_app ∷ []
+commands = init_app ∷ check_app ∷ run_app ∷ propose_app ∷ ask_app ∷ status_app ∷ dump_app ∷ simulate_app ∷ hear_app ∷ []
 
 abbrev pub program_app : App
 program_app = record { top = record bare_shape { is_leaf = false }; subs = map (λ command. command.top) commands }

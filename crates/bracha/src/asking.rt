@@ -1,8 +1,8 @@
-//! The commands `propose` and `ask`: a line to the desk of a member that runs.
+//! The commands `propose`, `ask` and `status`: a line to the desk of a member that runs.
 
 use crate::fault::Fault;
 use crate::live::socket_address;
-use commands::{TalkFault, ask_line, propose_line, talk};
+use commands::{TalkFault, ask_line, propose_line, status_line, talk};
 use settings::Address;
 use std::io;
 use std::net::TcpStream;
@@ -35,4 +35,9 @@ pub fn propose_at(rt: &HostRuntime, address: &str, question: u16, bit: u8) -> Re
 pub fn ask_at(rt: &HostRuntime, address: &str, question: u16) -> Result<u8, Fault> {
     let line = ask_line(rt.alloc(), question)?;
     ask_desk(rt, address, line.as_str())
+}
+
+/// Asks the member whose desk is at the address whether it is up, and prints its reply. The status is that of the reply.
+pub fn status_at(rt: &HostRuntime, address: &str) -> Result<u8, Fault> {
+    ask_desk(rt, address, status_line())
 }

@@ -1,8 +1,8 @@
 //! The words of the command line.
 
 ghost use Rattle.bracha.specs.Tasks.{AskFor, HasFlag, HasNumber, IsAskedFor, Names, rows_in};
-ghost use Rattle.bracha.specs.Usage.{ask_app, bare_app, dump_app, file_rule, hear_app, init_app, number_rule, program_app};
-ghost use Rattle.bracha.specs.Usage.{propose_app, run_app, simulate_app, size_rules, desk_rules, word_rule, with_rules};
+ghost use Rattle.bracha.specs.Usage.{address_rule, ask_app, bare_app, check_app, dump_app, file_rule, flag_rule, hear_app, init_app, number_rule, program_app};
+ghost use Rattle.bracha.specs.Usage.{propose_app, run_app, simulate_app, size_rules, status_app, desk_rules, word_rule, with_rules};
 ghost use Rattle.clap.specs.Words.{FailsBy, app_of, fault_of, first_of, new_app, rule_of, subcommand_rows_of};
 ghost use Rattle.std.specs.Prelude.{◌≡◌, ◌↔◌, IfOk, IfSome, IsNone, Some, codes, map, option_map, ℕ};
 ghost use Rattle.bracha.specs.declared.command.Task.{Task};
@@ -25,6 +25,10 @@ pub enum Task<'a> {
     Init {
         settings: &'a str,
     },
+    /// Says what the settings in this file say, and whether a member would start on them and on its journal.
+    Check {
+        settings: &'a str,
+    },
     /// Runs the member of the settings in this file, until the standard input ends, or for good where it is to stay.
     Run {
         settings: &'a str,
@@ -41,15 +45,20 @@ pub enum Task<'a> {
         address: &'a str,
         question: u16,
     },
+    /// Asks the member whose desk is at this address whether it is up.
+    Status {
+        address: &'a str,
+    },
     /// Runs the script in this file, and writes a trace and a chart of the run into those files.
     Simulate {
         script: &'a str,
         trace: Option<&'a str>,
         chart: Option<&'a str>,
     },
-    /// Prints the journal in this file.
+    /// Prints the journal in this file, or only how many records it has.
     Dump {
         journal: &'a str,
+        count: bool,
     },
 }
 
@@ -77,6 +86,16 @@ fn file<'a>(alloc: Global, name: &'a str, help: &'a str) -> Arg<'a>
     Arg::new(alloc, name)
         .long(name)
         .value_name("FILE")
+        .help(help)
+}
+
+/// An option of that name with no value, such as `--stay`.
+fn flag<'a>(alloc: Global, name: &'a str, help: &'a str) -> Arg<'a>
+    ensures { rule_of result ≡ flag_rule name.now }
+{
+    Arg::new(alloc, name)
+        .long(name)
+        .action(ArgAction::SetTrue)
         .help(help)
 }
 
@@ -120,9 +139,21 @@ fn init<'a>(alloc: Global) -> Result<clap::Command<'a>, AllocError>
     ensures { IfOk result (λ made. app_of made ≡ init_app) }
 {
     let about = "Makes the journal of a member, with no records";
-    let examples = "Example:\n  bracha init member-1.toml";
+    let examples =
+        "Example, in the folder of the repository:\n  bracha init examples/cluster/member-1.toml";
     let help = "The file of the member's settings, which names the journal";
     named(alloc, "init", about, examples).arg(word(alloc, "settings", "SETTINGS", help))
+}
+
+fn check<'a>(alloc: Global) -> Result<clap::Command<'a>, AllocError>
+    ensures { IfOk result (λ made. app_of made ≡ check_app) }
+{
+    let about =
+        "Reads a member's settings and its journal, says what is there, and changes nothing";
+    let examples =
+        "The status is 0 where `run` would start, as far as the files say. It may be asked while the member runs.\n\nExample, in the folder of the repository, after `bracha init` of the same file:\n  bracha check examples/cluster/member-1.toml";
+    let help = "The file of the member's settings, which names the journal";
+    named(alloc, "check", about, examples).arg(word(alloc, "settings", "SETTINGS", help))
 }
 
 fn run<'a>(alloc: Global) -> Result<clap::Command<'a>, AllocError>
@@ -131,25 +162,28 @@ fn run<'a>(alloc: Global) -> Result<clap::Command<'a>, AllocError>
     let about =
         "Runs a member: it prints `member M ready`, links to all members, and answers clients at its desk";
     let examples =
-        "It ends where standard input does. It may be killed at any moment and started again.\n\nExamples:\n  bracha run member-1.toml          in a terminal, until Ctrl-D\n  bracha run --stay member-1.toml   as a service, until it is killed";
+        "It ends where standard input does. It may be killed at any moment and started again.\n\nExamples, after `bracha init` of the same file, in a terminal (until Ctrl-D) and as a service:\n  bracha run examples/cluster/member-1.toml\n  bracha run --stay examples/cluster/member-1.toml";
     let help = "The file of the member's settings, whose journal `init` made";
-    let stay = Arg::new(alloc, "stay")
-        .long("stay")
-        .action(ArgAction::SetTrue)
-        .help("Doesn't look at standard input, and runs until it is killed");
+    let stay = "Doesn't look at standard input, and runs until it is killed";
     named(alloc, "run", about, examples)
         .arg(word(alloc, "settings", "SETTINGS", help))?
-        .arg(stay)
+        .arg(flag(alloc, "stay", stay))
+}
+
+/// The address of a desk.
+fn address<'a>(alloc: Global) -> Arg<'a>
+    ensures { rule_of result ≡ address_rule }
+{
+    word(alloc, "address", "ADDRESS", "The member's desk, HOST:PORT")
 }
 
 /// The words of a line to a desk: its address and the question.
 fn with_desk<'a>(alloc: Global, command: clap::Command<'a>) -> Result<clap::Command<'a>, AllocError>
     ensures { IfOk result (λ with. app_of with ≡ with_rules (app_of command.entry) desk_rules) }
 {
-    let address = word(alloc, "address", "ADDRESS", "The member's desk, HOST:PORT");
     let question = word(alloc, "question", "Q", "The question (from 0)");
     command
-        .arg(address)?
+        .arg(address(alloc))?
         .arg(question.value_parser(value_parser!(u16)))
 }
 
@@ -158,7 +192,7 @@ fn propose<'a>(alloc: Global) -> Result<clap::Command<'a>, AllocError>
 {
     let about = "Proposes a bit on a question to a member that runs";
     let examples =
-        "It prints OK, HAVE B (bit B was proposed before, and stands), or what is wrong.\n\nExample:\n  bracha propose 127.0.0.1:47111 0 1";
+        "It prints OK, HAVE B (bit B was proposed before, and stands), or what is wrong.\n\nExample, where member 1 of examples/cluster runs:\n  bracha propose 127.0.0.1:47111 0 1";
     let bit = word(alloc, "bit", "V", "The bit, 0 or 1");
     let command = with_desk(alloc, named(alloc, "propose", about, examples))?;
     command.arg(bit.value_parser(value_parser!(u8)))
@@ -169,17 +203,30 @@ fn ask<'a>(alloc: Global) -> Result<clap::Command<'a>, AllocError>
 {
     let about = "Asks a member that runs for its decision of a question";
     let examples =
-        "It prints DECIDED B or UNDECIDED, or what is wrong. A decision is for good.\n\nExample:\n  bracha ask 127.0.0.1:47111 0";
+        "It prints DECIDED B or UNDECIDED, or what is wrong. A decision is for good.\n\nExample, where member 1 of examples/cluster runs:\n  bracha ask 127.0.0.1:47111 0";
     with_desk(alloc, named(alloc, "ask", about, examples))
+}
+
+fn status<'a>(alloc: Global) -> Result<clap::Command<'a>, AllocError>
+    ensures { IfOk result (λ made. app_of made ≡ status_app) }
+{
+    let about = "Asks a member that runs whether it is up";
+    let examples =
+        "It prints UP M D (M statements said, D questions decided), or what is wrong.\n\nExample, where member 1 of examples/cluster runs:\n  bracha status 127.0.0.1:47111";
+    named(alloc, "status", about, examples).arg(address(alloc))
 }
 
 fn dump<'a>(alloc: Global) -> Result<clap::Command<'a>, AllocError>
     ensures { IfOk result (λ made. app_of made ≡ dump_app) }
 {
     let about = "Prints whose journal it is, and its records";
-    let examples = "Example:\n  bracha dump member-1.journal";
+    let examples =
+        "It is refused while a member runs on the journal.\n\nExamples, after `bracha init examples/cluster/member-1.toml`:\n  bracha dump member-1.journal\n  bracha dump --count member-1.journal";
     let help = "The file of the journal";
-    named(alloc, "dump", about, examples).arg(word(alloc, "journal", "JOURNAL", help))
+    let count = "Prints only how many records there are";
+    named(alloc, "dump", about, examples)
+        .arg(word(alloc, "journal", "JOURNAL", help))?
+        .arg(flag(alloc, "count", count))
 }
 
 fn simulate<'a>(alloc: Global) -> Result<clap::Command<'a>, AllocError>
@@ -187,7 +234,7 @@ fn simulate<'a>(alloc: Global) -> Result<clap::Command<'a>, AllocError>
 {
     let about = "Runs a script of a whole cluster in memory, and prints what was decided";
     let examples =
-        "Example:\n  bracha simulate --chart small.svg crates/bracha/examples/small.script";
+        "With `-` as its file a page goes to standard output, and what was decided to standard error.\n\nExamples, in the folder of the repository:\n  bracha simulate crates/bracha/examples/small.script\n  bracha simulate --chart small.svg crates/bracha/examples/small.script\n  bracha simulate --trace - crates/bracha/examples/small.script";
     let trace = "Writes what each event did, a line for each, to this file";
     let chart = "Draws the run as a sequence chart (SVG) into this file";
     named(alloc, "simulate", about, examples)
@@ -212,9 +259,11 @@ fn program<'a>(alloc: Global) -> Result<clap::Command<'a>, AllocError>
 {
     bare(alloc)
         .subcommand(init(alloc)?)?
+        .subcommand(check(alloc)?)?
         .subcommand(run(alloc)?)?
         .subcommand(propose(alloc)?)?
         .subcommand(ask(alloc)?)?
+        .subcommand(status(alloc)?)?
         .subcommand(dump(alloc)?)?
         .subcommand(simulate(alloc)?)?
         .subcommand(hear(alloc)?)
@@ -271,6 +320,16 @@ fn init_of<'a>(options: &ArgMatches<'a>) -> Option<Task<'a>>
     })
 }
 
+/// The value of `check`'s word.
+fn check_of<'a>(options: &ArgMatches<'a>) -> Option<Task<'a>>
+    ensures some { IfSome result (Names (codes "check") (rows_in options.now)) }
+    ensures none { IsNone result → (task : Task) → Names (codes "check") (rows_in options.now) task → ⊥ }
+{
+    Some(Task::Check {
+        settings: text_of(options, "settings")?,
+    })
+}
+
 /// The values of `run`'s words.
 fn run_of<'a>(options: &ArgMatches<'a>) -> Option<Task<'a>>
     ensures some { IfSome result (Names (codes "run") (rows_in options.now)) }
@@ -305,13 +364,24 @@ fn ask_of<'a>(options: &ArgMatches<'a>) -> Option<Task<'a>>
     })
 }
 
-/// The value of `dump`'s word.
+/// The value of `status`'s word.
+fn status_of<'a>(options: &ArgMatches<'a>) -> Option<Task<'a>>
+    ensures some { IfSome result (Names (codes "status") (rows_in options.now)) }
+    ensures none { IsNone result → (task : Task) → Names (codes "status") (rows_in options.now) task → ⊥ }
+{
+    Some(Task::Status {
+        address: text_of(options, "address")?,
+    })
+}
+
+/// The values of `dump`'s words.
 fn dump_of<'a>(options: &ArgMatches<'a>) -> Option<Task<'a>>
     ensures some { IfSome result (Names (codes "dump") (rows_in options.now)) }
     ensures none { IsNone result → (task : Task) → Names (codes "dump") (rows_in options.now) task → ⊥ }
 {
     Some(Task::Dump {
         journal: text_of(options, "journal")?,
+        count: flag_of(options, "count"),
     })
 }
 
@@ -335,9 +405,11 @@ fn named_task<'a>(name: &str, options: &ArgMatches<'a>) -> Option<Task<'a>>
     match name {
         "hear" => hear_of(options),
         "init" => init_of(options),
+        "check" => check_of(options),
         "run" => run_of(options),
         "propose" => propose_of(options),
         "ask" => ask_of(options),
+        "status" => status_of(options),
         "dump" => dump_of(options),
         "simulate" => simulate_of(options),
         _ => None,

@@ -1,7 +1,7 @@
 //! What ends the program before its work is done.
 
 ghost use Rattle.bracha.specs.declared.fault.Fault.TheVariants as ends;
-ghost use Rattle.bracha.specs.Faults.{IsMeant, IsOfFile, of_journal};
+ghost use Rattle.bracha.specs.Faults.{IsMeant, IsOfFile, fault_status, of_journal};
 ghost use Rattle.std.specs.Prelude.{◌≡◌};
 
 use commands::{DumpFault, InitFault, SimulateFault, TalkFault};
@@ -15,9 +15,16 @@ use terms::SizeFault;
 use thiserror::Error;
 
 /// Why a command ended before its work was done. The program prints the text after `bracha: ` and ends with
-/// status 1. What was printed before stays printed.
+/// status 2 for the faults of the words, [`Fault::Argument`] and [`Fault::SameFile`], and with status 1 for the others.
+/// What was printed before stays printed.
 #[derive(Debug, Drop, Error)]
 pub enum Fault {
+    /// The argument at this place isn't UTF-8. The program's name has place 0.
+    #[error("argument {0} is not UTF-8")]
+    Argument(usize),
+    /// A page would be written over the script, or over the other page: this path names that file.
+    #[error("same file {0}")]
+    SameFile(String),
     /// The numbers make no size.
     #[error("size {0}")]
     Size(#[from] SizeFault),
@@ -33,7 +40,7 @@ pub enum Fault {
     /// What ended `init`.
     #[error(transparent)]
     Init(#[from] InitFault),
-    /// What ended `dump`.
+    /// What ended `dump` or `check`.
     #[error(transparent)]
     Dump(#[from] DumpFault),
     /// The journal of a member that is to run couldn't be opened.
@@ -45,7 +52,7 @@ pub enum Fault {
     /// The address of a desk isn't one.
     #[error("address")]
     Address,
-    /// What ended `propose` or `ask`.
+    /// What ended `propose`, `ask` or `status`.
     #[error(transparent)]
     Talk(#[from] TalkFault),
     /// What ended `simulate`.
@@ -66,6 +73,16 @@ pub enum Fault {
 }
 
 impl Fault {
+    /// The status to end with: 2 for a fault of the words, and 1 for any other.
+    pub fn status(&self) -> u8
+        ensures { result ≡ fault_status self.now }
+    {
+        match self {
+            Fault::Argument(_) | Fault::SameFile(_) => 2,
+            _ => 1,
+        }
+    }
+
     /// The fault of a file that couldn't be opened, read or written: this one, but for want of memory.
     pub fn of_file(self, error: io::Error) -> Fault
         ensures meant { IsMeant self result }

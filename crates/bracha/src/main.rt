@@ -6,24 +6,27 @@ ghost use Rattle.clap.specs.Words.{kind_of};
 ghost use Rattle.clap.specs.declared.error.kind.ErrorKind.TheVariants.{DisplayHelp, DisplayVersion};
 ghost use Rattle.std.specs.Prelude.{◌≡◌, ◌≢◌, ◌⊎◌, IfOk};
 
+mod arguments;
 mod asking;
 mod command;
 mod fault;
 mod files;
 mod live;
+mod pages;
 mod streams;
 
-use asking::{ask_at, propose_at};
+use arguments::own_words;
+use asking::{ask_at, propose_at, status_at};
 use clap::error::ErrorKind;
 use command::{Task, command};
 use fault::Fault;
-use files::{dump_file, hear_input, init_file, simulate_file};
+use files::{check_file, dump_file, hear_input, init_file, simulate_file};
 use live::run_file;
 use running::Machine;
 use std::convert::AsStr;
+use std::io;
 use std::net::{TcpListener, TcpStream};
 use std::process::ExitCode;
-use std::{env, io};
 use streams::hold_streams;
 use words::size_from;
 
@@ -37,6 +40,7 @@ fn work<R: Machine>(rt: &R, host: &HostRuntime, task: Task) -> Result<u8, Fault>
             me,
         } => hear_input(host, size_from(n, t, questions)?, me),
         Task::Init { settings } => init_file(host, settings),
+        Task::Check { settings } => check_file(host, settings),
         Task::Run { settings, stay } => run_file(rt, host, settings, stay),
         Task::Propose {
             address,
@@ -44,7 +48,8 @@ fn work<R: Machine>(rt: &R, host: &HostRuntime, task: Task) -> Result<u8, Fault>
             bit,
         } => propose_at(host, address, question, bit),
         Task::Ask { address, question } => ask_at(host, address, question),
-        Task::Dump { journal } => dump_file(host, journal),
+        Task::Status { address } => status_at(host, address),
+        Task::Dump { journal, count } => dump_file(host, journal, count),
         Task::Simulate {
             script,
             trace,
@@ -77,11 +82,11 @@ fn run<R: Machine, S: AsStr>(rt: &R, host: &HostRuntime, words: &[S]) -> Result<
 
 /// Does what the words ask for with which the program was started.
 fn run_own<R: Machine>(rt: &R, host: &HostRuntime) -> Result<u8, Fault> {
-    let words: Vec<String> = env::args(host)?.collect(host.alloc())?;
+    let words = own_words(host, host.alloc())?;
     run(rt, host, words.as_slice())
 }
 
-/// Prints what is wrong, if anything is, and gives the code to end with: the status of what was done, or 1.
+/// Prints what is wrong, if anything is, and gives the code to end with: the status of what was done, or of the fault.
 fn end(rt: &HostRuntime, ended: Result<u8, Fault>) -> io::Result<ExitCode>
     ensures { IfOk result (IsCodeOf ended) }
 {
@@ -89,7 +94,7 @@ fn end(rt: &HostRuntime, ended: Result<u8, Fault>) -> io::Result<ExitCode>
         Ok(status) => Ok(ExitCode::from(status)),
         Err(fault) => {
             eprintln!(rt; "bracha: {fault}")?;
-            Ok(ExitCode::FAILURE)
+            Ok(ExitCode::from(fault.status()))
         }
     }
 }

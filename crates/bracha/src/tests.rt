@@ -4,9 +4,9 @@ mod processes;
 
 use super::*;
 use commands::{DumpFault, InitFault, SimulateFault};
-use files::write_page;
 use hearing::HearFault;
 use journal::JournalFault;
+use pages::write_page;
 use settings::{Key, SettingsFault};
 use sim::SimFault;
 use std::fs;
@@ -41,6 +41,10 @@ fn reads_the_words(rt: HostRuntime) -> Result<(), Fail> {
             Task::Init { settings: "a.toml" },
         ),
         (
+            ["bracha", "check", "a.toml"],
+            Task::Check { settings: "a.toml" },
+        ),
+        (
             ["bracha", "run", "a.toml"],
             Task::Run {
                 settings: "a.toml",
@@ -51,6 +55,7 @@ fn reads_the_words(rt: HostRuntime) -> Result<(), Fail> {
             ["bracha", "dump", "x.journal"],
             Task::Dump {
                 journal: "x.journal",
+                count: false,
             },
         ),
         (
@@ -176,6 +181,26 @@ fn reads_the_words_of_a_member(rt: HostRuntime) -> Result<(), Fail> {
             },
         ),
         (
+            ["bracha", "status", "127.0.0.1:47111"].as_slice(),
+            Task::Status {
+                address: "127.0.0.1:47111",
+            },
+        ),
+        (
+            ["bracha", "dump", "--count", "x.journal"].as_slice(),
+            Task::Dump {
+                journal: "x.journal",
+                count: true,
+            },
+        ),
+        (
+            ["bracha", "dump", "x.journal", "--count"].as_slice(),
+            Task::Dump {
+                journal: "x.journal",
+                count: true,
+            },
+        ),
+        (
             [
                 "bracha",
                 "hear",
@@ -211,6 +236,14 @@ fn reads_the_words_of_a_member(rt: HostRuntime) -> Result<(), Fail> {
         ),
         (["bracha", "propose", "--help"].as_slice(), 0),
         (["bracha", "ask", "127.0.0.1:47111"].as_slice(), 2),
+        (["bracha", "check"].as_slice(), 2),
+        (["bracha", "check", "--help"].as_slice(), 0),
+        (["bracha", "check", "a.toml", "b.toml"].as_slice(), 2),
+        (["bracha", "status"].as_slice(), 2),
+        (["bracha", "status", "127.0.0.1:47111", "0"].as_slice(), 2),
+        (["bracha", "status", "--help"].as_slice(), 0),
+        (["bracha", "dump", "--count"].as_slice(), 2),
+        (["bracha", "dump", "--count=2", "x"].as_slice(), 2),
         (["bracha", "ask", "127.0.0.1:47111", "x"].as_slice(), 2),
         (["bracha", "ask", "127.0.0.1:47111", "0", "1"].as_slice(), 2),
         (["bracha", "ask", "--help"].as_slice(), 0),
@@ -298,7 +331,7 @@ fn a_run_of_a_fault_writes_no_file(rt: HostRuntime) -> Result<(), Fail> {
     let chart = simulate_file(&rt, SCRIPT, None, Some(NOWHERE));
     assert!(rt; matches!(&chart, Err(Fault::Chart)));
     fs::write(&rt, SCRIPT, "n 1\nt 0\nquestions 1\nliars 0\nseed 1\n")?;
-    let run = simulate_file(&rt, SCRIPT, Some(PAGE), Some(PAGE));
+    let run = simulate_file(&rt, SCRIPT, Some(PAGE), Some(NOWHERE));
     assert!(rt;
         matches!(
             &run,
@@ -330,6 +363,11 @@ fn faults_print_so(rt: HostRuntime) -> Result<(), Fail> {
         (Fault::Simulate(SimulateFault::Events), "events"),
         (Fault::Trace, "trace"),
         (Fault::Chart, "chart"),
+        (Fault::Argument(2), "argument 2 is not UTF-8"),
+        (
+            Fault::SameFile(String::from_str(rt.alloc(), "a.svg")?),
+            "same file a.svg",
+        ),
         (Fault::Memory, "memory"),
     ] {
         let text = format!(in rt.alloc(); "{fault}")?;

@@ -3,3 +3,4 @@ pub mod Running
 pub mod Dumping
 pub mod Simulating
 pub mod Reading
+pub mod Checking

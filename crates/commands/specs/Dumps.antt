@@ -1,5 +1,5 @@
 -- The text of a journal.
-use Rattle.std.specs.Prelude.{ℕ, List, [], ◌∷◌, ◌++◌, codes}
+use Rattle.std.specs.Prelude.{ℕ, Bool, false, true, List, [], ◌∷◌, ◌++◌, codes, length}
 use Rattle.std.specs.List.{flat_map}
 use Rattle.std.specs.Fmt.{decimal}
 use Rattle.terms.specs.declared.Record.{Record}
@@ -28,6 +28,15 @@ record_lines records = flat_map record_line records
 -- the line of the header, and those of the records
 abbrev pub dump_text : Header → List Record → List ℕ
 dump_text header records = header_line header ++ record_lines records
+
+-- the line of their number
+abbrev pub number_text : List Record → List ℕ
+number_text records = line (decimal (length records))
+
+-- the number alone, or the whole text
+abbrev pub dump_page : Bool → Header → List Record → List ℕ
+dump_page true header records = number_text records
+dump_page false header records = dump_text header records
 
 -- what is wrong with a file of no journal: it begins with no header, or it begins with one and goes wrong behind that. The
 -- other faults are none of a file that is only read

@@ -47,6 +47,10 @@ IsOfDump dump.Stream = Unit {0}
 IsOfDump dump.Memory = Unit {0}
 IsOfDump (dump.Journal why) = IsFaultOfOpening why
 
+-- a write failed, or memory was refused
+abbrev pub IsOfPrint : DumpFault → Type 0
+IsOfPrint ends = (ends ≡ dump.Memory) ⊎ (ends ≡ dump.Stream)
+
 -- the fault of a text that is no script
 abbrev pub of_script : ScriptFault → SimulateFault
 of_script (unread.Line number) = simulate.Line number

@@ -3,3 +3,4 @@ pub mod Dumps
 pub mod Simulations
 pub mod Pages
 pub mod Talks
+pub mod Checks

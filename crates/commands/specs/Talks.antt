@@ -1,5 +1,5 @@
 -- What a client asks a member that runs, and what its reply means.
-use Rattle.std.specs.Prelude.{ℕ, ◌≡◌, ◌⊎◌, List, [], ◌∷◌, codes}
+use Rattle.std.specs.Prelude.{ℕ, ◌≡◌, ◌⊎◌, List, [], ◌∷◌, ◌++◌, codes}
 use Rattle.std.specs.Fmt.{decimal}
 use Rattle.words.specs.Lines.{line}
 use Rattle.words.specs.Sentences.{sentence}
@@ -12,11 +12,19 @@ propose_line question bit = line (sentence (codes "PROPOSE" ∷ decimal question
 abbrev pub ask_line : ℕ → List ℕ
 ask_line question = line (sentence (codes "ASK" ∷ decimal question ∷ []))
 
+-- the line that asks whether a member is up
+abbrev pub status_line : List ℕ
+status_line = line (codes "STATUS")
+
+-- the member is up: what follows are its counts
+abbrev pub IsUp : List ℕ → Type 0
+IsUp reply = (counts : List ℕ) × (reply ≡ codes "UP " ++ counts)
+
 -- the member did as it was asked
 abbrev pub IsGood : List ℕ → Type 0
 IsGood reply =
     (reply ≡ codes "OK") ⊎ ((reply ≡ codes "HAVE 0") ⊎ ((reply ≡ codes "HAVE 1") ⊎ ((reply ≡ codes "DECIDED 0")
-    ⊎ ((reply ≡ codes "DECIDED 1") ⊎ (reply ≡ codes "UNDECIDED")))))
+    ⊎ ((reply ≡ codes "DECIDED 1") ⊎ ((reply ≡ codes "UNDECIDED") ⊎ IsUp reply)))))
 
 -- the status for a reply: 0 where the member did as it was asked, and 1 else
 abbrev pub HasStatus : List ℕ → ℕ → Type 0

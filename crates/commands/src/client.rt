@@ -1,9 +1,9 @@
-//! The commands `propose` and `ask`: one line to the desk of a member that runs, and its reply.
+//! The commands `propose`, `ask` and `status`: one line to the desk of a member that runs, and its reply.
 
 ghost use Rattle.std.specs.Prelude.{ℕ, List, [], ◌≡◌, ◌∷◌, ◌++◌, ◌↔◌, IsTrue, IfOk, IfErr, IfSome, ◌≢◌, string_bytes, Err};
 ghost use Rattle.std.specs.Io.KnownBytes.{Appends, Consumes};
 ghost use Rattle.words.specs.Lines.{NoEnd};
-ghost use Rattle.commands.specs.Talks.{propose_line, ask_line, IsGood, HasStatus};
+ghost use Rattle.commands.specs.Talks.{propose_line, ask_line, status_line, IsUp, IsGood, HasStatus};
 ghost use Rattle.commands.specs.declared.fault.TalkFault.TheVariants.{NoAnswer};
 
 use crate::fault::TalkFault;
@@ -28,6 +28,20 @@ pub fn ask_line(alloc: Global, question: u16) -> Result<String, AllocError>
     format!(in alloc; "ASK {question}\n")
 }
 
+/// The line that asks whether a member is up.
+pub fn status_line() -> &'static str
+    ensures { result.now ≡ status_line }
+{
+    "STATUS\n"
+}
+
+/// Whether the reply says that the member is up.
+fn is_up(reply: &[u8]) -> bool
+    ensures { IsTrue result ↔ IsUp reply.now }
+{
+    reply.starts_with(b"UP ")
+}
+
 /// Whether the reply says that the member did as it was asked.
 fn is_good(reply: &[u8]) -> bool
     ensures { IsTrue result ↔ IsGood reply.now }
@@ -38,6 +52,7 @@ fn is_good(reply: &[u8]) -> bool
         || is(reply, "DECIDED 0")
         || is(reply, "DECIDED 1")
         || is(reply, "UNDECIDED")
+        || is_up(reply)
 }
 
 /// The status for a reply.
@@ -90,7 +105,7 @@ fn send<W: Write>(line: &str, connection: &mut W) -> Result<(), TalkFault>
 }
 
 /// Sends the line over a connection to a member's desk, reads one reply, and writes it with its end. The status is 0 for
-/// `OK`, `HAVE b`, `DECIDED b` and `UNDECIDED`, and 1 for any other reply.
+/// `OK`, `HAVE b`, `DECIDED b`, `UNDECIDED` and `UP m d`, and 1 for any other reply.
 ///
 /// [`TalkFault::NoAnswer`]: the connection failed or ended before a whole reply came, and nothing was written.
 /// [`TalkFault::Stream`]: the write failed. [`TalkFault::Memory`]: memory was refused.

@@ -37,7 +37,7 @@ impl From<JournalFault> for InitFault {
     }
 }
 
-/// Why `dump` printed no journal.
+/// Why `dump` printed no journal, or `check` found none.
 #[derive(Debug, Drop, Error)]
 pub enum DumpFault {
     /// The journal couldn't be opened or read.

@@ -1,6 +1,7 @@
 //! What the commands of the program do, over any disk, reader and writer.
 #![tactic(auto)]
 
+mod check;
 mod client;
 mod dump;
 mod fault;
@@ -9,8 +10,9 @@ mod init;
 mod pictures;
 mod simulate;
 
-pub use client::{ask_line, propose_line, talk};
-pub use dump::dump_lines;
+pub use check::{check_journal, print_settings};
+pub use client::{ask_line, propose_line, status_line, talk};
+pub use dump::{dump_count, dump_lines};
 pub use fault::{DumpFault, InitFault, SimulateFault, TalkFault};
 pub use init::init_disk;
-pub use simulate::{Pages, print, simulate_pages, simulate_text};
+pub use simulate::{Pages, print, print_verdicts, simulate_pages, simulate_text, takes_output};

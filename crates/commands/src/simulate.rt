@@ -1,6 +1,6 @@
 //! The command `simulate`: a script's cluster, run in memory.
 
-ghost use Rattle.std.specs.Prelude.{◌≡◌, ℕ, false, Err, IfOk, IfErr, OnOk, string_bytes};
+ghost use Rattle.std.specs.Prelude.{◌≡◌, ◌⊎◌, ◌↔◌, ℕ, false, true, Err, IfOk, IfErr, IsTrue, OnOk, Some, codes, option_map, string_bytes};
 ghost use Rattle.std.specs.List.{flat_map};
 ghost use Rattle.std.specs.Io.KnownBytes.{Appends};
 ghost use Rattle.script.specs.declared.Script.{Script};
@@ -21,6 +21,7 @@ use sim::{Mark, Outcome};
 use std::alloc::{AllocError, Global};
 use std::io::Write;
 use terms::{Memory, Size};
+use words::is;
 
 /// The line of a verdict: member, question, round and bit.
 fn verdict_line(alloc: Global, verdict: &(u8, u16, u8, bool)) -> Result<String, AllocError>
@@ -202,6 +203,45 @@ pub fn simulate_text<W: Write>(
 {
     let pages = simulate_pages(alloc, text, false, false)?;
     print(pages.verdicts.as_str(), output)
+}
+
+/// Whether the path is `-`, which stands for the standard output.
+fn is_output(path: Option<&str>) -> bool
+    ensures { IsTrue result ↔ (option_map (λ text. text.now) path.entry ≡ Some (codes "-")) }
+{
+    match path {
+        Some(path) => is(path.as_bytes(), "-"),
+        None => false,
+    }
+}
+
+/// Whether a page takes the standard output: the path of one is `-`.
+pub fn takes_output(trace: Option<&str>, chart: Option<&str>) -> bool
+    ensures { IsTrue result ↔ ((option_map (λ text. text.now) trace.entry ≡ Some (codes "-")) ⊎ (option_map (λ text. text.now) chart.entry ≡ Some (codes "-"))) }
+{
+    is_output(trace) || is_output(chart)
+}
+
+/// Writes the verdicts to the output, or aside, where a page takes the output. The status is 0, and the other writer is
+/// left alone. [`SimulateFault::Stream`] and [`SimulateFault::Memory`]: the write failed.
+pub fn print_verdicts<W: Write, E: Write>(
+    aside: bool,
+    verdicts: &str,
+    output: &mut W,
+    errors: &mut E,
+) -> Result<u8, SimulateFault>
+    ensures status { IfOk result (λ status. status ≡ 0) }
+    ensures output { aside ≡ false → OnOk result (Appends (W.contents output.old) (W.contents output.new) verdicts.now) }
+    ensures aside { aside ≡ true → OnOk result (Appends (E.contents errors.old) (E.contents errors.new) verdicts.now) }
+    ensures no_errors { aside ≡ false → errors.new ≡ errors.old }
+    ensures no_output { aside ≡ true → output.new ≡ output.old }
+    ensures only { IfErr result IsOfStream }
+{
+    if aside {
+        print(verdicts, errors)
+    } else {
+        print(verdicts, output)
+    }
 }
 
 #[cfg(test)]

@@ -7,8 +7,8 @@ use super::*;
 use std::io::Read;
 use std::process::{Child, Command, Stdio};
 use std::test::Fail;
-use std::thread;
 use std::time::Duration;
+use std::{env, thread};
 
 /// The words of the program that a test starts, with a space between each two.
 const WORDS: &str = "BRACHA_TEST_WORDS";
@@ -28,10 +28,54 @@ fn a_process(rt: HostRuntime) -> Result<(), Fail> {
         Ok(status) => status,
         Err(fault) => {
             eprintln!(&rt; "bracha: {fault}")?;
-            1
+            fault.status()
         }
     };
     println!(&rt; "status {status}")?;
+    Ok(())
+}
+
+/// Set where a test asks for the words that its process was started with.
+const ASKED: &str = "BRACHA_TEST_ASKED";
+
+#[test]
+fn the_words_of_a_process(rt: HostRuntime) -> Result<(), Fail> {
+    if env::var(&rt, ASKED).is_err() {
+        return Ok(());
+    }
+    let status = match own_words(&rt, rt.alloc()) {
+        Ok(_) => 0,
+        Err(fault) => {
+            eprintln!(&rt; "bracha: {fault}")?;
+            fault.status()
+        }
+    };
+    println!(&rt; "status {status}")?;
+    Ok(())
+}
+
+#[test]
+fn an_argument_that_is_no_text(rt: HostRuntime) -> Result<(), Fail> {
+    let own = env::args(&rt)?.next().ok_or("the program's name")?;
+    for (bytes, line, status) in [
+        ("dump 'x'", "", "status 0\n"),
+        (
+            "dump \"$(printf 'x\\377')\"",
+            "bracha: argument 3 is not UTF-8\n",
+            "status 2\n",
+        ),
+    ] {
+        let script = format!(in rt.alloc();
+            "exec \"$0\" tests::processes::the_words_of_a_process {bytes}"
+        )?;
+        let mut command = Command::new(rt.alloc(), "sh")?;
+        command.arg("-c")?.arg(script.as_str())?.arg(own.as_str())?;
+        let output = command.env(ASKED, "1")?.output(&rt)?;
+        let printed = String::from_utf8(output.stdout).ok().ok_or("text")?;
+        let said = String::from_utf8(output.stderr).ok().ok_or("text")?;
+        assert!(rt; printed.as_str().contains(status), "{printed} {said}");
+        assert!(rt; said.as_str().contains(line), "{said}");
+    }
     Ok(())
 }
 
@@ -76,18 +120,26 @@ fn closed_streams_leave_files_alone(rt: HostRuntime) -> Result<(), Fail> {
         "cluster = 7\nn = 4\nt = 1\nquestions = 1\nme = 1\njournal = '{JOURNAL}'\npeers = ['127.0.0.1:47120', '127.0.0.1:47121', '127.0.0.1:47122', '127.0.0.1:47123']\ndesk = '127.0.0.1:47131'\nseed = '0000000000000000000000000000000000000000000000000000000000000001'\n"
     )?;
     fs::write(&rt, SETTINGS, settings.as_str())?;
+    let script = "bracha_tests_closed.script";
+    fs::write(
+        &rt,
+        script,
+        "n 1\nt 0\nquestions 1\nliars\nseed 1\npropose 0 0 1\n",
+    )?;
     for words in [
         "bracha dump bracha_tests_closed.journal",
         "bracha run bracha_tests_closed.toml",
         "bracha run --stay bracha_tests_closed.toml",
+        "bracha simulate --trace - bracha_tests_closed.script",
     ] {
         let said = said_when_closed(&rt, words)?;
         assert!(rt; said.as_str().contains("bracha: stream"), "said {said}");
         let bytes = fs::read(&rt, JOURNAL)?;
         assert!(rt; bytes.as_slice() == EMPTY.as_slice());
     }
-    fs::remove_file(&rt, SETTINGS)?;
-    fs::remove_file(&rt, JOURNAL)?;
+    for path in [SETTINGS, JOURNAL, script] {
+        fs::remove_file(&rt, path)?;
+    }
     Ok(())
 }
 
@@ -99,15 +151,21 @@ fn told(rt: &HostRuntime, words: &str) -> Result<(String, String), Fail> {
     Ok((printed, said))
 }
 
-/// Whether the program ends by that fault: one line, on the standard error alone, and status 1.
-fn fails(rt: &HostRuntime, words: &str, fault: &str) -> Result<bool, Fail> {
+/// Whether the program ends by that fault and status: one line, on the standard error alone.
+fn ends_by(rt: &HostRuntime, words: &str, fault: &str, status: u8) -> Result<bool, Fail> {
     let (printed, said) = told(rt, words)?;
     let line = format!(in rt.alloc(); "bracha: {fault}\n")?;
+    let last = format!(in rt.alloc(); "status {status}\n")?;
     Ok(
-        printed.as_str().contains("status 1\n")
+        printed.as_str().contains(last.as_str())
             && !printed.as_str().contains("bracha:")
             && said.as_str().contains(line.as_str()),
     )
+}
+
+/// Whether the program ends by that fault and status 1.
+fn fails(rt: &HostRuntime, words: &str, fault: &str) -> Result<bool, Fail> {
+    ends_by(rt, words, fault, 1)
 }
 
 #[test]
@@ -116,6 +174,8 @@ fn faults_of_words_and_files(rt: HostRuntime) -> Result<(), Fail> {
     for (words, fault) in [
         ("bracha dump bracha_tests_none.journal", "file"),
         ("bracha init bracha_tests_none.toml", "file"),
+        ("bracha check bracha_tests_none.toml", "file"),
+        ("bracha check bracha_tests_bytes.toml", "settings text"),
         ("bracha init bracha_tests_bytes.toml", "settings text"),
         ("bracha simulate bracha_tests_none.script", "file"),
         (
@@ -135,6 +195,9 @@ fn faults_of_words_and_files(rt: HostRuntime) -> Result<(), Fail> {
             "size NoQuestions",
         ),
         ("bracha ask 127.0.0.1 0", "address"),
+        ("bracha status localhost", "address"),
+        ("bracha status 127.0.0.1:47199", "no answer"),
+        ("bracha dump --count bracha_tests_none.journal", "file"),
     ] {
         assert!(rt; fails(&rt, words, fault)?, "{words}");
     }
@@ -158,6 +221,51 @@ fn init_makes_the_journal_once(rt: HostRuntime) -> Result<(), Fail> {
     assert!(rt; fails(&rt, words.as_str(), "journal NotEmpty")?);
     assert!(rt; fs::read(&rt, journal)?.as_slice() == EMPTY.as_slice());
     assert!(rt; fs::read(&rt, path)?.as_slice() == settings.as_str().as_bytes());
+    fs::remove_file(&rt, path)?;
+    fs::remove_file(&rt, journal)?;
+    Ok(())
+}
+
+/// What `check` prints of a member of cluster 7 whose journal is this file.
+fn said_of(rt: &HostRuntime, journal: &str) -> Result<String, Fail> {
+    Ok(format!(in rt.alloc();
+        "cluster 7 n 4 t 1 questions 1 me 1\njournal {journal}\npeer 127.0.0.1:47120\npeer 127.0.0.1:47121\npeer 127.0.0.1:47122\npeer 127.0.0.1:47123\ndesk 127.0.0.1:47131\n"
+    )?)
+}
+
+#[test]
+fn check_changes_nothing(rt: HostRuntime) -> Result<(), Fail> {
+    let (path, journal) = ("bracha_tests_check.toml", "bracha_tests_check.journal");
+    let _ = fs::remove_file(&rt, journal);
+    let settings = format!(in rt.alloc();
+        "cluster = 7\nn = 4\nt = 1\nquestions = 1\nme = 1\njournal = '{journal}'\npeers = ['127.0.0.1:47120', '127.0.0.1:47121', '127.0.0.1:47122', '127.0.0.1:47123']\ndesk = '127.0.0.1:47131'\nseed = '0000000000000000000000000000000000000000000000000000000000000001'\n"
+    )?;
+    fs::write(&rt, path, settings.as_str())?;
+    let words = format!(in rt.alloc(); "bracha check {path}")?;
+    let said = said_of(&rt, journal)?;
+    // There is no journal yet, and none is made.
+    assert!(rt; fails(&rt, words.as_str(), "file")?);
+    assert!(rt; ended(&rt, words.as_str())?.as_str().contains(said.as_str()));
+    assert!(rt; fs::metadata(&rt, journal).is_err());
+    for (bytes, fault) in [
+        (&EMPTY[..24], "journal CutShort"),
+        (&EMPTY[..20], "journal BadHeader"),
+    ] {
+        fs::write(&rt, journal, bytes)?;
+        assert!(rt; fails(&rt, words.as_str(), fault)?, "{fault}");
+        assert!(rt; fs::read(&rt, journal)?.as_slice() == bytes);
+    }
+    fs::write(&rt, journal, EMPTY.as_slice())?;
+    // Another has the journal open, and its lock.
+    let file = fs::File::open(&rt, journal)?;
+    file.try_lock()?;
+    let whole = format!(in rt.alloc(); "{said}records 0\nstatus 0\n")?;
+    assert!(rt;
+        ended(&rt, words.as_str())?
+            .as_str()
+            .contains(whole.as_str())
+    );
+    assert!(rt; fs::read(&rt, journal)?.as_slice() == EMPTY.as_slice());
     fs::remove_file(&rt, path)?;
     fs::remove_file(&rt, journal)?;
     Ok(())
@@ -192,6 +300,104 @@ fn pages_go_into_their_files(rt: HostRuntime) -> Result<(), Fail> {
     }
     for path in [script, trace, chart] {
         fs::remove_file(&rt, path)?;
+    }
+    Ok(())
+}
+
+#[test]
+fn pages_keep_off_other_files(rt: HostRuntime) -> Result<(), Fail> {
+    let (script, folder) = ("bracha_tests_apart.script", "bracha_tests_apart");
+    let text = "n 1\nt 0\nquestions 1\nliars\nseed 1\npropose 0 0 1\n";
+    fs::write(&rt, script, text)?;
+    let _ = fs::remove_dir_all(&rt, folder);
+    fs::create_dir(&rt, folder)?;
+    let link = "bracha_tests_apart/link";
+    fs::hard_link(&rt, script, link)?;
+    for (options, path) in [
+        (
+            "--trace bracha_tests_apart.script",
+            "bracha_tests_apart.script",
+        ),
+        (
+            "--chart ./bracha_tests_apart.script",
+            "./bracha_tests_apart.script",
+        ),
+        ("--chart bracha_tests_apart/link", "bracha_tests_apart/link"),
+        (
+            "--trace bracha_tests_apart/a --chart bracha_tests_apart/a",
+            "bracha_tests_apart/a",
+        ),
+        (
+            "--trace bracha_tests_apart/a --chart bracha_tests_apart/../bracha_tests_apart/a",
+            "bracha_tests_apart/../bracha_tests_apart/a",
+        ),
+        ("--trace - --chart -", "-"),
+    ] {
+        let words = format!(in rt.alloc(); "bracha simulate {options} {script}")?;
+        let fault = format!(in rt.alloc(); "same file {path}")?;
+        assert!(rt; ends_by(&rt, words.as_str(), fault.as_str(), 2)?, "{words}");
+        assert!(rt; fs::read(&rt, script)?.as_slice() == text.as_bytes());
+        assert!(rt; fs::metadata(&rt, "bracha_tests_apart/a").is_err());
+    }
+    fs::remove_dir_all(&rt, folder)?;
+    fs::remove_file(&rt, script)?;
+    Ok(())
+}
+
+#[test]
+fn a_page_goes_to_the_output(rt: HostRuntime) -> Result<(), Fail> {
+    let (script, chart) = ("bracha_tests_output.script", "bracha_tests_output.svg");
+    fs::write(
+        &rt,
+        script,
+        "n 1\nt 0\nquestions 1\nliars\nseed 1\npropose 0 0 1\n",
+    )?;
+    let words = format!(in rt.alloc(); "bracha simulate --trace - --chart {chart} {script}")?;
+    let (printed, said) = told(&rt, words.as_str())?;
+    let page = "1 propose 0 0 1: done: initial 0 0 1 1 one\nstatus 0\n";
+    assert!(rt; printed.as_str().contains(page), "{printed}");
+    assert!(rt; !printed.as_str().contains("events"), "{printed}");
+    assert!(rt; said.as_str().contains("events 1 skipped 0\n"), "{said}");
+    assert!(rt; fs::read(&rt, chart)?.as_slice().starts_with(b"<svg "));
+    for path in [script, chart] {
+        fs::remove_file(&rt, path)?;
+    }
+    assert!(rt; fs::metadata(&rt, "-").is_err());
+    Ok(())
+}
+
+/// Whether the words behind the program's name are taken.
+fn is_taken(rt: &HostRuntime, rest: &str) -> Result<bool, Fail> {
+    let text = format!(in rt.alloc(); "bracha {rest}")?;
+    let words: Vec<&str> = text.as_str().split(' ').collect(rt.alloc())?;
+    Ok(command(rt.alloc(), words.as_slice()).ok().is_some())
+}
+
+/// Whether each line of the help that shows the program's use is taken, and there is one.
+fn shows_its_use(rt: &HostRuntime, name: &str) -> Result<bool, Fail> {
+    let words = format!(in rt.alloc(); "bracha {name} --help")?;
+    let printed = ended(rt, words.as_str())?;
+    let mut shown = false;
+    for line in printed.as_str().split('\n') {
+        let Some((before, rest)) = line.split_once("bracha ") else {
+            continue;
+        };
+        if before.starts_with("  ") {
+            shown = true;
+            if !is_taken(rt, rest)? {
+                return Ok(false);
+            }
+        }
+    }
+    Ok(shown)
+}
+
+#[test]
+fn help_shows_what_is_taken(rt: HostRuntime) -> Result<(), Fail> {
+    for name in [
+        "init", "check", "run", "propose", "ask", "status", "dump", "simulate", "hear",
+    ] {
+        assert!(rt; shows_its_use(&rt, name)?, "the help of {name}");
     }
     Ok(())
 }
@@ -276,6 +482,27 @@ fn settle(rt: &HostRuntime, question: u16) -> Result<(), Fail> {
     Ok(())
 }
 
+/// Whether the member says that it is up, and has decided so many questions.
+fn is_up(rt: &HostRuntime, member: u8, decided: u8) -> Result<bool, Fail> {
+    let words = format!(in rt.alloc(); "bracha status 127.0.0.1:4711{member}")?;
+    let text = ended(rt, words.as_str())?;
+    let end = format!(in rt.alloc(); " {decided}\nstatus 0\n")?;
+    Ok(text.as_str().contains("UP ") && text.as_str().contains(end.as_str()))
+}
+
+/// Whether `dump --count` prints the number of the records that `dump` prints.
+fn is_counted(rt: &HostRuntime, member: u8) -> Result<bool, Fail> {
+    let words = format!(in rt.alloc(); "bracha dump {FOLDER}/{member}.journal")?;
+    let text = ended(rt, words.as_str())?;
+    let (dumped, _) = text.as_str().split_once("\nstatus 0").ok_or("an end")?;
+    let (_, lines) = dumped.split_once("cluster ").ok_or("a header")?;
+    let records = lines.split('\n').count().saturating_sub(1);
+    let words = format!(in rt.alloc(); "bracha dump --count {FOLDER}/{member}.journal")?;
+    let line = format!(in rt.alloc(); "{records}\nstatus 0\n")?;
+    let counted = ended(rt, words.as_str())?;
+    Ok(records > 2 && counted.as_str().contains(line.as_str()))
+}
+
 /// The decisions in a member's journal.
 fn decisions(rt: &HostRuntime, member: u8) -> Result<Vec<String>, Fail> {
     let words = format!(in rt.alloc(); "bracha dump {FOLDER}/{member}.journal")?;
@@ -319,6 +546,7 @@ fn four_processes_decide(rt: HostRuntime) -> Result<(), Fail> {
     again.wait()?;
     children.push(start(&rt, 2)?)?;
     settle(&rt, 1)?;
+    assert!(rt; is_up(&rt, 2, 2)?, "the status of member 2");
     for child in children {
         let text = end_of(child, &rt)?;
         assert!(rt; text.as_str().contains("status 0\n"), "the end of a member");
@@ -326,6 +554,7 @@ fn four_processes_decide(rt: HostRuntime) -> Result<(), Fail> {
     for member in 0..4u8 {
         let found = decisions(&rt, member)?;
         assert!(rt; found.len() == 2, "decisions of {member}");
+        assert!(rt; is_counted(&rt, member)?, "records of {member}");
         for line in found.as_slice() {
             assert!(rt; line.as_str().ends_with(" 1"), "{line}");
         }

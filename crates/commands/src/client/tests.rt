@@ -29,6 +29,8 @@ fn prints_the_reply(rt: HostRuntime) -> Result<(), Fail> {
         ("DECIDED 0\nDECIDED 1\n", "DECIDED 0\n", 0),
         ("UNDECIDED\n", "UNDECIDED\n", 0),
         ("STOPPED\n", "STOPPED\n", 1),
+        ("UP 18 1\n", "UP 18 1\n", 0),
+        ("UP\n", "UP\n", 1),
         ("ERR 2 question\n", "ERR 2 question\n", 1),
         ("ok\n", "ok\n", 1),
         ("\n", "\n", 1),
@@ -49,6 +51,7 @@ fn prints_the_reply(rt: HostRuntime) -> Result<(), Fail> {
     }
     let line = propose_line(rt.alloc(), 0, 2)?;
     assert_eq!(rt; line.as_str(), "PROPOSE 0 2\n");
+    assert_eq!(rt; status_line(), "STATUS\n");
     Ok(())
 }
 

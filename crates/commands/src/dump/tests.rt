@@ -43,6 +43,27 @@ fn dumped(alloc: Global, bytes: &[u8]) -> Result<(String, Result<u8, DumpFault>)
     Ok((text, result))
 }
 
+/// What `dump --count` prints of these bytes, and how it ends.
+fn counted(alloc: Global, bytes: &[u8]) -> Result<(String, Result<u8, DumpFault>), Fail> {
+    let mut output = Vec::new(alloc);
+    let result = dump_count(alloc, disk_of(alloc, bytes)?, &mut output);
+    let text = String::from_utf8(output).ok().ok_or("text")?;
+    Ok((text, result))
+}
+
+#[test]
+fn counts_the_records(rt: HostRuntime) -> Result<(), Fail> {
+    for (bytes, want) in [(EMPTY.as_slice(), "0\n"), (TWO_RECORDS.as_slice(), "2\n")] {
+        let (text, result) = counted(rt.alloc(), bytes)?;
+        assert_eq!(rt; text.as_str(), want);
+        assert!(rt; matches!(&result, Ok(0)));
+    }
+    let (text, result) = counted(rt.alloc(), &TWO_RECORDS[..41])?;
+    assert_eq!(rt; text.as_str(), "");
+    assert!(rt; matches!(&result, Err(DumpFault::Journal(JournalFault::CutShort))));
+    Ok(())
+}
+
 #[test]
 fn prints_the_records(rt: HostRuntime) -> Result<(), Fail> {
     for (bytes, want) in [

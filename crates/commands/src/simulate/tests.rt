@@ -146,6 +146,29 @@ fn ends_where_the_output_fails(rt: HostRuntime) -> Result<(), Fail> {
 }
 
 #[test]
+fn a_page_takes_the_output(rt: HostRuntime) -> Result<(), Fail> {
+    for (trace, chart, want) in [
+        (None, None, false),
+        (Some("-"), None, true),
+        (None, Some("-"), true),
+        (Some("a.trace"), Some("-"), true),
+        (Some("a.trace"), Some("--"), false),
+        (Some(""), Some("./-"), false),
+    ] {
+        assert!(rt; takes_output(trace, chart) == want);
+    }
+    for (aside, printed, said) in [(false, "events", ""), (true, "", "events")] {
+        let mut output = Vec::new(rt.alloc());
+        let mut errors = Vec::new(rt.alloc());
+        let result = print_verdicts(aside, "events", &mut output, &mut errors);
+        assert!(rt; matches!(&result, Ok(0)));
+        assert!(rt; output.as_slice() == printed.as_bytes());
+        assert!(rt; errors.as_slice() == said.as_bytes());
+    }
+    Ok(())
+}
+
+#[test]
 fn faults_print_so(rt: HostRuntime) -> Result<(), Fail> {
     for (fault, want) in [
         (

@@ -16,6 +16,12 @@ returns-in-init-clause-some c = subst (λ (name : Text). IfSome c.init_of.result
 pub returns-in-init-clause-none : goal.returns-in-init-clause-none
 returns-in-init-clause-none c = λ none task named. c.init_of.ensures.none none task (subst (λ (name : Text). Names name (rows_in c.args.options.now) task) c.in-init.is named)
 
+pub returns-in-check-clause-some : goal.returns-in-check-clause-some
+returns-in-check-clause-some c = subst (λ (name : Text). IfSome c.check_of.result (Names name (rows_in c.args.options.now))) (sym c.in-check.is) c.check_of.ensures.some
+
+pub returns-in-check-clause-none : goal.returns-in-check-clause-none
+returns-in-check-clause-none c = λ none task named. c.check_of.ensures.none none task (subst (λ (name : Text). Names name (rows_in c.args.options.now) task) c.in-check.is named)
+
 pub returns-in-run-clause-some : goal.returns-in-run-clause-some
 returns-in-run-clause-some c = subst (λ (name : Text). IfSome c.run_of.result (Names name (rows_in c.args.options.now))) (sym c.in-run.is) c.run_of.ensures.some
 
@@ -33,6 +39,12 @@ returns-in-ask-clause-some c = subst (λ (name : Text). IfSome c.ask_of.result (
 
 pub returns-in-ask-clause-none : goal.returns-in-ask-clause-none
 returns-in-ask-clause-none c = λ none task named. c.ask_of.ensures.none none task (subst (λ (name : Text). Names name (rows_in c.args.options.now) task) c.in-ask.is named)
+
+pub returns-in-status-clause-some : goal.returns-in-status-clause-some
+returns-in-status-clause-some c = subst (λ (name : Text). IfSome c.status_of.result (Names name (rows_in c.args.options.now))) (sym c.in-status.is) c.status_of.ensures.some
+
+pub returns-in-status-clause-none : goal.returns-in-status-clause-none
+returns-in-status-clause-none c = λ none task named. c.status_of.ensures.none none task (subst (λ (name : Text). Names name (rows_in c.args.options.now) task) c.in-status.is named)
 
 pub returns-in-dump-clause-some : goal.returns-in-dump-clause-some
 returns-in-dump-clause-some c = subst (λ (name : Text). IfSome c.dump_of.result (Names name (rows_in c.args.options.now))) (sym c.in-dump.is) c.dump_of.ensures.some

@@ -4,7 +4,7 @@ use Rattle.journal.specs.File.{Refuses}
 use Rattle.commands.specs.declared.fault.DumpFault.TheVariants as dump
 use Rattle.commands.specs.Faults.{of_opening}
 use Rattle.commands.proofs.Dumping.{unreadable}
-use Rattle.commands.proofs.dump.dump_lines.Goals as goal
+use Rattle.commands.proofs.dump.print_journal.Goals as goal
 
 -- the file is still as it was when the header was read
 pub returns-in_err-_journal-clause-fault : goal.returns-in_err-_journal-clause-fault

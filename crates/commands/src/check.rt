@@ -1,0 +1,116 @@
+//! The command `check`: what a member's settings say, and how many records its journal has.
+
+ghost use Rattle.std.specs.Prelude.{◌≡◌, List, length, Err, IfErr, IfOk, OnOk, string_bytes};
+ghost use Rattle.std.specs.List.{flat_map};
+ghost use Rattle.std.specs.Io.KnownBytes.{Appends};
+ghost use Rattle.journal.specs.Faults.{IsOfFile};
+ghost use Rattle.journal.specs.File.{Holds, Refuses};
+ghost use Rattle.journal.specs.declared.fault.JournalFault.{JournalFault};
+ghost use Rattle.terms.specs.declared.Record.{Record};
+ghost use Rattle.commands.specs.Checks.{address_text, peer_line, records_line, settings_text};
+ghost use Rattle.commands.specs.Faults.{IsOfDump, IsOfPrint};
+
+use crate::dump::header_line;
+use crate::fault::DumpFault;
+use disk::Disk;
+use journal::Journal;
+use settings::{Address, Settings};
+use std::alloc::{AllocError, Global};
+use std::io::Write;
+use terms::Header;
+
+/// The text of an address, `HOST:PORT`.
+fn address_text(alloc: Global, address: &Address) -> Result<String, AllocError>
+    ensures { IfOk result (λ text. string_bytes text ≡ address_text address.now) }
+{
+    let octets = &address.octets;
+    format!(in alloc;
+        "{}.{}.{}.{}:{}",
+        octets[0], octets[1], octets[2], octets[3], address.port
+    )
+}
+
+/// The line of a peer.
+fn peer_line(alloc: Global, peer: &Address) -> Result<String, AllocError>
+    ensures { IfOk result (λ text. string_bytes text ≡ peer_line peer.now) }
+{
+    format!(in alloc; "peer {}\n", address_text(alloc, peer)?)
+}
+
+/// The lines of the peers, in order.
+fn peer_lines(alloc: Global, peers: &[Address]) -> Result<String, AllocError>
+    ensures { IfOk result (λ text. string_bytes text ≡ flat_map peer_line peers.now) }
+{
+    let mut text = String::new(alloc);
+    for peer in peers {
+        text.push_str(peer_line(alloc, peer)?.as_str())?;
+    }
+    Ok(text)
+}
+
+/// What the settings say, but for the seed.
+fn settings_text(alloc: Global, settings: &Settings) -> Result<String, AllocError>
+    ensures { IfOk result (λ text. string_bytes text ≡ settings_text settings.now) }
+{
+    format!(in alloc;
+        "{}journal {}\n{}desk {}\n",
+        header_line(alloc, &settings.header)?,
+        settings.journal,
+        peer_lines(alloc, &settings.peers)?,
+        address_text(alloc, &settings.desk)?
+    )
+}
+
+/// Writes what the settings say: the line of `dump` for whose journal it is, the journal's path, the address of each
+/// member, in order, and that of the desk. The seed is secret and not written.
+///
+/// [`DumpFault::Stream`] and [`DumpFault::Memory`]: the write or a growth failed.
+pub fn print_settings<W: Write>(
+    alloc: Global,
+    settings: &Settings,
+    output: &mut W,
+) -> Result<(), DumpFault>
+    ensures all { OnOk result (Appends (W.contents output.old) (W.contents output.new) (settings_text settings.now)) }
+    ensures only { IfErr result IsOfPrint }
+{
+    let text = settings_text(alloc, settings)?;
+    output.write_all(text.as_bytes())?;
+    output.flush()?;
+    Ok(())
+}
+
+/// The line that says how many records there are.
+fn records_line(alloc: Global, count: usize) -> Result<String, AllocError>
+    ensures { IfOk result (λ text. string_bytes text ≡ records_line count) }
+{
+    format!(in alloc; "records {count}\n")
+}
+
+/// Writes how many records the journal that the disk has holds, `records N`, if a member of this header can run on it. The
+/// status is 0.
+///
+/// [`DumpFault::Journal`]: it can't, or the disk failed; nothing was written. [`DumpFault::Stream`] and
+/// [`DumpFault::Memory`]: the write or a growth failed.
+pub fn check_journal<D: Disk + Drop, W: Write>(
+    alloc: Global,
+    header: &Header,
+    disk: D,
+    output: &mut W,
+) -> Result<u8, DumpFault>
+    ensures status { IfOk result (λ status. status ≡ 0) }
+    ensures all { D.keeps disk → OnOk result ((records : List Record)
+        × Holds header.now records (D.state disk).seen
+        × Appends (W.contents output.old) (W.contents output.new) (records_line (length records))) }
+    ensures fault { D.keeps disk → (fault : JournalFault) → result ≡ Err (DumpFault.Journal fault) → IsOfFile fault → Refuses header.now fault (D.state disk).seen }
+    ensures nothing { (fault : JournalFault) → result ≡ Err (DumpFault.Journal fault) → output.new ≡ output.old }
+    ensures only { IfErr result IsOfDump }
+{
+    let (_journal, records) = Journal::open(alloc, disk, header)?;
+    let text = records_line(alloc, records.len())?;
+    output.write_all(text.as_bytes())?;
+    output.flush()?;
+    Ok(0)
+}
+
+#[cfg(test)]
+mod tests;
