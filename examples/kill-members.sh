@@ -20,6 +20,7 @@ fail() {
 }
 
 start() {
+    rm -f "output-$1" # that of its last life says ready too
     "$program" run --stay "member-$1.toml" >"output-$1" 2>"log-$1" &
     process[$1]=$!
     for _ in {1..200}; do
