@@ -1,12 +1,15 @@
-//! The message at the front of some bytes, read byte by byte.
+//! The message at the front of some bytes: the frame of a statement in one piece, and all else byte by byte.
 
-ghost use Rattle.std.specs.Prelude.{◌≡◌, ◌≤◌, ◌++◌, IfOk, IfErr};
+ghost use Rattle.std.specs.Prelude.{◌≡◌, ◌≤◌, ◌++◌, IfOk, IfErr, IfSome};
 ghost use Rattle.wire.specs.Texts.{text, Fits};
 ghost use Rattle.wire.specs.Feeding.{Stops};
 ghost use Rattle.wire.specs.Looking.{least_value, most_value, most_low, Gives, byte_at, number_at, length_at, idle_at, welcome_at, hello_at, statement_at, body_at, frame_at};
-ghost use Rattle.spelling.specs.Statements.{kind_of, value_of};
+ghost use Rattle.spelling.specs.Statements.{kind_of, statement_bytes, value_of};
+ghost use Rattle.terms.specs.WellFormed.{IsWellFormed};
+ghost use Rattle.wire.specs.declared.message.Message.TheVariants as Message;
 
 use crate::message::{Message, Stop, WireFault};
+use spelling::{kind_of, value_of};
 use terms::{Kind, Place, Size, Statement, Value};
 
 /// The first byte, which is to be in that range, and the bytes behind it.
@@ -202,11 +205,65 @@ fn frame_by_bytes(size: Size, bytes: &[u8]) -> Result<(Message, &[u8]), Stop>
 }
 
 /// The message whose frame the bytes begin with, and the bytes behind it.
-pub(crate) fn frame(size: Size, bytes: &[u8]) -> Result<(Message, &[u8]), Stop>
+fn any_frame(size: Size, bytes: &[u8]) -> Result<(Message, &[u8]), Stop>
     ensures whole { IfOk result (λ x. Fits size x.0 × (bytes.now ≡ text x.0 ++ x.1.now)) }
     ensures stops { IfErr result (λ stop. Stops size bytes.now stop) }
 {
     // The bounds of a size are known where it is read.
     let _members = size.n();
     frame_by_bytes(size, bytes)
+}
+
+/// The statement of seven bytes, where they are those of one of the cluster.
+fn statement_of(size: Size, bytes: [u8; 7]) -> Option<Statement>
+    ensures fits { IfSome result (λ s. IsWellFormed size s) }
+    ensures bytes { IfSome result (λ s. bytes ≡ statement_bytes s) }
+{
+    let [kind, high, low, origin, round, step, value] = bytes;
+    let question = u16::from_be_bytes([high, low]);
+    if question >= size.questions() || origin >= size.n() {
+        return None;
+    }
+    let place = Place::new(question, origin, round, step)?;
+    Statement::new(kind_of(kind)?, place, value_of(value)?)
+}
+
+/// The statement whose frame the bytes begin with, and the bytes behind it. Nearly all frames are such, and are read here.
+fn statement_frame(size: Size, bytes: &[u8]) -> Option<(Statement, &[u8])>
+    ensures whole { IfSome result (λ x.
+        IsWellFormed size x.0 × (bytes.now ≡ text (Message.Statement x.0) ++ x.1.now)) }
+{
+    match bytes {
+        [
+            0,
+            8,
+            3,
+            kind,
+            high,
+            low,
+            origin,
+            round,
+            step,
+            value,
+            rest @ ..,
+        ] => {
+            let seven = [*kind, *high, *low, *origin, *round, *step, *value];
+            match statement_of(size, seven) {
+                Some(statement) => Some((statement, rest)),
+                None => None,
+            }
+        }
+        _ => None,
+    }
+}
+
+/// The message whose frame the bytes begin with, and the bytes behind it.
+pub(crate) fn frame(size: Size, bytes: &[u8]) -> Result<(Message, &[u8]), Stop>
+    ensures whole { IfOk result (λ x. Fits size x.0 × (bytes.now ≡ text x.0 ++ x.1.now)) }
+    ensures stops { IfErr result (λ stop. Stops size bytes.now stop) }
+{
+    match statement_frame(size, bytes) {
+        Some((statement, rest)) => Ok((Message::Statement(statement), rest)),
+        None => any_frame(size, bytes),
+    }
 }

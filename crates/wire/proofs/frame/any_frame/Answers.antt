@@ -3,7 +3,7 @@ use Rattle.wire.specs.Looking.{frame_at}
 use Rattle.wire.proofs.Telling.{from_places}
 use Rattle.wire.proofs.Frames.{frame_tells}
 use Rattle.wire.proofs.Taking.{whole_of, stop_of}
-use Rattle.wire.proofs.frame.frame.Goals as goal
+use Rattle.wire.proofs.frame.any_frame.Goals as goal
 
 pub returns-clause-whole : goal.returns-clause-whole
 returns-clause-whole c =
