@@ -8,6 +8,3 @@ mod session;
 
 pub use fault::HearFault;
 pub use hear::hear_lines;
-
-#[cfg(test)]
-mod tests;

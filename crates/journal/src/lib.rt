@@ -39,8 +39,6 @@ pub mod laws;
 mod open;
 mod read;
 mod record;
-#[cfg(test)]
-mod tests;
 
 pub use fault::JournalFault;
 pub use journal::Journal;

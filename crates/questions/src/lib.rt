@@ -32,8 +32,6 @@ mod faults;
 mod instance;
 pub mod laws;
 mod opening;
-#[cfg(test)]
-mod tests;
 
 pub use answer::{Answer, CoreFault};
 use faults::{number_fault, opening_fault, question_of};

@@ -22,8 +22,6 @@ use terms::{Kind, Memory, Place, Size, Statement, Value};
 mod known;
 mod rules;
 mod table;
-#[cfg(test)]
-mod tests;
 
 use known::Known;
 

@@ -11,6 +11,3 @@ pub use address::Address;
 pub use document::Settings;
 pub use fault::SettingsFault;
 pub use keys::Key;
-
-#[cfg(test)]
-mod tests;

@@ -397,6 +397,3 @@ impl Header {
         self.me
     }
 }
-
-#[cfg(test)]
-mod tests;

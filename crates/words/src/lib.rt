@@ -11,6 +11,3 @@ pub use hexes::{byte, bytes};
 pub use numbers::{is, number, number8, number16};
 pub use sizes::size_from;
 pub use spaces::{first_space, split_at_space};
-
-#[cfg(test)]
-mod tests;

@@ -3,11 +3,11 @@
 //! Where `rt try --test --fail-alloc N` refuses an allocation, the helpers see that nothing changed and go
 //! on with the same call again.
 
-use super::*;
 use std::alloc::AllocGlobal;
 use std::process::Abort;
 use std::test::Fail;
 use terms::{Kind, Place, Size, Statement, Value};
+use wire::{Fed, Feeder, Message, WireFault, encode};
 
 /// Four members of whom one may lie, and one question.
 fn size() -> Result<Size, Fail> {

@@ -12,8 +12,8 @@ ghost use Rattle.terms.specs.Same.{place_of, statement_of};
 ghost use Rattle.terms.specs.Sizes.{size_of};
 ghost use Rattle.terms.specs.Headers.{header_of};
 
-use super::*;
 use disk::{Disk, MemDisk, Pick};
+use journal::{Journal, JournalFault, create, peek};
 use std::alloc::Global;
 use std::process::Abort;
 use std::test::Fail;

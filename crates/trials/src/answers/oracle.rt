@@ -1,7 +1,7 @@
 //! A member of four, of which one may lie, against its rules worked out from plain lists: what is accepted by the
 //! shortest front of what was heard, what is valid by a search through all sets of three messages, and what is said
 //! by trying each value, round and place in order.
-use crate::{Answer, Core};
+use questions::{Answer, Core};
 use rounds::{ChaChaTosser, Toss, Tosser};
 use std::alloc::Global;
 use std::process::Abort;

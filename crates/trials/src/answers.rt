@@ -2,12 +2,13 @@
 //! have failed, and its test ends there.
 mod oracle;
 
-use super::*;
+use questions::{Answer, Core, CoreFault};
+use rounds::Toss;
 use std::process::Abort;
 use std::test::Fail;
 use terms::Kind::{Echo, Initial, Ready};
 use terms::Value::{One, Unsure, Zero};
-use terms::{Kind, Place, Value};
+use terms::{Kind, Memory, Place, Record, Size, Statement, Value};
 
 /// The toss of all proposals.
 const TOSS: u64 = 0x903d_f1a0_ade0_b876;

@@ -1,6 +1,6 @@
 //! The worked rows of `hear`, and its faults.
 
-use super::*;
+use hearing::{HearFault, hear_lines};
 use std::io::{self, BufRead, Read, Write};
 use std::test::Fail;
 use terms::Size;

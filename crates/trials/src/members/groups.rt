@@ -4,8 +4,8 @@ ghost use Rattle.member.specs.Memory.{memory_disk};
 ghost use Rattle.member.specs.Sound.{IsSound};
 
 use super::{hands_out, header, hear, of, start, takes};
-use crate::{Member, MemberFault};
 use disk::{Disk, MemDisk, Pick};
+use member::{Member, MemberFault};
 use questions::Answer;
 use rounds::Toss;
 use std::alloc::Global;

@@ -1,8 +1,8 @@
 //! Numbers, bytes and sizes at their edges.
 
-use super::*;
 use std::test::Fail;
 use terms::{Size, SizeFault};
+use words::{byte, bytes, is, number, number8, number16, size_from, split_at_space};
 
 #[test]
 fn numbers_are_decimal_digits_alone(rt: HostRuntime) {

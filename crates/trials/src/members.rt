@@ -6,9 +6,9 @@ ghost use Rattle.member.specs.Sound.{IsSound};
 
 mod groups;
 
-use super::*;
 use disk::{Disk, MemDisk, Pick};
 use journal::JournalFault;
+use member::{Member, MemberFault};
 use questions::Answer;
 use rounds::Toss;
 use std::process::Abort;

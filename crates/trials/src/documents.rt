@@ -1,6 +1,6 @@
 //! The keys of the settings, one by one and together, and addresses.
 
-use super::*;
+use settings::{Address, Key, Settings, SettingsFault};
 use std::alloc::Global;
 use std::process::Abort;
 use std::test::Fail;

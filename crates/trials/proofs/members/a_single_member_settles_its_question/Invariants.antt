@@ -1,6 +1,6 @@
 use Rattle.member.specs.Memory.{memory_disk}
 use Rattle.member.specs.Sound.{IsSound}
-use Rattle.member.proofs.tests.a_single_member_settles_its_question.Given as goal
+use Rattle.trials.proofs.members.a_single_member_settles_its_question.Given as goal
 
 abbrev pub invariant-loop-number : goal.invariant-loop-number
 invariant-loop-number g l = IsSound memory_disk l.member

@@ -1,7 +1,7 @@
 //! The worked rows of sizes and places, and the texts of the faults.
 
-use super::*;
 use std::test::Fail;
+use terms::{Header, Kind, Memory, Place, Size, SizeFault, Statement, Value};
 
 #[test]
 fn sizes_have_their_first_fault(rt: HostRuntime) {
