@@ -1,8 +1,6 @@
 -- The messages so far were in their place, and their statements were handed in.
-use Rattle.std.proofs.Common.{◌≡◌, ℕ, ◌+◌, ◌<◌, ◌≤◌, List, [], ◌∷◌, ◌++◌, length, take, drop, get_or, refl, sym, ap, ◌∙◌, subst, arith, Bool, true, false, append-nil, length-append}
-use Rattle.std.specs.Prelude.{Result, Ok, Err, OnErr}
-use Rattle.std.proofs.lemmas.List.{take_more, drop_more, take-append-drop}
-use Rattle.std.proofs.Math.Seq.{take-append-add, take-append_seam}
+use Rattle.std.proofs.Common.{◌≡◌, ℕ, ◌+◌, List, [], ◌∷◌, ◌++◌, length, take, refl, sym, ap, ◌∙◌, subst, arith, true, length-append}
+use Rattle.std.proofs.Math.Seq.{take-append-add}
 use Rattle.terms.specs.declared.Statement.{Statement}
 use Rattle.wire.specs.declared.message.Message.{Message}
 use Rattle.wire.specs.declared.message.Message.TheVariants.{Idle, Hello, Welcome, Statement as Says}
@@ -65,60 +63,3 @@ hands_fewer_of old mid now xs ys so_far some =
       fewer = (let w = some.fewer in omega (arith, length-append a b));
       handed = subst (λ (l : List Statement). HandsIn old now l (length a + some.k)) (sym (take-append-add a b some.k)) (hands_on old mid now a (take some.k b) _ _ so_far.handed some.handed);
     })
-
--- of more messages none was handed in
-pub hands_front : (old mid : SeatView) (xs ys : List Message) → HandsSoFar old mid xs → HandsInSome old mid (in_order (xs ++ ys))
-hands_front old mid xs ys so_far =
-    let a : List Statement = in_order xs in
-    let b : List Statement = in_order ys in
-    let same : in_order (xs ++ ys) ≡ a ++ b = in_order-append xs ys so_far.in_place in
-    subst (λ (l : List Statement). HandsInSome old mid l) (sym same) (record {
-      k = length a;
-      within = omega (arith, length-append a b);
-      handed = subst (λ (l : List Statement). HandsIn old mid l (length a)) (sym (take-append_seam a b)) so_far.handed;
-    })
-
--- what follows has no statement in order
-pub hands_out : (old mid : SeatView) (xs ys : List Message) → HandsSoFar old mid xs → in_order ys ≡ [] → HandsInAll old mid (in_order (xs ++ ys))
-hands_out old mid xs ys so_far none =
-    subst (λ (l : List Statement). HandsInAll old mid l) (sym (in_order-append xs ys so_far.in_place ∙ ap (λ (l : List Statement). in_order xs ++ l) none ∙ append-nil (in_order xs))) so_far.handed
-
-pub hands_idle : (old mid : SeatView) (xs : List Message) → HandsSoFar old mid xs → HandsSoFar old mid (xs ++ Idle ∷ [])
-hands_idle old mid xs so_far = record { handed = hands_out old mid xs (Idle ∷ []) so_far refl; in_place = all_in_place-append xs (Idle ∷ []) so_far.in_place }
-
--- the list, cut before its i-th message
-pub cut_at : (messages : List Message) (i : ℕ) (d m : Message) → i < length messages → get_or messages i d ≡ m → take i messages ++ (m ∷ drop (i + 1) messages) ≡ messages
-cut_at messages i d m lt is = ap (λ (l : List Message). take i messages ++ l) (sym (drop_more messages i d lt ∙ ap (λ (x : Message). x ∷ drop (i + 1) messages) is)) ∙ take-append-drop i messages
-
-pub one_more : (messages : List Message) (i : ℕ) (d m : Message) → i < length messages → get_or messages i d ≡ m → take i messages ++ m ∷ [] ≡ take (i + 1) messages
-one_more messages i d m lt is = sym (take_more messages i d lt ∙ ap (λ (x : Message). take i messages ++ x ∷ []) is)
-
--- the i-th message is out of place
-pub hands_stop : (old mid : SeatView) (messages : List Message) (i : ℕ) (d m : Message) → i < length messages → get_or messages i d ≡ m → HandsSoFar old mid (take i messages) → in_order (m ∷ drop (i + 1) messages) ≡ [] → all_in_place (m ∷ drop (i + 1) messages) ≡ false
-    → HandsInAll old mid (in_order messages) × (all_in_place messages ≡ false)
-hands_stop old mid messages i d m lt is so_far none out =
-    let e = cut_at messages i d m lt is in (
-      subst (λ (l : List Message). HandsInAll old mid (in_order l)) e (hands_out old mid (take i messages) (m ∷ drop (i + 1) messages) so_far none),
-      ap all_in_place (sym e) ∙ all_in_place-append (take i messages) (m ∷ drop (i + 1) messages) so_far.in_place ∙ out,
-    )
-
--- a beginning of the messages was handed in
-pub hands_begun : (old mid : SeatView) (messages : List Message) (i : ℕ) → HandsSoFar old mid (take i messages) → HandsInSome old mid (in_order messages)
-hands_begun old mid messages i so_far = subst (λ (l : List Message). HandsInSome old mid (in_order l)) (take-append-drop i messages) (hands_front old mid (take i messages) (drop i messages) so_far)
-
--- the i-th message is a statement that was refused
-pub hands_fewer : (old mid : SeatView) (messages : List Message) (i : ℕ) (d : Message) (s : Statement) → i < length messages → get_or messages i d ≡ Says s → HandsSoFar old mid (take i messages) → HandsInFewer old mid (in_order messages)
-hands_fewer old mid messages i d s lt is so_far =
-    let a : List Statement = in_order (take i messages) in
-    let b : List Statement = s ∷ in_order (drop (i + 1) messages) in
-    let same : in_order (take i messages ++ (Says s ∷ drop (i + 1) messages)) ≡ a ++ b = in_order-append (take i messages) (Says s ∷ drop (i + 1) messages) so_far.in_place in
-    subst (λ (l : List Message). HandsInFewer old mid (in_order l)) (cut_at messages i d (Says s) lt is)
-    (subst (λ (l : List Statement). HandsInFewer old mid l) (sym same) (record {
-      k = length a;
-      fewer = omega (arith, length-append a b);
-      handed = subst (λ (l : List Statement). HandsIn old mid l (length a)) (sym (take-append_seam a b)) so_far.handed;
-    }))
-
-pub on_err : {T E P : Type 0} (r : Result T E) → P → OnErr r P
-on_err (Ok x) p = tt
-on_err (Err e) p = p

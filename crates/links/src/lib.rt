@@ -9,7 +9,7 @@
 //!    nothing.
 //! 3. The dialler reads the Welcome, and writes the statements of its outbox from that number on, in order, with an
 //!    Idle where it was woken and has nothing new. It reads nothing more.
-//! 4. The listener hands each statement in as it comes, and writes nothing more.
+//! 4. The listener hands in what comes, the statements of a read as one group, and writes nothing more.
 //!
 //! A session ends for one of the causes of `LinkEnd`, and its stream is closed. A statement that came in part is lost
 //! with it, and the Welcome of the next session names where to go on: with that the statements of a link come once each

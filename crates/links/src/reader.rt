@@ -1,6 +1,7 @@
 //! The reader of a link.
-ghost use Rattle.std.specs.Prelude.{◌≡◌, ◌⊎◌, [], ◌∷◌, List, ℕ, true, false, IfOk, IfErr, IsErrOf, OnOk, OnErr};
+ghost use Rattle.std.specs.Prelude.{◌≡◌, ◌⊎◌, ◌≤◌, length, List, ℕ, true, false, IfOk, IfErr, IsErrOf, OnOk, OnErr};
 ghost use Rattle.wire.specs.Reading.{AreBytes};
+ghost use Rattle.node.specs.Groups.{said_in};
 ghost use Rattle.links.specs.Handing.{in_order, all_in_place, HandsInSome, HandsInFewer, HandsInAll, ReadsLink};
 ghost use Rattle.links.specs.Turns.{Waits, ReadsOn, ReadsOff};
 
@@ -11,21 +12,25 @@ use disk::Disk;
 use member::MemberFault;
 use node::{Hub, Naming, Seat};
 use questions::Answer;
-use rounds::Tosser;
+use rounds::{Toss, Tosser};
 use std::alloc::Global;
 use std::sync::Wait;
-use terms::Statement;
+use terms::{Memory, Statement};
 use wire::{Fed, Feeder, Message};
 
 /// The most bytes of a read.
 const PIECE: usize = 512;
 
-/// A moment of a reader: round each statement that it hands in, while it doesn't hold the book's lock.
+/// The most statements of a group.
+const GROUP: usize = 256;
+
+/// A moment of a reader: round each group of statements that it hands in, while it doesn't hold the book's lock. The
+/// statements that a read gave are a group; of more than 256 each 256 are one. Where a read gave none there is no point.
 #[derive(Clone, Copy, Debug, PartialEq, Eq)]
 pub enum Point {
-    /// Before a statement of that peer, a number below n, is handed in.
+    /// Before a group of statements of that peer, a number below n, is handed in.
     Before(u8),
-    /// After a statement of that peer was handed in or refused, and before the bell rings for it.
+    /// After a group of that peer was handed in or refused, and before the bell rings for it.
     After(u8),
 }
 
@@ -43,39 +48,114 @@ impl Gate for Open {
     fn pass(&self, _point: Point) {}
 }
 
-// Hands in one statement. Where it is answered with records the bell rings for them.
-fn hand_in_one<D: Disk, J: Naming, G: Gate, T: Tosser, R: Wait>(
+// Hands in one group. Where it is answered with records the bell rings for them, once.
+fn hand_in_group<D: Disk, J: Naming, G: Gate, R: Wait>(
     rt: &R,
     hub: &Hub<D, J>,
     seat: &mut Seat,
-    statement: &Statement,
+    group: &[(Statement, Toss)],
     gate: &G,
-    tosser: &mut T,
 ) -> Result<(), LinkEnd>
-    ensures ok { OnOk result (HandsInAll seat.old seat.new (statement.now ∷ [])) }
+    requires { length group.now ≤ 256 }
+    ensures ok { OnOk result (HandsInAll seat.old seat.new (said_in group.now)) }
     ensures err { OnErr result (seat.new ≡ seat.old) }
     ensures only { IfErr result (λ why. (why ≡ LinkEnd.Stopped) ⊎ (why ≡ LinkEnd.Memory)) }
 {
     gate.pass(Point::Before(seat.peer()));
-    let toss = tosser.toss();
-    let answer = hub.lock(rt).apply(seat, statement, toss);
+    let answers = hub.lock(rt).apply_all(seat, group);
     gate.pass(Point::After(seat.peer()));
-    match answer {
-        Ok(Answer::Taken(records)) => {
-            if !records.is_empty() {
+    match answers {
+        Ok(answers) => {
+            if answers.iter().any(has_records) {
                 hub.ring();
             }
             Ok(())
         }
-        Ok(_) => Ok(()),
         Err(MemberFault::Memory) => Err(LinkEnd::Memory),
         Err(_) => Err(LinkEnd::Stopped),
     }
 }
 
+// Whether it is an answer with records.
+fn has_records(answer: &Answer) -> bool {
+    matches!(answer, Answer::Taken(records) if !records.is_empty())
+}
+
+// Hands in the statements, each with its toss, in groups of at most 256.
+fn hand_in_groups<D: Disk, J: Naming, G: Gate, R: Wait>(
+    rt: &R,
+    hub: &Hub<D, J>,
+    seat: &mut Seat,
+    events: &[(Statement, Toss)],
+    gate: &G,
+) -> Result<(), LinkEnd>
+    ensures ok { OnOk result (HandsInAll seat.old seat.new (said_in events.now)) }
+    ensures some { OnErr result (HandsInSome seat.old seat.new (said_in events.now)) }
+    ensures refused { OnErr result (HandsInFewer seat.old seat.new (said_in events.now)) }
+    ensures only { IfErr result (λ why. (why ≡ LinkEnd.Stopped) ⊎ (why ≡ LinkEnd.Memory)) }
+{
+    let _peer = seat.peer();
+    let mut rest = events;
+    while !rest.is_empty() {
+        let (group, behind) = rest.split_at(rest.len().min(GROUP));
+        match hand_in_group(rt, hub, seat, group, gate) {
+            Ok(()) => {}
+            Err(why) => return Err(why),
+        }
+        rest = behind;
+    }
+    Ok(())
+}
+
+// The statements of these messages up to one that is out of place, each with a toss, which are drawn in order.
+fn gather<T: Tosser>(
+    alloc: Global,
+    messages: &[Message],
+    tosser: &mut T,
+) -> Result<Vec<(Statement, Toss)>, Memory>
+    ensures { IfOk result (λ events. said_in events.items ≡ in_order messages.now) }
+{
+    let mut events = Vec::new(alloc);
+    for message in messages {
+        match message {
+            Message::Statement(statement) => events.push((*statement, tosser.toss()))?,
+            Message::Idle => {}
+            Message::Hello {
+                cluster: _,
+                size: _,
+                from: _,
+                to: _,
+            } => return Ok(events),
+            Message::Welcome { next: _ } => return Ok(events),
+        }
+    }
+    Ok(events)
+}
+
+// Whether no message is out of place: a Hello or a Welcome.
+fn all_in_place(messages: &[Message]) -> bool
+    ensures { result ≡ all_in_place messages.now }
+{
+    for message in messages {
+        match message {
+            Message::Statement(_) => {}
+            Message::Idle => {}
+            Message::Hello {
+                cluster: _,
+                size: _,
+                from: _,
+                to: _,
+            } => return false,
+            Message::Welcome { next: _ } => return false,
+        }
+    }
+    true
+}
+
 // Hands in the statements of these messages, up to one that is out of place.
 fn hand_in<D: Disk, J: Naming, G: Gate, T: Tosser, R: Wait>(
     rt: &R,
+    alloc: Global,
     hub: &Hub<D, J>,
     seat: &mut Seat,
     messages: &[Message],
@@ -92,23 +172,15 @@ fn hand_in<D: Disk, J: Naming, G: Gate, T: Tosser, R: Wait>(
         (why ≡ LinkEnd.OutOfOrder) ⊎ ((why ≡ LinkEnd.Stopped) ⊎ (why ≡ LinkEnd.Memory))) }
 {
     let _peer = seat.peer();
-    for message in messages {
-        match message {
-            Message::Statement(statement) => {
-                match hand_in_one(rt, hub, seat, statement, gate, tosser) {
-                    Ok(()) => {}
-                    Err(why) => return Err(why),
-                }
-            }
-            Message::Idle => {}
-            Message::Hello {
-                cluster: _,
-                size: _,
-                from: _,
-                to: _,
-            } => return Err(LinkEnd::OutOfOrder),
-            Message::Welcome { next: _ } => return Err(LinkEnd::OutOfOrder),
-        }
+    let Ok(events) = gather(alloc, messages, tosser) else {
+        return Err(LinkEnd::Memory);
+    };
+    match hand_in_groups(rt, hub, seat, &events, gate) {
+        Ok(()) => {}
+        Err(why) => return Err(why),
+    }
+    if !all_in_place(messages) {
+        return Err(LinkEnd::OutOfOrder);
     }
     Ok(())
 }
@@ -147,7 +219,8 @@ fn turn<D: Disk, J: Naming, S: Stream, G: Gate, T: Tosser, R: Wait>(
         Ok(fed) => fed,
         Err(_) => return Err(LinkEnd::Memory),
     };
-    match hand_in(rt, hub, seat, messages, gate, tosser) {
+    let alloc = *messages.allocator();
+    match hand_in(rt, alloc, hub, seat, messages, gate, tosser) {
         Ok(()) => match fed {
             Fed::More => Ok(()),
             Fed::Broken(fault) => Err(LinkEnd::Broken(fault)),
@@ -199,15 +272,17 @@ fn read_session<D: Disk, J: Naming, S: Stream, G: Gate, T: Tosser, R: Wait>(
 /// hands in each statement that the stream gives, until the session ends. It gives the seat back, and the stream is
 /// closed.
 ///
-/// A draw of the tosser goes with each statement. The hub's bell rings where a statement was answered with records.
+/// The statements of a read, which is of at most 512 bytes, are handed in as one group ([`node::Book::apply_all`]), or
+/// as groups of 256 where there are more. A draw of the tosser goes with each statement, in order. The gate's points stand
+/// round each group, and the hub's bell rings once for each that was answered with records.
 ///
 /// It ends:
 ///
 /// - `Ended`, `Lost`: the input ended, also within a frame; a read or a write failed.
 /// - `Broken`, `OutOfOrder`: behind what was handed in come bytes that begin no frame; a Hello or a Welcome.
-/// - `Stopped`: the member, which is stopped, refused a statement that was read. It and what was read behind it weren't
-///   handed in.
-/// - `Memory`: there was no memory, and a beginning of what was read was handed in.
+/// - `Stopped`: the member, which is stopped, refused a group of what was read. The group and what was read behind it
+///   weren't handed in.
+/// - `Memory`: there was no memory, and a beginning of what was read was handed in, perhaps none of it.
 pub fn read_link<D: Disk, J: Naming, S: Stream, G: Gate, T: Tosser, R: Wait>(
     rt: &R,
     alloc: Global,

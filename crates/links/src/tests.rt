@@ -6,6 +6,8 @@ ghost use Rattle.member.specs.Sound.{IsSound};
 ghost use Rattle.member.specs.Words.{header_of, saved_of, is_stopped_of, StandsFor};
 ghost use Rattle.links.specs.Mem.{told_by, is_closed_mem};
 
+mod groups;
+
 use super::*;
 use disk::{Disk, MemDisk};
 use member::Member;

@@ -3,6 +3,7 @@ pub mod Published
 pub mod Settling
 pub mod Replaying
 pub mod Handing
+pub mod Grouping
 pub mod Numbers
 pub mod Linking
 pub mod Living

@@ -5,6 +5,7 @@ pub mod Views
 pub mod Books
 pub mod Keeps
 pub mod Settled
+pub mod Groups
 pub mod Laws
 pub mod Lives
 pub mod Marks

@@ -2,12 +2,13 @@
 ghost use Rattle.std.specs.Prelude.{◌≡◌, ◌⊎◌, ◌↔◌, ◌+◌, ◌<◌, ◌≤◌, ◌^◌, ℕ, List, [], ◌∷◌, ◌++◌, length, take, drop, map, Bool, true, false, IfOk, IfErr, IfSome, OnOk, OnErr, Some, None, IsErrOf, IsSome, IfNone, slice_get, vec_len, vec_capacity};
 ghost use Rattle.std.specs.Arc.{arc_value};
 ghost use Rattle.terms.specs.Reply.Event.{Hearing, Proposal};
-ghost use Rattle.terms.specs.Reply.{records_of};
+ghost use Rattle.terms.specs.Reply.{records_of, records_of_all};
 ghost use Rattle.questions.specs.Replay.Entry.{Heard, Proposed};
 ghost use Rattle.questions.specs.Replies.{reply_of};
 ghost use Rattle.terms.specs.declared.Header.{Header};
 ghost use Rattle.world.specs.World.{World, IsCorrect};
 ghost use Rattle.member.specs.Answers.{verdict_of, IsFull};
+ghost use Rattle.member.specs.Groups.{replies_of, AllCome, IsFullOfAll};
 ghost use Rattle.member.specs.Life.{IsAt, Comes};
 ghost use Rattle.member.specs.Stands.{Stands};
 ghost use Rattle.member.specs.Sealed.{sealed_from};
@@ -16,6 +17,7 @@ ghost use Rattle.member.specs.Words.{disk_of, header_of, saved_of, is_stopped_of
 ghost use Rattle.node.specs.Books.{Applies, Refuses, Opens, IsReplayed, lengthened, is_numbered, decided_below};
 ghost use Rattle.node.specs.Entries.{noted};
 ghost use Rattle.node.specs.Firsts.{HandsIn};
+ghost use Rattle.node.specs.Groups.{heard_from, said_in, AppliesAll, RefusesAll, LivesOnAll};
 ghost use Rattle.node.specs.Keeps.{AreDecided};
 ghost use Rattle.node.specs.Lives.{LivesOn, Saves};
 ghost use Rattle.node.specs.Settled.{is_settled};
@@ -23,8 +25,9 @@ ghost use Rattle.node.specs.Verdicts.{known_at, KnowsMore};
 
 use crate::board::{Board, Pass};
 use crate::entry::Entry;
+use crate::group::{note_all, prepare};
 use crate::notes::Notes;
-use crate::seat::{Seat, keep_first};
+use crate::seat::{Seat, keep_first, keep_firsts};
 use crate::settle::is_settled;
 use disk::Disk;
 use member::{Member, MemberFault, Sealed};
@@ -165,6 +168,76 @@ impl<D: Disk, J: Naming> Book<D, J> {
                 );
                 publish(&self.member, &mut self.notes, records_in(&answer));
                 Ok(answer)
+            }
+            Err(fault) => Err(fault),
+        }
+    }
+
+    /// Hands in statements of the seat's peer as one group, each with its toss: at most 256, and perhaps none. The answers
+    /// are those to one after another, and each that takes its statement lengthens the history by it. The records of all
+    /// answers are saved as one batch, by four calls of the device, as [`Member::hear_all`] says. Each answer counts for the
+    /// seat, and after a fault none does.
+    ///
+    /// Room in history and seat, and for the list that the member hears, is made first: where a member that isn't stopped
+    /// has none, it is stopped, with [`MemberFault::Memory`], and no call of the device is made. The other faults are the
+    /// member's, and those that stop it stop the book. After each fault the records, the history and the seat are as they
+    /// were.
+    pub fn apply_all(
+        &mut self,
+        seat: &mut Seat,
+        events: &[(Statement, Toss)],
+    ) -> Result<Vec<Answer>, MemberFault>
+        requires few { length events.now ≤ 256 }
+        ensures answer { IfOk result (λ answers.
+            AppliesAll self.old (heard_from seat.old.peer events.now) answers.items self.new) }
+        ensures length { IfOk result (λ answers. length answers.items ≡ length events.now) }
+        ensures seat { OnOk result (HandsIn seat.old seat.new (said_in events.now) (length events.now)) }
+        ensures no_call { IfOk result (λ answers. length (records_of_all (replies_of answers.items)) ≡ 0 →
+            disk_of self.new.member ≡ disk_of self.old.member) }
+        ensures four_calls { D.keeps (disk_of self.old.member) → IfOk result (λ answers.
+            0 < length (records_of_all (replies_of answers.items)) →
+            D.moment (disk_of self.new.member) ≡ D.moment (disk_of self.old.member) + 4) }
+        // In the world it is the member's event, or the member hears nothing and goes down; what stood on its disk stands.
+        ensures life { (header : Header) (liars : ℕ → Bool) (w : World) → IsCorrect header.size liars header.me →
+            IsAt D.Disk header w self.old.member → AllCome w (heard_from seat.old.peer events.now) →
+            LivesOnAll D.Disk header liars w (heard_from seat.old.peer events.now) result self.old.member self.new.member }
+        ensures stands { D.keeps (disk_of self.old.member) → Saves D.Disk self.old.member self.new.member }
+        ensures acknowledged { D.keeps (disk_of self.old.member) → OnOk result (
+            Stands (D.since (disk_of self.new.member)) (header_of self.old.member)
+            (D.moment (disk_of self.new.member)) (saved_of self.new.member)) }
+
+        ensures fault { IfErr result (λ f. RefusesAll self.old (heard_from seat.old.peer events.now) f self.new) }
+        ensures kept { OnErr result (seat.new ≡ seat.old) }
+        ensures same_disk { IsErrOf result MemberFault.Memory ⊎ IsErrOf result MemberFault.JournalFull →
+            disk_of self.new.member ≡ disk_of self.old.member }
+        ensures device { IsErrOf result MemberFault.Device →
+            D.failures (disk_of self.old.member) < D.failures (disk_of self.new.member) }
+        ensures full { IsErrOf result MemberFault.JournalFull →
+            IsFullOfAll self.old.member (heard_from seat.old.peer events.now) }
+        ensures memory_only_at_some { IsErrOf result MemberFault.Memory → 0 < length events.now }
+        ensures failures { D.failures (disk_of self.old.member) ≤ D.failures (disk_of self.new.member) }
+        ensures keeps { D.keeps (disk_of self.old.member) ↔ D.keeps (disk_of self.new.member) }
+    {
+        if self.member.is_stopped() {
+            return Err(MemberFault::Stopped);
+        }
+        let Some(group) = prepare(
+            self.alloc,
+            seat.peer,
+            events,
+            &mut self.history,
+            &mut seat.firsts,
+        ) else {
+            self.member.stop();
+            return Err(MemberFault::Memory);
+        };
+        match self.member.hear_all(&group) {
+            Ok(answers) => {
+                keep_firsts(seat.peer, &mut seat.firsts, &mut seat.marks, events);
+                seat.next = seat.next.saturating_add(events.len() as u64);
+                note_all(&mut self.history, &group, &answers);
+                publish_all(&self.member, &mut self.notes, &answers);
+                Ok(answers)
             }
             Err(fault) => Err(fault),
         }
@@ -346,10 +419,11 @@ fn make_room(history: &mut Vec<Entry>) -> bool
     history.reserve(1).is_ok()
 }
 
-// Notes the entry where the answer takes it.
-fn note(history: &mut Vec<Entry>, entry: Entry, answer: &Answer)
+/// Notes the entry where the answer takes it.
+pub(crate) fn note(history: &mut Vec<Entry>, entry: Entry, answer: &Answer)
     requires { vec_len history.old < vec_capacity history.old }
-    ensures { map noted history.new.items ≡ lengthened (map noted history.old.items) (noted entry) (reply_of answer.now) }
+    ensures entries { map noted history.new.items ≡ lengthened (map noted history.old.items) (noted entry) (reply_of answer.now) }
+    ensures room { (vec_len history.new ≤ vec_len history.old + 1) × (vec_capacity history.new ≡ vec_capacity history.old) }
 {
     if let Answer::Taken(_) = answer {
         history.push_reserved(entry);
@@ -378,6 +452,19 @@ fn publish<D: Disk>(member: &Member<D>, notes: &mut Notes, records: &[Record])
         if let Record::Decided { question, .. } = *one {
             publish_one(member, notes, question);
         }
+    }
+}
+
+// Publishes the decisions of the questions that the records of these answers decide.
+fn publish_all<D: Disk>(member: &Member<D>, notes: &mut Notes, answers: &[Answer])
+    requires sound { IsSound D.Disk member.now }
+    requires decided { AreDecided (saved_of member.now) notes.old.known }
+    ensures cells { notes.new.cells ≡ notes.old.cells }
+    ensures decided { AreDecided (saved_of member.now) notes.new.known }
+    ensures more { KnowsMore notes.old.known notes.new.known }
+{
+    for answer in answers {
+        publish(member, notes, records_in(answer));
     }
 }
 

@@ -6,6 +6,7 @@
 mod board;
 mod book;
 mod entry;
+mod group;
 mod hub;
 pub mod laws;
 mod marks;

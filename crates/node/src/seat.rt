@@ -1,13 +1,15 @@
 //! Seats: one for each link, which counts what was handed in and keeps its firsts.
-ghost use Rattle.std.specs.Prelude.{◌≡◌, ◌<◌, IfOk, vec_len, vec_capacity};
+ghost use Rattle.std.specs.Prelude.{◌≡◌, ◌+◌, ◌<◌, ◌≤◌, length, IfOk, vec_len, vec_capacity};
 ghost use Rattle.std.specs.List.{list_any};
 ghost use Rattle.terms.specs.Bounds.{IsPlace};
 ghost use Rattle.terms.specs.Heard.{is_foreign};
 ghost use Rattle.terms.specs.Same.{is_about};
-ghost use Rattle.node.specs.Firsts.{grow, new_seat, IsSeat};
+ghost use Rattle.node.specs.Firsts.{grow, grown, new_seat, IsSeat};
+ghost use Rattle.node.specs.Groups.{said_in};
 ghost use Rattle.node.specs.Marks.{AreMarked};
 
 use crate::marks::{has_kind, mark, marks_of, slot};
+use rounds::Toss;
 use std::alloc::Global;
 use std::marker::Model;
 use terms::{Kind, Memory, Statement};
@@ -122,9 +124,27 @@ pub(crate) fn keep_first(
     requires marked { AreMarked firsts.old.items marks.old.items }
     ensures firsts { firsts.new.items ≡ grow peer firsts.old.items statement.now }
     ensures marked { AreMarked firsts.new.items marks.new.items }
+    ensures room { (vec_len firsts.new ≤ vec_len firsts.old + 1) × (vec_capacity firsts.new ≡ vec_capacity firsts.old) }
 {
     if !is_foreign(peer, statement) && !has_like(firsts.as_slice(), marks.as_slice(), statement) {
         firsts.push_reserved(*statement);
         mark(marks, statement);
+    }
+}
+
+/// Keeps the firsts among these statements, in order.
+pub(crate) fn keep_firsts(
+    peer: u8,
+    firsts: &mut Vec<Statement>,
+    marks: &mut Vec<u8>,
+    events: &[(Statement, Toss)],
+)
+    requires room { vec_len firsts.old + length events.now ≤ vec_capacity firsts.old }
+    requires marked { AreMarked firsts.old.items marks.old.items }
+    ensures firsts { firsts.new.items ≡ grown peer firsts.old.items (said_in events.now) }
+    ensures marked { AreMarked firsts.new.items marks.new.items }
+{
+    for (statement, _) in events {
+        keep_first(peer, firsts, marks, statement);
     }
 }

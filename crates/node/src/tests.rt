@@ -1,8 +1,10 @@
 //! Worked rows of a book, over a disk in memory and a file.
-ghost use Rattle.std.specs.Prelude.{◌≡◌, length, IfOk, []};
+ghost use Rattle.std.specs.Prelude.{◌≡◌, ◌<◌, length, IfOk, []};
 ghost use Rattle.std.specs.Arc.{arc_value};
 ghost use Rattle.member.specs.Sound.{IsSound};
 ghost use Rattle.member.specs.Words.{header_of, saved_of, is_stopped_of, StandsFor};
+
+mod groups;
 
 use super::*;
 use disk::{Disk, FileDisk, MemDisk};
@@ -43,7 +45,7 @@ fn start<D: Disk + Drop>(
     header: &Header,
     decided: bool,
 ) -> Result<Member<D>, Fail>
-    requires { header.now.size.questions ≡ 1 }
+    requires { 0 < header.now.size.questions }
     ensures sound { IfOk result (λ m. IsSound D.Disk m) }
     ensures fresh { IfOk result (λ m. StandsFor m (saved_of m) []) }
     ensures header { IfOk result (λ m. header_of m ≡ header.now) }

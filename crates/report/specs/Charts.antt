@@ -1,5 +1,6 @@
 -- What the chart of a run makes of its events.
-use Rattle.std.specs.Prelude.{ℕ, ◌+◌, ◌^◌, ◌≡◌, ◌<◌, ◌==◌, ◌⊎◌, nat_le, Bool, true, false, if◌then◌else◌, Option, Some, None, List, [], ◌∷◌, ◌++◌, codes, length, take, slice_get, slice_index}
+use Rattle.std.specs.Prelude.{ℕ, ◌+◌, ◌-◌, ◌^◌, ◌≡◌, ◌<◌, ◌==◌, ◌⊎◌, nat_le, Bool, true, false, if◌then◌else◌, Option, Some, None, List, [], ◌∷◌, ◌++◌, codes, length, min, take, slice_get, slice_index}
+use Rattle.std.specs.Fmt.{decimal}
 use Rattle.hex.specs.Hex.{encode_lower}
 use Rattle.disk.specs.declared.crash.Pick.{Pick}
 use Rattle.disk.specs.declared.crash.Pick.TheVariants.{Kept, Lost, Fill}
@@ -12,7 +13,7 @@ use Rattle.wire.specs.declared.message.Message.TheVariants as message
 use Rattle.wire.specs.Reading.{Reads, Rest}
 use Rattle.report.specs.Records.{statement_text}
 use Rattle.sim.specs.declared.events.Event.{Event}
-use Rattle.sim.specs.declared.events.Event.TheVariants.{Propose, Deliver, LieBytes, Fuse, Crash, Restart, Reset}
+use Rattle.sim.specs.declared.events.Event.TheVariants.{Propose, Deliver, DeliverAll, LieBytes, Fuse, Crash, Restart, Reset}
 use Rattle.sim.specs.declared.events.Which.{Which}
 use Rattle.sim.specs.declared.events.Which.TheVariants.{Next, At}
 use Rattle.sim.specs.declared.events.Mark.{Mark}
@@ -22,6 +23,7 @@ use Rattle.sim.specs.declared.events.Mark.TheVariants.{Done, Failed, Skipped}
 abbrev pub member_of : Event → ℕ
 member_of (Propose member question bit toss) = member
 member_of (Deliver from to which toss) = to
+member_of (DeliverAll from to count toss) = to
 member_of (LieBytes liar to bytes toss) = to
 member_of (Fuse member calls) = member
 member_of (Crash member pick) = member
@@ -35,25 +37,32 @@ runs_after event (Skipped reason) runs = runs
 runs_after event Failed runs = false
 runs_after (Propose member question bit toss) Done runs = runs
 runs_after (Deliver from to which toss) Done runs = runs
+runs_after (DeliverAll from to count toss) Done runs = runs
 runs_after (LieBytes liar to bytes toss) Done runs = runs
 runs_after (Fuse member calls) Done runs = runs
 runs_after (Crash member pick) Done runs = false
 runs_after (Restart member) Done runs = true
 runs_after (Reset from to) Done runs = runs
 
+-- how many statements come as one group of at most so many, of all that their sender has said, over a link at that place
+abbrev pub group_count : ℕ → ℕ → ℕ → ℕ
+group_count said place count = min (min count 256) (said - place)
+
 -- where that member's link from a sender is after an event that wasn't skipped: one further where its next statement
--- came, at its start after a restart that is done and after its own reset
-abbrev pub place_after : Event → Mark → ℕ → ℕ → ℕ
-place_after event (Skipped reason) sender place = place
-place_after (Propose member question bit toss) mark sender place = place
-place_after (Deliver from to Next toss) mark sender place = if sender == from then place + 1 else place
-place_after (Deliver from to (At number) toss) mark sender place = place
-place_after (LieBytes liar to bytes toss) mark sender place = place
-place_after (Fuse member calls) mark sender place = place
-place_after (Crash member pick) mark sender place = place
-place_after (Restart member) Done sender place = 0
-place_after (Restart member) Failed sender place = place
-place_after (Reset from to) mark sender place = if sender == from then 0 else place
+-- came, as many as came in a group, of so many that their sender had said, at its start after a restart that is done and
+-- after its own reset
+abbrev pub place_after : ℕ → Event → Mark → ℕ → ℕ → ℕ
+place_after said event (Skipped reason) sender place = place
+place_after said (Propose member question bit toss) mark sender place = place
+place_after said (Deliver from to Next toss) mark sender place = if sender == from then place + 1 else place
+place_after said (Deliver from to (At number) toss) mark sender place = place
+place_after said (DeliverAll from to count toss) mark sender place = if sender == from then place + group_count said place count else place
+place_after said (LieBytes liar to bytes toss) mark sender place = place
+place_after said (Fuse member calls) mark sender place = place
+place_after said (Crash member pick) mark sender place = place
+place_after said (Restart member) Done sender place = 0
+place_after said (Restart member) Failed sender place = place
+place_after said (Reset from to) mark sender place = if sender == from then 0 else place
 
 -- the statements among records, in order
 abbrev pub statements_of : List Record → List Statement
@@ -65,6 +74,10 @@ statements_of (Decided question round bit ∷ records) = statements_of records
 abbrev pub delivered : List Statement → ℕ → Which → Option Statement
 delivered said place Next = slice_get said place
 delivered said place (At number) = slice_get said number
+
+-- what the arrow of a group of so many carries
+abbrev pub group_text : ℕ → List ℕ
+group_text count = sentence (codes "group" ∷ codes "of" ∷ decimal count ∷ [])
 
 -- the words of a statement, if there is one
 abbrev pub text_if : Option Statement → List ℕ
@@ -91,9 +104,11 @@ IsLieLabel size bytes label =
     ((s : Statement) × IsFrameOf size bytes s × (label ≡ statement_text s))
     ⊎ (((s : Statement) → IsFrameOf size bytes s → ⊥) × (label ≡ bytes_label bytes))
 
--- each place is where the link from the sender of its number is after the event, if there is a number for it
-abbrev pub AreMoved : Event → Mark → List ℕ → List ℕ → Type 0
-AreMoved event mark old new = (a : ℕ) → a < length old → slice_index old a + 1 < 2 ^ 64 → slice_index new a ≡ place_after event mark a (slice_index old a)
+-- Each place is where the link from the sender of its number is after the event, if there is a number for it. The event's
+-- own sender had said so many statements.
+abbrev pub AreMoved : ℕ → Event → Mark → List ℕ → List ℕ → Type 0
+AreMoved said event mark old new =
+    (a : ℕ) → a < length old → slice_index old a + 1 < 2 ^ 64 → slice_index new a ≡ place_after said event mark a (slice_index old a)
 
 -- an SVG text by its beginning and its end
 abbrev pub IsSvg : List ℕ → Type 0

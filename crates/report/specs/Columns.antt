@@ -1,7 +1,8 @@
 -- What the chart knows of a member.
-use Rattle.std.specs.Prelude.{ℕ, ◌≡◌, ◌++◌, Bool, true, false, Some, List, [], replicate, slice_get}
+use Rattle.std.specs.Prelude.{ℕ, ◌≡◌, ◌++◌, Bool, true, false, Option, Some, None, List, [], length, replicate, slice_get}
 use Rattle.terms.specs.declared.Record.{Record}
 use Rattle.sim.specs.declared.events.Event.{Event}
+use Rattle.sim.specs.declared.events.Event.TheVariants.{DeliverAll}
 use Rattle.sim.specs.declared.events.Mark.{Mark}
 use Rattle.report.specs.declared.chart.column.Column.{Column}
 use Rattle.report.specs.declared.chart.drawing.Line.{Line}
@@ -22,15 +23,25 @@ pub record IsNew (n : ℕ) (liar : Bool) (top : ℕ) (column : Column) : Type 0 
   pub at_start : column.places.items ≡ replicate n 0
   pub drawn : column.drawn ≡ top
 
--- the event's member, before and after it
-pub record Follows (event : Event) (mark : Mark) (saved : List Record) (old new : Column) : Type 0 where
+-- how many statements a member has said, if there is one
+abbrev pub count_said : Option Column → ℕ
+count_said None = 0
+count_said (Some column) = length column.said.items
+
+-- how many the sender of a group has said; other events go by no such count
+abbrev pub said_before : Event → List Column → ℕ
+said_before (DeliverAll from to count toss) columns = count_said (slice_get columns from)
+said_before event columns = 0
+
+-- the event's member, before and after it; a group's sender had said so many statements
+pub record Follows (count : ℕ) (event : Event) (mark : Mark) (saved : List Record) (old new : Column) : Type 0 where
   pub side : new.is_liar ≡ old.is_liar
   pub runs : new.runs ≡ runs_after event mark old.runs
   pub said : new.said.items ≡ old.said.items ++ statements_of saved
-  pub places : AreMoved event mark old.places.items new.places.items
+  pub places : AreMoved count event mark old.places.items new.places.items
 
 -- all members, before and after an event: its own follows it, and the others stay as they are
 abbrev pub FollowAll : Event → Mark → List Record → List Column → List Column → Type 0
 FollowAll event mark saved old new = (k : ℕ) (before after : Column)
     → slice_get old k ≡ Some before → slice_get new k ≡ Some after
-    → (k ≡ member_of event → Follows event mark saved before after) × ((k ≡ member_of event → ⊥) → after ≡ before)
+    → (k ≡ member_of event → Follows (said_before event old) event mark saved before after) × ((k ≡ member_of event → ⊥) → after ≡ before)

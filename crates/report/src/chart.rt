@@ -195,11 +195,11 @@ struct Scene {
 }
 
 impl Scene {
-    ghost use Rattle.std.specs.Prelude.{ℕ, ◌≡◌, ◌+◌, ◌<◌, IfOk, OnOk, Some, slice_get, string_bytes};
+    ghost use Rattle.std.specs.Prelude.{ℕ, ◌≡◌, ◌+◌, ◌<◌, IfOk, OnOk, Some, length, slice_get, string_bytes};
     ghost use Rattle.sim.specs.declared.TheConstants.{MOST_EVENTS};
     ghost use Rattle.report.specs.Scenes.{DrawsOnly};
-    ghost use Rattle.report.specs.Charts.{delivered, text_if, IsSvg};
-    ghost use Rattle.report.specs.Columns.{FollowAll};
+    ghost use Rattle.report.specs.Charts.{delivered, group_count, group_text, text_if, IsSvg};
+    ghost use Rattle.report.specs.Columns.{FollowAll, said_before};
     ghost use Rattle.report.specs.declared.chart.column.Column.{Column};
 
     /// The columns, before the first event.
@@ -277,6 +277,12 @@ impl Scene {
                 which,
                 ..
             } => self.show_delivery(*from, *to, *which, y)?,
+            Event::DeliverAll {
+                from,
+                to,
+                count,
+                ..
+            } => self.show_group(*from, *to, *count, y)?,
             Event::LieBytes {
                 liar,
                 to,
@@ -329,15 +335,45 @@ impl Scene {
         }
     }
 
+    /// What a group carries: how many statements it has.
+    fn carried_together(&self, from: u8, to: u8, count: u16) -> Result<String, AllocError>
+        ensures { (sender receiver : Column) (place : ℕ) → slice_get self.now.columns.items from ≡ Some sender →
+            slice_get self.now.columns.items to ≡ Some receiver → slice_get receiver.places.items from ≡ Some place →
+            IfOk result (λ text. string_bytes text ≡ group_text (group_count (length sender.said.items) place count)) }
+    {
+        let (Some(sender), Some(receiver)) = (
+            self.columns.get(usize::from(from)),
+            self.columns.get(usize::from(to)),
+        ) else {
+            return Ok(String::new(self.alloc));
+        };
+        format!(in self.alloc; "group of {}", receiver.takes_together(from, sender, count))
+    }
+
     /// Draws a delivery.
     fn show_delivery(&mut self, from: u8, to: u8, which: Which, y: u64) -> Result<(), AllocError>
         ensures { DrawsOnly self.old self.new }
     {
-        let (start, end) = (x_of(from), x_of(to));
         let carried = self.carried(from, to, which)?;
+        self.show_arrow(from, to, carried.as_str(), y)
+    }
+
+    /// Draws a group, which has one arrow.
+    fn show_group(&mut self, from: u8, to: u8, count: u16, y: u64) -> Result<(), AllocError>
+        ensures { DrawsOnly self.old self.new }
+    {
+        let carried = self.carried_together(from, to, count)?;
+        self.show_arrow(from, to, carried.as_str(), y)
+    }
+
+    /// Draws an arrow between correct members, and what it carries.
+    fn show_arrow(&mut self, from: u8, to: u8, carried: &str, y: u64) -> Result<(), AllocError>
+        ensures { DrawsOnly self.old self.new }
+    {
+        let (start, end) = (x_of(from), x_of(to));
         if from == to {
             self.events.turn(start, y)?;
-            return self.events.words(Words::Turn, start, y, carried.as_str());
+            return self.events.words(Words::Turn, start, y, carried);
         }
         let words = if from < to {
             Words::Rightward
@@ -345,7 +381,7 @@ impl Scene {
             Words::Leftward
         };
         self.events.arrow(false, start, end, y)?;
-        self.events.words(words, start, y, carried.as_str())
+        self.events.words(words, start, y, carried)
     }
 
     /// Draws a lie.
@@ -428,6 +464,19 @@ impl Scene {
         self.events.badge(x, y, decided.as_str(), said.as_str())
     }
 
+    /// How many statements the sender of a group has said; other events go by no such count.
+    fn said_before(&self, event: &Event) -> usize
+        ensures { result ≡ said_before event.now self.now.columns.items }
+    {
+        let Event::DeliverAll { from, .. } = event else {
+            return 0;
+        };
+        match self.columns.get(usize::from(*from)) {
+            Some(column) => column.said_count(),
+            None => 0,
+        }
+    }
+
     /// Follows the event, and draws the lifeline of its member down to it where it then looks different.
     fn follow(
         &mut self,
@@ -440,11 +489,12 @@ impl Scene {
         ensures row { OnOk result (self.new.rows ≡ self.old.rows) }
     {
         let member = member_of(event);
+        let said = self.said_before(event);
         match self.columns.get_mut(usize::from(member)) {
             None => Ok(()),
             Some(column) => {
                 draw_piece(&mut self.lifelines, column, event, mark, y)?;
-                column.follow(event, mark, saved)
+                column.follow(said, event, mark, saved)
             }
         }
     }

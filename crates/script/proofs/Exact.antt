@@ -4,7 +4,7 @@ use Rattle.disk.specs.declared.Pick.TheVariants.{Kept, Lost, Fill}
 use Rattle.sim.specs.declared.events.Which.TheVariants.{Next, At}
 use Rattle.script.specs.declared.step.Verb.{Verb}
 use Rattle.script.specs.declared.step.Verb.TheVariants as verb
-use Rattle.script.specs.Words.{IsMember, IsCount, IsLong, IsBit, IsWhich, IsFuse, ArePick, AreMembers}
+use Rattle.script.specs.Words.{IsMember, IsCount, IsLong, IsGroupSize, IsBit, IsWhich, IsFuse, ArePick, AreMembers}
 use Rattle.words.specs.Numbers.{IsNumber, IsBelow, AreBytes}
 use Rattle.script.specs.Steps.{Step, name_of, One, Two, Three, SaysBehind, Says}
 
@@ -17,6 +17,9 @@ one_number w x y h g = sym h.value ∙ g.value
 
 pub one_below : (bits : ℕ) → IsExact (IsBelow bits)
 one_below bits w x y h g = one_number w x y h.number_is g.number_is
+
+pub one_group_size : IsExact IsGroupSize
+one_group_size w x y h g = one_number w x y h.number_is g.number_is
 
 pub one_bit : IsExact IsBit
 one_bit w false false h g = refl
@@ -113,6 +116,8 @@ one_behind verb.Propose ws s t (m, q, b, h, e) (n, r, c, g, f) =
     let k = one_three IsMember IsCount IsBit (one_below 8) (one_below 16) one_bit ws m n q r b c h g in cc
 one_behind verb.Deliver ws s t (m, q, b, h, e) (n, r, c, g, f) =
     let k = one_three IsMember IsMember IsWhich (one_below 8) (one_below 8) one_which ws m n q r b c h g in cc
+one_behind verb.Group ws s t (m, q, b, h, e) (n, r, c, g, f) =
+    let k = one_three IsMember IsMember IsGroupSize (one_below 8) (one_below 8) one_group_size ws m n q r b c h g in cc
 one_behind verb.Lie ws s t (m, q, b, h, e) (n, r, c, g, f) =
     let k = one_three IsMember IsMember AreBytes (one_below 8) (one_below 8) one_bytes ws m n q r b c h g in cc
 one_behind verb.Fuse ws s t (m, q, h, e) (n, r, g, f) = let k = one_two IsMember IsFuse (one_below 8) one_fuse ws m n q r h g in cc
@@ -136,18 +141,20 @@ verb_with : ℕ → Option Verb
 verb_with k =
     cond (eqb k (7 * 65536 + 112 * 256 + 114)) (Some verb.Propose)
     (cond (eqb k (7 * 65536 + 100 * 256 + 101)) (Some verb.Deliver)
+    (cond (eqb k (5 * 65536 + 103 * 256 + 114)) (Some verb.Group)
     (cond (eqb k (3 * 65536 + 108 * 256 + 105)) (Some verb.Lie)
     (cond (eqb k (4 * 65536 + 102 * 256 + 117)) (Some verb.Fuse)
     (cond (eqb k (5 * 65536 + 99 * 256 + 114)) (Some verb.Crash)
     (cond (eqb k (7 * 65536 + 114 * 256 + 101)) (Some verb.Restart)
     (cond (eqb k (5 * 65536 + 114 * 256 + 101)) (Some verb.Reset)
     (cond (eqb k (6 * 65536 + 114 * 256 + 111)) (Some verb.Rounds)
-    (Some verb.Random))))))))
+    (Some verb.Random)))))))))
 
 of_name : (v : Verb) → verb_with (key (name_of v)) ≡ Some v
 unfolding verb_with key
 of_name verb.Propose = refl
 of_name verb.Deliver = refl
+of_name verb.Group = refl
 of_name verb.Lie = refl
 of_name verb.Fuse = refl
 of_name verb.Crash = refl

@@ -45,6 +45,7 @@ pub name_is_text : (v : Verb) → IsUtf8 (name_of v)
 unfolding small
 name_is_text verb.Propose = IsUtf8-from_ascii (codes "propose") (is_ascii (codes "propose") refl)
 name_is_text verb.Deliver = IsUtf8-from_ascii (codes "deliver") (is_ascii (codes "deliver") refl)
+name_is_text verb.Group = IsUtf8-from_ascii (codes "group") (is_ascii (codes "group") refl)
 name_is_text verb.Lie = IsUtf8-from_ascii (codes "lie") (is_ascii (codes "lie") refl)
 name_is_text verb.Fuse = IsUtf8-from_ascii (codes "fuse") (is_ascii (codes "fuse") refl)
 name_is_text verb.Crash = IsUtf8-from_ascii (codes "crash") (is_ascii (codes "crash") refl)

@@ -19,11 +19,11 @@ use Rattle.script.specs.declared.fault.ScriptFault.TheVariants as faults
 use Rattle.script.specs.declared.step.Verb.{Verb}
 use Rattle.script.specs.declared.step.Verb.TheVariants as verb
 use Rattle.sim.specs.declared.TheConstants.{MOST_EVENTS}
-use Rattle.script.specs.Words.{words_of, IsMember, IsCount, IsLong, IsBit, IsWhich, IsFuse, ArePick, AreMembers}
+use Rattle.script.specs.Words.{words_of, IsMember, IsCount, IsLong, IsGroupSize, IsBit, IsWhich, IsFuse, ArePick, AreMembers}
 use Rattle.words.specs.Numbers.{IsNumber, IsBelow, AreBytes}
 use Rattle.script.specs.Lines.{Page, page_of, HasLine, number_at}
 use Rattle.script.specs.Acts.{Told}
-use Rattle.script.specs.Acts.Act.{Propose, Deliver, Lie, Fuse, Crash, Restart, Reset}
+use Rattle.script.specs.Acts.Act.{Propose, Deliver, DeliverAll, Lie, Fuse, Crash, Restart, Reset}
 use Rattle.script.specs.Steps.{Step, name_of, One, Two, Three, SaysBehind, Says}
 use Rattle.script.specs.Steps.Step.{Once, Rounds, Random}
 use Rattle.script.specs.Making.{Made, after_step, correct_below, LeadTo, BreakBy}
@@ -79,6 +79,18 @@ below bits w = step (number w)
     step : ((n : ℕ) × IsNumber w n) ⊎ ((n : ℕ) → IsNumber w n → ⊥) → ((x : ℕ) × IsBelow bits w x) ⊎ ((x : ℕ) → IsBelow bits w x → ⊥)
     step (inl (n, h)) = small n h (less_or n (2 ^ bits))
     step (inr isnt) = inr (λ x h. isnt x h.number_is)
+
+group_size : Decides IsGroupSize
+group_size w = step (number w)
+  where
+    within : (n : ℕ) → IsNumber w n → (n < 1) ⊎ (1 ≤ n) → (n < 257) ⊎ (257 ≤ n) → ((k : ℕ) × IsGroupSize w k) ⊎ ((k : ℕ) → IsGroupSize w k → ⊥)
+    within n h (inl l) r = inr (λ k g. let e = one_number w k n g.number_is h in let s = g.some in absurd (omega arith))
+    within n h (inr s) (inl l) = inl (n, record { number_is = h; some = s; few = omega (arith, l) })
+    within n h (inr s) (inr m) = inr (λ k g. let e = one_number w k n g.number_is h in let f = g.few in absurd (omega arith))
+
+    step : ((n : ℕ) × IsNumber w n) ⊎ ((n : ℕ) → IsNumber w n → ⊥) → ((k : ℕ) × IsGroupSize w k) ⊎ ((k : ℕ) → IsGroupSize w k → ⊥)
+    step (inl (n, h)) = within n h (less_or n 1) (less_or n 257)
+    step (inr isnt) = inr (λ k h. isnt k h.number_is)
 
 bit : Decides IsBit
 bit w = step (number w)
@@ -278,6 +290,9 @@ behind verb.Propose ws =
 behind verb.Deliver ws =
     elim (three IsMember IsMember IsWhich (below 8) (below 8) which ws)
     [ inl (a, b, c, h) ↦ inl (Once (Deliver a b c), (a, b, c, h, refl)) | inr isnt ↦ inr (λ s (a, b, c, h, e). isnt a b c h) ]
+behind verb.Group ws =
+    elim (three IsMember IsMember IsGroupSize (below 8) (below 8) group_size ws)
+    [ inl (a, b, c, h) ↦ inl (Once (DeliverAll a b c), (a, b, c, h, refl)) | inr isnt ↦ inr (λ s (a, b, c, h, e). isnt a b c h) ]
 behind verb.Lie ws =
     elim (three IsMember IsMember AreBytes (below 8) (below 8) bytes ws)
     [ inl (a, b, c, h) ↦ inl (Once (Lie a b c), (a, b, c, h, refl)) | inr isnt ↦ inr (λ s (a, b, c, h, e). isnt a b c h) ]
@@ -296,48 +311,53 @@ behind verb.Random ws =
     elim (one IsLong (below 64) ws) [ inl (a, h) ↦ inl (Random a, (a, h, refl)) | inr isnt ↦ inr (λ s (a, h, e). isnt a h) ]
 
 -- the verb of a name
-no_verb : (w : List ℕ) → (w ≡ codes "propose" → ⊥) → (w ≡ codes "deliver" → ⊥) → (w ≡ codes "lie" → ⊥) → (w ≡ codes "fuse" → ⊥) → (w ≡ codes "crash" → ⊥)
+no_verb : (w : List ℕ) → (w ≡ codes "group" → ⊥) → (w ≡ codes "propose" → ⊥) → (w ≡ codes "deliver" → ⊥) → (w ≡ codes "lie" → ⊥) → (w ≡ codes "fuse" → ⊥) → (w ≡ codes "crash" → ⊥)
     → (w ≡ codes "restart" → ⊥) → (w ≡ codes "reset" → ⊥) → (w ≡ codes "rounds" → ⊥) → (w ≡ codes "random" → ⊥) → (v : Verb) → w ≡ name_of v → ⊥
-no_verb w a b c d e f g h i verb.Propose = a
-no_verb w a b c d e f g h i verb.Deliver = b
-no_verb w a b c d e f g h i verb.Lie = c
-no_verb w a b c d e f g h i verb.Fuse = d
-no_verb w a b c d e f g h i verb.Crash = e
-no_verb w a b c d e f g h i verb.Restart = f
-no_verb w a b c d e f g h i verb.Reset = g
-no_verb w a b c d e f g h i verb.Rounds = h
-no_verb w a b c d e f g h i verb.Random = i
+no_verb w z a b c d e f g h i verb.Group = z
+no_verb w z a b c d e f g h i verb.Propose = a
+no_verb w z a b c d e f g h i verb.Deliver = b
+no_verb w z a b c d e f g h i verb.Lie = c
+no_verb w z a b c d e f g h i verb.Fuse = d
+no_verb w z a b c d e f g h i verb.Crash = e
+no_verb w z a b c d e f g h i verb.Restart = f
+no_verb w z a b c d e f g h i verb.Reset = g
+no_verb w z a b c d e f g h i verb.Rounds = h
+no_verb w z a b c d e f g h i verb.Random = i
 
 verb_named : (w : List ℕ) → ((v : Verb) × (w ≡ name_of v)) ⊎ ((v : Verb) → w ≡ name_of v → ⊥)
 verb_named w =
-    elim (same_list w (codes "propose")) [
-      | inl e ↦ inl (verb.Propose, e)
-      | inr a ↦
-          elim (same_list w (codes "deliver")) [
-            | inl e ↦ inl (verb.Deliver, e)
-            | inr b ↦
-                elim (same_list w (codes "lie")) [
-                  | inl e ↦ inl (verb.Lie, e)
-                  | inr c ↦
-                      elim (same_list w (codes "fuse")) [
-                        | inl e ↦ inl (verb.Fuse, e)
-                        | inr d ↦
-                            elim (same_list w (codes "crash")) [
-                              | inl e ↦ inl (verb.Crash, e)
-                              | inr f ↦
-                                  elim (same_list w (codes "restart")) [
-                                    | inl e ↦ inl (verb.Restart, e)
-                                    | inr g ↦
-                                        elim (same_list w (codes "reset")) [
-                                          | inl e ↦ inl (verb.Reset, e)
-                                          | inr h ↦
-                                              elim (same_list w (codes "rounds")) [
-                                                | inl e ↦ inl (verb.Rounds, e)
-                                                | inr i ↦
-                                                    elim (same_list w (codes "random")) [
-                                                      | inl e ↦ inl (verb.Random, e)
-                                                      | inr j ↦
-                                                          inr (no_verb w a b c d f g h i j)
+    elim (same_list w (codes "group")) [
+      | inl e ↦ inl (verb.Group, e)
+      | inr z ↦
+          elim (same_list w (codes "propose")) [
+            | inl e ↦ inl (verb.Propose, e)
+            | inr a ↦
+                elim (same_list w (codes "deliver")) [
+                  | inl e ↦ inl (verb.Deliver, e)
+                  | inr b ↦
+                      elim (same_list w (codes "lie")) [
+                        | inl e ↦ inl (verb.Lie, e)
+                        | inr c ↦
+                            elim (same_list w (codes "fuse")) [
+                              | inl e ↦ inl (verb.Fuse, e)
+                              | inr d ↦
+                                  elim (same_list w (codes "crash")) [
+                                    | inl e ↦ inl (verb.Crash, e)
+                                    | inr f ↦
+                                        elim (same_list w (codes "restart")) [
+                                          | inl e ↦ inl (verb.Restart, e)
+                                          | inr g ↦
+                                              elim (same_list w (codes "reset")) [
+                                                | inl e ↦ inl (verb.Reset, e)
+                                                | inr h ↦
+                                                    elim (same_list w (codes "rounds")) [
+                                                      | inl e ↦ inl (verb.Rounds, e)
+                                                      | inr i ↦
+                                                          elim (same_list w (codes "random")) [
+                                                            | inl e ↦ inl (verb.Random, e)
+                                                            | inr j ↦
+                                                                inr (no_verb w z a b c d f g h i j)
+                                                          ]
                                                     ]
                                               ]
                                         ]

@@ -9,6 +9,7 @@ use Rattle.sim.specs.declared.events.Event.TheVariants as event
 pub data Act : Type 0 where
   Propose : (member : ℕ) → (question : ℕ) → (bit : Bool) → Act
   Deliver : (from : ℕ) → (to : ℕ) → (which : Which) → Act
+  DeliverAll : (from : ℕ) → (to : ℕ) → (count : ℕ) → Act
   Lie : (liar : ℕ) → (to : ℕ) → (bytes : List ℕ) → Act
   Fuse : (member : ℕ) → (calls : Option ℕ) → Act
   Crash : (member : ℕ) → (pick : Pick) → Act
@@ -24,6 +25,7 @@ pub record Told : Type 0 where
 abbrev pub told : Event → Told
 told (event.Propose member question bit toss) = record { act = Propose member question bit; toss = Some toss.0 }
 told (event.Deliver from to which toss) = record { act = Deliver from to which; toss = Some toss.0 }
+told (event.DeliverAll from to count toss) = record { act = DeliverAll from to count; toss = Some toss.0 }
 told (event.LieBytes liar to bytes toss) = record { act = Lie liar to bytes.items; toss = Some toss.0 }
 told (event.Fuse member calls) = record { act = Fuse member calls; toss = None }
 told (event.Crash member pick) = record { act = Crash member pick; toss = None }
@@ -34,6 +36,7 @@ told (event.Reset from to) = record { act = Reset from to; toss = None }
 abbrev pub takes_toss : Act → Bool
 takes_toss (Propose member question bit) = true
 takes_toss (Deliver from to which) = true
+takes_toss (DeliverAll from to count) = true
 takes_toss (Lie liar to bytes) = true
 takes_toss (Fuse member calls) = false
 takes_toss (Crash member pick) = false

@@ -4,10 +4,10 @@ use Rattle.disk.specs.declared.Pick.{Pick}
 use Rattle.sim.specs.declared.events.Which.{Which}
 use Rattle.script.specs.declared.step.Verb.{Verb}
 use Rattle.script.specs.declared.step.Verb.TheVariants as verb
-use Rattle.script.specs.Words.{IsMember, IsCount, IsLong, IsBit, IsWhich, IsFuse, ArePick}
+use Rattle.script.specs.Words.{IsMember, IsCount, IsLong, IsGroupSize, IsBit, IsWhich, IsFuse, ArePick}
 use Rattle.words.specs.Numbers.{AreBytes}
 use Rattle.script.specs.Acts.{Act}
-use Rattle.script.specs.Acts.Act.{Propose, Deliver, Lie, Fuse, Crash, Restart, Reset}
+use Rattle.script.specs.Acts.Act.{Propose, Deliver, DeliverAll, Lie, Fuse, Crash, Restart, Reset}
 
 -- an act, or many
 pub data Step : Type 0 where
@@ -19,6 +19,7 @@ pub data Step : Type 0 where
 abbrev pub name_of : Verb → List ℕ
 name_of verb.Propose = codes "propose"
 name_of verb.Deliver = codes "deliver"
+name_of verb.Group = codes "group"
 name_of verb.Lie = codes "lie"
 name_of verb.Fuse = codes "fuse"
 name_of verb.Crash = codes "crash"
@@ -60,6 +61,9 @@ SaysBehind verb.Propose words step =
 -- deliver A B next, deliver A B I
 SaysBehind verb.Deliver words step =
     (from : ℕ) × (to : ℕ) × (which : Which) × Three IsMember IsMember IsWhich words from to which × (step ≡ Once (Deliver from to which))
+-- group A B K
+SaysBehind verb.Group words step =
+    (from : ℕ) × (to : ℕ) × (count : ℕ) × Three IsMember IsMember IsGroupSize words from to count × (step ≡ Once (DeliverAll from to count))
 -- lie L M HEX
 SaysBehind verb.Lie words step =
     (liar : ℕ) × (to : ℕ) × (bytes : List ℕ) × Three IsMember IsMember AreBytes words liar to bytes × (step ≡ Once (Lie liar to bytes))

@@ -7,7 +7,7 @@ use Rattle.script.specs.declared.step.Order.{Order}
 use Rattle.script.specs.declared.step.Order.TheVariants as order
 use Rattle.script.specs.declared.lines.Line.{Line}
 use Rattle.script.specs.Acts.{Act}
-use Rattle.script.specs.Acts.Act.{Propose, Deliver, Lie, Fuse, Crash, Restart, Reset}
+use Rattle.script.specs.Acts.Act.{Propose, Deliver, DeliverAll, Lie, Fuse, Crash, Restart, Reset}
 use Rattle.script.specs.Steps.{Step}
 use Rattle.script.specs.Steps.Step.{Once, Rounds, Random}
 
@@ -15,6 +15,7 @@ use Rattle.script.specs.Steps.Step.{Once, Rounds, Random}
 abbrev pub act_of : Untossed → Act
 act_of (untossed.Propose member question bit) = Propose member question bit
 act_of (untossed.Deliver from to which) = Deliver from to which
+act_of (untossed.DeliverAll from to count) = DeliverAll from to count
 act_of (untossed.Lie liar to bytes) = Lie liar to bytes.items
 act_of (untossed.Fuse member calls) = Fuse member calls
 act_of (untossed.Crash member pick) = Crash member pick

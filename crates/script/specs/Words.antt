@@ -1,5 +1,5 @@
 -- What the words of a line write.
-use Rattle.std.specs.Prelude.{ℕ, ◌≡◌, ◌==◌, Bool, Option, Some, None, List, [], ◌∷◌, codes}
+use Rattle.std.specs.Prelude.{ℕ, ◌≡◌, ◌≤◌, ◌==◌, Bool, Option, Some, None, List, [], ◌∷◌, codes}
 use Rattle.std.specs.List.{slice_split}
 use Rattle.words.specs.Numbers.{IsNumber, IsBelow, AreBytes}
 use Rattle.words.specs.Sentences.{bit_digit}
@@ -21,6 +21,12 @@ IsCount = IsBelow 16
 
 abbrev pub IsLong : List ℕ → ℕ → Type 0
 IsLong = IsBelow 64
+
+-- how many statements a group may have: 1 to 256
+pub record IsGroupSize (word : List ℕ) (count : ℕ) : Type 0 where
+  pub number_is : IsNumber word count
+  pub some : 1 ≤ count
+  pub few : count ≤ 256
 
 -- a number that is a bit
 abbrev pub IsBit : List ℕ → Bool → Type 0

@@ -39,6 +39,12 @@ pub enum Untossed {
         to: u8,
         which: Which,
     },
+    /// Statements are delivered as a group.
+    DeliverAll {
+        from: u8,
+        to: u8,
+        count: u16,
+    },
     /// A liar's bytes come.
     Lie {
         liar: u8,
@@ -334,6 +340,12 @@ impl Draw {
                 from,
                 to,
                 which,
+                toss: self.toss(),
+            },
+            Untossed::DeliverAll { from, to, count } => Event::DeliverAll {
+                from,
+                to,
+                count,
                 toss: self.toss(),
             },
             Untossed::Lie { liar, to, bytes } => Event::LieBytes {

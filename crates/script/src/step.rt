@@ -8,7 +8,7 @@ ghost use Rattle.script.specs.declared.step.Verb.{Verb};
 ghost use Rattle.script.specs.Untossed.{step_of, texts};
 
 use crate::draw::Untossed;
-use crate::values::{bit, fuse, which};
+use crate::values::{bit, fuse, group_size, which};
 use disk::Pick;
 use std::alloc::Global;
 use terms::Memory;
@@ -21,6 +21,8 @@ pub enum Verb {
     Propose,
     /// `deliver A B next`, `deliver A B I`
     Deliver,
+    /// `group A B K`
+    Group,
     /// `lie L M HEX`
     Lie,
     /// `fuse M K`, `fuse M off`
@@ -75,6 +77,21 @@ fn deliver(words: &[&[u8]]) -> Option<Order>
         from: number8(a)?,
         to: number8(b)?,
         which: which(i)?,
+    }))
+}
+
+/// What the words behind `group` say.
+fn group(words: &[&[u8]]) -> Option<Order>
+    ensures some { IfSome result (λ order. SaysBehind Verb.Group (texts words.now) (step_of order)) }
+    ensures exact { (step : Step) → SaysBehind Verb.Group (texts words.now) step → MatchOption result ⊥ (λ order. step_of order ≡ step) }
+{
+    let [a, b, k] = words else {
+        return None;
+    };
+    Some(Order::Once(Untossed::DeliverAll {
+        from: number8(a)?,
+        to: number8(b)?,
+        count: group_size(k)?,
     }))
 }
 
@@ -189,6 +206,7 @@ impl Verb {
         match name {
             "propose" => Some(Verb::Propose),
             "deliver" => Some(Verb::Deliver),
+            "group" => Some(Verb::Group),
             "lie" => Some(Verb::Lie),
             "fuse" => Some(Verb::Fuse),
             "crash" => Some(Verb::Crash),
@@ -210,6 +228,7 @@ impl Order {
         match verb {
             Verb::Propose => Ok(propose(words)),
             Verb::Deliver => Ok(deliver(words)),
+            Verb::Group => Ok(group(words)),
             Verb::Lie => lie(alloc, words),
             Verb::Fuse => Ok(fuse_of(words)),
             Verb::Crash => crash(alloc, words),

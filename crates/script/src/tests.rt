@@ -28,8 +28,10 @@ fn behind_head(rt: &HostRuntime, lines: &str) -> Result<Result<Script, ScriptFau
 /// The toss of an event that has one.
 fn toss_of(event: &Event) -> Option<Toss> {
     match event {
-        Event::Propose { toss, .. } | Event::Deliver { toss, .. } | Event::LieBytes { toss, .. } =>
-            Some(*toss),
+        Event::Propose { toss, .. }
+        | Event::Deliver { toss, .. }
+        | Event::DeliverAll { toss, .. }
+        | Event::LieBytes { toss, .. } => Some(*toss),
         _ => None,
     }
 }
@@ -46,6 +48,8 @@ fn each_line_is_its_event(rt: HostRuntime) -> Result<(), Fail> {
             "deliver 0 2 18446744073709551615",
         ),
         ("deliver 00 0002 007", "deliver 0 2 7"),
+        ("group 1 0 1", "group 1 0 1"),
+        ("group 255 00 0256", "group 255 0 256"),
         ("lie 3 0 ff", "lie 3 0 ff"),
         ("lie 3 0 000100aBcD", "lie 3 0 000100abcd"),
         ("fuse 2 7", "fuse 2 7"),
@@ -167,11 +171,9 @@ fn draws_events(rt: HostRuntime) -> Result<(), Fail> {
     Ok(())
 }
 
-/// Lines of events draw their tosses in turn, from the same words.
+/// Lines of events draw their tosses in turn, from the same words; a group draws one, as a delivery does.
 #[test]
 fn draws_a_toss_for_each_event_that_needs_one(rt: HostRuntime) -> Result<(), Fail> {
-    let lines = "propose 0 0 1\nrestart 0\nfuse 0 1\ndeliver 0 1 next\nreset 0 1\nlie 3 0 ff\n";
-    let script = behind_head(&rt, lines)?.ok().ok_or("a script")?;
     let want = [
         Some(0x5d87d711942680ba),
         None,
@@ -180,9 +182,15 @@ fn draws_a_toss_for_each_event_that_needs_one(rt: HostRuntime) -> Result<(), Fai
         None,
         Some(0x9d6986d369148d6d),
     ];
-    assert_eq!(rt; script.events.len(), want.len());
-    for (event, toss) in script.events.iter().zip(want) {
-        assert!(rt; toss_of(event).map(|toss| toss.0) == toss, "{event}");
+    for lines in [
+        "propose 0 0 1\nrestart 0\nfuse 0 1\ndeliver 0 1 next\nreset 0 1\nlie 3 0 ff\n",
+        "propose 0 0 1\nrestart 0\nfuse 0 1\ngroup 0 1 256\nreset 0 1\nlie 3 0 ff\n",
+    ] {
+        let script = behind_head(&rt, lines)?.ok().ok_or("a script")?;
+        assert_eq!(rt; script.events.len(), want.len());
+        for (event, toss) in script.events.iter().zip(want) {
+            assert!(rt; toss_of(event).map(|toss| toss.0) == toss, "{event}");
+        }
     }
     Ok(())
 }
@@ -263,6 +271,12 @@ fn names_a_bad_line_of_events(rt: HostRuntime) -> Result<(), Fail> {
         "deliver 1 0 last",
         "deliver 1 0 18446744073709551616",
         "deliver 1 0 -1",
+        "group 1 0",
+        "group 1 0 0",
+        "group 1 0 257",
+        "group 1 0 next",
+        "group 256 0 1",
+        "group 1 0 1 1",
         "lie 3 0",
         "lie 3 0 ",
         "lie 3 0 f",

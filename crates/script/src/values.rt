@@ -1,11 +1,11 @@
 //! What the words of an event write, beside numbers.
 
 ghost use Rattle.std.specs.Prelude.{◌≡◌, ℕ, Bool, Option, Some, IfSome};
-ghost use Rattle.script.specs.Words.{IsBit, IsWhich, IsFuse};
+ghost use Rattle.script.specs.Words.{IsBit, IsWhich, IsGroupSize, IsFuse};
 ghost use Rattle.sim.specs.declared.events.Which.{Which};
 
-use sim::Which;
-use words::{is, number};
+use sim::{MOST_IN_GROUP, Which};
+use words::{is, number, number16};
 
 /// The bit that the word writes, `0` or `1`, leading zeros taken.
 pub fn bit(word: &[u8]) -> Option<bool>
@@ -30,6 +30,17 @@ pub fn which(word: &[u8]) -> Option<Which>
     match number(word) {
         Some(number) => Some(Which::At(number)),
         None => None,
+    }
+}
+
+/// How many statements the word gives a group at most: 1 to [`MOST_IN_GROUP`].
+pub fn group_size(word: &[u8]) -> Option<u16>
+    ensures some { IfSome result (IsGroupSize word.now) }
+    ensures exact { (count : ℕ) → IsGroupSize word.now count → result ≡ Some count }
+{
+    match number16(word) {
+        Some(count) if count >= 1 && count <= MOST_IN_GROUP => Some(count),
+        _ => None,
     }
 }
 

@@ -1,5 +1,5 @@
 -- Tasks of one post as steps of the world.
-use Rattle.std.proofs.Common.{◌≡◌, ◌<◌, ℕ, Bool, true, false, eqb, eq-eqb, Option, Result, Ok, Err, IfOk, List, [], ◌∷◌, ◌++◌, length, get_or, set, get_or-set_same, get_or-set_other, refl, sym, ap, subst, ◌∙◌, arith}
+use Rattle.std.proofs.Common.{◌≡◌, ◌<◌, ◌+◌, ℕ, Bool, true, false, eqb, eq-eqb, Option, Result, Ok, Err, IfOk, List, [], ◌∷◌, ◌++◌, length, get_or, set, get_or-set_same, get_or-set_other, refl, sym, ap, subst, ◌∙◌, arith}
 use Rattle.std.specs.Prelude.{is_some}
 use Rattle.std.specs.List.{AllByRecursion}
 use Rattle.std.proofs.lemmas.Bool.{eqb-true, eqb-false}
@@ -25,8 +25,8 @@ use Rattle.sim.specs.declared.posts.Post.{Post}
 use Rattle.sim.specs.declared.seats.Seat.{Seat}
 use Rattle.sim.specs.declared.tasks.Task.TheVariants as task
 use Rattle.sim.specs.Links.{statements_in, is_broken_at, Takes}
-use Rattle.sim.specs.Seats.{IsSeat, IsMove, Answers, AreLies, GoesOn, Reopens, is_liar, mine}
-use Rattle.sim.specs.Scene.{Scene, Does, HearsLies, put_at, cleared}
+use Rattle.sim.specs.Seats.{IsSeat, IsMove, Answers, AnswersAll, hearings_from, AreLies, GoesOn, Reopens, is_liar, mine}
+use Rattle.sim.specs.Scene.{Scene, Does, HearsLies, group_of, put_at, cleared}
 use Rattle.sim.specs.Posts.{IsPost, IsLink, IsNewLink, IsDone, Fits}
 use Rattle.sim.proofs.Reading.{all_formed}
 
@@ -124,6 +124,23 @@ module _ (size : Size) (liars : ℕ → Bool) (c : Scene) (p : ℕ) (old : Post)
       }
       go (Skipped reason) m = absurd m.is
 
+  -- the links, one of which is at another place now
+  links_moved : (from place i : ℕ) (link : Link) (items : List Link) (w : World) → length old.incoming.items ≡ size.n → liars from ≡ false → from < size.n → i ≡ from
+      → link.place ≡ place → link.size ≡ size → link.end ≡ Rest [] → items ≡ set old.incoming.items i link
+      → (a : ℕ) (x : Link) → a < size.n → IsLink size (liars a) (put_at c.place from p place a p) (c.fed a p) (get_or items a x)
+  links_moved from place i link items w len honest member ei at is end set_is a x la =
+      let first = post.links from link member in
+      let here : IsLink size (liars from) (put_at c.place from p place from p) (c.fed from p) link = record {
+        place_is = at ∙ sym (put_at-here c.place from p place);
+        size_is = is;
+        messages = first.messages;
+        read = subst (λ (x : End). Reads size (c.fed from p) first.messages x) (first.whole honest ∙ sym end) first.read;
+        whole = λ h. end;
+      } in
+      subst (λ (l : List Link). IsLink size (liars a) (put_at c.place from p place a p) (c.fed a p) (get_or l a x)) (sym set_is)
+      (link_set size liars c (record c { world = w; place = put_at c.place from p place }) p from i old.incoming.items link len member ei post.links here
+      (λ b ne. put_at-row c.place from p place b ne) (λ b ne. refl) a x la)
+
   -- a delivery
   pub delivered : (from : ℕ) (s : Statement) (place : ℕ) (toss : Toss) (bytes : List ℕ) (mark : Mark) (new : Post) (i : ℕ) (link : Link) → length old.incoming.items ≡ size.n
       → Fits size liars c p (task.Deliver from s place toss) → i ≡ from → link.place ≡ place → link.size ≡ size → link.end ≡ Rest []
@@ -133,28 +150,44 @@ module _ (size : Size) (liars : ℕ → Bool) (c : Scene) (p : ℕ) (old : Post)
   delivered from s place toss bytes mark new i link len fits ei at is end h side f items move =
       go mark (subst (λ (f : Bool). IsMove size liars p c.world (Answers size p c.world f toss.0 (Hearing from s) mark) new.seat) (post.fused fits.0.0) move)
     where
-      after_that : World → Scene
-      after_that w = record c { world = w; place = put_at c.place from p place }
-
       links : (w : World) (a : ℕ) (x : Link) → a < size.n → IsLink size (liars a) (put_at c.place from p place a p) (c.fed a p) (get_or new.incoming.items a x)
-      links w a x la =
-          let honest : liars from ≡ false = fits.1 in
-          let member : from < size.n = fits.2 in
-          let first = post.links from link member in
-          let ended : get_or old.incoming.items from link ≡ get_or old.incoming.items from link = refl in
-          let here : IsLink size (liars from) (put_at c.place from p place from p) (c.fed from p) link = record {
-            place_is = at ∙ sym (put_at-here c.place from p place);
-            size_is = is;
-            messages = first.messages;
-            read = subst (λ (x : End). Reads size (c.fed from p) first.messages x) (first.whole honest ∙ sym end) first.read;
-            whole = λ h. end;
-          } in
-          subst (λ (l : List Link). IsLink size (liars a) (put_at c.place from p place a p) (c.fed a p) (get_or l a x)) (sym items)
-          (link_set size liars c (record c { world = w; place = put_at c.place from p place }) p from i old.incoming.items link len member ei post.links here
-          (λ b ne. put_at-row c.place from p place b ne) (λ b ne. refl) a x la)
+      links w = links_moved from place i link new.incoming.items w len fits.1 fits.2 ei at is end items
 
       go : (k : Mark) → IsMove size liars p c.world (Answers size p c.world (c.fused p) toss.0 (Hearing from s) k) new.seat
           → IsDone size liars c p (task.Deliver from s place toss) bytes k new
+      go Done m = record {
+        steps = m.steps;
+        does = m.is;
+        is_run = m.is_run;
+        at = record { header = h ∙ post.header; side = side ∙ post.side; at = λ h. m.at; fused = λ h. f ∙ post.fused h; links = links (after_all c.world m.steps) };
+      }
+      go Failed m = record {
+        steps = m.steps;
+        does = m.is;
+        is_run = m.is_run;
+        at = record { header = h ∙ post.header; side = side ∙ post.side; at = λ h. m.at; fused = λ h. f ∙ post.fused h; links = links (after_all c.world m.steps) };
+      }
+      go (Skipped reason) m = absurd m.is
+
+  -- a group
+  pub delivered_all : (from count : ℕ) (toss : Toss) (bytes : List ℕ) (mark : Mark) (new : Post) (i : ℕ) (link : Link) (hearings : List (ℕ × Statement × ℕ)) → length old.incoming.items ≡ size.n
+      → Fits size liars c p (task.DeliverAll from count toss) → i ≡ from → link.place ≡ c.place from p + length (group_of c from p count) → link.size ≡ size → link.end ≡ Rest []
+      → new.header ≡ old.header → is_liar new.seat ≡ is_liar old.seat → new.fused ≡ old.fused → new.incoming.items ≡ set old.incoming.items i link
+      → hearings ≡ hearings_from from toss.0 (group_of c from p count)
+      → IsMove size liars p c.world (AnswersAll size p c.world old.fused hearings mark) new.seat
+      → IsDone size liars c p (task.DeliverAll from count toss) bytes mark new
+  delivered_all from count toss bytes mark new i link hearings len fits ei at is end h side f items hears move =
+      go mark (subst (λ (f : Bool). IsMove size liars p c.world (AnswersAll size p c.world f (hearings_from from toss.0 group) mark) new.seat) (post.fused fits.0.0)
+      (subst (λ (es : List (ℕ × Statement × ℕ)). IsMove size liars p c.world (AnswersAll size p c.world old.fused es mark) new.seat) hears move))
+    where
+      group : List Statement
+      group = group_of c from p count
+
+      links : (w : World) (a : ℕ) (x : Link) → a < size.n → IsLink size (liars a) (put_at c.place from p (c.place from p + length group) a p) (c.fed a p) (get_or new.incoming.items a x)
+      links w = links_moved from (c.place from p + length group) i link new.incoming.items w len fits.1 fits.2 ei at is end items
+
+      go : (k : Mark) → IsMove size liars p c.world (AnswersAll size p c.world (c.fused p) (hearings_from from toss.0 group) k) new.seat
+          → IsDone size liars c p (task.DeliverAll from count toss) bytes k new
       go Done m = record {
         steps = m.steps;
         does = m.is;

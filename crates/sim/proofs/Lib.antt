@@ -6,6 +6,7 @@ pub mod Few
 pub mod Room
 pub mod Lies
 pub mod Done
+pub mod Groups
 pub mod Planned
 pub mod Turn
 pub mod Loop

@@ -1,9 +1,11 @@
 -- What a member does, as steps of the world.
 use Rattle.std.proofs.Common.{◌≡◌, ℕ, ◌⊎◌, inl, inr, Bool, true, false, Option, Some, Result, Ok, Err, IfOk, List, [], ◌∷◌, ◌++◌, refl, sym, ap, subst, ◌∙◌, append_assoc}
 use Rattle.terms.specs.declared.Size.{Size}
+use Rattle.std.specs.Global.{Vec}
 use Rattle.terms.specs.declared.Record.{Record}
+use Rattle.terms.specs.declared.Statement.{Statement}
 use Rattle.terms.specs.declared.Header.{Header}
-use Rattle.terms.specs.Reply.{Event as Happening, records_of}
+use Rattle.terms.specs.Reply.{Event as Happening, records_of, records_of_all, without_tosses}
 use Rattle.disk.specs.declared.memory.MemDisk.{MemDisk}
 use Rattle.disk.specs.Memory.{memory_state}
 use Rattle.disk.specs.Model.{State, MayLeave, at_rest}
@@ -14,7 +16,7 @@ use Rattle.journal.proofs.Held.{left_holds}
 use Rattle.questions.specs.declared.answer.Answer.{Answer}
 use Rattle.questions.specs.Replies.{reply_of}
 use Rattle.world.specs.World.{World, in_doubt, after}
-use Rattle.world.specs.World.Step.{Crash, Restart}
+use Rattle.world.specs.World.Step.{Hears, Crash, Restart}
 use Rattle.world.proofs.Runs.{put-here}
 use Rattle.member.specs.declared.fault.MemberFault.{MemberFault}
 use Rattle.member.specs.declared.fault.MemberFault.TheVariants.{Stopped, Device, Memory, JournalFull, NoSuchQuestion, NoSuchMember}
@@ -24,10 +26,11 @@ use Rattle.member.specs.Sound.{IsSound}
 use Rattle.member.specs.Memory.{memory_disk}
 use Rattle.member.specs.Stands.{IsLeft}
 use Rattle.member.specs.Life.{IsAt, Goes, Lives, step_of}
+use Rattle.member.specs.Groups.{LivesAll, replies_of}
 use Rattle.sim.specs.declared.events.Mark.{Mark}
 use Rattle.sim.specs.declared.events.Mark.TheVariants.{Done}
 use Rattle.sim.specs.declared.seats.Seat.TheVariants.{Here}
-use Rattle.sim.specs.Seats.{IsMarkOf, IsMove, IsDown, Answers, Reopens, mine}
+use Rattle.sim.specs.Seats.{IsMarkOf, IsMove, IsDown, Answers, AnswersAll, Reopens, mine}
 
 -- an event that a member answered
 pub told : (size : Size) (liars : ℕ → Bool) (p : ℕ) (w : World) (toss : ℕ) (fused : Bool) (event : Happening) (old new : Member MemDisk)
@@ -59,6 +62,37 @@ pub told_ok : (size : Size) (liars : ℕ → Bool) (p : ℕ) (w : World) (toss :
     → IfOk result (λ mark. IsMove size liars p w (Answers size p w fused toss event mark) (Here new))
 told_ok size liars p w toss fused event old new answer (Ok mark) is lives = told size liars p w toss fused event old new answer mark is lives
 told_ok size liars p w toss fused event old new answer (Err e) is lives = tt
+
+-- a group that a member answered
+told_all : (size : Size) (liars : ℕ → Bool) (p : ℕ) (w : World) (fused : Bool) (es : List (ℕ × Statement × ℕ)) (old new : Member MemDisk)
+    (answers : Result (Vec Answer) MemberFault) (mark : Mark) → IsMarkOf fused answers mark → LivesAll memory_disk (mine size p) liars w es answers old new
+    → IsMove size liars p w (AnswersAll size p w fused es mark) (Here new)
+told_all size liars p w fused es old new (Ok a) mark is lives = record {
+  steps = Hears p (without_tosses es) (records_of_all (replies_of a.items)) true ∷ [];
+  is = subst (λ (m : Mark). AnswersAll size p w fused es m (Hears p (without_tosses es) (records_of_all (replies_of a.items)) true ∷ [])) (sym is)
+      (record { replies = replies_of a.items; all_reply = lives.0; is = refl });
+  is_run = (lives.1.0, tt);
+  at = lives.1.1;
+}
+told_all size liars p w fused es old new (Err Device) mark is lives = record {
+  steps = Hears p (without_tosses es) (records_of_all lives.0) false ∷ [];
+  is = subst (λ (m : Mark). AnswersAll size p w fused es m (Hears p (without_tosses es) (records_of_all lives.0) false ∷ [])) (sym is.1)
+      (is.0, record { replies = lives.0; all_reply = lives.1; is = refl });
+  is_run = (lives.2.0, tt);
+  at = lives.2.1;
+}
+told_all size liars p w fused es old new (Err Stopped) mark is lives = absurd is
+told_all size liars p w fused es old new (Err Memory) mark is lives = absurd is
+told_all size liars p w fused es old new (Err JournalFull) mark is lives = absurd is
+told_all size liars p w fused es old new (Err NoSuchQuestion) mark is lives = absurd is
+told_all size liars p w fused es old new (Err NoSuchMember) mark is lives = absurd is
+
+pub told_all_ok : (size : Size) (liars : ℕ → Bool) (p : ℕ) (w : World) (fused : Bool) (es : List (ℕ × Statement × ℕ)) (old new : Member MemDisk)
+    (answers : Result (Vec Answer) MemberFault) {E : Type 0} (result : Result Mark E) → IfOk result (λ mark. IsMarkOf fused answers mark)
+    → LivesAll memory_disk (mine size p) liars w es answers old new
+    → IfOk result (λ mark. IsMove size liars p w (AnswersAll size p w fused es mark) (Here new))
+told_all_ok size liars p w fused es old new answers (Ok mark) is lives = told_all size liars p w fused es old new answers mark is lives
+told_all_ok size liars p w fused es old new answers (Err e) is lives = tt
 
 -- a file that a crash leaves of one at rest holds what that one held
 pub holds_kept : (header : Header) (records : List Record) (seen file : List ℕ) → Holds header records seen → MayLeave (at_rest seen) file → Holds header records file

@@ -19,7 +19,7 @@ use Rattle.world.specs.World.Step.{Lie, Hears, Proposes, Crash as CrashStep, Res
 use Rattle.world.specs.Claims.{AllPropose, has_proposed}
 use Rattle.member.specs.Life.{step_of}
 use Rattle.sim.specs.declared.events.Event.{Event}
-use Rattle.sim.specs.declared.events.Event.TheVariants.{Propose, Deliver, LieBytes, Fuse, Crash, Restart, Reset}
+use Rattle.sim.specs.declared.events.Event.TheVariants.{Propose, Deliver, DeliverAll, LieBytes, Fuse, Crash, Restart, Reset}
 use Rattle.sim.specs.declared.events.Which.{Which}
 use Rattle.sim.specs.declared.events.Which.TheVariants.{Next, At}
 use Rattle.sim.specs.declared.events.Mark.{Mark}
@@ -27,8 +27,8 @@ use Rattle.sim.specs.declared.events.Mark.TheVariants.{Done, Failed, Skipped}
 use Rattle.sim.specs.declared.events.Reason.{Reason}
 use Rattle.sim.specs.declared.tasks.Task.{Task}
 use Rattle.sim.specs.declared.tasks.Task.TheVariants as task
-use Rattle.sim.specs.Seats.{nth_said, Answers, AreLies, Reopens}
-use Rattle.sim.specs.Scene.{Scene, plan_of, delivery_of, to_deliver, Does, HearsLies, moved, bytes_in}
+use Rattle.sim.specs.Seats.{nth_said, hearings_from, Answers, AnswersAll, AreLies, Reopens}
+use Rattle.sim.specs.Scene.{Scene, plan_of, delivery_of, to_deliver, for_link, group_of, to_group, Does, HearsLies, moved, bytes_in}
 use Rattle.sim.specs.Runs.{IsPlanned, IsEvent, IsRunOf}
 use Rattle.sim.specs.Outcomes.{ProposesOnly, ProposedOnly, AllProposedOnly}
 
@@ -88,6 +88,12 @@ module _ (question : ℕ) (v : Bool) where
   answers_ok size p w fused toss event Failed steps ok a = subst (λ (l : List Step). AllByRecursion IsOfBit l) (sym a.1.is) (ok (records_of a.1.reply) false, tt)
   answers_ok size p w fused toss event (Skipped reason) steps ok a = absurd a
 
+  all_ok : (size : Size) (p : ℕ) (w : World) (fused : Bool) (es : List (ℕ × Statement × ℕ)) (mark : Mark) (steps : List Step)
+      → AnswersAll size p w fused es mark steps → AllByRecursion IsOfBit steps
+  all_ok size p w fused es Done steps a = subst (λ (l : List Step). AllByRecursion IsOfBit l) (sym a.is) (tt, tt)
+  all_ok size p w fused es Failed steps a = subst (λ (l : List Step). AllByRecursion IsOfBit l) (sym a.1.is) (tt, tt)
+  all_ok size p w fused es (Skipped reason) steps a = absurd a
+
   lies_ok : (size : Size) (p : ℕ) (w : World) (fused : Bool) (liar toss : ℕ) (statements : List Statement) (mark : Mark) (steps : List Step)
       → AreLies size p w fused liar toss statements mark steps → AllByRecursion IsOfBit steps
   lies_ok size p w fused liar toss [] mark steps h = none steps h.1
@@ -116,6 +122,7 @@ module _ (question : ℕ) (v : Bool) where
   abbrev TaskOk : Task → Type 0
   TaskOk (task.Propose q bit toss) = q ≡ question → bit ≡ v
   TaskOk (task.Deliver from s place toss) = Unit {0}
+  TaskOk (task.DeliverAll from count toss) = Unit {0}
   TaskOk (task.Lie liar toss) = Unit {0}
   TaskOk (task.Fuse calls) = Unit {0}
   TaskOk (task.Crash pick) = Unit {0}
@@ -125,6 +132,8 @@ module _ (question : ℕ) (v : Bool) where
   does_ok : (size : Size) (c : Scene) (p : ℕ) (told : Task) (bytes : List ℕ) (mark : Mark) (steps : List Step) → TaskOk told → Does size c p told bytes mark steps → AllByRecursion IsOfBit steps
   does_ok size c p (task.Propose q bit toss) bytes mark steps ok h = answers_ok size p c.world (c.fused p) toss.0 (Proposal q bit) mark steps (λ records kept. ok) h
   does_ok size c p (task.Deliver from s place toss) bytes mark steps ok h = answers_ok size p c.world (c.fused p) toss.0 (Hearing from s) mark steps (λ records kept. tt) h
+  does_ok size c p (task.DeliverAll from count toss) bytes mark steps ok h =
+      all_ok size p c.world (c.fused p) (hearings_from from toss.0 (group_of c from p count)) mark steps h
   does_ok size c p (task.Lie liar toss) bytes mark steps ok h = hears_ok size c p liar bytes toss.0 h.0 h.1 mark steps h.3
   does_ok size c p (task.Fuse calls) bytes mark steps ok h = none steps h.1
   does_ok size c p (task.Crash pick) bytes mark steps ok h = subst (λ (l : List Step). AllByRecursion IsOfBit l) (sym h.1) (tt, tt)
@@ -147,12 +156,20 @@ module _ (question : ℕ) (v : Bool) where
   which_ok records place from to Next toss = said_ok from to (place + 1) toss (nth_said records place)
   which_ok records place from to (At number) toss = said_ok from to place toss (nth_said records number)
 
+  group_ok : (from to count : ℕ) (toss : Toss) (statements : List Statement) → PlanOk (to_group from to count toss statements)
+  group_ok from to count toss [] = tt
+  group_ok from to count toss (s ∷ statements) = tt
+
+  link_ok : (size : Size) (liars : ℕ → Bool) (w : World) (from to : ℕ) (plan : Result (ℕ × Task) Reason) → PlanOk plan → PlanOk (for_link size liars w from to plan)
+  link_ok size liars w from to plan ok =
+      either (nat_lt from size.n) _ _ (either (nat_lt to size.n) _ _ (either (liars from) _ _ tt (either (liars to) _ _ tt (either (is_none (w.doubt to)) _ _ ok tt))) tt) tt
+
   plan_ok : (size : Size) (liars : ℕ → Bool) (c : Scene) (event : Event) → ProposesOnly question v event → PlanOk (plan_of size liars c event)
   plan_ok size liars c (Propose m q bit toss) ok =
       either (nat_lt q size.questions) _ _ (either (nat_lt m size.n) _ _ (either (liars m) _ _ tt (either (is_none (c.world.doubt m)) _ _ ok tt)) tt) tt
   plan_ok size liars c (Deliver from to which toss) ok =
-      either (nat_lt from size.n) _ _ (either (nat_lt to size.n) _ _ (either (liars from) _ _ tt (either (liars to) _ _ tt
-      (either (is_none (c.world.doubt to)) _ _ (which_ok (c.world.journal from) (c.place from to) from to which toss) tt))) tt) tt
+      link_ok size liars c.world from to _ (which_ok (c.world.journal from) (c.place from to) from to which toss)
+  plan_ok size liars c (DeliverAll from to count toss) ok = link_ok size liars c.world from to _ (group_ok from to count toss (group_of c from to count))
   plan_ok size liars c (LieBytes liar to bytes toss) ok =
       either (nat_lt liar size.n) _ _ (either (nat_lt to size.n) _ _ (either (liars liar) _ _ (either (liars to) _ _ tt (either (is_none (c.world.doubt to)) _ _ tt tt)) tt) tt) tt
   plan_ok size liars c (Fuse m calls) ok = either (nat_lt m size.n) _ _ (either (liars m) _ _ tt tt) tt
@@ -163,6 +180,7 @@ module _ (question : ℕ) (v : Bool) where
   moved_world : (c : Scene) (p : ℕ) (told : Task) (bytes : List ℕ) (mark : Mark) (w : World) → (moved c p told bytes mark w).world ≡ w
   moved_world c p (task.Propose q bit toss) bytes mark w = refl
   moved_world c p (task.Deliver from s place toss) bytes mark w = refl
+  moved_world c p (task.DeliverAll from count toss) bytes mark w = refl
   moved_world c p (task.Lie liar toss) bytes mark w = refl
   moved_world c p (task.Fuse calls) bytes mark w = refl
   moved_world c p (task.Crash pick) bytes mark w = refl

@@ -1,10 +1,11 @@
 -- A member's journal always has room.
-use Rattle.std.proofs.Common.{◌≡◌, ◌+◌, ◌*◌, ◌<◌, ◌≤◌, ◌⊎◌, inl, inr, ℕ, Bool, true, false, None, Result, Ok, Err, IsErrOf, List, [], ◌∷◌, ◌++◌, length, length-append, sym, ap, subst, ◌∙◌, arith}
+use Rattle.std.proofs.Common.{◌≡◌, ◌+◌, ◌*◌, ◌^◌, ◌<◌, ◌≤◌, ◌⊎◌, inl, inr, ℕ, Bool, true, false, None, Result, Ok, Err, IsErrOf, List, [], ◌∷◌, ◌++◌, length, length-append, sym, ap, subst, ◌∙◌, arith}
 use Rattle.terms.specs.declared.Size.{Size}
+use Rattle.terms.specs.declared.Statement.{Statement}
 use Rattle.terms.specs.declared.Header.{Header}
 use Rattle.terms.specs.declared.Record.{Record}
 use Rattle.terms.specs.Past.{past_of}
-use Rattle.terms.specs.Reply.{Event as Happening, IsReply, records_of}
+use Rattle.terms.specs.Reply.{Event as Happening, IsReply, AreReplies, records_of, records_of_all, without_tosses}
 use Rattle.terms.specs.Reply.Event.{Hearing, Proposal}
 use Rattle.disk.specs.declared.memory.MemDisk.{MemDisk}
 use Rattle.journal.specs.Texts.{Batch, body, header_text, texts, records_of as records_in}
@@ -12,15 +13,17 @@ use Rattle.journal.specs.WellFormed.{AreBatches}
 use Rattle.journal.proofs.Texts.{length-header_text, length-body}
 use Rattle.questions.specs.declared.answer.Answer.{Answer}
 use Rattle.world.specs.World.{World, Step, IsCorrect, IsAllowed, IsRun, start, in_doubt, after, after_all}
+use Rattle.world.specs.World.Step.{Hears}
 use Rattle.world.specs.Laws.{AreWellFormed}
-use Rattle.world.proofs.Runs.{IsRun-append, after_all-append}
+use Rattle.world.proofs.Runs.{IsRun-append, after_all-append, hears_allowed, put-here}
 use Rattle.world.proofs.Single.{decides_once, says_once}
 use Rattle.world.proofs.Order.{reached_order, saved_formed}
 use Rattle.world.proofs.Formed.{AreWellFormed-front}
 use Rattle.member.specs.declared.fault.MemberFault.{MemberFault}
 use Rattle.member.specs.declared.fault.MemberFault.TheVariants.{Stopped, Device, Memory, JournalFull, NoSuchQuestion, NoSuchMember}
 use Rattle.member.specs.declared.member.Member.{Member}
-use Rattle.member.specs.Answers.{question_of, IsFull}
+use Rattle.member.specs.Answers.{question_of, gate_after, IsFull}
+use Rattle.member.specs.Groups.{AllReply, AllCome, IsFullOfAll}
 use Rattle.member.specs.Life.{IsAt, Lives, Comes, Replies, step_of}
 use Rattle.member.specs.Memory.{memory_disk}
 use Rattle.member.specs.Sound.{IsSound}
@@ -70,8 +73,9 @@ few_saved size liars w p may correct =
     (λ kind place. says_once size liars may.steps r.is_run p kind place correct)
     (λ question. decides_once size liars may.steps r.is_run p question correct))
 
-module _ (size : Size) (liars : ℕ → Bool) (p : ℕ) (w : World) (toss : ℕ) (event : Happening) (old : Member MemDisk) (correct : IsCorrect size liars p) (free : w.doubt p ≡ None)
-    (may : MayCome size liars w) (sound : IsSound memory_disk old) (at : IsAt memory_disk (mine size p) w old) (comes : Comes w event) where
+-- A member that is up, and what it may come to save.
+module _ (size : Size) (liars : ℕ → Bool) (p : ℕ) (w : World) (old : Member MemDisk) (correct : IsCorrect size liars p) (free : w.doubt p ≡ None)
+    (may : MayCome size liars w) (sound : IsSound memory_disk old) (at : IsAt memory_disk (mine size p) w old) where
   going : is_stopped_of old ≡ false
   going = go (true_or_false (is_stopped_of old))
     where
@@ -79,6 +83,27 @@ module _ (size : Size) (liars : ℕ → Bool) (p : ℕ) (w : World) (toss : ℕ)
       go (inl e) = let some = (at.down e).0.1 in cc (some, free)
       go (inr e) = e
 
+  -- a batch that a step saves has room
+  saved_fits : (next : Step) (batch : List Record) → IsAllowed size liars w next → (after w next).journal p ≡ w.journal p ++ batch → 2 ^ 31 < gate_after old (length batch) → ⊥
+  saved_fits next batch allowed saves over =
+      let few = few_saved size liars (after w next) p (comes_after size liars w (next ∷ []) may (allowed, tt)) correct in
+      let journal = ap (λ (l : List Record). length l) saves in
+      let both = length-append (w.journal p) batch in
+      let saved = ap (λ (l : List Record). length l) at.records in
+      let gate = gate_below old sound going in
+      omega arith
+
+  -- no group finds the journal full
+  module _ (es : List (ℕ × Statement × ℕ)) (come : AllCome w es) where
+    pub never_full_all : IsFullOfAll old es → ⊥
+    never_full_all full =
+        let replies : AllReply (mine size p) w es full.0 = λ question.
+        subst (λ (h : Header). AreReplies (past_of h.size h.me question (w.journal p) (w.heard p)) es full.0) at.header_is (full.1 question (w.journal p) (w.heard p) (at.up going).1) in
+        saved_fits (Hears p (without_tosses es) (records_of_all full.0) true) (records_of_all full.0)
+        (hears_allowed size liars w p 0 es full.0 true correct free come (replies 0)) (put-here w.journal p (w.journal p ++ records_of_all full.0)) full.2
+
+module _ (size : Size) (liars : ℕ → Bool) (p : ℕ) (w : World) (toss : ℕ) (event : Happening) (old : Member MemDisk) (correct : IsCorrect size liars p) (free : w.doubt p ≡ None)
+    (may : MayCome size liars w) (sound : IsSound memory_disk old) (at : IsAt memory_disk (mine size p) w old) (comes : Comes w event) where
   asked : (happens : Happening) → Comes w happens → IsAllowed size liars w (step_of p happens [] false) → question_of happens < size.questions
   asked (Hearing a s) sent allowed =
       let r = may.reached in
@@ -90,16 +115,9 @@ module _ (size : Size) (liars : ℕ → Bool) (p : ℕ) (w : World) (toss : ℕ)
       let reply = full.0 in
       let replies : Replies (mine size p) w toss event reply =
       subst (λ (h : Header). IsReply (past_of h.size h.me (question_of event) (w.journal p) (w.heard p)) toss event reply) at.header_is
-      (full.1 (w.journal p) (w.heard p) (at.up going).1) in
+      (full.1 (w.journal p) (w.heard p) (at.up (going size liars p w old correct free may sound at)).1) in
       let one = kept_step (mine size p) liars w toss event reply correct free comes (asked event comes allowed) replies in
-      let next = step_of p event (records_of reply) true in
-      let few = few_saved size liars (after w next) p (comes_after size liars w (next ∷ []) may (one.allowed true, tt)) correct in
-      let journal = ap (λ (l : List Record). length l) one.journal in
-      let both = length-append (w.journal p) (records_of reply) in
-      let saved = ap (λ (l : List Record). length l) at.records in
-      let gate = gate_below old sound going in
-      let over = full.2 in
-      omega arith
+      saved_fits size liars p w old correct free may sound at (step_of p event (records_of reply) true) (records_of reply) (one.allowed true) one.journal full.2
 
   -- no event finds the journal full
   pub never_full : (new : Member MemDisk) (answer : Result Answer MemberFault) → (IsErrOf answer JournalFull → IsFull old toss event)

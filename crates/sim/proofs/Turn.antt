@@ -5,7 +5,7 @@ use Rattle.std.proofs.Math.Seq.{drop-append_seam}
 use Rattle.terms.specs.declared.Size.{Size}
 use Rattle.terms.specs.declared.Statement.{Statement}
 use Rattle.terms.specs.declared.Record.{Record}
-use Rattle.terms.specs.Reply.{Event as Happening, records_of}
+use Rattle.terms.specs.Reply.{Event as Happening, records_of, records_of_all, without_tosses}
 use Rattle.terms.specs.Reply.Event.{Hearing, Proposal}
 use Rattle.wire.specs.declared.message.Message.{Message}
 use Rattle.sim.specs.declared.events.Reason.{Reason}
@@ -21,8 +21,8 @@ use Rattle.sim.specs.declared.seats.Seat.{Seat}
 use Rattle.sim.specs.declared.seats.Seat.TheVariants.{Here, Down, Liar}
 use Rattle.sim.specs.declared.tasks.Task.{Task}
 use Rattle.sim.specs.declared.tasks.Task.TheVariants as task
-use Rattle.sim.specs.Seats.{IsSeat, Answers, AreLies, GoesOn, is_liar, saved_in, mine}
-use Rattle.sim.specs.Scene.{Scene, Does, HearsLies, moved, scene_after, plan_of, bytes_in}
+use Rattle.sim.specs.Seats.{IsSeat, Answers, AnswersAll, hearings_from, AreLies, GoesOn, is_liar, saved_in, mine}
+use Rattle.sim.specs.Scene.{Scene, Does, HearsLies, group_of, moved, scene_after, plan_of, bytes_in}
 use Rattle.sim.specs.Posts.{IsPost, IsDone, IsCluster, Fits}
 use Rattle.sim.specs.Runs.{IsTurn, IsPlanned}
 use Rattle.sim.specs.declared.events.Event.{Event}
@@ -48,6 +48,10 @@ event_other w p q (Hearing a s) batch false h = record { journal = refl; heard =
 event_other w p q (Proposal question bit) batch true h = record { journal = rw h refl; heard = refl; doubt = refl }
 event_other w p q (Proposal question bit) batch false h = record { journal = refl; heard = refl; doubt = rw h refl }
 
+group_other : (w : World) (p q : ℕ) (es : List (ℕ × Statement)) (batch : List Record) (kept : Bool) → eqb q p ≡ false → SameAt q w (after w (Hears p es batch kept))
+group_other w p q es batch true h = record { journal = rw h refl; heard = rw h refl; doubt = refl }
+group_other w p q es batch false h = record { journal = refl; heard = rw h refl; doubt = rw h refl }
+
 by_steps : (q : ℕ) (w : World) (steps to : List Step) → steps ≡ to → SameAt q w (after_all w to) → SameAt q w (after_all w steps)
 by_steps q w steps to e h = subst (λ (l : List Step). SameAt q w (after_all w l)) (sym e) h
 
@@ -56,6 +60,12 @@ answers_other : (size : Size) (p q : ℕ) (w : World) (fused : Bool) (toss : ℕ
 answers_other size p q w fused toss event Done steps h ne = by_steps q w steps _ h.is (event_other w p q event (records_of h.reply) true ne)
 answers_other size p q w fused toss event Failed steps h ne = by_steps q w steps _ h.1.is (event_other w p q event (records_of h.1.reply) false ne)
 answers_other size p q w fused toss event (Skipped reason) steps h ne = absurd h
+
+all_other : (size : Size) (p q : ℕ) (w : World) (fused : Bool) (es : List (ℕ × Statement × ℕ)) (mark : Mark) (steps : List Step)
+    → AnswersAll size p w fused es mark steps → eqb q p ≡ false → SameAt q w (after_all w steps)
+all_other size p q w fused es Done steps h ne = by_steps q w steps _ h.is (group_other w p q (without_tosses es) (records_of_all h.replies) true ne)
+all_other size p q w fused es Failed steps h ne = by_steps q w steps _ h.1.is (group_other w p q (without_tosses es) (records_of_all h.1.replies) false ne)
+all_other size p q w fused es (Skipped reason) steps h ne = absurd h
 
 lies_other : (size : Size) (p q : ℕ) (w : World) (fused : Bool) (liar toss : ℕ) (statements : List Statement) (mark : Mark) (steps : List Step)
     → AreLies size p w fused liar toss statements mark steps → eqb q p ≡ false → SameAt q w (after_all w steps)
@@ -84,6 +94,8 @@ pub does_other : (size : Size) (c : Scene) (p q : ℕ) (told : Task) (bytes : Li
     → SameAt q c.world (after_all c.world steps)
 does_other size c p q (task.Propose question bit toss) bytes mark steps h ne = answers_other size p q c.world (c.fused p) toss.0 (Proposal question bit) mark steps h ne
 does_other size c p q (task.Deliver from s place toss) bytes mark steps h ne = answers_other size p q c.world (c.fused p) toss.0 (Hearing from s) mark steps h ne
+does_other size c p q (task.DeliverAll from count toss) bytes mark steps h ne =
+    all_other size p q c.world (c.fused p) (hearings_from from toss.0 (group_of c from p count)) mark steps h ne
 does_other size c p q (task.Lie liar toss) bytes mark steps h ne = hears_other size c p q liar bytes toss.0 h.0 h.1 mark steps h.3 ne
 does_other size c p q (task.Fuse calls) bytes mark steps h ne = by_steps q c.world steps [] h.1 (same_here q c.world)
 does_other size c p q (task.Crash pick) bytes mark steps h ne = by_steps q c.world steps _ h.1 (record { journal = refl; heard = refl; doubt = rw ne refl })
@@ -104,6 +116,8 @@ tables_of c p q (task.Propose question bit toss) bytes Done w ne = record { plac
 tables_of c p q (task.Propose question bit toss) bytes Failed w ne = record { place = λ a. refl; fed = λ a. refl; fused = refl }
 tables_of c p q (task.Deliver from s place toss) bytes Done w ne = record { place = λ a. put_at-other c.place from p place a q ne; fed = λ a. refl; fused = refl }
 tables_of c p q (task.Deliver from s place toss) bytes Failed w ne = record { place = λ a. put_at-other c.place from p place a q ne; fed = λ a. refl; fused = refl }
+tables_of c p q (task.DeliverAll from count toss) bytes Done w ne = record { place = λ a. put_at-other c.place from p _ a q ne; fed = λ a. refl; fused = refl }
+tables_of c p q (task.DeliverAll from count toss) bytes Failed w ne = record { place = λ a. put_at-other c.place from p _ a q ne; fed = λ a. refl; fused = refl }
 tables_of c p q (task.Lie liar toss) bytes Done w ne = record { place = λ a. refl; fed = λ a. put_at-other c.fed liar p (c.fed liar p ++ bytes) a q ne; fused = refl }
 tables_of c p q (task.Lie liar toss) bytes Failed w ne = record { place = λ a. refl; fed = λ a. put_at-other c.fed liar p (c.fed liar p ++ bytes) a q ne; fused = refl }
 tables_of c p q (task.Fuse calls) bytes Done w ne = record { place = λ a. refl; fed = λ a. refl; fused = put-there c.fused p _ q ne }
@@ -138,6 +152,7 @@ skipped_hears size c p liar bytes toss messages (Rest rest) reason steps h = ski
 skipped_does : (size : Size) (c : Scene) (p : ℕ) (told : Task) (bytes : List ℕ) (reason : Reason) (steps : List Step) → Does size c p told bytes (Skipped reason) steps → steps ≡ []
 skipped_does size c p (task.Propose question bit toss) bytes reason steps h = absurd h
 skipped_does size c p (task.Deliver from s place toss) bytes reason steps h = absurd h
+skipped_does size c p (task.DeliverAll from count toss) bytes reason steps h = absurd h
 skipped_does size c p (task.Lie liar toss) bytes reason steps h = skipped_hears size c p liar bytes toss.0 h.0 h.1 reason steps h.3
 skipped_does size c p (task.Fuse calls) bytes reason steps h = h.1
 skipped_does size c p (task.Crash pick) bytes reason steps h = let e : ◌≡◌ {A = Mark} (Skipped reason) Done = h.0 in cc
@@ -147,6 +162,7 @@ skipped_does size c p (task.Reset from) bytes reason steps h = h.1
 moved_world : (c : Scene) (p : ℕ) (told : Task) (bytes : List ℕ) (mark : Mark) (w : World) → (moved c p told bytes mark w).world ≡ w
 moved_world c p (task.Propose question bit toss) bytes mark w = refl
 moved_world c p (task.Deliver from s place toss) bytes mark w = refl
+moved_world c p (task.DeliverAll from count toss) bytes mark w = refl
 moved_world c p (task.Lie liar toss) bytes mark w = refl
 moved_world c p (task.Fuse calls) bytes mark w = refl
 moved_world c p (task.Crash pick) bytes mark w = refl
@@ -220,6 +236,7 @@ liar_stays : (size : Size) (liars : ℕ → Bool) (c : Scene) (p : ℕ) (told : 
     → Does size c p told bytes mark steps → steps ≡ []
 liar_stays size liars c p (task.Propose question bit toss) bytes mark steps e fits h = let no : liars p ≡ false = fits.0 in cc
 liar_stays size liars c p (task.Deliver from s place toss) bytes mark steps e fits h = let no : liars p ≡ false = fits.0.0 in cc
+liar_stays size liars c p (task.DeliverAll from count toss) bytes mark steps e fits h = let no : liars p ≡ false = fits.0.0 in cc
 liar_stays size liars c p (task.Lie liar toss) bytes mark steps e fits h = let no : liars p ≡ false = fits.0.0 in cc
 liar_stays size liars c p (task.Fuse calls) bytes mark steps e fits h = h.1
 liar_stays size liars c p (task.Crash pick) bytes mark steps e fits h = let no : liars p ≡ false = fits in cc

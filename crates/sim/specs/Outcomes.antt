@@ -9,7 +9,7 @@ use Rattle.disk.specs.declared.memory.MemDisk.{MemDisk}
 use Rattle.disk.specs.Memory.{fuse_left, memory_state}
 use Rattle.world.specs.World.{World, Step, IsRun, start, after_all}
 use Rattle.sim.specs.declared.events.Event.{Event}
-use Rattle.sim.specs.declared.events.Event.TheVariants.{Propose, Deliver, LieBytes, Fuse, Crash, Restart, Reset}
+use Rattle.sim.specs.declared.events.Event.TheVariants.{Propose, Deliver, DeliverAll, LieBytes, Fuse, Crash, Restart, Reset}
 use Rattle.sim.specs.declared.events.Mark.{Mark}
 use Rattle.sim.specs.declared.events.Mark.TheVariants.{Done, Failed, Skipped}
 use Rattle.sim.specs.Scene.{Scene, opening}
@@ -89,6 +89,7 @@ HaveOneBit verdicts = (a b question round later : ℕ) (v u : Bool)
 abbrev pub ProposesOnly : ℕ → Bool → Event → Type 0
 ProposesOnly question v (Propose member of bit toss) = of ≡ question → bit ≡ v
 ProposesOnly question v (Deliver from to which toss) = Unit {0}
+ProposesOnly question v (DeliverAll from to count toss) = Unit {0}
 ProposesOnly question v (LieBytes liar to bytes toss) = Unit {0}
 ProposesOnly question v (Fuse member calls) = Unit {0}
 ProposesOnly question v (Crash member pick) = Unit {0}

@@ -1,7 +1,9 @@
 -- What a post has of the scene, and what a task does to it.
-use Rattle.std.specs.Prelude.{ℕ, ◌≡◌, ◌<◌, Bool, true, false, Option, Some, None, List, [], length, get_or}
+use Rattle.std.specs.Prelude.{ℕ, ◌≡◌, ◌<◌, ◌+◌, Bool, true, false, Option, Some, None, List, [], length, get_or}
+use Rattle.std.specs.List.{AllByRecursion}
 use Rattle.terms.specs.declared.Size.{Size}
 use Rattle.terms.specs.declared.Record.{Record}
+use Rattle.terms.specs.declared.Statement.{Statement}
 use Rattle.terms.specs.declared.Header.{Header}
 use Rattle.terms.specs.WellFormed.{IsWellFormed}
 use Rattle.wire.specs.declared.message.Message.{Message}
@@ -9,6 +11,7 @@ use Rattle.wire.specs.Reading.{Rest, Reads}
 use Rattle.world.specs.World.{Step, IsRun, has_sent, start, after_all}
 use Rattle.sim.specs.declared.events.Mark.{Mark}
 use Rattle.sim.specs.declared.links.Link.{Link}
+use Rattle.sim.specs.declared.posts.Group.{Group}
 use Rattle.sim.specs.declared.posts.Post.{Post}
 use Rattle.sim.specs.declared.tasks.Task.{Task}
 use Rattle.sim.specs.declared.tasks.Task.TheVariants as task
@@ -16,7 +19,7 @@ use Rattle.sim.specs.declared.faults.SimFault.{SimFault}
 use Rattle.sim.specs.declared.faults.SimFault.TheVariants as faults
 use Rattle.disk.specs.declared.memory.MemDisk.{MemDisk}
 use Rattle.sim.specs.Seats.{IsOneSound, IsSeat, IsFresh, HasFuse, HasCrashed, is_liar, mine}
-use Rattle.sim.specs.Scene.{Scene, Does, scene_after}
+use Rattle.sim.specs.Scene.{Scene, Does, group_of, scene_after}
 
 -- the link is at that place, and has read those bytes; one from a correct member holds no part of a frame
 pub record IsLink (size : Size) (liar : Bool) (place : ℕ) (fed : List ℕ) (link : Link) : Type 0 where
@@ -49,6 +52,7 @@ pub record IsReady (post : Post) : Type 0 where
 abbrev pub HasSender : ℕ → Task → Type 0
 HasSender n (task.Propose question bit toss) = Unit {0}
 HasSender n (task.Deliver from s place toss) = from < n
+HasSender n (task.DeliverAll from count toss) = from < n
 HasSender n (task.Lie liar toss) = liar < n
 HasSender n (task.Fuse calls) = Unit {0}
 HasSender n (task.Crash pick) = Unit {0}
@@ -59,16 +63,34 @@ HasSender n (task.Reset from) = from < n
 abbrev pub Runs : (ℕ → Bool) → Scene → ℕ → Type 0
 Runs liars c p = (liars p ≡ false) × (c.world.doubt p ≡ None)
 
+-- the statements were sent by that member, and are well formed
+abbrev pub AreSaid : Size → Scene → ℕ → List Statement → Type 0
+AreSaid size c from statements = AllByRecursion (λ s. (has_sent c.world.sent from s ≡ true) × IsWellFormed size s) statements
+
 -- the task may be carried out at that number
 abbrev pub Fits : Size → (ℕ → Bool) → Scene → ℕ → Task → Type 0
 Fits size liars c p (task.Propose question bit toss) = Runs liars c p
 Fits size liars c p (task.Deliver from s place toss) =
     Runs liars c p × (liars from ≡ false) × (from < size.n) × (has_sent c.world.sent from s ≡ true) × IsWellFormed size s
+Fits size liars c p (task.DeliverAll from count toss) =
+    Runs liars c p × (liars from ≡ false) × (from < size.n) × AreSaid size c from (group_of c from p count)
 Fits size liars c p (task.Lie liar toss) = Runs liars c p × (liars liar ≡ true) × (liar < size.n)
 Fits size liars c p (task.Fuse calls) = liars p ≡ false
 Fits size liars c p (task.Crash pick) = liars p ≡ false
 Fits size liars c p task.Restart = (liars p ≡ false) × ((batch : List Record) × (c.world.doubt p ≡ Some batch))
 Fits size liars c p (task.Reset from) = from < size.n
+
+-- the group is what the task at that number brings, with the link's place behind it
+abbrev pub Brings : Scene → ℕ → Task → Group → Type 0
+Brings c p (task.Propose question bit toss) group = Unit {0}
+Brings c p (task.Deliver from s place toss) group = Unit {0}
+Brings c p (task.DeliverAll from count toss) group =
+    (group.statements.items ≡ group_of c from p count) × (group.place ≡ c.place from p + length (group_of c from p count))
+Brings c p (task.Lie liar toss) group = Unit {0}
+Brings c p (task.Fuse calls) group = Unit {0}
+Brings c p (task.Crash pick) group = Unit {0}
+Brings c p task.Restart group = Unit {0}
+Brings c p (task.Reset from) group = Unit {0}
 
 -- the task with that mark is some steps of the world, after which the post is what the scene has of its number
 pub record IsDone (size : Size) (liars : ℕ → Bool) (c : Scene) (p : ℕ) (told : Task) (bytes : List ℕ) (mark : Mark) (post : Post) : Type 0 where
@@ -96,6 +118,7 @@ DoesToDisk (task.Fuse calls) old new = HasFuse calls old new
 DoesToDisk (task.Crash pick) old new = HasCrashed pick old new
 DoesToDisk (task.Propose question bit toss) old new = Unit {0}
 DoesToDisk (task.Deliver from statement place toss) old new = Unit {0}
+DoesToDisk (task.DeliverAll from count toss) old new = Unit {0}
 DoesToDisk (task.Lie liar toss) old new = Unit {0}
 DoesToDisk task.Restart old new = Unit {0}
 DoesToDisk (task.Reset from) old new = Unit {0}

@@ -1,5 +1,5 @@
 -- Which runs of the world a script and its marks are.
-use Rattle.std.specs.Prelude.{ℕ, ◌≡◌, ◌+◌, Bool, false, cond, ◌==◌, nat_lt, is_some, Option, Some, None, Result, Ok, Err, List, [], ◌∷◌, ◌++◌}
+use Rattle.std.specs.Prelude.{ℕ, ◌≡◌, ◌+◌, Bool, false, cond, ◌==◌, nat_lt, is_some, Option, Some, None, Result, Ok, Err, List, [], ◌∷◌, ◌++◌, length}
 use Rattle.terms.specs.declared.Size.{Size}
 use Rattle.terms.specs.declared.Statement.{Statement}
 use Rattle.terms.specs.declared.Record.{Record}
@@ -11,7 +11,7 @@ use Rattle.rounds.specs.declared.tosses.Toss.{Toss}
 use Rattle.world.specs.World.{World, Step, start, put}
 use Rattle.world.specs.World.Step.{Crash as CrashStep}
 use Rattle.sim.specs.declared.events.Event.{Event}
-use Rattle.sim.specs.declared.events.Event.TheVariants.{Propose, Deliver, LieBytes, Fuse, Crash, Restart, Reset}
+use Rattle.sim.specs.declared.events.Event.TheVariants.{Propose, Deliver, DeliverAll, LieBytes, Fuse, Crash, Restart, Reset}
 use Rattle.sim.specs.declared.events.Which.{Which}
 use Rattle.sim.specs.declared.events.Which.TheVariants.{Next, At}
 use Rattle.sim.specs.declared.events.Mark.{Mark}
@@ -21,7 +21,7 @@ use Rattle.sim.specs.declared.events.Reason.TheVariants.{NoSuch, WrongSide, NotU
 use Rattle.sim.specs.declared.tasks.Task.{Task}
 use Rattle.sim.specs.declared.tasks.Task.TheVariants as task
 use Rattle.sim.specs.Links.{statements_in}
-use Rattle.sim.specs.Seats.{nth_said, Answers, AreLies, Reopens}
+use Rattle.sim.specs.Seats.{nth_said, group_from, hearings_from, Answers, AnswersAll, AreLies, Reopens}
 
 -- the world, and what the script alone tells of links and fuses
 pub record Scene : Type 0 where
@@ -50,6 +50,12 @@ for_correct size liars p plan = cond (nat_lt p size.n) (cond (liars p) (Err Wron
 abbrev pub for_running : {A : Type 0} → Size → (ℕ → Bool) → World → ℕ → Result A Reason → Result A Reason
 for_running size liars w p plan = for_correct size liars p (cond (is_none (w.doubt p)) plan (Err NotUp))
 
+-- for a correct member that is up, over the link from a correct member
+abbrev pub for_link : {A : Type 0} → Size → (ℕ → Bool) → World → ℕ → ℕ → Result A Reason → Result A Reason
+for_link size liars w from to plan =
+    cond (nat_lt from size.n) (cond (nat_lt to size.n) (cond (liars from) (Err WrongSide) (cond (liars to) (Err WrongSide)
+    (cond (is_none (w.doubt to)) plan (Err NotUp)))) (Err NoSuch)) (Err NoSuch)
+
 -- a statement, if there is one, is delivered, and the link is then at that place
 abbrev pub to_deliver : ℕ → ℕ → ℕ → Toss → Option Statement → Result (ℕ × Task) Reason
 to_deliver from to place toss None = Err Nothing
@@ -59,6 +65,15 @@ to_deliver from to place toss (Some s) = Ok (to, task.Deliver from s place toss)
 abbrev pub delivery_of : List Record → ℕ → ℕ → ℕ → Which → Toss → Result (ℕ × Task) Reason
 delivery_of records place from to Next toss = to_deliver from to (place + 1) toss (nth_said records place)
 delivery_of records place from to (At number) toss = to_deliver from to place toss (nth_said records number)
+
+-- the statements of a group of at most so many: those of the sender's from the link's place on
+abbrev pub group_of : Scene → ℕ → ℕ → ℕ → List Statement
+group_of c from to count = group_from (c.world.journal from) (c.place from to) count
+
+-- these statements, if there are any, are delivered as a group of at most so many
+abbrev pub to_group : ℕ → ℕ → ℕ → Toss → List Statement → Result (ℕ × Task) Reason
+to_group from to count toss [] = Err Nothing
+to_group from to count toss (s ∷ statements) = Ok (to, task.DeliverAll from count toss)
 
 -- a liar's bytes for a correct member that is up
 abbrev pub lie_plan : Size → (ℕ → Bool) → Scene → ℕ → ℕ → Toss → Result (ℕ × Task) Reason
@@ -71,8 +86,8 @@ abbrev pub plan_of : Size → (ℕ → Bool) → Scene → Event → Result (ℕ
 plan_of size liars c (Propose member question bit toss) =
     cond (nat_lt question size.questions) (for_running size liars c.world member (Ok (member, task.Propose question bit toss))) (Err NoSuch)
 plan_of size liars c (Deliver from to which toss) =
-    cond (nat_lt from size.n) (cond (nat_lt to size.n) (cond (liars from) (Err WrongSide) (cond (liars to) (Err WrongSide)
-    (cond (is_none (c.world.doubt to)) (delivery_of (c.world.journal from) (c.place from to) from to which toss) (Err NotUp)))) (Err NoSuch)) (Err NoSuch)
+    for_link size liars c.world from to (delivery_of (c.world.journal from) (c.place from to) from to which toss)
+plan_of size liars c (DeliverAll from to count toss) = for_link size liars c.world from to (to_group from to count toss (group_of c from to count))
 plan_of size liars c (LieBytes liar to bytes toss) = lie_plan size liars c liar to toss
 plan_of size liars c (Fuse member calls) = for_correct size liars member (Ok (member, task.Fuse calls))
 plan_of size liars c (Crash member pick) = for_correct size liars member (Ok (member, task.Crash pick))
@@ -93,6 +108,8 @@ HearsLies size c p liar bytes toss messages (Rest rest) mark steps =
 abbrev pub Does : Size → Scene → ℕ → Task → List ℕ → Mark → List Step → Type 0
 Does size c p (task.Propose question bit toss) bytes mark steps = Answers size p c.world (c.fused p) toss.0 (Proposal question bit) mark steps
 Does size c p (task.Deliver from s place toss) bytes mark steps = Answers size p c.world (c.fused p) toss.0 (Hearing from s) mark steps
+Does size c p (task.DeliverAll from count toss) bytes mark steps =
+    AnswersAll size p c.world (c.fused p) (hearings_from from toss.0 (group_of c from p count)) mark steps
 Does size c p (task.Lie liar toss) bytes mark steps =
     (messages : List Message) × (end : End) × Reads size (c.fed liar p) messages end
     × HearsLies size c p liar bytes toss.0 messages end mark steps
@@ -105,6 +122,8 @@ Does size c p (task.Reset from) bytes mark steps = (mark ≡ Done) × (steps ≡
 abbrev pub moved : Scene → ℕ → Task → List ℕ → Mark → World → Scene
 moved c p (task.Propose question bit toss) bytes mark w = record c { world = w }
 moved c p (task.Deliver from s place toss) bytes mark w = record c { world = w; place = put_at c.place from p place }
+moved c p (task.DeliverAll from count toss) bytes mark w =
+    record c { world = w; place = put_at c.place from p (c.place from p + length (group_of c from p count)) }
 moved c p (task.Lie liar toss) bytes mark w = record c { world = w; fed = put_at c.fed liar p (c.fed liar p ++ bytes) }
 moved c p (task.Fuse calls) bytes mark w = record c { world = w; fused = put c.fused p (is_some calls) }
 moved c p (task.Crash pick) bytes mark w = record c { world = w; fused = put c.fused p false }
@@ -123,6 +142,7 @@ scene_after c p told bytes (Skipped reason) w = c
 abbrev pub bytes_in : Event → List ℕ
 bytes_in (Propose member question bit toss) = []
 bytes_in (Deliver from to which toss) = []
+bytes_in (DeliverAll from to count toss) = []
 bytes_in (LieBytes liar to bytes toss) = bytes.items
 bytes_in (Fuse member calls) = []
 bytes_in (Crash member pick) = []

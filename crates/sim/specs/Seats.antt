@@ -1,5 +1,5 @@
 -- Where a member is, and what it does in the world.
-use Rattle.std.specs.Prelude.{ℕ, zero, suc, ◌≡◌, Bool, true, false, not, Option, Some, None, Result, Ok, Err, List, [], ◌∷◌, ◌++◌}
+use Rattle.std.specs.Prelude.{ℕ, zero, suc, ◌≡◌, Bool, true, false, not, Option, Some, None, Result, Ok, Err, List, [], ◌∷◌, ◌++◌, drop, map, min, take}
 use Rattle.std.specs.Global.{Vec}
 use Rattle.terms.specs.declared.Size.{Size}
 use Rattle.terms.specs.declared.Statement.{Statement}
@@ -7,16 +7,15 @@ use Rattle.terms.specs.declared.Record.{Record}
 use Rattle.terms.specs.declared.Record.TheVariants.{Said, Decided}
 use Rattle.terms.specs.declared.Header.{Header}
 use Rattle.terms.specs.Headers.{header_of}
-use Rattle.terms.specs.Reply.{Event as Happening, Reply, records_of}
+use Rattle.terms.specs.Reply.{Event as Happening, Reply, records_of, records_of_all, without_tosses}
 use Rattle.terms.specs.Reply.Event.{Hearing}
 use Rattle.disk.specs.declared.memory.MemDisk.{MemDisk}
 use Rattle.disk.specs.declared.crash.Pick.{Pick}
 use Rattle.disk.specs.Model.{at_rest}
 use Rattle.disk.specs.Crash.{left}
 use Rattle.disk.specs.Memory.{memory_state, fuse_left, with_fuse}
-use Rattle.questions.specs.declared.answer.Answer.{Answer}
 use Rattle.world.specs.World.{World, Step, IsRun, start, after, after_all}
-use Rattle.world.specs.World.Step.{Lie, Restart as RestartStep}
+use Rattle.world.specs.World.Step.{Lie, Hears, Restart as RestartStep}
 use Rattle.member.specs.declared.fault.MemberFault.{MemberFault}
 use Rattle.member.specs.declared.fault.MemberFault.TheVariants.{Stopped, Device, Memory, JournalFull, NoSuchQuestion, NoSuchMember}
 use Rattle.member.specs.Words.{disk_of, saved_of, is_stopped_of}
@@ -24,6 +23,7 @@ use Rattle.member.specs.Sound.{IsSound}
 use Rattle.member.specs.Memory.{memory_disk}
 use Rattle.member.specs.Stands.{IsLeft}
 use Rattle.member.specs.Life.{IsAt, IsReached, Replies, step_of}
+use Rattle.member.specs.Groups.{AllReply}
 use Rattle.sim.specs.declared.events.Mark.{Mark}
 use Rattle.sim.specs.declared.events.Mark.TheVariants.{Done, Failed, Skipped}
 use Rattle.sim.specs.declared.seats.Seat.{Seat}
@@ -80,6 +80,16 @@ nth_said (Said s ∷ records) zero = Some s
 nth_said (Said s ∷ records) (suc number) = nth_said records number
 nth_said (Decided question round bit ∷ records) number = nth_said records number
 
+-- the statements among the records, in order
+abbrev pub all_said : List Record → List Statement
+all_said [] = []
+all_said (Said s ∷ records) = s ∷ all_said records
+all_said (Decided question round bit ∷ records) = all_said records
+
+-- those from that number on: at most so many, and at most 256
+abbrev pub group_from : List Record → ℕ → ℕ → List Statement
+group_from records number count = take (min count 256) (drop number (all_said records))
+
 -- a disk and records are what the world has of a member that is down: a batch is in doubt, perhaps an empty one, and a
 -- crash may keep it or lose it
 pub record IsDown (header : Header) (w : World) (disk : MemDisk) (records : List Record) : Type 0 where
@@ -118,7 +128,7 @@ AreFresh header None = ⊥
 AreFresh header (Some parts) = IsLeft (memory_state parts.0) header [] None
 
 -- what becomes of an event that a member answered so: it failed only where a fuse is in its disk
-abbrev pub IsMarkOf : Bool → Result Answer MemberFault → Mark → Type 0
+abbrev pub IsMarkOf : {A : Type 0} → Bool → Result A MemberFault → Mark → Type 0
 IsMarkOf fused (Ok answer) mark = mark ≡ Done
 IsMarkOf fused (Err Device) mark = (fused ≡ true) × (mark ≡ Failed)
 IsMarkOf fused (Err Stopped) mark = ⊥
@@ -144,6 +154,23 @@ abbrev pub Answers : Size → ℕ → World → Bool → ℕ → Happening → M
 Answers size p w fused toss event Done steps = IsEventStep size p w toss event true steps
 Answers size p w fused toss event Failed steps = (fused ≡ true) × IsEventStep size p w toss event false steps
 Answers size p w fused toss event (Skipped reason) steps = ⊥
+
+-- The step is one event at the member that hears all of these, with all records of the definitions' replies to one after
+-- another.
+pub record IsGroupStep (size : Size) (p : ℕ) (w : World) (hearings : List (ℕ × Statement × ℕ)) (kept : Bool) (steps : List Step) : Type 0 where
+  pub replies : List Reply
+  pub all_reply : AllReply (mine size p) w hearings replies
+  pub is : steps ≡ Hears p (without_tosses hearings) (records_of_all replies) kept ∷ []
+
+-- the steps of a group at a member with that mark: kept, or, where it failed, a fuse is in and the batch is in doubt
+abbrev pub AnswersAll : Size → ℕ → World → Bool → List (ℕ × Statement × ℕ) → Mark → List Step → Type 0
+AnswersAll size p w fused hearings Done steps = IsGroupStep size p w hearings true steps
+AnswersAll size p w fused hearings Failed steps = (fused ≡ true) × IsGroupStep size p w hearings false steps
+AnswersAll size p w fused hearings (Skipped reason) steps = ⊥
+
+-- statements of one sender, each with the same toss
+abbrev pub hearings_from : ℕ → ℕ → List Statement → List (ℕ × Statement × ℕ)
+hearings_from from toss statements = map (λ s. (from, s, toss)) statements
 
 -- after one statement of several: the others where it was done, nothing more where it failed
 abbrev pub GoesOn : Mark → (List Step → Type 0) → Mark → List Step → Type 0

@@ -1,12 +1,12 @@
 -- Events as a script says them.
-use Rattle.std.specs.Prelude.{ℕ, ◌/◌, ◌%◌, Bool, true, false, Option, Some, None, List, [], ◌∷◌, ◌++◌, codes}
+use Rattle.std.specs.Prelude.{ℕ, ◌/◌, ◌%◌, false, Option, Some, None, List, [], ◌∷◌, codes}
 use Rattle.std.specs.List.{flat_map}
 use Rattle.std.specs.Fmt.{decimal, digit_glyph}
 use Rattle.words.specs.Sentences.{sentence, bit_digit}
 use Rattle.disk.specs.declared.crash.Pick.{Pick}
 use Rattle.disk.specs.declared.crash.Pick.TheVariants.{Kept, Lost, Fill}
 use Rattle.sim.specs.declared.events.Event.{Event}
-use Rattle.sim.specs.declared.events.Event.TheVariants.{Propose, Deliver, LieBytes, Fuse, Crash, Restart, Reset}
+use Rattle.sim.specs.declared.events.Event.TheVariants.{Propose, Deliver, DeliverAll, LieBytes, Fuse, Crash, Restart, Reset}
 use Rattle.sim.specs.declared.events.Which.{Which}
 use Rattle.sim.specs.declared.events.Which.TheVariants.{Next, At}
 
@@ -39,6 +39,7 @@ abbrev pub event_text : Event → List ℕ
 event_text (Propose member question bit toss) =
     sentence (codes "propose" ∷ decimal member ∷ decimal question ∷ decimal (bit_digit bit) ∷ [])
 event_text (Deliver from to which toss) = sentence (codes "deliver" ∷ decimal from ∷ decimal to ∷ which_text which ∷ [])
+event_text (DeliverAll from to count toss) = sentence (codes "group" ∷ decimal from ∷ decimal to ∷ decimal count ∷ [])
 event_text (LieBytes liar to bytes toss) =
     sentence (codes "lie" ∷ decimal liar ∷ decimal to ∷ hex_text bytes.items ∷ [])
 event_text (Fuse member calls) = sentence (codes "fuse" ∷ decimal member ∷ calls_text calls ∷ [])

@@ -14,7 +14,7 @@ ghost use Rattle.terms.specs.Journal.{decided};
 ghost use Rattle.world.specs.World.{start};
 
 use crate::posts::Post;
-use crate::tasks::{bytes_in, plan};
+use crate::tasks::{brought, bytes_in, plan};
 use crate::{Event, Mark, SimFault};
 use disk::MemDisk;
 use std::alloc::Global;
@@ -216,9 +216,10 @@ fn step(
 {
     match plan(size, posts, event) {
         Ok((to, task)) => {
+            let group = brought(alloc, size, posts, to, &task)?;
             let post = &mut posts[usize::from(to)];
             let before = post.records().len();
-            let mark = post.carry(alloc, task, bytes_in(event))?;
+            let mark = post.carry(alloc, task, bytes_in(event), &group)?;
             let saved = behind(alloc, post.records(), before)?;
             Ok((mark, saved))
         }

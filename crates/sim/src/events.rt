@@ -29,6 +29,19 @@ pub enum Event {
         /// The coins of what the receiver then says.
         toss: Toss,
     },
+    /// A correct member's next statements come to a correct member, as frames. It hears them as one group, and saves what
+    /// it answers as one batch.
+    DeliverAll {
+        /// The sender.
+        from: u8,
+        /// The receiver.
+        to: u8,
+        /// How many there are at most, and never more than [`MOST_IN_GROUP`](crate::MOST_IN_GROUP): the statements from the
+        /// link's place on that are in the sender's outbox before the event. The link's place then goes as many further.
+        count: u16,
+        /// The coins of what the receiver then says, the same for each statement.
+        toss: Toss,
+    },
     /// A liar's bytes come to a correct member. Each statement that they complete is heard in turn.
     LieBytes {
         /// The liar.
@@ -100,7 +113,7 @@ pub enum Reason {
     NotUp,
     /// The member that is to be opened runs.
     Running,
-    /// There is no statement at that place of the outbox, or the link is broken.
+    /// There is no statement at that place of the outbox, a group is to have none, or the link is broken.
     Nothing,
 }
 
@@ -125,6 +138,12 @@ impl fmt::Display for Event {
                 which,
                 toss: _,
             } => write!(f, "deliver {from} {to} {which}"),
+            Event::DeliverAll {
+                from,
+                to,
+                count,
+                toss: _,
+            } => write!(f, "group {from} {to} {count}"),
             Event::LieBytes {
                 liar,
                 to,

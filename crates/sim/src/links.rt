@@ -1,11 +1,13 @@
 //! A link from one member to another: how far it has come in the sender's outbox, and what it reads.
 
-ghost use Rattle.std.specs.Prelude.{◌≡◌, ◌++◌, [], ◌∷◌, Some, IfOk};
+ghost use Rattle.std.specs.Prelude.{◌≡◌, ◌≤◌, ◌++◌, [], ◌∷◌, Some, IfOk, length, map};
+ghost use Rattle.std.specs.List.{AllByRecursion};
 ghost use Rattle.terms.specs.Bounds.{IsSize};
 ghost use Rattle.terms.specs.WellFormed.{IsWellFormed};
 ghost use Rattle.wire.specs.Reading.{End, Rest};
 ghost use Rattle.sim.specs.Links.{statements_in, is_broken_at, Takes};
 
+use rounds::Toss;
 use std::alloc::Global;
 use std::marker::Model;
 use terms::{Memory, Size, Statement};
@@ -97,6 +99,31 @@ impl Link {
         encode(&Message::Statement(*statement), &mut frame)?;
         let arrived = self.take(alloc, &frame)?;
         Ok(arrived.first().copied())
+    }
+
+    /// Carries statements as frames, and gives what comes out at the other end, each with its sender and a toss.
+    pub(crate) fn carry_all(
+        &mut self,
+        alloc: Global,
+        from: u8,
+        statements: &[Statement],
+        toss: Toss,
+    ) -> Result<Vec<(u8, Statement, Toss)>, Memory>
+        ensures arrive { IsSize self.old.size → AllByRecursion (IsWellFormed self.old.size) statements.now → self.old.end ≡ Rest [] →
+            IfOk result (λ arrived. arrived.items ≡ map (λ s. (from, s, toss)) statements.now) }
+        ensures end { IsSize self.old.size → AllByRecursion (IsWellFormed self.old.size) statements.now → self.old.end ≡ Rest [] →
+            IfOk result (λ _. self.new.end ≡ Rest []) }
+        ensures few { IfOk result (λ arrived. length arrived.items ≤ length statements.now) }
+        ensures place { self.new.place ≡ self.old.place }
+        ensures size { self.new.size ≡ self.old.size }
+    {
+        let mut all = Vec::new(alloc);
+        for statement in statements {
+            if let Some(arrived) = self.carry(alloc, statement)? {
+                all.push((from, arrived, toss))?;
+            }
+        }
+        Ok(all)
     }
 }
 

@@ -1,6 +1,6 @@
 //! A member of a simulated cluster, with all that comes to it.
 
-ghost use Rattle.std.specs.Prelude.{◌≡◌, ◌<◌, ◌+◌, ◌^◌, ℕ, Bool, true, false, Some, None, List, [], length, get_or, is_some, IfOk, IfErr, IfSome, OnOk, IsErrOf};
+ghost use Rattle.std.specs.Prelude.{◌≡◌, ◌<◌, ◌≤◌, ◌+◌, ◌^◌, ℕ, Bool, true, false, Some, None, List, [], length, get_or, is_some, IfOk, IfErr, IfSome, OnOk, IsErrOf};
 ghost use Rattle.terms.specs.declared.Size.{Size};
 ghost use Rattle.terms.specs.declared.Header.{Header};
 ghost use Rattle.terms.specs.Bounds.{IsSize};
@@ -12,19 +12,26 @@ ghost use Rattle.disk.specs.Memory.{memory_state};
 ghost use Rattle.sim.specs.declared.tasks.Task.TheVariants as tasks;
 ghost use Rattle.sim.specs.declared.faults.SimFault.TheVariants as faults;
 ghost use Rattle.sim.specs.declared.links.Link.{Link};
-ghost use Rattle.sim.specs.Seats.{is_liar, is_up, saved_in, nth_said, disk_in, HasFuse, HasCrashed, IsFresh, IsSeat, MayCome, mine};
+ghost use Rattle.sim.specs.Seats.{is_liar, is_up, saved_in, nth_said, group_from, disk_in, HasFuse, HasCrashed, IsFresh, IsSeat, MayCome, mine};
 ghost use Rattle.sim.specs.Scene.{Scene};
-ghost use Rattle.sim.specs.Posts.{IsPost, IsReady, IsDone, IsNewLink, Fits, HasSender, IsCreated, IsOpened, IsOfOpening, IsOfRun, DoesToDisk};
+ghost use Rattle.sim.specs.Posts.{IsPost, IsReady, IsDone, Brings, IsNewLink, Fits, HasSender, IsCreated, IsOpened, IsOfOpening, IsOfRun, DoesToDisk};
 
 use crate::links::Link;
 use crate::seats::Seat;
 use crate::tasks::Task;
-use crate::{Mark, Reason, SimFault};
+use crate::{MOST_IN_GROUP, Mark, Reason, SimFault};
 use disk::{MemDisk, Pick};
 use journal::{JournalFault, create};
 use rounds::Toss;
 use std::alloc::Global;
 use terms::{Header, Record, Size, Statement};
+
+/// The statements that a group brings, and the link's place behind them.
+#[derive(Drop)]
+pub(crate) struct Group {
+    pub(crate) statements: Vec<Statement>,
+    pub(crate) place: u64,
+}
 
 /// One member of the cluster.
 #[derive(Drop)]
@@ -121,6 +128,28 @@ impl Post {
         self.seat.statement(number)
     }
 
+    /// The statements from that number on, of all that its member has saved: at most so many, and at most
+    /// [`MOST_IN_GROUP`].
+    pub(crate) fn group(&self, alloc: Global, number: u64, count: u16) -> Result<Group, SimFault>
+        requires ready { IsReady self.now }
+        ensures statements { IfOk result (λ group.
+            group.statements.items ≡ group_from (saved_in self.now.seat) number count) }
+        ensures place { IfOk result (λ group. group.place ≡ number + length group.statements.items) }
+        ensures few { IfOk result (λ group. length group.statements.items ≤ 256) }
+        ensures only { IfErr result (λ fault. fault ≡ faults.Memory) }
+    {
+        let mut statements = Vec::new(alloc);
+        let mut place = number;
+        for _taken in 0..count.min(MOST_IN_GROUP) {
+            let Some(statement) = self.seat.statement(place) else {
+                return Ok(Group { statements, place });
+            };
+            statements.push(statement)?;
+            place += 1;
+        }
+        Ok(Group { statements, place })
+    }
+
     /// The place of the link from that sender.
     pub(crate) fn place(&self, from: u8) -> u64
         requires ready { IsReady self.now }
@@ -130,24 +159,26 @@ impl Post {
         self.incoming[usize::from(from)].place()
     }
 
-    /// Carries a task out; the bytes are for a lie.
+    /// Carries a task out; the bytes are for a lie, the statements for a group.
     pub(crate) fn carry(
         &mut self,
         alloc: Global,
         task: Task,
         bytes: &[u8],
+        group: &Group,
     ) -> Result<Mark, SimFault>
         requires ready { IsReady self.old }
         requires within { HasSender self.old.header.size.n task }
+        requires few { length group.now.statements.items ≤ 256 }
         ensures ready { IsReady self.new }
         ensures header { self.new.header ≡ self.old.header }
         ensures only { IfErr result IsOfRun }
         ensures disk { OnOk result (DoesToDisk task (disk_in self.old.seat) (disk_in self.new.seat)) }
         ensures done { (size : Size) (liars : ℕ → Bool) (c : Scene) (p : ℕ) → IsSize size → p < size.n →
-            IsPost size liars c p self.old → Fits size liars c p task →
+            IsPost size liars c p self.old → Fits size liars c p task → Brings c p task group.now →
             IfOk result (λ mark. IsDone size liars c p task bytes.now mark self.new) }
         ensures memory { (size : Size) (liars : ℕ → Bool) (c : Scene) (p : ℕ) → IsSize size → p < size.n →
-            IsPost size liars c p self.old → Fits size liars c p task → MayCome size liars c.world →
+            IsPost size liars c p self.old → Fits size liars c p task → Brings c p task group.now → MayCome size liars c.world →
             IfErr result (λ fault. fault ≡ faults.Memory) }
     {
         match task {
@@ -155,6 +186,7 @@ impl Post {
             Task::Deliver(from, statement, place, toss) => {
                 self.deliver(alloc, from, statement, place, toss)
             }
+            Task::DeliverAll(from, _, toss) => self.deliver_all(alloc, from, group, toss),
             Task::Lie(liar, toss) => self.hear_lies(alloc, liar, bytes, toss),
             Task::Fuse(calls) => self.fuse(calls),
             Task::Crash(pick) => self.crash(pick),
@@ -206,6 +238,35 @@ impl Post {
             Some(arrived) => self.seat.hear(self.fused, from, &arrived, toss),
             None => Ok(Mark::Skipped(Reason::Nothing)),
         }
+    }
+
+    /// Statements come to it as one group over the link from their sender, which then has the place behind them.
+    fn deliver_all(
+        &mut self,
+        alloc: Global,
+        from: u8,
+        group: &Group,
+        toss: Toss,
+    ) -> Result<Mark, SimFault>
+        requires ready { IsReady self.old }
+        requires within { from < self.old.header.size.n }
+        requires few { length group.now.statements.items ≤ 256 }
+        ensures ready { IsReady self.new }
+        ensures header { self.new.header ≡ self.old.header }
+        ensures only { IfErr result IsOfRun }
+        ensures done { (size : Size) (liars : ℕ → Bool) (c : Scene) (p count : ℕ) → IsSize size → p < size.n →
+            IsPost size liars c p self.old → Fits size liars c p (tasks.DeliverAll from count toss) →
+            Brings c p (tasks.DeliverAll from count toss) group.now → (bytes : List ℕ) →
+            IfOk result (λ mark. IsDone size liars c p (tasks.DeliverAll from count toss) bytes mark self.new) }
+        ensures memory { (size : Size) (liars : ℕ → Bool) (c : Scene) (p count : ℕ) → IsSize size → p < size.n →
+            IsPost size liars c p self.old → Fits size liars c p (tasks.DeliverAll from count toss) →
+            Brings c p (tasks.DeliverAll from count toss) group.now → MayCome size liars c.world →
+            IfErr result (λ fault. fault ≡ faults.Memory) }
+    {
+        let link = &mut self.incoming[usize::from(from)];
+        link.go_to(group.place);
+        let arrived = link.carry_all(alloc, from, &group.statements, toss)?;
+        self.seat.hear_all(self.fused, &arrived)
     }
 
     /// Bytes of a liar come to it.

@@ -1,6 +1,6 @@
 //! Where a member of a simulated cluster is.
 
-ghost use Rattle.std.specs.Prelude.{◌≡◌, ◌<◌, ◌+◌, ◌^◌, ℕ, Bool, true, false, None, Some, List, [], IfOk, IfErr, IfSome, OnOk, IsErrOf, MatchOption};
+ghost use Rattle.std.specs.Prelude.{◌≡◌, ◌<◌, ◌≤◌, ◌+◌, ◌^◌, length, ℕ, Bool, true, false, None, Some, List, [], IfOk, IfErr, IfSome, OnOk, IsErrOf, MatchOption};
 ghost use Rattle.std.specs.List.{AllByRecursion};
 ghost use Rattle.terms.specs.declared.Header.{Header};
 ghost use Rattle.terms.specs.declared.Size.{Size};
@@ -12,14 +12,14 @@ ghost use Rattle.world.specs.World.Step.{Crash};
 ghost use Rattle.sim.specs.Posts.{IsOfRun};
 ghost use Rattle.sim.specs.declared.faults.SimFault.TheVariants as faults;
 ghost use Rattle.member.specs.declared.fault.MemberFault.TheVariants as refusals;
+ghost use Rattle.member.specs.Groups.{hearings, AllCome};
 ghost use Rattle.sim.specs.declared.events.Mark.TheVariants as marks;
-ghost use Rattle.sim.specs.Seats.{IsOneSound, IsSeat, IsFresh, IsMarkOf, IsMove, IsBegun, MayCome, Answers, AreLies, Reopens, AreParts, AreFresh, HasFuse, HasCrashed, disk_in, disk_among, mine, is_liar, is_up, saved_in, nth_said};
+ghost use Rattle.sim.specs.Seats.{IsOneSound, IsSeat, IsFresh, IsMarkOf, IsMove, IsBegun, MayCome, Answers, AnswersAll, AreLies, Reopens, AreParts, AreFresh, HasFuse, HasCrashed, disk_in, disk_among, mine, is_liar, is_up, saved_in, nth_said};
 
 use crate::{Mark, Reason, SimFault};
 use disk::{MemDisk, Pick};
 use journal::JournalFault;
 use member::{Member, MemberFault};
-use questions::Answer;
 use rounds::Toss;
 use std::alloc::Global;
 use std::mem;
@@ -134,6 +134,31 @@ impl Seat {
         };
         let answer = member.hear(from, statement, toss);
         mark_of(answer, fused)
+    }
+
+    /// Lets it hear statements as one group, each with its sender and its toss.
+    pub(crate) fn hear_all(
+        &mut self,
+        fused: bool,
+        events: &[(u8, Statement, Toss)],
+    ) -> Result<Mark, SimFault>
+        requires sound { IsOneSound self.old }
+        requires few { length events.now ≤ 256 }
+        ensures sound { IsOneSound self.new }
+        ensures only { IfErr result IsOfRun }
+        ensures side { is_liar self.new ≡ is_liar self.old }
+        ensures moved { (size : Size) (liars : ℕ → Bool) (p : ℕ) (w : World) → IsCorrect size liars p → w.doubt p ≡ None →
+            IsSeat (mine size p) w self.old → AllCome w (hearings events.now) → IfOk result (λ mark.
+            IsMove size liars p w (AnswersAll size p w fused (hearings events.now) mark) self.new) }
+        ensures memory { (size : Size) (liars : ℕ → Bool) (p : ℕ) (w : World) → IsCorrect size liars p → w.doubt p ≡ None →
+            IsSeat (mine size p) w self.old → AllCome w (hearings events.now) → MayCome size liars w →
+            IfErr result (λ fault. fault ≡ faults.Memory) }
+    {
+        let Seat::Here(member) = self else {
+            return Ok(Mark::Skipped(Reason::NotUp));
+        };
+        let answers = member.hear_all(events);
+        mark_of(answers, fused)
     }
 
     /// Lets it hear statements in turn, until its disk fails.
@@ -268,7 +293,7 @@ fn statement_at(records: &[Record], number: u64) -> Option<Statement>
 }
 
 /// What becomes of an event that a member answered so.
-fn mark_of(answer: Result<Answer, MemberFault>, fused: bool) -> Result<Mark, SimFault>
+fn mark_of<T: Drop>(answer: Result<T, MemberFault>, fused: bool) -> Result<Mark, SimFault>
     ensures mark { IfOk result (λ mark. IsMarkOf fused answer mark) }
     ensures only { IfErr result IsOfRun }
     ensures memory { (IsErrOf answer refusals.JournalFull → ⊥) → IfErr result (λ fault. fault ≡ faults.Memory) }

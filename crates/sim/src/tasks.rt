@@ -1,16 +1,18 @@
 //! What an event asks of one member, once nothing keeps it from happening.
 
-ghost use Rattle.std.specs.Prelude.{◌≡◌, ◌<◌, ℕ, Bool, List, Ok, IfOk};
-ghost use Rattle.sim.specs.Scene.{Scene, plan_of, lie_plan, delivery_of, for_correct, for_running, bytes_in};
-ghost use Rattle.sim.specs.Posts.{IsCluster, AreReady, IsReady, HasSender};
-ghost use Rattle.sim.specs.Seats.{saved_in};
+ghost use Rattle.std.specs.Prelude.{◌≡◌, ◌<◌, ◌≤◌, ℕ, Bool, List, Ok, IfOk, IfErr, length};
+ghost use Rattle.sim.specs.Scene.{Scene, plan_of, lie_plan, delivery_of, to_group, for_correct, for_running, for_link, bytes_in};
+ghost use Rattle.sim.specs.Posts.{IsCluster, AreReady, IsReady, HasSender, Fits, Brings};
+ghost use Rattle.sim.specs.Seats.{saved_in, group_from};
+ghost use Rattle.sim.specs.declared.faults.SimFault.TheVariants as faults;
 ghost use Rattle.sim.specs.declared.events.Event.TheVariants as events;
 ghost use Rattle.sim.specs.declared.tasks.Task.TheVariants as tasks;
 
-use crate::posts::Post;
-use crate::{Event, Reason, Which};
+use crate::posts::{Group, Post};
+use crate::{Event, Reason, SimFault, Which};
 use disk::Pick;
 use rounds::Toss;
+use std::alloc::Global;
 use terms::{Size, Statement};
 
 /// What one member of the cluster is told.
@@ -20,6 +22,8 @@ pub(crate) enum Task {
     Propose(u16, bool, Toss),
     /// To hear this statement of that sender; the link's place is then this one.
     Deliver(u8, Statement, u64, Toss),
+    /// To hear that sender's next statements as one group, at most so many.
+    DeliverAll(u8, u16, Toss),
     /// To read bytes of that liar.
     Lie(u8, Toss),
     /// To set the fuse of its disk.
@@ -56,6 +60,12 @@ pub(crate) fn plan(size: Size, posts: &[Post], event: &Event) -> Result<(u8, Tas
             which,
             toss,
         } => delivery(size, posts, *from, *to, *which, *toss),
+        Event::DeliverAll {
+            from,
+            to,
+            count,
+            toss,
+        } => group(size, posts, *from, *to, *count, *toss),
         Event::LieBytes {
             liar,
             to,
@@ -110,6 +120,27 @@ fn for_running(size: Size, posts: &[Post], member: u8, task: Task) -> Result<(u8
     Ok((member, task))
 }
 
+/// The place of the link from a correct member to one that is correct and runs, or the first reason why nothing comes over
+/// it.
+fn link_place(size: Size, posts: &[Post], from: u8, to: u8) -> Result<u64, Reason>
+    requires ready { AreReady size posts.now }
+    ensures place { (liars : ℕ → Bool) (c : Scene) → IsCluster size liars c posts.now →
+        result ≡ for_link size liars c.world from to (Ok (c.place from to)) }
+    ensures within { IfOk result (λ _. (from < size.n) × (to < size.n)) }
+{
+    if from >= size.n() || to >= size.n() {
+        return Err(Reason::NoSuch);
+    }
+    let receiver = &posts[usize::from(to)];
+    if posts[usize::from(from)].is_liar() || receiver.is_liar() {
+        return Err(Reason::WrongSide);
+    }
+    if !receiver.is_up() {
+        return Err(Reason::NotUp);
+    }
+    Ok(receiver.place(from))
+}
+
 /// A statement of a correct member for a correct member.
 fn delivery(
     size: Size,
@@ -123,18 +154,52 @@ fn delivery(
     ensures plan { (liars : ℕ → Bool) (c : Scene) → IsCluster size liars c posts.now → result ≡ plan_of size liars c (events.Deliver from to which toss) }
     ensures within { IfOk result (λ to. (to.0 < size.n) × HasSender size.n to.1) }
 {
-    if from >= size.n() || to >= size.n() {
-        return Err(Reason::NoSuch);
+    match link_place(size, posts, from, to) {
+        Ok(place) => outgoing(&posts[usize::from(from)], place, from, to, which, toss),
+        Err(reason) => Err(reason),
     }
-    let sender = &posts[usize::from(from)];
-    let receiver = &posts[usize::from(to)];
-    if sender.is_liar() || receiver.is_liar() {
-        return Err(Reason::WrongSide);
+}
+
+/// A group of a correct member's statements for a correct member.
+fn group(
+    size: Size,
+    posts: &[Post],
+    from: u8,
+    to: u8,
+    count: u16,
+    toss: Toss,
+) -> Result<(u8, Task), Reason>
+    requires ready { AreReady size posts.now }
+    ensures plan { (liars : ℕ → Bool) (c : Scene) → IsCluster size liars c posts.now → result ≡ plan_of size liars c (events.DeliverAll from to count toss) }
+    ensures within { IfOk result (λ to. (to.0 < size.n) × HasSender size.n to.1) }
+{
+    match link_place(size, posts, from, to) {
+        Ok(place) => outgoing_group(&posts[usize::from(from)], place, from, to, count, toss),
+        Err(reason) => Err(reason),
     }
-    if !receiver.is_up() {
-        return Err(Reason::NotUp);
+}
+
+/// A sender's statements from that place on, at most so many, if there are any.
+fn outgoing_group(
+    sender: &Post,
+    place: u64,
+    from: u8,
+    to: u8,
+    count: u16,
+    toss: Toss,
+) -> Result<(u8, Task), Reason>
+    requires ready { IsReady sender.now }
+    ensures plan { result ≡ to_group from to count toss (group_from (saved_in sender.now.seat) place count) }
+    ensures to { IfOk result (λ planned. planned.0 ≡ to) }
+    ensures sender { (n : ℕ) → from < n → IfOk result (λ planned. HasSender n planned.1) }
+{
+    if count == 0 {
+        return Err(Reason::Nothing);
     }
-    outgoing(sender, receiver.place(from), from, to, which, toss)
+    match sender.statement(place) {
+        Some(_) => Ok((to, Task::DeliverAll(from, count, toss))),
+        None => Err(Reason::Nothing),
+    }
 }
 
 /// One of a sender's statements, over a link that is at that place.
@@ -200,6 +265,33 @@ fn restart(size: Size, posts: &[Post], member: u8) -> Result<(u8, Task), Reason>
         return Err(Reason::Running);
     }
     Ok((member, Task::Restart))
+}
+
+/// The statements that a task brings, which are those of a group.
+pub(crate) fn brought(
+    alloc: Global,
+    size: Size,
+    posts: &[Post],
+    to: u8,
+    task: &Task,
+) -> Result<Group, SimFault>
+    requires ready { AreReady size posts.now }
+    requires within { (to < size.n) × HasSender size.n task.now }
+    ensures brings { (liars : ℕ → Bool) (c : Scene) → IsCluster size liars c posts.now → Fits size liars c to task.now →
+        IfOk result (Brings c to task.now) }
+    ensures few { IfOk result (λ group. length group.statements.items ≤ 256) }
+    ensures only { IfErr result (λ fault. fault ≡ faults.Memory) }
+{
+    match *task {
+        Task::DeliverAll(from, count, _) => {
+            let place = posts[usize::from(to)].place(from);
+            posts[usize::from(from)].group(alloc, place, count)
+        }
+        _ => Ok(Group {
+            statements: Vec::new(alloc),
+            place: 0,
+        }),
+    }
 }
 
 /// The bytes that a liar's event brings.

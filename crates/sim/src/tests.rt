@@ -68,6 +68,15 @@ fn at(from: u8, to: u8, number: u64) -> Event {
     }
 }
 
+fn group(from: u8, to: u8, count: u16) -> Event {
+    Event::DeliverAll {
+        from,
+        to,
+        count,
+        toss: TOSS,
+    }
+}
+
 fn lie(rt: &impl AllocGlobal, liar: u8, to: u8, bytes: &[u8]) -> Result<Event, Fail> {
     let bytes = Vec::from_slice(rt.alloc(), bytes)?;
     Ok(Event::LieBytes {
@@ -150,6 +159,147 @@ fn a_single_member_decides(rt: HostRuntime) -> Result<(), Fail> {
     assert_eq!(rt; outcome.marks.len(), 21);
     assert_eq!(rt; count(&outcome.marks, Mark::Skipped(Reason::Nothing)), 2);
     assert_eq!(rt; count(&outcome.marks, Mark::Done), 19);
+    Ok(())
+}
+
+#[test]
+fn a_single_member_decides_by_groups(rt: HostRuntime) -> Result<(), Fail> {
+    let mut script = Vec::new(rt.alloc());
+    script.push(propose(0, true))?;
+    for _ in 0..20 {
+        script.push(group(0, 0, MOST_IN_GROUP))?;
+    }
+    let size = Size::new(1, 0, 1)?;
+    let outcome = outcome(&rt, size, &[], &script)?;
+    assert!(rt; outcome.verdicts.as_slice() == &[(0, 0, 1, true)][..]);
+    assert_eq!(rt; count(&outcome.marks, Mark::Skipped(Reason::Nothing)), 2);
+    assert_eq!(rt; count(&outcome.marks, Mark::Done), 19);
+    Ok(())
+}
+
+fn propose_on(question: u16) -> Event {
+    Event::Propose {
+        member: 1,
+        question,
+        bit: true,
+        toss: TOSS,
+    }
+}
+
+fn fuse(member: u8, calls: u64) -> Event {
+    Event::Fuse {
+        member,
+        calls: Some(calls),
+    }
+}
+
+#[test]
+fn a_group_is_one_batch(rt: HostRuntime) -> Result<(), Fail> {
+    let script = [
+        propose_on(0),
+        propose_on(1),
+        propose_on(2),
+        // The calls of one batch.
+        fuse(0, 4),
+        group(1, 0, 256),
+        group(1, 0, 256),
+        propose(0, true),
+    ];
+    let outcome = outcome(&rt, Size::new(4, 1, 3)?, &[], &script)?;
+    let wanted = [
+        Mark::Done,
+        Mark::Done,
+        Mark::Done,
+        Mark::Done,
+        Mark::Done,
+        Mark::Skipped(Reason::Nothing),
+        Mark::Failed,
+    ];
+    assert!(rt; outcome.marks.as_slice() == &wanted[..]);
+    let saved: Vec<usize> = counts(&rt, &outcome.saved)?;
+    assert!(rt; saved.as_slice() == &[1, 1, 1, 0, 3, 0, 0][..]);
+    Ok(())
+}
+
+#[test]
+fn a_group_has_so_many_at_most(rt: HostRuntime) -> Result<(), Fail> {
+    let script = [
+        propose_on(0),
+        propose_on(1),
+        propose_on(2),
+        group(1, 0, 0),
+        group(1, 0, 2),
+        group(1, 0, 2),
+        group(1, 0, 2),
+        // To itself: what it said before the event.
+        group(1, 1, 65535),
+        group(1, 1, 65535),
+        group(1, 4, 1),
+        group(4, 1, 1),
+        group(1, 3, 1),
+        group(3, 1, 1),
+        Event::Crash {
+            member: 1,
+            pick: Pick::Lost,
+        },
+        group(0, 1, 1),
+        // What it said is delivered while it is down.
+        group(1, 2, 5),
+    ];
+    let outcome = outcome(&rt, Size::new(4, 1, 3)?, &[3], &script)?;
+    let wanted = [
+        Mark::Done,
+        Mark::Done,
+        Mark::Done,
+        Mark::Skipped(Reason::Nothing),
+        Mark::Done,
+        Mark::Done,
+        Mark::Skipped(Reason::Nothing),
+        Mark::Done,
+        Mark::Done,
+        Mark::Skipped(Reason::NoSuch),
+        Mark::Skipped(Reason::NoSuch),
+        Mark::Skipped(Reason::WrongSide),
+        Mark::Skipped(Reason::WrongSide),
+        Mark::Done,
+        Mark::Skipped(Reason::NotUp),
+        Mark::Done,
+    ];
+    assert!(rt; outcome.marks.as_slice() == &wanted[..]);
+    let saved: Vec<usize> = counts(&rt, &outcome.saved)?;
+    assert!(rt; saved.as_slice() == &[1, 1, 1, 0, 2, 1, 0, 3, 0, 0, 0, 0, 0, 0, 0, 3][..]);
+    Ok(())
+}
+
+#[test]
+fn a_group_fails_as_a_whole(rt: HostRuntime) -> Result<(), Fail> {
+    let script = [
+        propose_on(0),
+        propose_on(1),
+        fuse(0, 1),
+        group(1, 0, 2),
+        next(1, 0),
+        Event::Fuse {
+            member: 0,
+            calls: None,
+        },
+        Event::Restart { member: 0 },
+        group(1, 0, 2),
+    ];
+    let outcome = outcome(&rt, Size::new(4, 1, 3)?, &[], &script)?;
+    let wanted = [
+        Mark::Done,
+        Mark::Done,
+        Mark::Done,
+        Mark::Failed,
+        Mark::Skipped(Reason::NotUp),
+        Mark::Done,
+        Mark::Done,
+        Mark::Done,
+    ];
+    assert!(rt; outcome.marks.as_slice() == &wanted[..]);
+    let saved: Vec<usize> = counts(&rt, &outcome.saved)?;
+    assert!(rt; saved.as_slice() == &[1, 1, 0, 0, 0, 0, 0, 2][..]);
     Ok(())
 }
 

@@ -117,6 +117,35 @@ fn draws_disks_that_fail_and_decisions(rt: HostRuntime) -> Result<(), Fail> {
     Ok(())
 }
 
+/// A group has one arrow, which says how many statements it has; the link then goes as many further.
+#[test]
+fn draws_a_group_as_one_arrow(rt: HostRuntime) -> Result<(), Fail> {
+    let script = "n 4
+t 1
+questions 4
+liars 3
+seed 1
+propose 1 0 1
+propose 1 1 1
+propose 1 2 1
+propose 1 3 1
+group 1 0 3
+deliver 1 0 next
+group 1 1 256
+";
+    let chart = drawn(rt.alloc(), script)?;
+    for (words, times) in [
+        (">group of 3<", 1),
+        (">says 3 echos<", 1),
+        (">initial 3 1 1 1 one<", 1),
+        (">group of 4<", 1),
+        (">says 4 echos<", 1),
+    ] {
+        assert!(rt; count(chart.as_str(), words) == times, "at {words}");
+    }
+    Ok(())
+}
+
 #[test]
 fn draws_no_events(rt: HostRuntime) -> Result<(), Fail> {
     let chart = drawn(rt.alloc(), "n 2\nt 0\nquestions 1\nliars\nseed 1\n")?;

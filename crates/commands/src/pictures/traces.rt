@@ -91,6 +91,22 @@ fn writes_a_line_for_each_event(rt: HostRuntime) -> Result<(), Fail> {
 }
 
 #[test]
+fn writes_a_group_as_one_event(rt: HostRuntime) -> Result<(), Fail> {
+    let script =
+        "n 4\nt 1\nquestions 2\nliars 3\nseed 1\npropose 1 0 1\npropose 1 1 1\ngroup 1 0 256\ngroup 1 0 1\n";
+    let text = traced(rt.alloc(), script.as_bytes())?;
+    assert_eq!(rt;
+        text.as_str(),
+        "1 propose 1 0 1: done: initial 0 1 1 1 one
+2 propose 1 1 1: done: initial 1 1 1 1 one
+3 group 1 0 256: done: echo 0 1 1 1 one, echo 1 1 1 1 one
+4 group 1 0 1: skipped nothing
+"
+    );
+    Ok(())
+}
+
+#[test]
 fn writes_the_other_words(rt: HostRuntime) -> Result<(), Fail> {
     let alloc = rt.alloc();
     let lines =

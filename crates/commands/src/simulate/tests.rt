@@ -76,6 +76,27 @@ fn prints_verdicts_and_counts(rt: HostRuntime) -> Result<(), Fail> {
     Ok(())
 }
 
+/// A member alone has one statement more after each, so its groups are what `rounds` delivers.
+#[test]
+fn groups_of_a_member_alone_print_the_same(rt: HostRuntime) -> Result<(), Fail> {
+    let head = "n 1\nt 0\nquestions 1\nliars\nseed 7\npropose 0 0 1\n";
+    let groups = "group 0 0 256\n".repeat(rt.alloc(), 20)?;
+    let script = format!(in rt.alloc(); "{head}{groups}")?;
+    let (text, result) = simulated(rt.alloc(), script.as_str())?;
+    assert!(rt; matches!(&result, Ok(0)));
+    assert_eq!(rt;
+        text.as_str(),
+        "member 0 question 0 round 1 bit 1\nevents 21 skipped 2\n"
+    );
+    for line in ["group 0 0 0", "group 0 0 257"] {
+        let script = format!(in rt.alloc(); "{head}{line}\n")?;
+        let (text, result) = simulated(rt.alloc(), script.as_str())?;
+        assert!(rt; matches!(&result, Err(SimulateFault::Line(7))));
+        assert_eq!(rt; text.as_str(), "");
+    }
+    Ok(())
+}
+
 #[test]
 fn a_seed_says_all(rt: HostRuntime) -> Result<(), Fail> {
     let script = "n 4\nt 1\nquestions 2\nliars 3\nseed 5\nrandom 20000\n";

@@ -1,10 +1,10 @@
 //! A member of a chart, as far as the chart has come.
 
-ghost use Rattle.std.specs.Prelude.{◌≡◌, ◌+◌, ◌^◌, ◌<◌, ◌++◌, OnOk};
-ghost use Rattle.report.specs.Charts.{member_of, runs_after, place_after, statements_of, delivered, AreMoved};
+ghost use Rattle.std.specs.Prelude.{◌≡◌, ◌+◌, ◌-◌, ◌^◌, ◌<◌, ◌++◌, OnOk};
+ghost use Rattle.report.specs.Charts.{member_of, runs_after, place_after, group_count, statements_of, delivered, AreMoved};
 
 use super::drawing::Line;
-use sim::{Event, Mark, Which};
+use sim::{Event, MOST_IN_GROUP, Mark, Which};
 use std::alloc::{AllocError, Global};
 use terms::{Record, Statement};
 
@@ -17,7 +17,10 @@ pub(crate) fn member_of(event: &Event) -> u8
         | Event::Fuse { member, .. }
         | Event::Crash { member, .. }
         | Event::Restart { member } => *member,
-        Event::Deliver { to, .. } | Event::LieBytes { to, .. } | Event::Reset { to, .. } => *to,
+        Event::Deliver { to, .. }
+        | Event::DeliverAll { to, .. }
+        | Event::LieBytes { to, .. }
+        | Event::Reset { to, .. } => *to,
     }
 }
 
@@ -33,9 +36,16 @@ fn runs_after(event: &Event, mark: Mark, runs: bool) -> bool
     }
 }
 
-/// Where the link from a sender to the event's member is after the event.
-fn place_after(event: &Event, mark: Mark, sender: usize, place: usize) -> usize
-    ensures { place + 1 < 2 ^ 64 → result ≡ place_after event.now mark sender place }
+/// How many statements come as one group of at most so many, of all that their sender has said, over a link at that place.
+fn group_count(said: usize, place: usize, count: u16) -> usize
+    ensures { result ≡ group_count said place count }
+{
+    usize::from(count.min(MOST_IN_GROUP)).min(said.saturating_sub(place))
+}
+
+/// Where the link from a sender to the event's member is after the event. A group's sender had said so many statements.
+fn place_after(said: usize, event: &Event, mark: Mark, sender: usize, place: usize) -> usize
+    ensures { place + 1 < 2 ^ 64 → result ≡ place_after said event.now mark sender place }
 {
     if matches!(mark, Mark::Skipped(_)) {
         return place;
@@ -46,18 +56,21 @@ fn place_after(event: &Event, mark: Mark, sender: usize, place: usize) -> usize
             which: Which::Next,
             ..
         } if usize::from(*from) == sender => place.saturating_add(1),
+        Event::DeliverAll { from, count, .. } if usize::from(*from) == sender => {
+            place.saturating_add(group_count(said, place, *count))
+        }
         Event::Reset { from, .. } if usize::from(*from) == sender => 0,
         Event::Restart { .. } if mark == Mark::Done => 0,
         _ => place,
     }
 }
 
-/// Moves the links from all senders to the event's member.
-fn move_links(event: &Event, mark: Mark, places: &mut [usize])
-    ensures { AreMoved event.now mark places.old places.new }
+/// Moves the links from all senders to the event's member. A group's sender had said so many statements.
+fn move_links(said: usize, event: &Event, mark: Mark, places: &mut [usize])
+    ensures { AreMoved said event.now mark places.old places.new }
 {
     for (sender, place) in places.iter_mut().enumerate() {
-        *place = place_after(event, mark, sender, *place);
+        *place = place_after(said, event, mark, sender, *place);
     }
 }
 
@@ -94,8 +107,8 @@ pub(crate) struct Column {
 }
 
 impl Column {
-    ghost use Rattle.std.specs.Prelude.{ℕ, ◌≡◌, ◌≢◌, ◌↔◌, IsTrue, IfOk, OnOk, Some, slice_get};
-    ghost use Rattle.report.specs.Charts.{runs_after, delivered};
+    ghost use Rattle.std.specs.Prelude.{ℕ, ◌≡◌, ◌≢◌, ◌↔◌, IsTrue, IfOk, OnOk, Some, length, slice_get};
+    ghost use Rattle.report.specs.Charts.{runs_after, group_count, delivered};
     ghost use Rattle.report.specs.Columns.{IsNew, Follows, line_of};
 
     /// A member of a cluster of n before the first event. Its lifeline begins that far down.
@@ -120,6 +133,24 @@ impl Column {
     {
         let place = *self.places.get(usize::from(from))?;
         delivered(&sender.said, place, which)
+    }
+
+    /// How many statements of a sender's column come here as one group of at most so many.
+    pub(crate) fn takes_together(&self, from: u8, sender: &Column, count: u16) -> usize
+        ensures { (place : ℕ) → slice_get self.now.places.items from ≡ Some place →
+            result ≡ group_count (length sender.now.said.items) place count }
+    {
+        match self.places.get(usize::from(from)) {
+            Some(place) => group_count(sender.said_count(), *place, count),
+            None => 0,
+        }
+    }
+
+    /// How many statements it has said.
+    pub(crate) fn said_count(&self) -> usize
+        ensures { result ≡ length self.now.said.items }
+    {
+        self.said.len()
     }
 
     /// Whether it lies.
@@ -161,17 +192,18 @@ impl Column {
         self.drawn = y;
     }
 
-    /// Follows an event that is for it.
+    /// Follows an event that is for it. A group's sender had said so many statements.
     pub(crate) fn follow(
         &mut self,
+        said: usize,
         event: &Event,
         mark: Mark,
         saved: &[Record],
     ) -> Result<(), AllocError>
-        ensures follows { OnOk result (Follows event.now mark saved.now self.old self.new) }
+        ensures follows { OnOk result (Follows said event.now mark saved.now self.old self.new) }
         ensures drawn { OnOk result (self.new.drawn ≡ self.old.drawn) }
     {
-        move_links(event, mark, &mut self.places);
+        move_links(said, event, mark, &mut self.places);
         self.runs = runs_after(event, mark, self.runs);
         add_statements(&mut self.said, saved)
     }

@@ -30,7 +30,7 @@ invariant_of-self-in-Ok g c =
     record { up = sym c.is_stopped.ensures ∙ c.if-is_stopped.false; answer = c.in-Ok.ensures.reply; stands = c.in-Ok.ensures.stands_for; saved = c.in-Ok.ensures.grows; header = c.in-Ok.ensures.header } in
     went_kept g.D.Disk g.J.Naming.names c.self.inside.notes.cells c.publish.new.notes.cells c.self.inside.member c.hear.new.self e (reply_of c.in-Ok.answer) c.self.inside.opened
     (map noted c.self.inside.history.items) (map noted c.note.new.history.items) c.self.inside.notes.known c.publish.new.notes.known
-    went c.in-Ok.ensures.sound (c.note.ensures ∙ ap (λ (h : List Entry). lengthened (map noted h) e (reply_of c.in-Ok.answer)) c.make_room_for_both.ensures.history)
+    went c.in-Ok.ensures.sound (c.note.ensures.entries ∙ ap (λ (h : List Entry). lengthened (map noted h) e (reply_of c.in-Ok.answer)) c.make_room_for_both.ensures.history)
     c.publish.ensures.cells c.publish.ensures.decided c.self.invariant
 
 pub returns-in-Ok-clause-answer : goal.returns-in-Ok-clause-answer
@@ -40,7 +40,7 @@ returns-in-Ok-clause-answer g c =
     record { up = sym c.is_stopped.ensures ∙ c.if-is_stopped.false; answer = c.in-Ok.ensures.reply; stands = c.in-Ok.ensures.stands_for; saved = c.in-Ok.ensures.grows; header = c.in-Ok.ensures.header } in
     let applies = went_applies c.self.inside.member c.hear.new.self e c.in-Ok.answer c.self.inside.opened
     (map noted c.self.inside.history.items) (map noted c.note.new.history.items) c.self.inside.notes.known c.publish.new.notes.known
-    went c.in-Ok.ensures.goes_on (c.note.ensures ∙ ap (λ (h : List Entry). lengthened (map noted h) e (reply_of c.in-Ok.answer)) c.make_room_for_both.ensures.history)
+    went c.in-Ok.ensures.goes_on (c.note.ensures.entries ∙ ap (λ (h : List Entry). lengthened (map noted h) e (reply_of c.in-Ok.answer)) c.make_room_for_both.ensures.history)
     c.self.invariant.within c.self.invariant.replayed c.publish.ensures.more in
     subst (λ (p : ℕ). Applies c.args.self.now (Heard p c.args.statement.now c.args.toss.0) c.in-Ok.answer (shown c.hear.new.self c.self.inside.opened (map noted c.note.new.history.items) c.publish.new.notes.known)) (ap (λ v. v.peer) c.seat.view_is)
     (subst (λ (v : BookView g.row.D.Denot). Applies v e c.in-Ok.answer (shown c.hear.new.self c.self.inside.opened (map noted c.note.new.history.items) c.publish.new.notes.known)) c.self.view_is applies)
