@@ -9,7 +9,7 @@ missing=0
 
 # Whether a file has a word, of which a man page writes a hyphen as \-.
 has() {
-    sed 's/\\-/-/g' "$1" | grep -qwF -e "$2" || { echo "$1 lacks $2"; missing=1; }
+    grep -qwF -e "$2" <(sed 's/\\-/-/g' "$1") || { echo "$1 lacks $2"; missing=1; }
 }
 
 commands=$("$program" --help | sed -n '/^Commands:/,/^$/s/^  \([a-z]*\).*/\1/p')

@@ -9,6 +9,7 @@ use Rattle.std.specs.declared.process.ExitCode.{ExitCode}
 use Rattle.journal.specs.declared.fault.JournalFault.{JournalFault}
 use Rattle.journal.specs.declared.fault.JournalFault.TheVariants as unheld
 use Rattle.bracha.specs.declared.fault.Fault.{Fault}
+use Rattle.bracha.specs.declared.trouble.Failure.{Failure}
 use Rattle.bracha.specs.declared.fault.Fault.TheVariants as ends
 
 -- the fault that an error of a file is: want of memory, or the one that was meant for it
@@ -38,8 +39,8 @@ fault_status (ends.SameFile path) = 2
 fault_status other = 1
 
 -- the code that the program ends with: the status of what was done, or of the fault
-abbrev pub IsCodeOf : Result ℕ Fault → ExitCode → Type 0
-IsCodeOf ended code = MatchResult ended (λ status. exit_status code ≡ status) (λ fault. exit_status code ≡ fault_status fault)
+abbrev pub IsCodeOf : Result ℕ Failure → ExitCode → Type 0
+IsCodeOf ended code = MatchResult ended (λ status. exit_status code ≡ status) (λ failure. exit_status code ≡ fault_status failure.fault)
 
 -- the bytes of the argument at the place are no text, and the fault says so
 abbrev pub IsNoText : ℕ → List ℕ → Fault → Type 0

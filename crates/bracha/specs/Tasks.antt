@@ -1,10 +1,10 @@
 -- Which task the words of the command line ask for.
-use Rattle.std.specs.Prelude.{ℕ, ◌≡◌, ◌<◌, ◌^◌, ◌↔◌, Bool, IsTrue, List, [], Option, Some, codes, option_map}
+use Rattle.std.specs.Prelude.{ℕ, ◌≡◌, ◌⊎◌, ◌<◌, ◌^◌, ◌↔◌, Bool, IsSomeAnd, IsTrue, List, [], Option, Some, codes, option_map}
 use Rattle.std.specs.Str.Parse.{IsNumeral, digits_value, without_leading_plus}
 use Rattle.clap.specs.Walk.{Row, Text, first_of, one_of, rows_of}
 use Rattle.clap.specs.Matches.{found_of}
 use Rattle.clap.specs.declared.parser.matches.ArgMatches.{ArgMatches}
-use Rattle.clap.specs.Simple.{subcommand_of}
+use Rattle.clap.specs.Simple.{matches_of, subcommand_of}
 use Rattle.clap.specs.Faults.{fault_of}
 use Rattle.bracha.specs.Usage.{program_app}
 use Rattle.bracha.specs.declared.command.Task.{Task}
@@ -37,8 +37,8 @@ Names name rows (Hear n t questions me) = (name ≡ codes "hear") × HasNumber 1
     × HasNumber 8 (codes "me") rows me
 Names name rows (Init settings) = (name ≡ codes "init") × HasText (codes "settings") rows settings.now
 Names name rows (Check settings) = (name ≡ codes "check") × HasText (codes "settings") rows settings.now
-Names name rows (Run settings stay) = (name ≡ codes "run") × HasText (codes "settings") rows settings.now
-    × HasFlag (codes "stay") rows stay
+Names name rows (Run settings stay log) = (name ≡ codes "run") × HasText (codes "settings") rows settings.now
+    × HasFlag (codes "stay") rows stay × HasFlag (codes "log") rows log
 Names name rows (Propose address question bit) = (name ≡ codes "propose")
     × HasText (codes "address") rows address.now × HasNumber 16 (codes "question") rows question
     × HasNumber 8 (codes "bit") rows bit
@@ -61,6 +61,18 @@ pub record IsAskedFor (met : Option (Text × List Row)) (task : Task) : Type 0 w
 -- the words ask for the task
 abbrev pub AskFor : List Text → Task → Type 0
 AskFor words task = IsAskedFor (subcommand_of program_app words) task
+
+-- `--verbose` was given behind the command that was met
+abbrev pub SaysVerbose : Option (Text × List Row) → Type 0
+SaysVerbose met = IsSomeAnd met (λ found. one_of (codes "verbose") found.1 ≡ Some (codes "true"))
+
+-- whether `--verbose` was given before the command, in these rows, or behind it
+abbrev pub IsVerbose : List Row → Option (Text × List Row) → Bool → Type 0
+IsVerbose rows met given = IsTrue given ↔ ((one_of (codes "verbose") rows ≡ Some (codes "true")) ⊎ SaysVerbose met)
+
+-- whether the words have `--verbose`
+abbrev pub AreVerbose : List Text → Bool → Type 0
+AreVerbose words given = IsVerbose (matches_of program_app words) (subcommand_of program_app words) given
 
 -- the kit finds no fault in the words
 abbrev pub AreFaultless : List Text → Type 0

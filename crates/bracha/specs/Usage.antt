@@ -21,6 +21,10 @@ file_rule id = record (new_rule id) { long = Some id; value_names = 1 }
 abbrev pub flag_rule : Text → Rule
 flag_rule id = record (new_rule id) { long = Some id; action = Some SetTrue }
 
+-- `--verbose`
+abbrev pub verbose_rule : Rule
+verbose_rule = flag_rule (codes "verbose")
+
 -- the value is a number up to `most`
 abbrev pub up_to : ℕ → Rule → Rule
 up_to most rule = record rule { parser = Some (parser.Signed (pos 0) (pos most)) }
@@ -60,9 +64,9 @@ init_app = taking (codes "init") (word_rule (codes "settings") ∷ [])
 abbrev pub check_app : App
 check_app = taking (codes "check") (word_rule (codes "settings") ∷ [])
 
--- `bracha run [--stay] SETTINGS`
+-- `bracha run [--stay] [--log] SETTINGS`
 abbrev pub run_app : App
-run_app = taking (codes "run") (word_rule (codes "settings") ∷ flag_rule (codes "stay") ∷ [])
+run_app = taking (codes "run") (word_rule (codes "settings") ∷ flag_rule (codes "stay") ∷ flag_rule (codes "log") ∷ [])
 
 -- `bracha propose ADDRESS Q V`
 abbrev pub propose_app : App
@@ -103,5 +107,6 @@ bare_app = record { top = bare_shape; subs = [] }
 abbrev pub commands : List App
 commands = init_app ∷ check_app ∷ run_app ∷ propose_app ∷ ask_app ∷ status_app ∷ dump_app ∷ simulate_app ∷ hear_app ∷ []
 
+-- `bracha [--verbose] COMMAND [--verbose] ..`
 abbrev pub program_app : App
-program_app = record { top = record bare_shape { is_leaf = false }; subs = map (λ command. command.top) commands }
+program_app = record { top = record (with_rule bare_app verbose_rule).top { is_leaf = false }; subs = map (λ command. (with_rule command verbose_rule).top) commands }

@@ -1,4 +1,4 @@
-//! The words with which the program was started.
+//! The words with which the program was started, and what its environment asks for.
 
 ghost use Rattle.bracha.specs.Faults.{IsNoText};
 ghost use Rattle.std.specs.Prelude.{◌≡◌, IfErr, IfOk, string_bytes};
@@ -46,4 +46,10 @@ pub fn own_words(env: &impl Env, alloc: Global) -> Result<Vec<String>, Fault> {
         }
     }
     Ok(words)
+}
+
+/// Whether the environment asks for more to be told of faults: `BRACHA_VERBOSE` is `1`.
+pub fn wants_more(env: &impl Env) -> bool {
+    let mut value = [0; 2];
+    matches!(env.var("BRACHA_VERBOSE", &mut value), Ok(1)) && value[0] == b'1'
 }

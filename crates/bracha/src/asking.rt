@@ -2,6 +2,7 @@
 
 use crate::fault::Fault;
 use crate::live::socket_address;
+use crate::trouble::{Failure, Place};
 use commands::{TalkFault, ask_line, propose_line, status_line, talk};
 use settings::Address;
 use std::io;
@@ -17,27 +18,39 @@ fn connect(rt: &HostRuntime, address: &Address) -> io::Result<TcpStream> {
 }
 
 /// Sends the line to the desk at the address, and prints the reply.
-fn ask_desk(rt: &HostRuntime, address: &str, line: &str) -> Result<u8, Fault> {
-    let address = Address::parse(address).ok_or(Fault::Address)?;
-    let socket = connect(rt, &address).map_err(|_| TalkFault::NoAnswer)?;
+fn ask_desk(rt: &HostRuntime, text: &str, line: &str) -> Result<u8, Failure> {
+    let Some(address) = Address::parse(text) else {
+        let words = "not HOST:PORT";
+        return Err(Failure::at(rt.alloc(), Fault::Address, text, Place::Whole, &words));
+    };
+    let socket = match connect(rt, &address) {
+        Ok(socket) => socket,
+        Err(error) => {
+            let fault = Fault::from(TalkFault::NoAnswer);
+            return Err(Failure::at(rt.alloc(), fault, text, Place::Connect, &error));
+        }
+    };
     let mut to = &socket;
     let mut from = &socket;
-    Ok(talk(rt.alloc(), line, &mut to, &mut from, &mut io::writer(rt))?)
+    match talk(rt.alloc(), line, &mut to, &mut from, &mut io::writer(rt)) {
+        Ok(status) => Ok(status),
+        Err(fault) => Err(Failure::from(Fault::from(fault))),
+    }
 }
 
 /// Proposes a bit to the member whose desk is at the address, and prints its reply. The status is that of the reply.
-pub fn propose_at(rt: &HostRuntime, address: &str, question: u16, bit: u8) -> Result<u8, Fault> {
-    let line = propose_line(rt.alloc(), question, bit)?;
+pub fn propose_at(rt: &HostRuntime, address: &str, question: u16, bit: u8) -> Result<u8, Failure> {
+    let line = propose_line(rt.alloc(), question, bit).map_err(|_| Fault::Memory)?;
     ask_desk(rt, address, line.as_str())
 }
 
 /// Asks the member whose desk is at the address for its decision, and prints its reply. The status is that of the reply.
-pub fn ask_at(rt: &HostRuntime, address: &str, question: u16) -> Result<u8, Fault> {
-    let line = ask_line(rt.alloc(), question)?;
+pub fn ask_at(rt: &HostRuntime, address: &str, question: u16) -> Result<u8, Failure> {
+    let line = ask_line(rt.alloc(), question).map_err(|_| Fault::Memory)?;
     ask_desk(rt, address, line.as_str())
 }
 
 /// Asks the member whose desk is at the address whether it is up, and prints its reply. The status is that of the reply.
-pub fn status_at(rt: &HostRuntime, address: &str) -> Result<u8, Fault> {
+pub fn status_at(rt: &HostRuntime, address: &str) -> Result<u8, Failure> {
     ask_desk(rt, address, status_line())
 }

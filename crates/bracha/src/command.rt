@@ -1,10 +1,10 @@
 //! The words of the command line.
 
-ghost use Rattle.bracha.specs.Tasks.{AskFor, HasFlag, HasNumber, IsAskedFor, Names, rows_in};
+ghost use Rattle.bracha.specs.Tasks.{AreVerbose, AskFor, HasFlag, HasNumber, IsAskedFor, IsVerbose, Names, SaysVerbose, rows_in};
 ghost use Rattle.bracha.specs.Usage.{address_rule, ask_app, bare_app, check_app, dump_app, file_rule, flag_rule, hear_app, init_app, number_rule, program_app};
-ghost use Rattle.bracha.specs.Usage.{propose_app, run_app, simulate_app, size_rules, status_app, desk_rules, word_rule, with_rules};
-ghost use Rattle.clap.specs.Words.{FailsBy, app_of, fault_of, first_of, new_app, rule_of, subcommand_rows_of};
-ghost use Rattle.std.specs.Prelude.{◌≡◌, ◌↔◌, IfOk, IfSome, IsNone, Some, codes, map, option_map, ℕ};
+ghost use Rattle.bracha.specs.Usage.{propose_app, run_app, simulate_app, size_rules, status_app, desk_rules, verbose_rule, word_rule, with_rules};
+ghost use Rattle.clap.specs.Words.{FailsBy, app_of, fault_of, first_of, new_app, rule_of, subcommand_rows_of, with_rule, with_subcommand};
+ghost use Rattle.std.specs.Prelude.{◌≡◌, ◌↔◌, IfOk, IfSome, IsNone, IsTrue, Some, codes, map, option_map, ℕ};
 ghost use Rattle.bracha.specs.declared.command.Task.{Task};
 
 use clap::{Arg, ArgAction, ArgMatches, Error, value_parser};
@@ -29,10 +29,12 @@ pub enum Task<'a> {
     Check {
         settings: &'a str,
     },
-    /// Runs the member of the settings in this file, until the standard input ends, or for good where it is to stay.
+    /// Runs the member of the settings in this file, until the standard input ends, or for good where it is to stay. Its
+    /// events are told on the standard error where a log is wanted.
     Run {
         settings: &'a str,
         stay: bool,
+        log: bool,
     },
     /// Proposes a bit on a question to the member whose desk is at this address.
     Propose {
@@ -60,6 +62,14 @@ pub enum Task<'a> {
         journal: &'a str,
         count: bool,
     },
+}
+
+/// What the words of the command line ask for.
+#[derive(Clone, Copy, Debug, PartialEq, Eq)]
+pub struct Order<'a> {
+    pub task: Task<'a>,
+    /// Behind the line of a fault a second one is wanted, which names the thing.
+    pub verbose: bool,
 }
 
 /// A required word, such as `SETTINGS`.
@@ -97,6 +107,14 @@ fn flag<'a>(alloc: Global, name: &'a str, help: &'a str) -> Arg<'a>
         .long(name)
         .action(ArgAction::SetTrue)
         .help(help)
+}
+
+/// The option `--verbose`, which may stand before the command and behind it.
+fn verbose<'a>(alloc: Global) -> Arg<'a>
+    ensures { rule_of result ≡ verbose_rule }
+{
+    let help = "Behind the line of a fault prints a second one, which names the thing";
+    flag(alloc, "verbose", help)
 }
 
 /// A command of that name.
@@ -165,9 +183,11 @@ fn run<'a>(alloc: Global) -> Result<clap::Command<'a>, AllocError>
         "It ends where standard input does. It may be killed at any moment and started again.\n\nExamples, after `bracha init` of the same file, in a terminal (until Ctrl-D) and as a service:\n  bracha run examples/cluster/member-1.toml\n  bracha run --stay examples/cluster/member-1.toml";
     let help = "The file of the member's settings, whose journal `init` made";
     let stay = "Doesn't look at standard input, and runs until it is killed";
+    let log = "Tells on standard error when links come and go, and what is decided";
     named(alloc, "run", about, examples)
         .arg(word(alloc, "settings", "SETTINGS", help))?
-        .arg(flag(alloc, "stay", stay))
+        .arg(flag(alloc, "stay", stay))?
+        .arg(flag(alloc, "log", log))
 }
 
 /// The address of a desk.
@@ -243,7 +263,7 @@ fn simulate<'a>(alloc: Global) -> Result<clap::Command<'a>, AllocError>
         .arg(file(alloc, "chart", chart))
 }
 
-/// The program without its commands.
+/// The program without its commands and options.
 fn bare<'a>(alloc: Global) -> clap::Command<'a>
     ensures { app_of result ≡ bare_app }
 {
@@ -254,19 +274,31 @@ fn bare<'a>(alloc: Global) -> clap::Command<'a>
         .arg_required_else_help(true)
 }
 
+/// The program with one command more, which takes `--verbose` as the program does.
+fn with_command<'a>(
+    alloc: Global,
+    program: clap::Command<'a>,
+    command: clap::Command<'a>,
+) -> Result<clap::Command<'a>, AllocError>
+    ensures { IfOk result (λ with. IsTrue (app_of command.entry).top.is_plain →
+        app_of with ≡ with_subcommand (app_of program.entry) (with_rule (app_of command.entry) verbose_rule).top) }
+{
+    program.subcommand(command.arg(verbose(alloc))?)
+}
+
 fn program<'a>(alloc: Global) -> Result<clap::Command<'a>, AllocError>
     ensures { IfOk result (λ made. app_of made ≡ program_app) }
 {
-    bare(alloc)
-        .subcommand(init(alloc)?)?
-        .subcommand(check(alloc)?)?
-        .subcommand(run(alloc)?)?
-        .subcommand(propose(alloc)?)?
-        .subcommand(ask(alloc)?)?
-        .subcommand(status(alloc)?)?
-        .subcommand(dump(alloc)?)?
-        .subcommand(simulate(alloc)?)?
-        .subcommand(hear(alloc)?)
+    let program = bare(alloc).arg(verbose(alloc))?;
+    let program = with_command(alloc, program, init(alloc)?)?;
+    let program = with_command(alloc, program, check(alloc)?)?;
+    let program = with_command(alloc, program, run(alloc)?)?;
+    let program = with_command(alloc, program, propose(alloc)?)?;
+    let program = with_command(alloc, program, ask(alloc)?)?;
+    let program = with_command(alloc, program, status(alloc)?)?;
+    let program = with_command(alloc, program, dump(alloc)?)?;
+    let program = with_command(alloc, program, simulate(alloc)?)?;
+    with_command(alloc, program, hear(alloc)?)
 }
 
 /// The text that was given for the id.
@@ -338,6 +370,7 @@ fn run_of<'a>(options: &ArgMatches<'a>) -> Option<Task<'a>>
     Some(Task::Run {
         settings: text_of(options, "settings")?,
         stay: flag_of(options, "stay"),
+        log: flag_of(options, "log"),
     })
 }
 
@@ -425,15 +458,34 @@ fn task_of<'a>(matches: &ArgMatches<'a>) -> Option<Task<'a>>
     named_task(name, options)
 }
 
-/// The task that the words ask for, the program's name first among them. An `Err` is to be printed: it is a fault of
-/// the words, the help or the version.
-pub fn command<'a, S: AsStr>(alloc: Global, words: &'a [S]) -> Result<Task<'a>, Error>
-    ensures asks { IfOk result (AskFor (map S.text words.entry.now)) }
+/// Whether `--verbose` was given behind the command.
+fn is_verbose_below(matches: &ArgMatches<'_>) -> bool
+    ensures { IsTrue result ↔ SaysVerbose (subcommand_rows_of matches.now) }
+{
+    match matches.subcommand() {
+        Some((_, options)) => flag_of(options, "verbose"),
+        None => false,
+    }
+}
+
+/// Whether `--verbose` was given, before the command or behind it.
+fn is_verbose(matches: &ArgMatches<'_>) -> bool
+    ensures { IsVerbose (rows_in matches.now) (subcommand_rows_of matches.now) result }
+{
+    flag_of(matches, "verbose") || is_verbose_below(matches)
+}
+
+/// What the words ask for, the program's name first among them. An `Err` is to be printed: it is a fault of the words,
+/// the help or the version.
+pub fn command<'a, S: AsStr>(alloc: Global, words: &'a [S]) -> Result<Order<'a>, Error>
+    ensures asks { IfOk result (λ order. AskFor (map S.text words.entry.now) order.task) }
+    ensures verbose { IfOk result (λ order. AreVerbose (map S.text words.entry.now) order.verbose) }
     ensures faults { FailsBy (fault_of program_app (map S.text words.entry.now)) result }
 {
     let matches = program(alloc)?.try_get_matches_from(words)?;
+    let verbose = is_verbose(&matches);
     match task_of(&matches) {
-        Some(task) => Ok(task),
+        Some(task) => Ok(Order { task, verbose }),
         None => unreachable!(),
     }
 }

@@ -2,13 +2,15 @@
 
 use crate::fault::Fault;
 use crate::pages::{fault_at, keep_apart, write_page};
+use crate::telling::{dump_failure, not_text, script_failure, settings_failure};
+use crate::trouble::{Failure, Place};
 use commands::{
-    check_journal, dump_count, dump_lines, init_disk, print_settings, print_verdicts,
+    DumpFault, check_journal, dump_count, dump_lines, init_disk, print_settings, print_verdicts,
     simulate_pages, takes_output,
 };
 use disk::{Disk, FileDisk, MemDisk};
 use hearing::hear_lines;
-use settings::{Settings, SettingsFault};
+use settings::Settings;
 use std::fs::{self, OpenOptions};
 use std::io::{self, BufReader, LineWriter, Read};
 use terms::Size;
@@ -21,19 +23,43 @@ pub fn hear_input(rt: &HostRuntime, size: Size, me: u8) -> Result<u8, Fault> {
 }
 
 /// The settings in the file.
-pub fn read_settings(rt: &HostRuntime, path: &str) -> Result<Settings, Fault> {
-    let bytes = fs::read(rt, path).map_err(|error| Fault::File.of_file(error))?;
-    let text = str::from_utf8(&bytes).map_err(|_| SettingsFault::Text)?;
-    Ok(Settings::parse(rt.alloc(), text)?)
+pub fn read_settings(rt: &HostRuntime, path: &str) -> Result<Settings, Failure> {
+    let bytes = read_file(rt, path)?;
+    let text = match str::from_utf8(&bytes) {
+        Ok(text) => text,
+        Err(error) => return Err(not_text(rt.alloc(), path, error.valid_up_to())),
+    };
+    match Settings::parse(rt.alloc(), text) {
+        Ok(settings) => Ok(settings),
+        Err(fault) => Err(settings_failure(rt.alloc(), path, text, fault)),
+    }
+}
+
+/// All bytes of the file.
+fn read_file(rt: &HostRuntime, path: &str) -> Result<Vec<u8>, Failure> {
+    match fs::read(rt, path) {
+        Ok(bytes) => Ok(bytes),
+        Err(error) => Err(Failure::of_system(rt.alloc(), Fault::File, path, Place::Read, error)),
+    }
+}
+
+/// The disk in the file of a journal. A missing one is made, empty, where `make` says so.
+pub fn open_disk(rt: &HostRuntime, path: &str, make: bool) -> Result<FileDisk, Failure> {
+    match FileDisk::open(rt, path, make) {
+        Ok(disk) => Ok(disk),
+        Err(error) => Err(Failure::of_system(rt.alloc(), Fault::File, path, Place::Open, error)),
+    }
 }
 
 /// Makes the journal that the settings in the file name.
-pub fn init_file(rt: &HostRuntime, path: &str) -> Result<u8, Fault> {
+pub fn init_file(rt: &HostRuntime, path: &str) -> Result<u8, Failure> {
     let settings = read_settings(rt, path)?;
-    let mut disk = FileDisk::open(rt, settings.journal.as_str(), true).map_err(
-        |error| Fault::File.of_file(error),
-    )?;
-    Ok(init_disk(&mut disk, &settings)?)
+    let journal = settings.journal.as_str();
+    let mut disk = open_disk(rt, journal, true)?;
+    match init_disk(&mut disk, &settings) {
+        Ok(status) => Ok(status),
+        Err(fault) => Err(Failure::about(rt.alloc(), Fault::from(fault), journal)),
+    }
 }
 
 /// The bytes of the file, which is opened for reading and writing as `run` does it. No lock is taken, and nothing written.
@@ -46,26 +72,45 @@ fn read_unlocked(rt: &HostRuntime, path: &str) -> io::Result<Vec<u8>> {
 }
 
 /// Says what the settings in the file say, and how many records their journal has, if the member can run on it.
-pub fn check_file(rt: &HostRuntime, path: &str) -> Result<u8, Fault> {
+pub fn check_file(rt: &HostRuntime, path: &str) -> Result<u8, Failure> {
     let settings = read_settings(rt, path)?;
+    let journal = settings.journal.as_str();
     let mut output = io::writer(rt);
-    print_settings(rt.alloc(), &settings, &mut output)?;
-    let bytes = read_unlocked(rt, settings.journal.as_str()).map_err(|error| Fault::File.of_file(
-        error,
-    ))?;
+    print_settings(rt.alloc(), &settings, &mut output).map_err(|fault| Fault::from(fault))?;
+    let bytes = match read_unlocked(rt, journal) {
+        Ok(bytes) => bytes,
+        Err(error) => return Err(Failure::of_system(
+            rt.alloc(),
+            Fault::File,
+            journal,
+            Place::Open,
+            error,
+        )),
+    };
     let mut disk = MemDisk::new(rt.alloc());
     disk.write_at(0, &bytes).map_err(|_| Fault::Memory)?;
-    Ok(check_journal(rt.alloc(), &settings.header, disk, &mut output)?)
+    match check_journal(rt.alloc(), &settings.header, disk, &mut output) {
+        Ok(status) => Ok(status),
+        Err(fault) => Err(dump_failure(rt.alloc(), journal, fault)),
+    }
+}
+
+/// Prints the journal on the disk, or only how many records it has.
+fn dump_disk(rt: &HostRuntime, disk: FileDisk, count: bool) -> Result<u8, DumpFault> {
+    let mut output = io::writer(rt);
+    if count {
+        dump_count(rt.alloc(), disk, &mut output)
+    } else {
+        dump_lines(rt.alloc(), disk, &mut output)
+    }
 }
 
 /// Prints the journal in the file, or only how many records it has.
-pub fn dump_file(rt: &HostRuntime, path: &str, count: bool) -> Result<u8, Fault> {
-    let disk = FileDisk::open(rt, path, false).map_err(|error| Fault::File.of_file(error))?;
-    let mut output = io::writer(rt);
-    if count {
-        Ok(dump_count(rt.alloc(), disk, &mut output)?)
-    } else {
-        Ok(dump_lines(rt.alloc(), disk, &mut output)?)
+pub fn dump_file(rt: &HostRuntime, path: &str, count: bool) -> Result<u8, Failure> {
+    let disk = open_disk(rt, path, false)?;
+    match dump_disk(rt, disk, count) {
+        Ok(status) => Ok(status),
+        Err(fault) => Err(dump_failure(rt.alloc(), path, fault)),
     }
 }
 
@@ -76,14 +121,18 @@ pub fn simulate_file(
     path: &str,
     trace: Option<&str>,
     chart: Option<&str>,
-) -> Result<u8, Fault> {
+) -> Result<u8, Failure> {
     keep_apart(rt, path, trace, chart)?;
-    let text = fs::read(rt, path).map_err(|error| Fault::File.of_file(error))?;
-    let pages = simulate_pages(rt.alloc(), &text, trace.is_some(), chart.is_some())?;
+    let text = read_file(rt, path)?;
+    let pages = match simulate_pages(rt.alloc(), &text, trace.is_some(), chart.is_some()) {
+        Ok(pages) => pages,
+        Err(fault) => return Err(script_failure(rt.alloc(), path, &text, fault)),
+    };
     write_page(rt, trace, pages.trace, fault_at(trace, Fault::Trace))?;
     write_page(rt, chart, pages.chart, fault_at(chart, Fault::Chart))?;
     let aside = takes_output(trace, chart);
     let mut output = io::writer(rt);
     let mut errors = rt.stderr();
-    Ok(print_verdicts(aside, pages.verdicts.as_str(), &mut output, &mut errors)?)
+    let printed = print_verdicts(aside, pages.verdicts.as_str(), &mut output, &mut errors);
+    Ok(printed.map_err(|fault| Fault::from(fault))?)
 }

@@ -1,14 +1,19 @@
 //! The command `run`: a member over the journal in its file.
 
+ghost use Rattle.bracha.specs.declared.fault.Fault.TheVariants as ends;
+ghost use Rattle.std.specs.Prelude.{◌≡◌, IfErr, IfOk, Err, Ok};
+
 use crate::fault::Fault;
-use crate::files::read_settings;
-use disk::FileDisk;
+use crate::files::{open_disk, read_settings};
+use crate::trouble::{Failure, Place, Trouble, trouble_of};
 use member::Member;
-use running::{Addresses, Machine, Operator, RunFault, run_member};
+use running::{Addresses, Event, Log, Machine, Operator, RunFault, run_member};
 use settings::{Address, Settings};
 use std::alloc::{AllocError, Global};
-use std::io::Read;
+use std::io::{self, Read, Write};
 use std::net::{IpAddr, SocketAddr};
+use std::rt::Stderr;
+use std::sync::Mutex;
 use std::thread;
 use std::time::Duration;
 
@@ -33,6 +38,8 @@ struct Console<'a> {
     me: u8,
     /// The input is not looked at, and only a signal ends the member.
     stay: bool,
+    /// What can be told of an address at which the member can't listen.
+    trouble: Option<Trouble>,
 }
 
 impl<'a> Console<'a> {
@@ -72,9 +79,52 @@ impl<'a> Operator for Console<'a> {
         }
         self.drain()
     }
+
+    fn unheard(&mut self, address: SocketAddr, error: &io::Error) {
+        let alloc = self.host.alloc();
+        let Ok(text) = format!(in alloc; "{address}") else {
+            return;
+        };
+        self.trouble = trouble_of(alloc, text.as_str(), Place::Listen, error);
+    }
 }
 
-/// Runs the member of the settings in the file until the standard input ends. The status is 0.
+/// A log on the standard error: a line for each event, by one write.
+#[derive(Drop)]
+struct Lines {
+    alloc: Global,
+    errors: Stderr,
+}
+
+impl Lines {
+    fn print(&mut self, event: &Event) -> io::Result<()> {
+        let line = format!(in self.alloc; "{event}\n")?;
+        self.errors.write_all(line.as_bytes())
+    }
+}
+
+impl Log for Lines {
+    fn tell(&mut self, event: &Event) {
+        let _lost = self.print(event).is_err();
+    }
+}
+
+/// How a run ended: with status 0, or a fault and what can be told of it.
+fn ended(run: Result<(), RunFault>, trouble: Option<Trouble>) -> Result<u8, Failure>
+    ensures ok { IfOk run (λ _. result ≡ Ok 0) }
+    ensures fault { IfErr run (λ fault. result ≡ Err (record { fault = ends.Run fault; trouble = trouble })) }
+{
+    match run {
+        Ok(()) => Ok(0),
+        Err(fault) => {
+            let fault = Fault::Run(fault);
+            Err(Failure { fault, trouble })
+        }
+    }
+}
+
+/// Runs the member of the settings in the file until the standard input ends. The status is 0. Its events are told on the
+/// standard error where a log is wanted.
 ///
 /// Files and standard streams are those of the host. Threads and sockets are those of `rt`, under a bound that has
 /// neither files nor input, as threads ask for.
@@ -86,25 +136,34 @@ pub fn run_file<R: Machine>(
     host: &HostRuntime,
     path: &str,
     stay: bool,
-) -> Result<u8, Fault> {
+    log: bool,
+) -> Result<u8, Failure> {
     let settings = read_settings(host, path)?;
-    let addresses = addresses_of(host.alloc(), &settings)?;
-    let disk = FileDisk::open(host, settings.journal.as_str(), false).map_err(
-        |error| Fault::File.of_file(error),
-    )?;
-    let member = Member::open(host.alloc(), disk, &settings.header)?;
+    let addresses = addresses_of(host.alloc(), &settings).map_err(|_| Fault::Memory)?;
+    let journal = settings.journal.as_str();
+    let disk = open_disk(host, journal, false)?;
+    let member = match Member::open(host.alloc(), disk, &settings.header) {
+        Ok(member) => member,
+        Err(fault) => return Err(Failure::about(host.alloc(), Fault::from(fault), journal)),
+    };
     let mut console = Console {
         host,
         me: settings.header.me(),
         stay,
+        trouble: None,
     };
-    run_member(
+    let lines = Mutex::new(Lines {
+        alloc: host.alloc(),
+        errors: host.stderr(),
+    });
+    let run = run_member(
         rt,
         host.alloc(),
         member,
         addresses,
         settings.seed,
         &mut console,
-    )?;
-    Ok(0)
+        if log { Some(&lines) } else { None },
+    );
+    ended(run, console.trouble)
 }

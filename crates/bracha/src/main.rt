@@ -14,8 +14,10 @@ mod files;
 mod live;
 mod pages;
 mod streams;
+mod telling;
+mod trouble;
 
-use arguments::own_words;
+use arguments::{own_words, wants_more};
 use asking::{ask_at, propose_at, status_at};
 use clap::error::ErrorKind;
 use command::{Task, command};
@@ -28,20 +30,28 @@ use std::io;
 use std::net::{TcpListener, TcpStream};
 use std::process::ExitCode;
 use streams::hold_streams;
+use trouble::Failure;
 use words::size_from;
 
 /// Does the task, and gives the status to end with.
-fn work<R: Machine>(rt: &R, host: &HostRuntime, task: Task) -> Result<u8, Fault> {
+fn work<R: Machine>(rt: &R, host: &HostRuntime, task: Task) -> Result<u8, Failure> {
     match task {
         Task::Hear {
             n,
             t,
             questions,
             me,
-        } => hear_input(host, size_from(n, t, questions)?, me),
+        } => {
+            let size = size_from(n, t, questions).map_err(|fault| Fault::Size(fault))?;
+            Ok(hear_input(host, size, me)?)
+        }
         Task::Init { settings } => init_file(host, settings),
         Task::Check { settings } => check_file(host, settings),
-        Task::Run { settings, stay } => run_file(rt, host, settings, stay),
+        Task::Run {
+            settings,
+            stay,
+            log,
+        } => run_file(rt, host, settings, stay, log),
         Task::Propose {
             address,
             question,
@@ -68,33 +78,45 @@ fn status_of(error: &clap::Error) -> u8
 }
 
 /// Does what the words ask for, the program's name first among them. Help, the version and faults of the words are printed
-/// here.
-fn run<R: Machine, S: AsStr>(rt: &R, host: &HostRuntime, words: &[S]) -> Result<u8, Fault> {
+/// here. What can be told of a failure is told where the words or the environment ask for it.
+fn run<R: Machine, S: AsStr>(rt: &R, host: &HostRuntime, words: &[S]) -> Result<u8, Failure> {
     match command(host.alloc(), words) {
-        Ok(task) => work(rt, host, task),
-        Err(error) if error.kind() == ErrorKind::OutOfMemory => Err(Fault::Memory),
+        Ok(order) => match work(rt, host, order.task) {
+            Ok(status) => Ok(status),
+            Err(failure) => Err(failure.told(order.verbose || wants_more(host))),
+        },
+        Err(error) if error.kind() == ErrorKind::OutOfMemory => Err(Failure::from(Fault::Memory)),
         Err(error) => {
-            error.print(host)?;
+            error.print(host).map_err(|error| Fault::from(error))?;
             Ok(status_of(&error))
         }
     }
 }
 
 /// Does what the words ask for with which the program was started.
-fn run_own<R: Machine>(rt: &R, host: &HostRuntime) -> Result<u8, Fault> {
+fn run_own<R: Machine>(rt: &R, host: &HostRuntime) -> Result<u8, Failure> {
     let words = own_words(host, host.alloc())?;
     run(rt, host, words.as_slice())
 }
 
+/// Prints the line of a fault, and behind it the line of what can be told.
+fn print_failure(rt: &HostRuntime, failure: &Failure) -> io::Result<()> {
+    eprintln!(rt; "bracha: {}", failure.fault)?;
+    match &failure.trouble {
+        Some(trouble) => eprintln!(rt; "{trouble}"),
+        None => Ok(()),
+    }
+}
+
 /// Prints what is wrong, if anything is, and gives the code to end with: the status of what was done, or of the fault.
-fn end(rt: &HostRuntime, ended: Result<u8, Fault>) -> io::Result<ExitCode>
+fn end(rt: &HostRuntime, ended: Result<u8, Failure>) -> io::Result<ExitCode>
     ensures { IfOk result (IsCodeOf ended) }
 {
     match ended {
         Ok(status) => Ok(ExitCode::from(status)),
-        Err(fault) => {
-            eprintln!(rt; "bracha: {fault}")?;
-            Ok(ExitCode::from(fault.status()))
+        Err(failure) => {
+            print_failure(rt, &failure)?;
+            Ok(ExitCode::from(failure.fault.status()))
         }
     }
 }

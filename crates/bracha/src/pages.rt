@@ -5,6 +5,7 @@ ghost use Rattle.bracha.specs.declared.fault.Fault.TheVariants as ends;
 ghost use Rattle.std.specs.Prelude.{◌≡◌, ◌≢◌, ◌⊎◌, IfErr, IsOk, IsTrue, None, Some, codes, option_map};
 
 use crate::fault::Fault;
+use crate::trouble::{Failure, Place};
 use commands::takes_output;
 use std::fs::{self, Metadata};
 use std::io::{self, Write};
@@ -18,16 +19,16 @@ pub fn write_page(
     path: Option<&str>,
     page: Option<String>,
     fault: Fault,
-) -> Result<(), Fault>
+) -> Result<(), Failure>
     ensures nothing { (path.entry ≡ None) ⊎ (page ≡ None) → IsOk result }
-    ensures faults { IfErr result (IsMeant fault) }
+    ensures faults { IfErr result (λ failure. IsMeant fault failure.fault) }
 {
     let (Some(path), Some(page)) = (path, page) else {
         return Ok(());
     };
     match write_text(rt, path, page.as_str()) {
         Ok(()) => Ok(()),
-        Err(error) => Err(fault.of_file(error)),
+        Err(error) => Err(Failure::of_system(rt.alloc(), fault, path, Place::Write, error)),
     }
 }
 

@@ -27,14 +27,14 @@ fn reads_the_words(rt: HostRuntime) -> Result<(), Fail> {
         "--me",
         "3",
     ];
-    let task = command(rt.alloc(), words.as_slice()).ok().ok_or("a task")?;
+    let order = command(rt.alloc(), words.as_slice()).ok().ok_or("a task")?;
     let want = Task::Hear {
         n: 4,
         t: 1,
         questions: 2,
         me: 3,
     };
-    assert!(rt; task == want);
+    assert!(rt; order.task == want);
     for (words, want) in [
         (
             ["bracha", "init", "a.toml"],
@@ -49,6 +49,7 @@ fn reads_the_words(rt: HostRuntime) -> Result<(), Fail> {
             Task::Run {
                 settings: "a.toml",
                 stay: false,
+                log: false,
             },
         ),
         (
@@ -67,8 +68,8 @@ fn reads_the_words(rt: HostRuntime) -> Result<(), Fail> {
             },
         ),
     ] {
-        let task = command(rt.alloc(), words.as_slice()).ok().ok_or("a task")?;
-        assert!(rt; task == want, "at {words:?}");
+        let order = command(rt.alloc(), words.as_slice()).ok().ok_or("a task")?;
+        assert!(rt; order.task == want && !order.verbose, "at {words:?}");
     }
     for (words, status) in [
         (["bracha", "--help"].as_slice(), 0),
@@ -148,6 +149,7 @@ fn reads_the_words_of_a_member(rt: HostRuntime) -> Result<(), Fail> {
             Task::Run {
                 settings: "a.toml",
                 stay: true,
+                log: false,
             },
         ),
         (
@@ -155,6 +157,23 @@ fn reads_the_words_of_a_member(rt: HostRuntime) -> Result<(), Fail> {
             Task::Run {
                 settings: "a.toml",
                 stay: true,
+                log: false,
+            },
+        ),
+        (
+            ["bracha", "run", "--log", "a.toml"].as_slice(),
+            Task::Run {
+                settings: "a.toml",
+                stay: false,
+                log: true,
+            },
+        ),
+        (
+            ["bracha", "run", "--stay", "a.toml", "--log"].as_slice(),
+            Task::Run {
+                settings: "a.toml",
+                stay: true,
+                log: true,
             },
         ),
         (
@@ -218,8 +237,8 @@ fn reads_the_words_of_a_member(rt: HostRuntime) -> Result<(), Fail> {
             },
         ),
     ] {
-        let task = command(rt.alloc(), words).ok().ok_or("a task")?;
-        assert!(rt; task == want, "at {words:?}");
+        let order = command(rt.alloc(), words).ok().ok_or("a task")?;
+        assert!(rt; order.task == want, "at {words:?}");
     }
     for (words, status) in [
         (["bracha", "run", "--stay=yes", "a.toml"].as_slice(), 2),
@@ -258,6 +277,48 @@ fn reads_the_words_of_a_member(rt: HostRuntime) -> Result<(), Fail> {
 }
 
 #[test]
+fn reads_verbose_before_a_command_and_behind(rt: HostRuntime) -> Result<(), Fail> {
+    for (words, verbose) in [
+        (["bracha", "--verbose", "init", "a.toml"].as_slice(), true),
+        (["bracha", "init", "--verbose", "a.toml"].as_slice(), true),
+        (["bracha", "init", "a.toml", "--verbose"].as_slice(), true),
+        (
+            ["bracha", "--verbose", "init", "a.toml", "--verbose"].as_slice(),
+            true,
+        ),
+        (["bracha", "init", "a.toml"].as_slice(), false),
+    ] {
+        let order = command(rt.alloc(), words).ok().ok_or("a task")?;
+        let want = Task::Init { settings: "a.toml" };
+        assert!(rt;
+            order.task == want && order.verbose == verbose,
+            "at {words:?}"
+        );
+    }
+    // A word behind `--` is no option.
+    let words = ["bracha", "init", "--", "--verbose"];
+    let order = command(rt.alloc(), words.as_slice()).ok().ok_or("a task")?;
+    assert!(rt;
+        order.task
+            == Task::Init {
+                settings: "--verbose"
+            }
+            && !order.verbose
+    );
+    for words in [
+        ["bracha", "--verbose"].as_slice(),
+        ["bracha", "--verbose=yes", "init", "a.toml"].as_slice(),
+        ["bracha", "--verbose", "--verbose", "init", "a.toml"].as_slice(),
+    ] {
+        let error = command(rt.alloc(), words)
+            .err()
+            .ok_or("a fault of the words")?;
+        assert!(rt; error.exit_code() == 2, "at {words:?}");
+    }
+    Ok(())
+}
+
+#[test]
 fn reads_the_options_of_simulate(rt: HostRuntime) -> Result<(), Fail> {
     for (words, trace, chart) in [
         (
@@ -276,13 +337,13 @@ fn reads_the_options_of_simulate(rt: HostRuntime) -> Result<(), Fail> {
             Some("c"),
         ),
     ] {
-        let task = command(rt.alloc(), words).ok().ok_or("a task")?;
+        let order = command(rt.alloc(), words).ok().ok_or("a task")?;
         let want = Task::Simulate {
             script: "s",
             trace,
             chart,
         };
-        assert!(rt; task == want, "at {words:?}");
+        assert!(rt; order.task == want, "at {words:?}");
     }
     for words in [
         ["bracha", "simulate", "--trace", "t"].as_slice(),
@@ -312,7 +373,7 @@ fn a_page_replaces_what_was_there(rt: HostRuntime) -> Result<(), Fail> {
     for words in ["a longer text", "short"] {
         let page = String::from_str(rt.alloc(), words)?;
         let written = write_page(&rt, Some(PAGE), Some(page), Fault::Trace);
-        assert!(rt; matches!(&written, Ok(())));
+        assert!(rt; written.is_ok());
         let bytes = fs::read(&rt, PAGE)?;
         assert!(rt; bytes.as_slice() == words.as_bytes());
     }
@@ -327,15 +388,34 @@ fn a_run_of_a_fault_writes_no_file(rt: HostRuntime) -> Result<(), Fail> {
     let _ = fs::remove_file(&rt, PAGE);
     fs::write(&rt, SCRIPT, "n 1\nt 0\nquestions 1\nliars\nseed 1\n")?;
     let trace = simulate_file(&rt, SCRIPT, Some(NOWHERE), Some(PAGE));
-    assert!(rt; matches!(&trace, Err(Fault::Trace)));
+    assert!(rt;
+        matches!(
+            &trace,
+            Err(Failure {
+                fault: Fault::Trace,
+                trouble: Some(_)
+            })
+        )
+    );
     let chart = simulate_file(&rt, SCRIPT, None, Some(NOWHERE));
-    assert!(rt; matches!(&chart, Err(Fault::Chart)));
+    assert!(rt;
+        matches!(
+            &chart,
+            Err(Failure {
+                fault: Fault::Chart,
+                trouble: Some(_)
+            })
+        )
+    );
     fs::write(&rt, SCRIPT, "n 1\nt 0\nquestions 1\nliars 0\nseed 1\n")?;
     let run = simulate_file(&rt, SCRIPT, Some(PAGE), Some(NOWHERE));
     assert!(rt;
         matches!(
             &run,
-            Err(Fault::Simulate(SimulateFault::Sim(SimFault::BadLiars)))
+            Err(Failure {
+                fault: Fault::Simulate(SimulateFault::Sim(SimFault::BadLiars)),
+                trouble: Some(_),
+            },)
         )
     );
     assert!(rt; fs::metadata(&rt, PAGE).is_err(), "a file of a fault");

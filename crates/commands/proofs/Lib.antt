@@ -4,3 +4,4 @@ pub mod Dumping
 pub mod Simulating
 pub mod Reading
 pub mod Checking
+pub mod Finding

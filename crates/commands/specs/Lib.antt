@@ -4,3 +4,4 @@ pub mod Simulations
 pub mod Pages
 pub mod Talks
 pub mod Checks
+pub mod Places

@@ -8,6 +8,7 @@ mod fault;
 mod init;
 #[cfg(test)]
 mod pictures;
+mod places;
 mod simulate;
 
 pub use check::{check_journal, print_settings};
@@ -15,4 +16,5 @@ pub use client::{ask_line, propose_line, status_line, talk};
 pub use dump::{dump_count, dump_lines};
 pub use fault::{DumpFault, InitFault, SimulateFault, TalkFault};
 pub use init::init_disk;
+pub use places::{line_at, line_of_byte, line_of_key, text_fault};
 pub use simulate::{Pages, print, print_verdicts, simulate_pages, simulate_text, takes_output};

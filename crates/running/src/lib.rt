@@ -5,8 +5,10 @@
 #![tactic(auto)]
 
 mod clients;
+mod events;
 mod fault;
 mod linking;
+mod log;
 mod machine;
 mod places;
 mod run;
@@ -14,8 +16,11 @@ mod shared;
 mod slots;
 mod sockets;
 mod tossers;
+mod watch;
 
+pub use events::Event;
 pub use fault::RunFault;
+pub use log::{Log, Queue};
 pub use machine::Machine;
 pub use places::Places;
 pub use run::{Addresses, Operator, run_member};

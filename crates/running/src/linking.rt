@@ -1,5 +1,6 @@
 //! The threads of links.
 
+use crate::events::Event;
 use crate::machine::Machine;
 use crate::shared::Shared;
 use disk::Disk;
@@ -101,6 +102,13 @@ pub(crate) fn dial_all<D: Disk + Send, J: Naming + Send + Sync, R: Machine>(
     });
 }
 
+/// The event of the link from a peer is to be told. The link from the member to itself is none of the log's.
+fn note_peer<D: Disk, J: Naming, R: Machine>(rt: &R, it: &Shared<D, J>, peer: u8, event: Event) {
+    if peer != it.hub.header().me() {
+        it.note_link(rt, event);
+    }
+}
+
 /// Reads the link of a peer that greeted, with its seat and its tosser.
 fn read_from<D: Disk, J: Naming, R: Machine>(
     rt: &R,
@@ -112,11 +120,14 @@ fn read_from<D: Disk, J: Naming, R: Machine>(
         return LinkEnd::Stranger;
     };
     let Some(seat) = it.rack.take(rt, peer) else {
+        it.note_link(rt, Event::Refused(LinkEnd::Busy));
         return LinkEnd::Busy;
     };
+    note_peer(rt, it, peer, Event::LinkUp(peer));
     let mut tosser = tosser.lock(rt);
     let (seat, end) = read_link(rt, it.alloc, &it.hub, seat, stream, &Open, &mut *tosser);
     it.rack.put(rt, seat);
+    note_peer(rt, it, peer, Event::LinkDown(peer, end));
     end
 }
 
@@ -144,7 +155,10 @@ fn read_at<D: Disk, J: Naming, R: Machine>(rt: &R, it: &Shared<D, J>, place: usi
             Some(stream) => read_from(rt, it, peer, stream),
             None => LinkEnd::Lost,
         },
-        Err(end) => end,
+        Err(end) => {
+            it.note_link(rt, Event::Refused(end));
+            end
+        }
     }
 }
 

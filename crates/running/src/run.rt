@@ -6,14 +6,17 @@ ghost use Rattle.member.specs.Sound.{IsSound};
 ghost use Rattle.member.specs.Words.{header_of, saved_of, is_stopped_of, StandsFor};
 
 use crate::clients::accept_clients;
+use crate::events::Event;
 use crate::fault::RunFault;
 use crate::linking::{accept_links, dial_all};
+use crate::log::Log;
 use crate::machine::Machine;
 use crate::places::Places;
 use crate::shared::Shared;
 use crate::slots::Slots;
 use crate::sockets::{Sockets, shut_listener};
 use crate::tossers::{Tossers, tossers_of};
+use crate::watch::Telling;
 use disk::Disk;
 use member::Member;
 use node::{Board, Hub, Naming, Rack};
@@ -23,7 +26,7 @@ use std::marker::Brand;
 use std::net::{SocketAddr, TcpListener};
 use std::sync::atomic::AtomicBool;
 use std::sync::{Arc, Condvar, Mutex, Wait};
-use std::thread;
+use std::{io, thread};
 use terms::Memory;
 
 /// Where the members listen.
@@ -42,6 +45,9 @@ pub trait Operator {
 
     /// Returns when the member is to end. Where it fails the member ends too, and the run with its fault.
     fn until_end(&mut self) -> Result<(), RunFault>;
+
+    /// Is told why the member can't listen at this address. The run ends with [`RunFault::Listen`] then.
+    fn unheard(&mut self, _address: SocketAddr, _error: &io::Error) {}
 }
 
 /// Each tosser behind a lock of its own.
@@ -83,7 +89,16 @@ fn share<D: Disk + Drop, J: Naming>(
         closing: AtomicBool::new(false),
         ticks: Mutex::new(0),
         ticked: Condvar::new(),
+        telling: Mutex::new(None),
     })
+}
+
+/// From now on what happens is to be told, and first that the member is ready.
+fn begin_telling<D: Disk, J: Naming, R: Machine>(rt: &R, it: &Shared<D, J>) -> Result<(), Memory> {
+    let telling = Telling::new(it.alloc, &it.hub.lock(rt))?;
+    *it.telling.lock(rt) = Some(telling);
+    it.note(rt, Event::Ready(it.hub.header().me()));
+    Ok(())
 }
 
 /// Runs all threads until the operator ends the member.
@@ -112,8 +127,32 @@ fn run_threads<D: Disk + Send, J: Naming + Send + Sync, O: Operator, R: Machine>
     })
 }
 
+/// Runs all threads until the operator ends the member, and one more that tells the log what is to be told. Where the
+/// system refuses that one all is told at the end.
+fn run_logged<D: Disk + Send, J: Naming + Send + Sync, O: Operator, L: Log + Send, R: Machine>(
+    rt: &R,
+    operator: &mut O,
+    log: &Mutex<L>,
+    it: &Shared<D, J>,
+    listener: &TcpListener,
+    desk: &TcpListener,
+) -> Result<(), RunFault> {
+    let ended = thread::scope(thread::scope_env(), rt, |scope| -> Result<(), RunFault> {
+        let _teller = scope.spawn(move || it.tell_on(rt, log)).is_ok();
+        run_threads(rt, operator, it, listener, desk)
+    });
+    tell_end(rt, it, log);
+    ended
+}
+
 /// Runs a member whose board has been named.
-fn run_named<D: Disk + Drop + Send, J: Naming + Send + Sync, O: Operator, R: Machine>(
+fn run_named<
+    D: Disk + Drop + Send,
+    J: Naming + Send + Sync,
+    O: Operator,
+    L: Log + Send,
+    R: Machine,
+>(
     rt: &R,
     alloc: Global,
     member: Member<D>,
@@ -122,6 +161,7 @@ fn run_named<D: Disk + Drop + Send, J: Naming + Send + Sync, O: Operator, R: Mac
     seed: [u8; 32],
     listeners: (TcpListener, TcpListener),
     operator: &mut O,
+    log: Option<&Mutex<L>>,
 ) -> Result<(), RunFault>
     requires sound { IsSound D.Disk member }
     requires fresh { is_stopped_of member ≡ false → StandsFor member (saved_of member) [] }
@@ -130,19 +170,39 @@ fn run_named<D: Disk + Drop + Send, J: Naming + Send + Sync, O: Operator, R: Mac
 {
     let (listener, desk) = listeners;
     let shared = share::<D, J>(alloc, member, board, peers, seed)?;
+    if log.is_some() {
+        begin_telling(rt, &shared)?;
+    }
     operator.ready()?;
-    run_threads(rt, operator, &shared, &listener, &desk)?;
+    match log {
+        Some(log) => run_logged(rt, operator, log, &shared, &listener, &desk)?,
+        None => run_threads(rt, operator, &shared, &listener, &desk)?,
+    }
     if shared.hub.lock(rt).is_stopped() {
         return Err(RunFault::Stopped);
     }
     Ok(())
 }
 
-/// Binds a listener.
-fn listen<R: Machine>(rt: &R, address: SocketAddr) -> Result<TcpListener, RunFault> {
+/// Tells what is left to tell when all threads have ended, and the end.
+fn tell_end<D: Disk, J: Naming, L: Log, R: Machine>(rt: &R, it: &Shared<D, J>, log: &Mutex<L>) {
+    it.note_book(rt);
+    it.tell(rt, log);
+    log.lock(rt).tell(&Event::End);
+}
+
+/// Binds a listener. The operator is told why there is none.
+fn listen<O: Operator, R: Machine>(
+    rt: &R,
+    address: SocketAddr,
+    operator: &mut O,
+) -> Result<TcpListener, RunFault> {
     match TcpListener::bind(rt, address) {
         Ok(listener) => Ok(listener),
-        Err(_) => Err(RunFault::Listen),
+        Err(error) => {
+            operator.unheard(address, &error);
+            Err(RunFault::Listen)
+        }
     }
 }
 
@@ -152,6 +212,9 @@ fn listen<R: Machine>(rt: &R, address: SocketAddr) -> Result<TcpListener, RunFau
 /// dialler for each member, one that takes links in and one that takes clients in, and one for each of these. At the end
 /// all of them end, and with them every connection.
 ///
+/// Where there is a log one thread more tells it the member's events, so that no other waits for it. Past 1,024 events that
+/// wait to be told the next ones are counted and not kept. The last event is the end, when all threads have ended.
+///
 /// # Errors
 ///
 /// [`RunFault::Listen`], [`RunFault::Memory`] and what the operator says when it is told come before any thread starts,
@@ -159,13 +222,14 @@ fn listen<R: Machine>(rt: &R, address: SocketAddr) -> Result<TcpListener, RunFau
 /// Whatever comes, the member is gone with its threads; what it saved is on its disk.
 ///
 /// It may wait: for its operator, for locks and for its threads.
-pub fn run_member<D: Disk + Drop + Send, O: Operator, R: Machine>(
+pub fn run_member<D: Disk + Drop + Send, O: Operator, L: Log + Send, R: Machine>(
     rt: &R,
     alloc: Global,
     member: Member<D>,
     addresses: Addresses,
     seed: [u8; 32],
     operator: &mut O,
+    log: Option<&Mutex<L>>,
 ) -> Result<(), RunFault>
     requires sound { IsSound D.Disk member }
     requires fresh { is_stopped_of member ≡ false → StandsFor member (saved_of member) [] }
@@ -175,14 +239,14 @@ pub fn run_member<D: Disk + Drop + Send, O: Operator, R: Machine>(
     let Some(own) = peers.get(usize::from(header.me())) else {
         return Err(RunFault::Listen);
     };
-    let listener = listen(rt, *own)?;
-    let desk = listen(rt, desk)?;
+    let listener = listen(rt, *own, operator)?;
+    let desk = listen(rt, desk, operator)?;
     let board = Board::new(alloc, header.size().questions())?;
     let board = match Arc::new(alloc, board) {
         Ok(board) => board,
         Err(_) => return Err(RunFault::Memory),
     };
-    run_named::<D, Brand, O, R>(
+    run_named::<D, Brand, O, L, R>(
         rt,
         alloc,
         member,
@@ -191,5 +255,6 @@ pub fn run_member<D: Disk + Drop + Send, O: Operator, R: Machine>(
         seed,
         (listener, desk),
         operator,
+        log,
     )
 }

@@ -1,9 +1,12 @@
 //! What the threads of a member share.
 
+use crate::events::Event;
+use crate::log::Log;
 use crate::machine::Machine;
 use crate::places::Places;
 use crate::slots::Slots;
 use crate::sockets::Sockets;
+use crate::watch::Telling;
 use disk::Disk;
 use node::{Hub, Naming, Rack};
 use rounds::ChaChaTosser;
@@ -36,6 +39,8 @@ pub(crate) struct Shared<D: Disk, J: Naming> {
     /// How many seconds have passed; it counts on from 0 after 2^64 - 1.
     pub(crate) ticks: Mutex<u64>,
     pub(crate) ticked: Condvar,
+    /// What is to be told, if the member has a log. Another thread tells it, so that nobody waits for the log.
+    pub(crate) telling: Mutex<Option<Telling>>,
 }
 
 /// The slot of a client at the desk, and the place of its socket.
@@ -57,6 +62,63 @@ impl<D: Disk, J: Naming> Shared<D, J> {
         self.tick(rt);
         self.hub.shut(rt);
         self.sockets.lock(rt).close();
+    }
+
+    /// The event is to be told, if the member has a log.
+    pub(crate) fn note<R: Machine>(&self, rt: &R, event: Event) {
+        if let Some(telling) = &mut *self.telling.lock(rt) {
+            telling.queue.put(event);
+        }
+    }
+
+    /// The same of an event of links. What the member's own end does to them isn't told.
+    pub(crate) fn note_link<R: Machine>(&self, rt: &R, event: Event) {
+        if !self.is_closing() {
+            self.note(rt, event);
+        }
+    }
+
+    /// What the book has that wasn't told is to be told, if the member has a log.
+    pub(crate) fn note_book<R: Machine>(&self, rt: &R) {
+        if self.telling.lock(rt).is_none() {
+            return;
+        }
+        let book = self.hub.lock(rt);
+        if let Some(telling) = &mut *self.telling.lock(rt) {
+            telling.look(&book);
+        }
+    }
+
+    /// Tells what waits to be told.
+    pub(crate) fn tell<L: Log, R: Machine>(&self, rt: &R, log: &Mutex<L>) {
+        let (events, missed) = self.take_events(rt);
+        let mut log = log.lock(rt);
+        for event in &events {
+            log.tell(event);
+        }
+        if missed > 0 {
+            log.tell(&Event::Missed(missed));
+        }
+    }
+
+    /// What waits to be told, and how many events came too fast.
+    fn take_events<R: Machine>(&self, rt: &R) -> (Vec<Event>, u64) {
+        match &mut *self.telling.lock(rt) {
+            Some(telling) => telling.queue.take(self.alloc),
+            None => (Vec::new(self.alloc), 0),
+        }
+    }
+
+    /// Tells what is to be told, ten times a second, until the end.
+    pub(crate) fn tell_on<L: Log, R: Machine>(&self, rt: &R, log: &Mutex<L>) {
+        for _ in rt.forever() {
+            if self.is_closing() {
+                return;
+            }
+            self.tell(rt, log);
+            thread::sleep(rt, Duration::from_millis(100));
+        }
+        unreachable!()
     }
 
     /// Counts a tick, and wakes who waits for it.
@@ -91,6 +153,7 @@ impl<D: Disk, J: Naming> Shared<D, J> {
             self.tick(rt);
             self.sockets.lock(rt).tick();
             self.hub.ring();
+            self.note_book(rt);
         }
         unreachable!()
     }

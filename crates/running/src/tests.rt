@@ -7,6 +7,7 @@ ghost use Rattle.member.specs.Words.{saved_of, is_stopped_of, StandsFor};
 use super::*;
 use crate::sockets::Sockets;
 use disk::MemDisk;
+use links::LinkEnd;
 use member::Member;
 use rounds::{ChaChaTosser, Tosser};
 use std::alloc::Global;
@@ -19,6 +20,7 @@ use std::test::Fail;
 use std::time::{Clock, Duration, Instant};
 use std::{io, thread};
 use terms::{Header, Memory, Size};
+use wire::WireFault;
 
 /// A cluster on this machine: how many members it has and how many of them may lie, and the port of member 0's links. The
 /// other members' follow, and then the ports of the desks.
@@ -139,7 +141,19 @@ impl<R: Clock> Operator for Prompter<'_, R> {
     }
 }
 
-/// One run of a member.
+/// The events that were told, as a list.
+#[derive(Drop)]
+struct Kept {
+    events: Vec<Event>,
+}
+
+impl Log for Kept {
+    fn tell(&mut self, event: &Event) {
+        let _lost = self.events.push(*event).is_err();
+    }
+}
+
+/// One run of a member, without a log.
 fn run_once<R: Machine>(
     rt: &R,
     alloc: Global,
@@ -148,12 +162,25 @@ fn run_once<R: Machine>(
     calls: Option<u64>,
     cue: &Cue,
 ) -> Result<(), RunFault> {
+    run_told(rt, alloc, cluster, me, calls, cue, None)
+}
+
+/// One run of a member.
+fn run_told<R: Machine>(
+    rt: &R,
+    alloc: Global,
+    cluster: Cluster,
+    me: u8,
+    calls: Option<u64>,
+    cue: &Cue,
+    log: Option<&Mutex<Kept>>,
+) -> Result<(), RunFault> {
     let Some(member) = cluster.member(alloc, me, calls) else {
         return Err(RunFault::Memory);
     };
     let addresses = cluster.addresses(alloc, me)?;
     let mut prompter = Prompter { rt, cue };
-    run_member(rt, alloc, member, addresses, [me; 32], &mut prompter)
+    run_member(rt, alloc, member, addresses, [me; 32], &mut prompter, log)
 }
 
 /// Runs a member to its cue. A port that is taken for a moment is tried again.
@@ -378,6 +405,100 @@ fn crowd<R: Machine + Abort>(rt: &R, alloc: Global) -> Result<(), Fail> {
 fn too_many_are_closed_at_once(rt: HostRuntime) -> Result<(), Fail> {
     let _types = no_sockets();
     crowd(&rt, rt.alloc())
+}
+
+/// A member by itself that has a log, and a stranger at its door.
+fn alone<R: Machine + Abort>(rt: &R, alloc: Global) -> Result<(), Fail> {
+    let cluster = Cluster {
+        n: 1,
+        t: 0,
+        port: 47240,
+    };
+    let kept = Mutex::new(Kept {
+        events: Vec::new(alloc),
+    });
+    let cue = Cue::new();
+    let (cue, log) = (&cue, &kept);
+    thread::scope(thread::scope_env(), rt, |scope| -> Result<(), Fail> {
+        let _run = scope.spawn(move || {
+            let ended = run_told(rt, alloc, cluster, 0, None, cue, Some(log));
+            *cue.ended.lock(rt) = Some(ended);
+        });
+        assert!(rt; cue.is_ready(rt));
+        assert!(rt; is_refused(rt, cluster.address(0), &hello(8))?);
+        assert!(rt; comes_to(rt, cluster.desk(0), b"PROPOSE 0 1\n", b"OK\n"));
+        assert!(rt; comes_to(rt, cluster.desk(0), b"ASK 0\n", b"DECIDED 1\n"));
+        assert!(rt; cue.ends(rt) == Some(Ok(())));
+        Ok(())
+    })?;
+    let told = kept.into_inner().events;
+    let want = [
+        Event::Ready(0),
+        Event::Refused(LinkEnd::Stranger),
+        Event::Decided(0, true),
+        Event::End,
+    ];
+    assert!(rt; told.as_slice() == want.as_slice());
+    Ok(())
+}
+
+#[test]
+fn a_log_tells_a_life(rt: HostRuntime) -> Result<(), Fail> {
+    let _types = no_sockets();
+    alone(&rt, rt.alloc())
+}
+
+#[test]
+fn events_are_lines(rt: HostRuntime) -> Result<(), Fail> {
+    for (event, want) in [
+        (Event::Ready(1), "ready member 1"),
+        (Event::LinkUp(2), "link-up from 2"),
+        (Event::LinkDown(31, LinkEnd::Lost), "link-down from 31 lost"),
+        (
+            Event::LinkDown(2, LinkEnd::Broken(WireFault::BadValue)),
+            "link-down from 2 broken BadValue",
+        ),
+        (
+            Event::LinkDown(0, LinkEnd::OutOfOrder),
+            "link-down from 0 out-of-order",
+        ),
+        (
+            Event::LinkDown(3, LinkEnd::Stopped),
+            "link-down from 3 stopped",
+        ),
+        (
+            Event::LinkDown(3, LinkEnd::Memory),
+            "link-down from 3 memory",
+        ),
+        (Event::Refused(LinkEnd::Stranger), "refused stranger"),
+        (Event::Refused(LinkEnd::Busy), "refused busy"),
+        (Event::Refused(LinkEnd::Ended), "refused ended"),
+        (Event::Decided(17, true), "decided 17 1"),
+        (Event::Decided(255, false), "decided 255 0"),
+        (Event::Stopped, "stopped"),
+        (Event::Missed(3), "missed 3"),
+        (Event::End, "end"),
+    ] {
+        let text = format!(in rt.alloc(); "{event}")?;
+        assert_eq!(rt; text.as_str(), want);
+    }
+    Ok(())
+}
+
+#[test]
+fn a_queue_has_an_end(rt: HostRuntime) -> Result<(), Fail> {
+    let mut queue = Queue::new(rt.alloc());
+    assert!(&rt; queue.is_empty());
+    for question in 0..1026u16 {
+        queue.put(Event::Decided(question, true));
+    }
+    assert!(&rt; !queue.is_empty());
+    let (events, missed) = queue.take(rt.alloc());
+    assert!(&rt; events.len() == 1024 && missed == 2);
+    assert!(&rt; events.first() == Some(&Event::Decided(0, true)));
+    assert!(&rt; events.last() == Some(&Event::Decided(1023, true)));
+    assert!(&rt; queue.is_empty());
+    Ok(())
 }
 
 /// A connection on this machine: the peer's end and the member's.

@@ -26,9 +26,9 @@ fn a_process(rt: HostRuntime) -> Result<(), Fail> {
     let words: Vec<&str> = words.as_str().split(' ').collect(rt.alloc())?;
     let status = match run(&rt, &rt, words.as_slice()) {
         Ok(status) => status,
-        Err(fault) => {
-            eprintln!(&rt; "bracha: {fault}")?;
-            fault.status()
+        Err(failure) => {
+            print_failure(&rt, &failure)?;
+            failure.fault.status()
         }
     };
     println!(&rt; "status {status}")?;
@@ -204,6 +204,165 @@ fn faults_of_words_and_files(rt: HostRuntime) -> Result<(), Fail> {
     // A file that isn't there isn't made.
     assert!(rt; fs::metadata(&rt, "bracha_tests_none.journal").is_err());
     fs::remove_file(&rt, "bracha_tests_bytes.toml")?;
+    Ok(())
+}
+
+/// What the program says on its standard error behind the line of its fault, with the option or with the environment's word.
+fn told_more(rt: &HostRuntime, words: &str, by_environment: bool) -> Result<String, Fail> {
+    let mut command = if by_environment {
+        let words = format!(in rt.alloc(); "bracha {words}")?;
+        program(rt, words.as_str())?
+    } else {
+        let words = format!(in rt.alloc(); "bracha --verbose {words}")?;
+        program(rt, words.as_str())?
+    };
+    if by_environment {
+        command.env("BRACHA_VERBOSE", "1")?;
+    }
+    let output = command.stdin(Stdio::null()).output(rt)?;
+    Ok(String::from_utf8(output.stderr).ok().ok_or("text")?)
+}
+
+#[test]
+fn a_second_line_names_the_thing(rt: HostRuntime) -> Result<(), Fail> {
+    let (text, bytes, key) = (
+        "bracha_tests_more_text.toml",
+        "bracha_tests_more_bytes.toml",
+        "bracha_tests_more_key.toml",
+    );
+    let (script, journal) = ("bracha_tests_more.script", "bracha_tests_more.journal");
+    fs::write(&rt, text, "cluster = 7\nn = = 4\n")?;
+    fs::write(&rt, bytes, [0x6e, 0xff].as_slice())?;
+    fs::write(&rt, key, "n = 4\n\ncluster = 'seven'\n")?;
+    fs::write(
+        &rt,
+        script,
+        "n 1\nt 0\nquestions 1\nliars\nseed 1\n\ndelivr 0 0 next\n",
+    )?;
+    fs::write(&rt, journal, "BRACHAJ1")?;
+    for (words, said) in [
+        (
+            "init bracha_tests_none.toml",
+            "bracha: file\nbracha_tests_none.toml: read: No such file or directory (os error 2)\n",
+        ),
+        (
+            "dump bracha_tests_none.journal",
+            "bracha: file\nbracha_tests_none.journal: open: No such file or directory (os error 2)\n",
+        ),
+        (
+            "dump .",
+            "bracha: file\n.: open: Is a directory (os error 21)\n",
+        ),
+        (
+            "dump bracha_tests_more.journal",
+            "bracha: journal BadHeader\nbracha_tests_more.journal: journal BadHeader\n",
+        ),
+        (
+            "check bracha_tests_more_text.toml",
+            "bracha: settings text\nbracha_tests_more_text.toml:2: ",
+        ),
+        (
+            "check bracha_tests_more_bytes.toml",
+            "bracha: settings text\nbracha_tests_more_bytes.toml: byte 1: not UTF-8\n",
+        ),
+        (
+            "check bracha_tests_more_key.toml",
+            "bracha: settings cluster\nbracha_tests_more_key.toml:3: cluster\n",
+        ),
+        (
+            "simulate bracha_tests_more.script",
+            "bracha: line 7\nbracha_tests_more.script:7: delivr 0 0 next\n",
+        ),
+        (
+            "status 127.0.0.1:47199",
+            "bracha: no answer\n127.0.0.1:47199: connect: Connection refused (os error 111)\n",
+        ),
+        (
+            "status localhost",
+            "bracha: address\nlocalhost: not HOST:PORT\n",
+        ),
+    ] {
+        for by_environment in [false, true] {
+            let told = told_more(&rt, words, by_environment)?;
+            assert!(rt; told.as_str().contains(said), "{words}: {told}");
+        }
+        // Without the option there is one line.
+        let plain = format!(in rt.alloc(); "bracha {words}")?;
+        let (_, told) = self::told(&rt, plain.as_str())?;
+        let first = said.split('\n').next().ok_or("a line")?;
+        let one = format!(in rt.alloc(); "{first}\n")?;
+        assert!(rt; told.as_str().contains(one.as_str()), "{words}: {told}");
+        assert!(rt;
+            !told.as_str().contains(&said[..one.len() + 1]),
+            "{words}: {told}"
+        );
+    }
+    for path in [text, bytes, key, script, journal] {
+        fs::remove_file(&rt, path)?;
+    }
+    Ok(())
+}
+
+#[test]
+fn a_journal_that_another_has_is_named(rt: HostRuntime) -> Result<(), Fail> {
+    let journal = "bracha_tests_locked.journal";
+    fs::write(&rt, journal, EMPTY.as_slice())?;
+    let file = fs::File::open(&rt, journal)?;
+    file.try_lock()?;
+    let told = told_more(&rt, "dump bracha_tests_locked.journal", false)?;
+    assert!(rt;
+        told.as_str()
+            .contains("bracha: file\nbracha_tests_locked.journal: open: "),
+        "{told}"
+    );
+    fs::remove_file(&rt, journal)?;
+    Ok(())
+}
+
+/// The settings of a member by itself, cluster 7, one question.
+fn settings_alone(rt: &HostRuntime, journal: &str, port: u16) -> Result<String, Fail> {
+    Ok(format!(in rt.alloc();
+        "cluster = 7\nn = 1\nt = 0\nquestions = 1\nme = 0\njournal = '{journal}'\npeers = ['127.0.0.1:{port}']\ndesk = '127.0.0.1:47139'\nseed = '0000000000000000000000000000000000000000000000000000000000000001'\n"
+    )?)
+}
+
+#[test]
+fn a_member_alone_tells_its_life(rt: HostRuntime) -> Result<(), Fail> {
+    let (path, journal) = ("bracha_tests_alone.toml", "bracha_tests_alone.journal");
+    let _ = fs::remove_file(&rt, journal);
+    fs::write(&rt, path, settings_alone(&rt, journal, 47138)?.as_str())?;
+    assert!(rt;
+        ended(&rt, "bracha init bracha_tests_alone.toml")?
+            .as_str()
+            .contains("status 0\n")
+    );
+    let mut command = program(&rt, "bracha run --log bracha_tests_alone.toml")?;
+    command
+        .stdin(Stdio::piped())
+        .stdout(Stdio::piped())
+        .stderr(Stdio::piped());
+    let child = command.spawn(&rt)?;
+    let mut proposed = false;
+    for _ in 0..100u32 {
+        thread::sleep(&rt, Duration::from_millis(50));
+        if ended(&rt, "bracha propose 127.0.0.1:47139 0 1")?
+            .as_str()
+            .contains("OK\n")
+        {
+            proposed = true;
+            break;
+        }
+    }
+    assert!(rt; proposed);
+    thread::sleep(&rt, Duration::from_millis(2500));
+    let output = child.wait_with_output(rt.alloc())?;
+    let said = String::from_utf8(output.stderr).ok().ok_or("text")?;
+    assert!(rt;
+        said.as_str().contains("ready member 0\ndecided 0 1\nend\n"),
+        "{said}"
+    );
+    fs::remove_file(&rt, path)?;
+    fs::remove_file(&rt, journal)?;
     Ok(())
 }
 

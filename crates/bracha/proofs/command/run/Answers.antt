@@ -6,4 +6,5 @@ use Rattle.bracha.proofs.command.run.Goals as goal
 pub returns : goal.returns
 returns c =
     let settings = with_arg c.named.result c.word.result c.in_ok-arg.field-0 _ _ c.in_ok-arg.ensures c.named.ensures c.word.ensures refl in
-    IfOk-weaker c.arg-2.result _ _ (λ made added. search (rules, with_arg c.in_ok-arg.field-0 c.flag.result made _ _ added settings c.flag.ensures refl)) c.arg-2.ensures
+    let stay = with_arg c.in_ok-arg.field-0 c.flag.result c.in_ok-arg-2.field-0 _ _ c.in_ok-arg-2.ensures settings c.flag.ensures refl in
+    IfOk-weaker c.arg-3.result _ _ (λ made added. search (rules, with_arg c.in_ok-arg-2.field-0 c.flag-2.result made _ _ added stay c.flag-2.ensures refl)) c.arg-3.ensures

@@ -1,0 +1,162 @@
+//! What can be told of the thing that a fault is about.
+
+ghost use Rattle.bracha.specs.Faults.{IsMeant, IsOfFile};
+ghost use Rattle.std.specs.Prelude.{◌≡◌, None, false, true};
+
+use crate::fault::Fault;
+use std::alloc::Global;
+use std::{fmt, io};
+
+/// Where a thing went wrong, or what was tried on it.
+#[derive(Clone, Copy, Debug, PartialEq, Eq)]
+pub enum Place {
+    /// All of it.
+    Whole,
+    /// This line, counted from 1.
+    Line(usize),
+    /// This byte, counted from 0.
+    Byte(usize),
+    /// It was to be opened for reading and writing.
+    Open,
+    /// It was to be read.
+    Read,
+    /// It was to be written.
+    Write,
+    /// A connection to it was to be made.
+    Connect,
+    /// Connections to it were to be taken in.
+    Listen,
+}
+
+impl fmt::Display for Place {
+    ghost use Rattle.std.specs.Prelude.{Some};
+    ghost use Rattle.bracha.specs.Troubles.{place_text};
+
+    ghost output = { λ place. Some (place_text place) };
+
+    fn fmt<W: fmt::Write>(&self, f: &mut fmt::Formatter<W>) -> fmt::Result {
+        match *self {
+            Place::Whole => Ok(()),
+            Place::Line(number) => write!(f, ":{number}"),
+            Place::Byte(at) => write!(f, ": byte {at}"),
+            Place::Open => f.write_str(": open"),
+            Place::Read => f.write_str(": read"),
+            Place::Write => f.write_str(": write"),
+            Place::Connect => f.write_str(": connect"),
+            Place::Listen => f.write_str(": listen"),
+        }
+    }
+}
+
+/// What can be told of the thing that a fault is about. Its text is the second line that is printed of a fault where the
+/// words ask for it: the thing, the place, and what is wrong there, as in `a.toml: read: Permission denied (os error 13)`.
+#[derive(Debug, Drop)]
+pub struct Trouble {
+    /// The path of a file, or an address.
+    pub thing: String,
+    pub place: Place,
+    /// What is wrong, in the system's words or the program's own.
+    pub words: String,
+}
+
+impl fmt::Display for Trouble {
+    ghost use Rattle.std.specs.Prelude.{Some, string_bytes};
+    ghost use Rattle.bracha.specs.Troubles.{trouble_text};
+
+    ghost output = { λ trouble. Some (trouble_text trouble) };
+
+    fn fmt<W: fmt::Write>(&self, f: &mut fmt::Formatter<W>) -> fmt::Result {
+        write!(f, "{}{}: {}", self.thing, self.place, self.words)
+    }
+}
+
+/// A fault, and what can be told of the thing that it is about.
+#[derive(Debug, Drop)]
+pub struct Failure {
+    pub fault: Fault,
+    /// None too where there was no memory for it.
+    pub trouble: Option<Trouble>,
+}
+
+impl From<Fault> for Failure {
+    ghost from_gives = { λ fault given. given ≡ record { fault = fault; trouble = None } };
+
+    fn from(fault: Fault) -> Failure {
+        Failure {
+            fault,
+            trouble: None,
+        }
+    }
+}
+
+impl Failure {
+    /// The fault at a place of a thing, and in these words what is wrong there.
+    pub fn at<T: fmt::Display>(
+        alloc: Global,
+        fault: Fault,
+        thing: &str,
+        place: Place,
+        words: &T,
+    ) -> Failure
+        ensures { result.fault ≡ fault }
+    {
+        Failure {
+            fault,
+            trouble: trouble_of(alloc, thing, place, words),
+        }
+    }
+
+    /// The fault of a thing, in the fault's own words.
+    pub fn about(alloc: Global, fault: Fault, thing: &str) -> Failure
+        ensures { result.fault ≡ fault }
+    {
+        let trouble = trouble_of(alloc, thing, Place::Whole, &fault);
+        Failure { fault, trouble }
+    }
+
+    /// The fault, or want of memory, of a thing at which the system failed.
+    pub fn of_system(
+        alloc: Global,
+        fault: Fault,
+        thing: &str,
+        place: Place,
+        error: io::Error,
+    ) -> Failure
+        ensures meant { IsMeant fault result.fault }
+        ensures kind { IsOfFile fault error result.fault }
+    {
+        let trouble = trouble_of(alloc, thing, place, &error);
+        Failure {
+            fault: fault.of_file(error),
+            trouble,
+        }
+    }
+
+    /// The failure of which nothing more than its fault is told, but where the words ask for it.
+    pub fn told(self, verbose: bool) -> Failure
+        ensures fault { result.fault ≡ self.fault }
+        ensures told { verbose ≡ true → result ≡ self }
+        ensures hushed { verbose ≡ false → result.trouble ≡ None }
+    {
+        if verbose {
+            return self;
+        }
+        Failure::from(self.fault)
+    }
+}
+
+/// What can be told at a place of a thing, where there is memory for it.
+pub fn trouble_of<T: fmt::Display>(
+    alloc: Global,
+    thing: &str,
+    place: Place,
+    words: &T,
+) -> Option<Trouble> {
+    let thing = String::from_str(alloc, thing).ok()?;
+    let words = format!(in alloc; "{words}").ok()?;
+    Some(Trouble {
+        thing,
+        place,
+        words,
+    })
+}

@@ -1,0 +1,45 @@
+-- The lines of a log.
+use Rattle.std.specs.Prelude.{ℕ, Bool, false, true, List, ◌++◌, codes}
+use Rattle.std.specs.Fmt.{decimal}
+use Rattle.wire.specs.declared.message.WireFault.{WireFault}
+use Rattle.wire.specs.declared.message.WireFault.TheVariants.{BadLength, BadType, BadKind, BadPlace, BadValue, BadHello}
+use Rattle.links.specs.declared.ends.LinkEnd.{LinkEnd}
+use Rattle.links.specs.declared.ends.LinkEnd.TheVariants as cause
+use Rattle.running.specs.declared.events.Event.{Event}
+use Rattle.running.specs.declared.events.Event.TheVariants.{Ready, LinkUp, LinkDown, Refused, Decided, Stopped, Missed, End}
+
+-- what is wrong with bytes that begin no frame
+abbrev pub fault_text : WireFault → List ℕ
+fault_text BadLength = codes "broken BadLength"
+fault_text BadType = codes "broken BadType"
+fault_text BadKind = codes "broken BadKind"
+fault_text BadPlace = codes "broken BadPlace"
+fault_text BadValue = codes "broken BadValue"
+fault_text BadHello = codes "broken BadHello"
+
+-- what ended a link
+abbrev pub cause_text : LinkEnd → List ℕ
+cause_text cause.Ended = codes "ended"
+cause_text cause.Lost = codes "lost"
+cause_text (cause.Broken fault) = fault_text fault
+cause_text cause.OutOfOrder = codes "out-of-order"
+cause_text cause.Stranger = codes "stranger"
+cause_text cause.Busy = codes "busy"
+cause_text cause.Stopped = codes "stopped"
+cause_text cause.Memory = codes "memory"
+
+-- the digit of a bit
+abbrev pub bit_number : Bool → ℕ
+bit_number false = 0
+bit_number true = 1
+
+-- an event's line, without its end
+abbrev pub event_text : Event → List ℕ
+event_text (Ready me) = codes "ready member " ++ decimal me
+event_text (LinkUp peer) = codes "link-up from " ++ decimal peer
+event_text (LinkDown peer end) = codes "link-down from " ++ (decimal peer ++ (codes " " ++ cause_text end))
+event_text (Refused end) = codes "refused " ++ cause_text end
+event_text (Decided question bit) = codes "decided " ++ (decimal question ++ (codes " " ++ decimal (bit_number bit)))
+event_text Stopped = codes "stopped"
+event_text (Missed count) = codes "missed " ++ decimal count
+event_text End = codes "end"

@@ -1,0 +1,79 @@
+//! What happens to a member that runs.
+
+ghost use Rattle.std.specs.Prelude.{◌≡◌};
+ghost use Rattle.running.specs.Events.{cause_text, fault_text};
+
+use links::LinkEnd;
+use std::fmt;
+use wire::WireFault;
+
+/// What happens to a member that runs. The text of each is its line in a log, without the line's end.
+#[derive(Clone, Copy, Debug, PartialEq, Eq)]
+pub enum Event {
+    /// This member listens.
+    Ready(u8),
+    /// A link from this member has greeted, and is read from now on.
+    LinkUp(u8),
+    /// It isn't read any more, for this cause.
+    LinkDown(u8, LinkEnd),
+    /// A connection to the links' address was closed for this cause, before it became a link.
+    Refused(LinkEnd),
+    /// A question was decided for this bit.
+    Decided(u16, bool),
+    /// The member is stopped from now on.
+    Stopped,
+    /// So many events aren't told, since too many were waiting to be.
+    Missed(u64),
+    /// The member has ended.
+    End,
+}
+
+/// The name of what is wrong with bytes that begin no frame.
+fn fault_text(fault: WireFault) -> &'static str
+    ensures { result.now ≡ fault_text fault }
+{
+    match fault {
+        WireFault::BadLength => "broken BadLength",
+        WireFault::BadType => "broken BadType",
+        WireFault::BadKind => "broken BadKind",
+        WireFault::BadPlace => "broken BadPlace",
+        WireFault::BadValue => "broken BadValue",
+        WireFault::BadHello => "broken BadHello",
+    }
+}
+
+/// The word for what ended a link.
+fn cause_text(end: LinkEnd) -> &'static str
+    ensures { result.now ≡ cause_text end }
+{
+    match end {
+        LinkEnd::Ended => "ended",
+        LinkEnd::Lost => "lost",
+        LinkEnd::Broken(fault) => fault_text(fault),
+        LinkEnd::OutOfOrder => "out-of-order",
+        LinkEnd::Stranger => "stranger",
+        LinkEnd::Busy => "busy",
+        LinkEnd::Stopped => "stopped",
+        LinkEnd::Memory => "memory",
+    }
+}
+
+impl fmt::Display for Event {
+    ghost use Rattle.std.specs.Prelude.{Some};
+    ghost use Rattle.running.specs.Events.{event_text};
+
+    ghost output = { λ event. Some (event_text event) };
+
+    fn fmt<W: fmt::Write>(&self, f: &mut fmt::Formatter<W>) -> fmt::Result {
+        match *self {
+            Event::Ready(me) => write!(f, "ready member {me}"),
+            Event::LinkUp(peer) => write!(f, "link-up from {peer}"),
+            Event::LinkDown(peer, end) => write!(f, "link-down from {peer} {}", cause_text(end)),
+            Event::Refused(end) => write!(f, "refused {}", cause_text(end)),
+            Event::Decided(question, bit) => write!(f, "decided {question} {}", u8::from(bit)),
+            Event::Stopped => f.write_str("stopped"),
+            Event::Missed(count) => write!(f, "missed {count}"),
+            Event::End => f.write_str("end"),
+        }
+    }
+}

@@ -1,0 +1,72 @@
+//! Events that wait to be told, and who tells them.
+
+ghost use Rattle.std.specs.Prelude.{◌≡◌, ◌⊎◌, ◌≤◌, ◌++◌, ◌∷◌, [], length, true, false};
+ghost use Rattle.running.specs.Queues.{none};
+
+use crate::events::Event;
+use std::alloc::Global;
+use std::marker::Model;
+use std::mem;
+
+/// Where the events of a member are told.
+pub trait Log {
+    /// Tells an event. Where it can't be told it is lost. Nothing of the member waits for it, but for its end.
+    fn tell(&mut self, event: &Event);
+}
+
+/// How many events may wait.
+const WAITING: usize = 1024;
+
+/// Events that wait to be told, at most 1,024, and how many came since that don't. Contracts see both.
+#[derive(Drop)]
+pub struct Queue {
+    events: Vec<Event>,
+    missed: u64,
+}
+
+impl Model for Queue {
+    ghost use Rattle.running.specs.Queues.{Waiting};
+
+    ghost Value = { Waiting };
+
+    ghost view = { λ queue. record { events = queue.events.items; missed = queue.missed } };
+}
+
+impl Queue {
+    /// Nothing waits. It takes no memory yet.
+    pub fn new(alloc: Global) -> Queue
+        ensures { result ≡ none }
+    {
+        Queue {
+            events: Vec::new(alloc),
+            missed: 0,
+        }
+    }
+
+    /// The event waits from now on, or is counted as missed where 1,024 wait, or there is no memory.
+    pub fn put(&mut self, event: Event)
+        ensures { (self.new ≡ record self.old { events = self.old.events ++ event ∷ [] })
+            ⊎ (self.new.events ≡ self.old.events) }
+    {
+        if self.events.len() >= WAITING || self.events.push(event).is_err() {
+            self.missed = self.missed.saturating_add(1);
+        }
+    }
+
+    /// Whether nothing waits.
+    pub fn is_empty(&self) -> bool
+        ensures { result ≡ true → self.now.events ≡ [] }
+    {
+        self.events.is_empty() && self.missed == 0
+    }
+
+    /// What waits, in order, and how many came since that don't. Nothing waits any more.
+    pub fn take(&mut self, alloc: Global) -> (Vec<Event>, u64)
+        ensures taken { (result.0.items ≡ self.old.events) × (result.1 ≡ self.old.missed) }
+        ensures none { self.new ≡ none }
+    {
+        let events = mem::replace(&mut self.events, Vec::new(alloc));
+        let missed = mem::replace(&mut self.missed, 0);
+        (events, missed)
+    }
+}
