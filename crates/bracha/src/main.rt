@@ -8,7 +8,6 @@ ghost use Rattle.std.specs.Prelude.{◌≡◌, ◌≢◌, ◌⊎◌, IfOk};
 
 mod arguments;
 mod asking;
-mod command;
 mod fault;
 mod files;
 mod live;
@@ -20,7 +19,6 @@ mod trouble;
 use arguments::{own_words, wants_more};
 use asking::{ask_at, propose_at, status_at};
 use clap::error::ErrorKind;
-use command::{Task, command};
 use fault::Fault;
 use files::{check_file, dump_file, hear_input, init_file, simulate_file};
 use live::run_file;
@@ -31,6 +29,7 @@ use std::net::{TcpListener, TcpStream};
 use std::process::ExitCode;
 use streams::hold_streams;
 use trouble::Failure;
+use usage::{Task, command};
 use words::size_from;
 
 /// Does the task, and gives the status to end with.

@@ -1,8 +1,0 @@
-use Rattle.std.proofs.Common.{rules, refl}
-use Rattle.std.proofs.lemmas.Result.{IfOk-weaker}
-use Rattle.bracha.proofs.Building.{with_arg}
-use Rattle.bracha.proofs.command.init.Goals as goal
-
-pub returns : goal.returns
-returns c =
-    IfOk-weaker c.arg.result _ _ (λ made added. search (rules, with_arg c.named.result c.word.result made _ _ added c.named.ensures c.word.ensures refl)) c.arg.ensures

@@ -1,0 +1,161 @@
+-- Which tasks a command of one name can ask for.
+use Rattle.std.proofs.Common.{◌≡◌, ℕ, Bool, List, Option, true, false, codes, refl, ap, ap₂, sym, subst, ◌∙◌, Some, None}
+use Rattle.std.specs.Prelude.{IfSome, option_map}
+use Rattle.std.specs.Str.{bytes_eq}
+use Rattle.std.proofs.lemmas.Slice.Eq.{bytes_eq-Decides}
+use Rattle.std.specs.Borrow.{Bor}
+use Rattle.clap.specs.Walk.{Row, Text}
+use Rattle.clap.specs.Matches.{subcommand_name_of}
+use Rattle.clap.specs.Simple.{subcommand_rows_of}
+use Rattle.clap.specs.declared.parser.matches.ArgMatches.{ArgMatches}
+use Rattle.usage.specs.Tasks.{IsAskedFor, Names, SaysVerbose}
+use Rattle.usage.proofs.Reading.{not_none, some_is}
+use Rattle.usage.specs.declared.command_line.Task.{Task}
+use Rattle.usage.specs.declared.command_line.Task.TheVariants.{Hear, Init, Check, Run, Propose, Ask, Status, Simulate, Dump}
+
+-- two texts differ where the test says so
+pub apart : (a b : Text) → bytes_eq a b ≡ false → a ≡ b → ⊥
+apart a b differ is =
+    let bad : false ≡ true = sym differ ∙ (bytes_eq-Decides a b).1 is in
+    cc
+
+pub only_hear : (rows : List Row) → ((n : ℕ) (t : ℕ) (questions : ℕ) (me : ℕ) → Names (codes "hear") rows (Hear n t questions me) → ⊥) → (task : Task) → Names (codes "hear") rows task → ⊥
+only_hear rows none (Hear n t questions me) named = none n t questions me named
+only_hear rows none (Init settings) named = apart (codes "hear") (codes "init") refl named.0
+only_hear rows none (Check settings) named = apart (codes "hear") (codes "check") refl named.0
+only_hear rows none (Run settings stay log) named = apart (codes "hear") (codes "run") refl named.0
+only_hear rows none (Propose address question bit) named = apart (codes "hear") (codes "propose") refl named.0
+only_hear rows none (Ask address question) named = apart (codes "hear") (codes "ask") refl named.0
+only_hear rows none (Status address) named = apart (codes "hear") (codes "status") refl named.0
+only_hear rows none (Simulate script trace chart) named = apart (codes "hear") (codes "simulate") refl named.0
+only_hear rows none (Dump journal count) named = apart (codes "hear") (codes "dump") refl named.0
+
+pub only_init : (rows : List Row) → ((settings : Bor Text) → Names (codes "init") rows (Init settings) → ⊥) → (task : Task) → Names (codes "init") rows task → ⊥
+only_init rows none (Hear n t questions me) named = apart (codes "init") (codes "hear") refl named.0
+only_init rows none (Init settings) named = none settings named
+only_init rows none (Check settings) named = apart (codes "init") (codes "check") refl named.0
+only_init rows none (Run settings stay log) named = apart (codes "init") (codes "run") refl named.0
+only_init rows none (Propose address question bit) named = apart (codes "init") (codes "propose") refl named.0
+only_init rows none (Ask address question) named = apart (codes "init") (codes "ask") refl named.0
+only_init rows none (Status address) named = apart (codes "init") (codes "status") refl named.0
+only_init rows none (Simulate script trace chart) named = apart (codes "init") (codes "simulate") refl named.0
+only_init rows none (Dump journal count) named = apart (codes "init") (codes "dump") refl named.0
+
+pub only_check : (rows : List Row) → ((settings : Bor Text) → Names (codes "check") rows (Check settings) → ⊥) → (task : Task) → Names (codes "check") rows task → ⊥
+only_check rows none (Hear n t questions me) named = apart (codes "check") (codes "hear") refl named.0
+only_check rows none (Init settings) named = apart (codes "check") (codes "init") refl named.0
+only_check rows none (Check settings) named = none settings named
+only_check rows none (Run settings stay log) named = apart (codes "check") (codes "run") refl named.0
+only_check rows none (Propose address question bit) named = apart (codes "check") (codes "propose") refl named.0
+only_check rows none (Ask address question) named = apart (codes "check") (codes "ask") refl named.0
+only_check rows none (Status address) named = apart (codes "check") (codes "status") refl named.0
+only_check rows none (Simulate script trace chart) named = apart (codes "check") (codes "simulate") refl named.0
+only_check rows none (Dump journal count) named = apart (codes "check") (codes "dump") refl named.0
+
+pub only_run : (rows : List Row) → ((settings : Bor Text) (stay log : Bool) → Names (codes "run") rows (Run settings stay log) → ⊥) → (task : Task) → Names (codes "run") rows task → ⊥
+only_run rows none (Hear n t questions me) named = apart (codes "run") (codes "hear") refl named.0
+only_run rows none (Init settings) named = apart (codes "run") (codes "init") refl named.0
+only_run rows none (Check settings) named = apart (codes "run") (codes "check") refl named.0
+only_run rows none (Run settings stay log) named = none settings stay log named
+only_run rows none (Propose address question bit) named = apart (codes "run") (codes "propose") refl named.0
+only_run rows none (Ask address question) named = apart (codes "run") (codes "ask") refl named.0
+only_run rows none (Status address) named = apart (codes "run") (codes "status") refl named.0
+only_run rows none (Simulate script trace chart) named = apart (codes "run") (codes "simulate") refl named.0
+only_run rows none (Dump journal count) named = apart (codes "run") (codes "dump") refl named.0
+
+pub only_propose : (rows : List Row) → ((address : Bor Text) (question : ℕ) (bit : ℕ) → Names (codes "propose") rows (Propose address question bit) → ⊥) → (task : Task) → Names (codes "propose") rows task → ⊥
+only_propose rows none (Hear n t questions me) named = apart (codes "propose") (codes "hear") refl named.0
+only_propose rows none (Init settings) named = apart (codes "propose") (codes "init") refl named.0
+only_propose rows none (Check settings) named = apart (codes "propose") (codes "check") refl named.0
+only_propose rows none (Run settings stay log) named = apart (codes "propose") (codes "run") refl named.0
+only_propose rows none (Propose address question bit) named = none address question bit named
+only_propose rows none (Ask address question) named = apart (codes "propose") (codes "ask") refl named.0
+only_propose rows none (Status address) named = apart (codes "propose") (codes "status") refl named.0
+only_propose rows none (Simulate script trace chart) named = apart (codes "propose") (codes "simulate") refl named.0
+only_propose rows none (Dump journal count) named = apart (codes "propose") (codes "dump") refl named.0
+
+pub only_ask : (rows : List Row) → ((address : Bor Text) (question : ℕ) → Names (codes "ask") rows (Ask address question) → ⊥) → (task : Task) → Names (codes "ask") rows task → ⊥
+only_ask rows none (Hear n t questions me) named = apart (codes "ask") (codes "hear") refl named.0
+only_ask rows none (Init settings) named = apart (codes "ask") (codes "init") refl named.0
+only_ask rows none (Check settings) named = apart (codes "ask") (codes "check") refl named.0
+only_ask rows none (Run settings stay log) named = apart (codes "ask") (codes "run") refl named.0
+only_ask rows none (Propose address question bit) named = apart (codes "ask") (codes "propose") refl named.0
+only_ask rows none (Ask address question) named = none address question named
+only_ask rows none (Status address) named = apart (codes "ask") (codes "status") refl named.0
+only_ask rows none (Simulate script trace chart) named = apart (codes "ask") (codes "simulate") refl named.0
+only_ask rows none (Dump journal count) named = apart (codes "ask") (codes "dump") refl named.0
+
+pub only_status : (rows : List Row) → ((address : Bor Text) → Names (codes "status") rows (Status address) → ⊥) → (task : Task) → Names (codes "status") rows task → ⊥
+only_status rows none (Hear n t questions me) named = apart (codes "status") (codes "hear") refl named.0
+only_status rows none (Init settings) named = apart (codes "status") (codes "init") refl named.0
+only_status rows none (Check settings) named = apart (codes "status") (codes "check") refl named.0
+only_status rows none (Run settings stay log) named = apart (codes "status") (codes "run") refl named.0
+only_status rows none (Propose address question bit) named = apart (codes "status") (codes "propose") refl named.0
+only_status rows none (Ask address question) named = apart (codes "status") (codes "ask") refl named.0
+only_status rows none (Status address) named = none address named
+only_status rows none (Simulate script trace chart) named = apart (codes "status") (codes "simulate") refl named.0
+only_status rows none (Dump journal count) named = apart (codes "status") (codes "dump") refl named.0
+
+pub only_simulate : (rows : List Row) → ((script : Bor Text) (trace : Option (Bor Text)) (chart : Option (Bor Text)) → Names (codes "simulate") rows (Simulate script trace chart) → ⊥) → (task : Task) → Names (codes "simulate") rows task → ⊥
+only_simulate rows none (Hear n t questions me) named = apart (codes "simulate") (codes "hear") refl named.0
+only_simulate rows none (Init settings) named = apart (codes "simulate") (codes "init") refl named.0
+only_simulate rows none (Check settings) named = apart (codes "simulate") (codes "check") refl named.0
+only_simulate rows none (Run settings stay log) named = apart (codes "simulate") (codes "run") refl named.0
+only_simulate rows none (Propose address question bit) named = apart (codes "simulate") (codes "propose") refl named.0
+only_simulate rows none (Ask address question) named = apart (codes "simulate") (codes "ask") refl named.0
+only_simulate rows none (Status address) named = apart (codes "simulate") (codes "status") refl named.0
+only_simulate rows none (Simulate script trace chart) named = none script trace chart named
+only_simulate rows none (Dump journal count) named = apart (codes "simulate") (codes "dump") refl named.0
+
+pub only_dump : (rows : List Row) → ((journal : Bor Text) (count : Bool) → Names (codes "dump") rows (Dump journal count) → ⊥) → (task : Task) → Names (codes "dump") rows task → ⊥
+only_dump rows none (Hear n t questions me) named = apart (codes "dump") (codes "hear") refl named.0
+only_dump rows none (Init settings) named = apart (codes "dump") (codes "init") refl named.0
+only_dump rows none (Check settings) named = apart (codes "dump") (codes "check") refl named.0
+only_dump rows none (Run settings stay log) named = apart (codes "dump") (codes "run") refl named.0
+only_dump rows none (Propose address question bit) named = apart (codes "dump") (codes "propose") refl named.0
+only_dump rows none (Ask address question) named = apart (codes "dump") (codes "ask") refl named.0
+only_dump rows none (Status address) named = apart (codes "dump") (codes "status") refl named.0
+only_dump rows none (Simulate script trace chart) named = apart (codes "dump") (codes "simulate") refl named.0
+only_dump rows none (Dump journal count) named = none journal count named
+
+-- the name and the rows of the command that was met, each by itself
+met_of : (met : Option (Text × List Row)) (name : Text) (rows : List Row) → Some name ≡ option_map (λ (p : Text × List Row). p.0) met
+    → Some rows ≡ option_map (λ (p : Text × List Row). p.1) met → met ≡ Some (name, rows)
+met_of None name rows is_name is_rows = absurd (not_none name (sym is_name))
+met_of (Some p) name rows is_name is_rows =
+    ap Some (ap₂ (λ (n : Text) (r : List Row). (n, r)) (some_is p.0 p.0 name (sym is_name)) (some_is p.1 p.1 rows (sym is_rows)))
+
+fused : {X : Type 0} (o : Option X) (f : X → Text) (g : X → List Row) → option_map (λ (p : Text × List Row). p.0) (option_map (λ x. (f x, g x)) o) ≡ option_map f o
+fused None f g = refl
+fused (Some x) f g = refl
+
+name_in : (m : ArgMatches) → option_map (λ (p : Text × List Row). p.0) (subcommand_rows_of m) ≡ subcommand_name_of m
+name_in m = fused _ _ _
+
+-- the command that a parse met
+pub met_in : (m : ArgMatches) (name : Text) (rows : List Row) → Some name ≡ subcommand_name_of m
+    → Some rows ≡ option_map (λ (p : Text × List Row). p.1) (subcommand_rows_of m) → subcommand_rows_of m ≡ Some (name, rows)
+met_in m name rows is_name is_rows = met_of (subcommand_rows_of m) name rows (is_name ∙ sym (name_in m)) is_rows
+
+-- and where it met none
+pub none_met : (m : ArgMatches) → None ≡ subcommand_name_of m → (task : Task) → IsAskedFor (subcommand_rows_of m) task → ⊥
+none_met m is task asked = not_none _ (is ∙ (sym (name_in m) ∙ ap (option_map (λ (p : Text × List Row). p.0)) asked.is_met))
+
+pub asked : (met : Option (Text × List Row)) (name : Text) (rows : List Row) → met ≡ Some (name, rows) → (task : Option Task)
+    → IfSome task (Names name rows) → IfSome task (IsAskedFor met)
+asked met name rows is None named = named
+asked met name rows is (Some task) named = record { name = name; rows = rows; is_met = is; named = named }
+
+pub not_asked : (met : Option (Text × List Row)) (name : Text) (rows : List Row) → met ≡ Some (name, rows)
+    → ((task : Task) → Names name rows task → ⊥) → (task : Task) → IsAskedFor met task → ⊥
+not_asked met name rows is none task asked =
+    let same : (asked.name, asked.rows) ≡ (name, rows) = some_is (name, rows) (asked.name, asked.rows) (name, rows) (sym asked.is_met ∙ is) in
+    none task (subst (λ (p : Text × List Row). Names p.0 p.1 task) same asked.named)
+
+-- where no command was met nothing was given behind it
+pub nothing_said : (m : ArgMatches) → None ≡ subcommand_name_of m → SaysVerbose (subcommand_rows_of m) → ⊥
+nothing_said m is says = go (subcommand_rows_of m) (is ∙ sym (name_in m)) says
+  where
+    go : (met : Option (Text × List Row)) → None ≡ option_map (λ (p : Text × List Row). p.0) met → SaysVerbose met → ⊥
+    go None e says = says
+    go (Some p) e says = not_none p.0 e

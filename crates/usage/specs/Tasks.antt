@@ -1,0 +1,83 @@
+-- Which task the words of the command line ask for.
+use Rattle.std.specs.Prelude.{ℕ, ◌≡◌, ◌⊎◌, ◌<◌, ◌^◌, ◌↔◌, Bool, IsSomeAnd, IsTrue, List, [], Option, Some, codes, option_map}
+use Rattle.std.specs.Str.Parse.{IsNumeral, digits_value, without_leading_plus}
+use Rattle.clap.specs.Walk.{Row, Text, first_of, one_of, rows_of}
+use Rattle.clap.specs.Matches.{found_of}
+use Rattle.clap.specs.declared.parser.matches.ArgMatches.{ArgMatches}
+use Rattle.clap.specs.Simple.{matches_of, subcommand_of}
+use Rattle.clap.specs.Faults.{fault_of}
+use Rattle.usage.specs.Usage.{program_app}
+use Rattle.usage.specs.declared.command_line.Task.{Task}
+use Rattle.usage.specs.declared.command_line.Task.TheVariants.{Hear, Init, Check, Run, Propose, Ask, Status, Simulate, Dump}
+
+-- the text writes the number in decimal digits, behind a plus or none, and it has at most that many bits
+abbrev pub Writes : ℕ → Text → ℕ → Type 0
+Writes bits text n = IsNumeral 10 (without_leading_plus text) × (n ≡ digits_value 10 (without_leading_plus text)) × (n < 2 ^ bits)
+
+-- the text that was given for the id
+abbrev pub HasText : Text → List Row → Text → Type 0
+HasText id rows text = first_of id rows ≡ Some text
+
+-- the text that was given for the id, or none
+abbrev pub MayHaveText : Text → List Row → Option Text → Type 0
+MayHaveText id rows text = first_of id rows ≡ text
+
+-- the number that was given for the id
+abbrev pub HasNumber : ℕ → Text → List Row → ℕ → Type 0
+HasNumber bits id rows n = (text : Text) × (one_of id rows ≡ Some text) × Writes bits text n
+
+-- whether the flag was given
+abbrev pub HasFlag : Text → List Row → Bool → Type 0
+HasFlag id rows given = IsTrue given ↔ (one_of id rows ≡ Some (codes "true"))
+
+-- the values of the command's words are those of the task
+abbrev pub Names : Text → List Row → Task → Type 0
+Names name rows (Hear n t questions me) = (name ≡ codes "hear") × HasNumber 16 (codes "n") rows n
+    × HasNumber 16 (codes "t") rows t × HasNumber 16 (codes "questions") rows questions
+    × HasNumber 8 (codes "me") rows me
+Names name rows (Init settings) = (name ≡ codes "init") × HasText (codes "settings") rows settings.now
+Names name rows (Check settings) = (name ≡ codes "check") × HasText (codes "settings") rows settings.now
+Names name rows (Run settings stay log) = (name ≡ codes "run") × HasText (codes "settings") rows settings.now
+    × HasFlag (codes "stay") rows stay × HasFlag (codes "log") rows log
+Names name rows (Propose address question bit) = (name ≡ codes "propose")
+    × HasText (codes "address") rows address.now × HasNumber 16 (codes "question") rows question
+    × HasNumber 8 (codes "bit") rows bit
+Names name rows (Ask address question) = (name ≡ codes "ask") × HasText (codes "address") rows address.now
+    × HasNumber 16 (codes "question") rows question
+Names name rows (Status address) = (name ≡ codes "status") × HasText (codes "address") rows address.now
+Names name rows (Simulate script trace chart) = (name ≡ codes "simulate") × HasText (codes "script") rows script.now
+    × MayHaveText (codes "trace") rows (option_map (λ path. path.now) trace)
+    × MayHaveText (codes "chart") rows (option_map (λ path. path.now) chart)
+Names name rows (Dump journal count) = (name ≡ codes "dump") × HasText (codes "journal") rows journal.now
+    × HasFlag (codes "count") rows count
+
+-- the command that was met, with what was given for its words, asks for the task
+pub record IsAskedFor (met : Option (Text × List Row)) (task : Task) : Type 0 where
+  pub name : Text
+  pub rows : List Row
+  pub is_met : met ≡ Some (name, rows)
+  pub named : Names name rows task
+
+-- the words ask for the task
+abbrev pub AskFor : List Text → Task → Type 0
+AskFor words task = IsAskedFor (subcommand_of program_app words) task
+
+-- `--verbose` was given behind the command that was met
+abbrev pub SaysVerbose : Option (Text × List Row) → Type 0
+SaysVerbose met = IsSomeAnd met (λ found. one_of (codes "verbose") found.1 ≡ Some (codes "true"))
+
+-- whether `--verbose` was given before the command, in these rows, or behind it
+abbrev pub IsVerbose : List Row → Option (Text × List Row) → Bool → Type 0
+IsVerbose rows met given = IsTrue given ↔ ((one_of (codes "verbose") rows ≡ Some (codes "true")) ⊎ SaysVerbose met)
+
+-- whether the words have `--verbose`
+abbrev pub AreVerbose : List Text → Bool → Type 0
+AreVerbose words given = IsVerbose (matches_of program_app words) (subcommand_of program_app words) given
+
+-- the kit finds no fault in the words
+abbrev pub AreFaultless : List Text → Type 0
+AreFaultless words = fault_of program_app words ≡ []
+
+-- what was given
+abbrev pub rows_in : ArgMatches → List Row
+rows_in matches = rows_of (found_of matches)

@@ -1,0 +1,491 @@
+//! The words of the command line.
+
+ghost use Rattle.usage.specs.Tasks.{AreVerbose, AskFor, HasFlag, HasNumber, IsAskedFor, IsVerbose, Names, SaysVerbose, rows_in};
+ghost use Rattle.usage.specs.Usage.{address_rule, ask_app, bare_app, check_app, dump_app, file_rule, flag_rule, hear_app, init_app, number_rule, program_app};
+ghost use Rattle.usage.specs.Usage.{propose_app, run_app, simulate_app, size_rules, status_app, desk_rules, verbose_rule, word_rule, with_rules};
+ghost use Rattle.clap.specs.Words.{FailsBy, app_of, fault_of, first_of, new_app, rule_of, subcommand_rows_of, with_rule, with_subcommand};
+ghost use Rattle.std.specs.Prelude.{◌≡◌, ◌↔◌, IfOk, IfSome, IsNone, IsTrue, Some, codes, map, option_map, ℕ};
+ghost use Rattle.usage.specs.declared.command_line.Task.{Task};
+
+use clap::{Arg, ArgAction, ArgMatches, Error, value_parser};
+use std::alloc::{AllocError, Global};
+use std::convert::AsStr;
+
+/// What the program is asked to do.
+#[derive(Clone, Copy, Debug, PartialEq, Eq)]
+pub enum Task<'a> {
+    /// Reads pieces of streams and prints the broadcasts' answers, as member `me` of a cluster of that size.
+    Hear {
+        n: u16,
+        t: u16,
+        questions: u16,
+        me: u8,
+    },
+    /// Makes the journal that the settings in this file name.
+    Init {
+        settings: &'a str,
+    },
+    /// Says what the settings in this file say, and whether a member would start on them and on its journal.
+    Check {
+        settings: &'a str,
+    },
+    /// Runs the member of the settings in this file, until the standard input ends, or for good where it is to stay. Its
+    /// events are told on the standard error where a log is wanted.
+    Run {
+        settings: &'a str,
+        stay: bool,
+        log: bool,
+    },
+    /// Proposes a bit on a question to the member whose desk is at this address.
+    Propose {
+        address: &'a str,
+        question: u16,
+        bit: u8,
+    },
+    /// Asks the member whose desk is at this address for its decision of a question.
+    Ask {
+        address: &'a str,
+        question: u16,
+    },
+    /// Asks the member whose desk is at this address whether it is up.
+    Status {
+        address: &'a str,
+    },
+    /// Runs the script in this file, and writes a trace and a chart of the run into those files.
+    Simulate {
+        script: &'a str,
+        trace: Option<&'a str>,
+        chart: Option<&'a str>,
+    },
+    /// Prints the journal in this file, or only how many records it has.
+    Dump {
+        journal: &'a str,
+        count: bool,
+    },
+}
+
+/// What the words of the command line ask for.
+#[derive(Clone, Copy, Debug, PartialEq, Eq)]
+pub struct Order<'a> {
+    pub task: Task<'a>,
+    /// Behind the line of a fault a second one is wanted, which names the thing.
+    pub verbose: bool,
+}
+
+/// A required word, such as `SETTINGS`.
+fn word<'a>(alloc: Global, id: &'a str, value: &'a str, help: &'a str) -> Arg<'a>
+    ensures { rule_of result ≡ word_rule id.now }
+{
+    Arg::new(alloc, id)
+        .value_name(value)
+        .required(true)
+        .help(help)
+}
+
+/// A required number of that name, such as `--n 4`.
+fn number<'a>(alloc: Global, name: &'a str, value: &'a str, help: &'a str) -> Arg<'a>
+    ensures { rule_of result ≡ number_rule name.now }
+{
+    word(alloc, name, value, help).long(name)
+}
+
+/// An option of that name with the path of a file, such as `--trace FILE`.
+fn file<'a>(alloc: Global, name: &'a str, help: &'a str) -> Arg<'a>
+    ensures { rule_of result ≡ file_rule name.now }
+{
+    Arg::new(alloc, name)
+        .long(name)
+        .value_name("FILE")
+        .help(help)
+}
+
+/// An option of that name with no value, such as `--stay`.
+fn flag<'a>(alloc: Global, name: &'a str, help: &'a str) -> Arg<'a>
+    ensures { rule_of result ≡ flag_rule name.now }
+{
+    Arg::new(alloc, name)
+        .long(name)
+        .action(ArgAction::SetTrue)
+        .help(help)
+}
+
+/// The option `--verbose`, which may stand before the command and behind it.
+fn verbose<'a>(alloc: Global) -> Arg<'a>
+    ensures { rule_of result ≡ verbose_rule }
+{
+    let help = "Behind the line of a fault prints a second one, which names the thing";
+    flag(alloc, "verbose", help)
+}
+
+/// A command of that name.
+fn named<'a>(alloc: Global, name: &'a str, about: &'a str, examples: &'a str) -> clap::Command<'a>
+    ensures { app_of result ≡ new_app name.now }
+{
+    clap::Command::new(alloc, name)
+        .about(about)
+        .after_help(examples)
+}
+
+/// The options that name a size.
+fn with_size<'a>(alloc: Global, command: clap::Command<'a>) -> Result<clap::Command<'a>, AllocError>
+    ensures { IfOk result (λ with. app_of with ≡ with_rules (app_of command.entry) size_rules) }
+{
+    let n = number(alloc, "n", "N", "How many members there are (1 to 32)");
+    let liars = "How many of them may lie (less than a third)";
+    let t = number(alloc, "t", "T", liars);
+    let count = "How many questions there are (1 to 256)";
+    let questions = number(alloc, "questions", "Q", count);
+    command
+        .arg(n.value_parser(value_parser!(u16)))?
+        .arg(t.value_parser(value_parser!(u16)))?
+        .arg(questions.value_parser(value_parser!(u16)))
+}
+
+fn hear<'a>(alloc: Global) -> Result<clap::Command<'a>, AllocError>
+    ensures { IfOk result (λ made. app_of made ≡ hear_app) }
+{
+    let about =
+        "Reads lines `SENDER HEX`, each a piece of a sender's stream, and prints what reliable broadcast answers";
+    let examples =
+        "Example:\n  echo '0 00080301000000010101' | bracha hear --n 4 --t 1 --questions 1 --me 1";
+    let me = number(alloc, "me", "M", "The member that hears (below N)");
+    let command = with_size(alloc, named(alloc, "hear", about, examples))?;
+    command.arg(me.value_parser(value_parser!(u8)))
+}
+
+fn init<'a>(alloc: Global) -> Result<clap::Command<'a>, AllocError>
+    ensures { IfOk result (λ made. app_of made ≡ init_app) }
+{
+    let about = "Makes the journal of a member, with no records";
+    let examples =
+        "Example, in the folder of the repository:\n  bracha init examples/cluster/member-1.toml";
+    let help = "The file of the member's settings, which names the journal";
+    named(alloc, "init", about, examples).arg(word(alloc, "settings", "SETTINGS", help))
+}
+
+fn check<'a>(alloc: Global) -> Result<clap::Command<'a>, AllocError>
+    ensures { IfOk result (λ made. app_of made ≡ check_app) }
+{
+    let about =
+        "Reads a member's settings and its journal, says what is there, and changes nothing";
+    let examples =
+        "The status is 0 where `run` would start, as far as the files say. It may be asked while the member runs.\n\nExample, in the folder of the repository, after `bracha init` of the same file:\n  bracha check examples/cluster/member-1.toml";
+    let help = "The file of the member's settings, which names the journal";
+    named(alloc, "check", about, examples).arg(word(alloc, "settings", "SETTINGS", help))
+}
+
+fn run<'a>(alloc: Global) -> Result<clap::Command<'a>, AllocError>
+    ensures { IfOk result (λ made. app_of made ≡ run_app) }
+{
+    let about =
+        "Runs a member: it prints `member M ready`, links to all members, and answers clients at its desk";
+    let examples =
+        "It ends where standard input does. It may be killed at any moment and started again.\n\nExamples, after `bracha init` of the same file, in a terminal (until Ctrl-D) and as a service:\n  bracha run examples/cluster/member-1.toml\n  bracha run --stay examples/cluster/member-1.toml";
+    let help = "The file of the member's settings, whose journal `init` made";
+    let stay = "Doesn't look at standard input, and runs until it is killed";
+    let log = "Tells on standard error when links come and go, and what is decided";
+    named(alloc, "run", about, examples)
+        .arg(word(alloc, "settings", "SETTINGS", help))?
+        .arg(flag(alloc, "stay", stay))?
+        .arg(flag(alloc, "log", log))
+}
+
+/// The address of a desk.
+fn address<'a>(alloc: Global) -> Arg<'a>
+    ensures { rule_of result ≡ address_rule }
+{
+    word(alloc, "address", "ADDRESS", "The member's desk, HOST:PORT")
+}
+
+/// The words of a line to a desk: its address and the question.
+fn with_desk<'a>(alloc: Global, command: clap::Command<'a>) -> Result<clap::Command<'a>, AllocError>
+    ensures { IfOk result (λ with. app_of with ≡ with_rules (app_of command.entry) desk_rules) }
+{
+    let question = word(alloc, "question", "Q", "The question (from 0)");
+    command
+        .arg(address(alloc))?
+        .arg(question.value_parser(value_parser!(u16)))
+}
+
+fn propose<'a>(alloc: Global) -> Result<clap::Command<'a>, AllocError>
+    ensures { IfOk result (λ made. app_of made ≡ propose_app) }
+{
+    let about = "Proposes a bit on a question to a member that runs";
+    let examples =
+        "It prints OK, HAVE B (bit B was proposed before, and stands), or what is wrong.\n\nExample, where member 1 of examples/cluster runs:\n  bracha propose 127.0.0.1:47111 0 1";
+    let bit = word(alloc, "bit", "V", "The bit, 0 or 1");
+    let command = with_desk(alloc, named(alloc, "propose", about, examples))?;
+    command.arg(bit.value_parser(value_parser!(u8)))
+}
+
+fn ask<'a>(alloc: Global) -> Result<clap::Command<'a>, AllocError>
+    ensures { IfOk result (λ made. app_of made ≡ ask_app) }
+{
+    let about = "Asks a member that runs for its decision of a question";
+    let examples =
+        "It prints DECIDED B or UNDECIDED, or what is wrong. A decision is for good.\n\nExample, where member 1 of examples/cluster runs:\n  bracha ask 127.0.0.1:47111 0";
+    with_desk(alloc, named(alloc, "ask", about, examples))
+}
+
+fn status<'a>(alloc: Global) -> Result<clap::Command<'a>, AllocError>
+    ensures { IfOk result (λ made. app_of made ≡ status_app) }
+{
+    let about = "Asks a member that runs whether it is up";
+    let examples =
+        "It prints UP M D (M statements said, D questions decided), or what is wrong.\n\nExample, where member 1 of examples/cluster runs:\n  bracha status 127.0.0.1:47111";
+    named(alloc, "status", about, examples).arg(address(alloc))
+}
+
+fn dump<'a>(alloc: Global) -> Result<clap::Command<'a>, AllocError>
+    ensures { IfOk result (λ made. app_of made ≡ dump_app) }
+{
+    let about = "Prints whose journal it is, and its records";
+    let examples =
+        "It is refused while a member runs on the journal.\n\nExamples, after `bracha init examples/cluster/member-1.toml`:\n  bracha dump member-1.journal\n  bracha dump --count member-1.journal";
+    let help = "The file of the journal";
+    let count = "Prints only how many records there are";
+    named(alloc, "dump", about, examples)
+        .arg(word(alloc, "journal", "JOURNAL", help))?
+        .arg(flag(alloc, "count", count))
+}
+
+fn simulate<'a>(alloc: Global) -> Result<clap::Command<'a>, AllocError>
+    ensures { IfOk result (λ made. app_of made ≡ simulate_app) }
+{
+    let about = "Runs a script of a whole cluster in memory, and prints what was decided";
+    let examples =
+        "With `-` as its file a page goes to standard output, and what was decided to standard error.\n\nExamples, in the folder of the repository:\n  bracha simulate crates/bracha/examples/small.script\n  bracha simulate --chart small.svg crates/bracha/examples/small.script\n  bracha simulate --trace - crates/bracha/examples/small.script";
+    let trace = "Writes what each event did, a line for each, to this file";
+    let chart = "Draws the run as a sequence chart (SVG) into this file";
+    named(alloc, "simulate", about, examples)
+        .arg(word(alloc, "script", "SCRIPT", "The file of the script"))?
+        .arg(file(alloc, "trace", trace))?
+        .arg(file(alloc, "chart", chart))
+}
+
+/// The program without its commands and options.
+fn bare<'a>(alloc: Global) -> clap::Command<'a>
+    ensures { app_of result ≡ bare_app }
+{
+    clap::Command::new(alloc, "bracha")
+        .version("0.2.0")
+        .about("A cluster that settles yes-or-no questions while some of its members lie")
+        .subcommand_required(true)
+        .arg_required_else_help(true)
+}
+
+/// The program with one command more, which takes `--verbose` as the program does.
+fn with_command<'a>(
+    alloc: Global,
+    program: clap::Command<'a>,
+    command: clap::Command<'a>,
+) -> Result<clap::Command<'a>, AllocError>
+    ensures { IfOk result (λ with. IsTrue (app_of command.entry).top.is_plain →
+        app_of with ≡ with_subcommand (app_of program.entry) (with_rule (app_of command.entry) verbose_rule).top) }
+{
+    program.subcommand(command.arg(verbose(alloc))?)
+}
+
+fn program<'a>(alloc: Global) -> Result<clap::Command<'a>, AllocError>
+    ensures { IfOk result (λ made. app_of made ≡ program_app) }
+{
+    let program = bare(alloc).arg(verbose(alloc))?;
+    let program = with_command(alloc, program, init(alloc)?)?;
+    let program = with_command(alloc, program, check(alloc)?)?;
+    let program = with_command(alloc, program, run(alloc)?)?;
+    let program = with_command(alloc, program, propose(alloc)?)?;
+    let program = with_command(alloc, program, ask(alloc)?)?;
+    let program = with_command(alloc, program, status(alloc)?)?;
+    let program = with_command(alloc, program, dump(alloc)?)?;
+    let program = with_command(alloc, program, simulate(alloc)?)?;
+    with_command(alloc, program, hear(alloc)?)
+}
+
+/// The text that was given for the id.
+fn text_of<'a>(options: &ArgMatches<'a>, id: &str) -> Option<&'a str>
+    ensures { option_map (λ text. text.now) result ≡ first_of id.now (rows_in options.now) }
+{
+    options.get_str(id)
+}
+
+/// The number that was given for the id.
+fn u16_of(options: &ArgMatches<'_>, id: &str) -> Option<u16>
+    ensures { (n : ℕ) → (result ≡ Some n) ↔ HasNumber 16 id.now (rows_in options.now) n }
+{
+    options.get_one::<u16>(id)
+}
+
+/// The number that was given for the id, of a byte.
+fn u8_of(options: &ArgMatches<'_>, id: &str) -> Option<u8>
+    ensures { (n : ℕ) → (result ≡ Some n) ↔ HasNumber 8 id.now (rows_in options.now) n }
+{
+    options.get_one::<u8>(id)
+}
+
+/// Whether the flag was given.
+fn flag_of(options: &ArgMatches<'_>, id: &str) -> bool
+    ensures { HasFlag id.now (rows_in options.now) result }
+{
+    options.get_one::<bool>(id).unwrap_or(false)
+}
+
+/// The values of `hear`'s options, each of which the parser has demanded.
+fn hear_of<'a>(options: &ArgMatches<'a>) -> Option<Task<'a>>
+    ensures some { IfSome result (Names (codes "hear") (rows_in options.now)) }
+    ensures none { IsNone result → (task : Task) → Names (codes "hear") (rows_in options.now) task → ⊥ }
+{
+    Some(Task::Hear {
+        n: u16_of(options, "n")?,
+        t: u16_of(options, "t")?,
+        questions: u16_of(options, "questions")?,
+        me: u8_of(options, "me")?,
+    })
+}
+
+/// The value of `init`'s word.
+fn init_of<'a>(options: &ArgMatches<'a>) -> Option<Task<'a>>
+    ensures some { IfSome result (Names (codes "init") (rows_in options.now)) }
+    ensures none { IsNone result → (task : Task) → Names (codes "init") (rows_in options.now) task → ⊥ }
+{
+    Some(Task::Init {
+        settings: text_of(options, "settings")?,
+    })
+}
+
+/// The value of `check`'s word.
+fn check_of<'a>(options: &ArgMatches<'a>) -> Option<Task<'a>>
+    ensures some { IfSome result (Names (codes "check") (rows_in options.now)) }
+    ensures none { IsNone result → (task : Task) → Names (codes "check") (rows_in options.now) task → ⊥ }
+{
+    Some(Task::Check {
+        settings: text_of(options, "settings")?,
+    })
+}
+
+/// The values of `run`'s words.
+fn run_of<'a>(options: &ArgMatches<'a>) -> Option<Task<'a>>
+    ensures some { IfSome result (Names (codes "run") (rows_in options.now)) }
+    ensures none { IsNone result → (task : Task) → Names (codes "run") (rows_in options.now) task → ⊥ }
+{
+    Some(Task::Run {
+        settings: text_of(options, "settings")?,
+        stay: flag_of(options, "stay"),
+        log: flag_of(options, "log"),
+    })
+}
+
+/// The values of `propose`'s words.
+fn propose_of<'a>(options: &ArgMatches<'a>) -> Option<Task<'a>>
+    ensures some { IfSome result (Names (codes "propose") (rows_in options.now)) }
+    ensures none { IsNone result → (task : Task) → Names (codes "propose") (rows_in options.now) task → ⊥ }
+{
+    Some(Task::Propose {
+        address: text_of(options, "address")?,
+        question: u16_of(options, "question")?,
+        bit: u8_of(options, "bit")?,
+    })
+}
+
+/// The values of `ask`'s words.
+fn ask_of<'a>(options: &ArgMatches<'a>) -> Option<Task<'a>>
+    ensures some { IfSome result (Names (codes "ask") (rows_in options.now)) }
+    ensures none { IsNone result → (task : Task) → Names (codes "ask") (rows_in options.now) task → ⊥ }
+{
+    Some(Task::Ask {
+        address: text_of(options, "address")?,
+        question: u16_of(options, "question")?,
+    })
+}
+
+/// The value of `status`'s word.
+fn status_of<'a>(options: &ArgMatches<'a>) -> Option<Task<'a>>
+    ensures some { IfSome result (Names (codes "status") (rows_in options.now)) }
+    ensures none { IsNone result → (task : Task) → Names (codes "status") (rows_in options.now) task → ⊥ }
+{
+    Some(Task::Status {
+        address: text_of(options, "address")?,
+    })
+}
+
+/// The values of `dump`'s words.
+fn dump_of<'a>(options: &ArgMatches<'a>) -> Option<Task<'a>>
+    ensures some { IfSome result (Names (codes "dump") (rows_in options.now)) }
+    ensures none { IsNone result → (task : Task) → Names (codes "dump") (rows_in options.now) task → ⊥ }
+{
+    Some(Task::Dump {
+        journal: text_of(options, "journal")?,
+        count: flag_of(options, "count"),
+    })
+}
+
+/// The values of `simulate`'s words.
+fn simulate_of<'a>(options: &ArgMatches<'a>) -> Option<Task<'a>>
+    ensures some { IfSome result (Names (codes "simulate") (rows_in options.now)) }
+    ensures none { IsNone result → (task : Task) → Names (codes "simulate") (rows_in options.now) task → ⊥ }
+{
+    Some(Task::Simulate {
+        script: text_of(options, "script")?,
+        trace: text_of(options, "trace"),
+        chart: text_of(options, "chart"),
+    })
+}
+
+/// The task of the command of that name, each of whose values the parser has demanded.
+fn named_task<'a>(name: &str, options: &ArgMatches<'a>) -> Option<Task<'a>>
+    ensures some { IfSome result (Names name.now (rows_in options.now)) }
+    ensures none { IsNone result → (task : Task) → Names name.now (rows_in options.now) task → ⊥ }
+{
+    match name {
+        "hear" => hear_of(options),
+        "init" => init_of(options),
+        "check" => check_of(options),
+        "run" => run_of(options),
+        "propose" => propose_of(options),
+        "ask" => ask_of(options),
+        "status" => status_of(options),
+        "dump" => dump_of(options),
+        "simulate" => simulate_of(options),
+        _ => None,
+    }
+}
+
+/// The task of the command that was given.
+fn task_of<'a>(matches: &ArgMatches<'a>) -> Option<Task<'a>>
+    ensures some { IfSome result (IsAskedFor (subcommand_rows_of matches.now)) }
+    ensures none { IsNone result → (task : Task) → IsAskedFor (subcommand_rows_of matches.now) task → ⊥ }
+{
+    let (name, options) = matches.subcommand()?;
+    named_task(name, options)
+}
+
+/// Whether `--verbose` was given behind the command.
+fn is_verbose_below(matches: &ArgMatches<'_>) -> bool
+    ensures { IsTrue result ↔ SaysVerbose (subcommand_rows_of matches.now) }
+{
+    match matches.subcommand() {
+        Some((_, options)) => flag_of(options, "verbose"),
+        None => false,
+    }
+}
+
+/// Whether `--verbose` was given, before the command or behind it.
+fn is_verbose(matches: &ArgMatches<'_>) -> bool
+    ensures { IsVerbose (rows_in matches.now) (subcommand_rows_of matches.now) result }
+{
+    flag_of(matches, "verbose") || is_verbose_below(matches)
+}
+
+/// What the words ask for, the program's name first among them. An `Err` is to be printed: it is a fault of the words,
+/// the help or the version.
+pub fn command<'a, S: AsStr>(alloc: Global, words: &'a [S]) -> Result<Order<'a>, Error>
+    ensures asks { IfOk result (λ order. AskFor (map S.text words.entry.now) order.task) }
+    ensures verbose { IfOk result (λ order. AreVerbose (map S.text words.entry.now) order.verbose) }
+    ensures faults { FailsBy (fault_of program_app (map S.text words.entry.now)) result }
+{
+    let matches = program(alloc)?.try_get_matches_from(words)?;
+    let verbose = is_verbose(&matches);
+    match task_of(&matches) {
+        Some(task) => Ok(Order { task, verbose }),
+        None => unreachable!(),
+    }
+}
