@@ -5,7 +5,7 @@
 #   decided      questions that all four decided, a second
 #   batches      batches a question in the journal of the member that has most of them
 #   syncs        syncs a question there: two a batch
-#   sync         what a sync of a few bytes takes on the same disk, in milliseconds
+#   sync         what a sync of a few bytes takes on the same disk where four sync at once, in milliseconds
 #   floor        the time of its syncs one after the other, in seconds: no member can be faster with so many
 #   times        how many times the floor it took
 #
@@ -20,36 +20,48 @@ questions=256
 members=()
 trap 'kill "${members[@]}" 2>/dev/null || true; rm -r "$folder"' EXIT
 
-# What a sync takes: of 200 writes of a record's bytes, each followed by one.
+# What a sync takes, of 400 writes of a record's bytes each followed by one, where four do so at once, as the members do.
 sync_seconds() {
     perl -MIO::Handle -MTime::HiRes=time -e '
-        open(my $file, ">", "synced") or die "synced: $!";
-        my $begun = time;
-        for (1 .. 200) { syswrite($file, "0" x 21); $file->sync or die "sync: $!" }
-        print((time - $begun) / 200);'
+        for my $writer (1 .. 4) {
+            next if fork;
+            open(my $file, ">", "synced-$writer") or die "synced: $!";
+            my $begun = time;
+            for (1 .. 400) { syswrite($file, "0" x 21); $file->sync or die "sync: $!" }
+            printf("%.9f\n", (time - $begun) / 400);
+            exit;
+        }
+        1 while wait > 0;' | awk '{ all += $1 } END { print all / NR }'
 }
 
 start() {
     sed "s/^questions *=.*/questions = $questions/" "$here/examples/cluster/member-$1.toml" > "member-$1.toml"
     "$program" init "member-$1.toml"
-    "$program" run --stay "member-$1.toml" > "output-$1" 2> "log-$1" &
+    "$program" run --stay --log "member-$1.toml" > "output-$1" 2> "log-$1" &
     members+=($!)
 }
 
-# Waits until a member prints that it is ready.
-ready() {
-    until grep -qs ready "output-$1"; do sleep 0.02; done
+# Waits until a member hears each of the three others.
+linked() {
+    until [ "$(grep -c '^link-up' "log-$1")" -ge 3 ]; do sleep 0.05; done
 }
 
 # Sends a member the proposals, and then asks it until it has decided each question.
 settle() {
-    local question reply
-    exec 9<> "/dev/tcp/127.0.0.1/4711$1"
-    for ((question = 0; question < questions; question++)); do echo "PROPOSE $question 1"; done >&9
-    for ((question = 0; question < questions; question++)); do read -r reply <&9; done
-    for ((question = 0; question < questions; question++)); do
-        while echo "ASK $question" >&9 && read -r reply <&9 && [[ $reply != "DECIDED 1" ]]; do sleep 0.01; done
-    done
+    perl -MIO::Socket::INET -e '
+        my ($port, $questions) = @ARGV;
+        my $desk = IO::Socket::INET->new("127.0.0.1:$port") or die "desk: $!";
+        print $desk join("", map { "PROPOSE $_ 1\n" } 0 .. $questions - 1);
+        $desk->flush;
+        <$desk> for 1 .. $questions;
+        for my $question (0 .. $questions - 1) {
+            while (1) {
+                print $desk "ASK $question\n";
+                $desk->flush;
+                last if (<$desk> // die "desk") eq "DECIDED 1\n";
+                select(undef, undef, undef, 0.002);
+            }
+        }' "4711$1" "$questions"
 }
 
 # Of a journal, how many batches it has: its header and first gate take 25 bytes, a batch 3, and a record 7.
@@ -62,7 +74,7 @@ batches() {
 
 sync=$(sync_seconds)
 for member in 0 1 2 3; do start "$member"; done
-for member in 0 1 2 3; do ready "$member"; done
+for member in 0 1 2 3; do linked "$member"; done
 begun=$(date +%s.%N)
 settling=()
 for member in 0 1 2 3; do

@@ -58,10 +58,10 @@ def rounds(n, t, questions):
 
 def simulations(program, room):
     rows = [
-        ("simulate, random events, n 4", [*head(4, 1, 1), "random 999996"]),
+        ("simulate, random events, n 4, one question", [*head(4, 1, 1), "random 999996"]),
         ("simulate, rounds, n 7, 200 questions", rounds(7, 2, 200)),
         ("simulate, rounds, n 16, 19 questions", rounds(16, 5, 19)),
-        ("simulate, one question, n 1", [*head(1, 0, 1), "rounds 999999"]),
+        ("simulate, random events, n 7, one question", [*head(7, 2, 1), "random 999993"]),
     ]
     for name, lines in rows:
         with open(f"{room}/script", "w", encoding="utf-8") as script:
