@@ -1,5 +1,5 @@
 -- What waits to be told.
-use Rattle.std.specs.Prelude.{ℕ, ◌+◌, Bool, true, List, [], ◌∷◌, ◌++◌, length, nat_lt, if◌then◌else◌}
+use Rattle.std.specs.Prelude.{ℕ, ◌+◌, ◌-◌, ◌^◌, min, List, []}
 use Rattle.running.specs.declared.events.Event.{Event}
 
 -- the events that wait, in order, and how many came since that don't
@@ -10,3 +10,7 @@ pub record Waiting : Type 0 where
 -- nothing waits
 abbrev pub none : Waiting
 none = record { events = []; missed = 0 }
+
+-- one more, but never past 2^64 - 1
+abbrev pub one_more : ℕ → ℕ
+one_more count = min (count + 1) (2 ^ 64 - 1)
