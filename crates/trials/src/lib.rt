@@ -8,6 +8,8 @@ mod broadcasts;
 #[cfg(test)]
 mod documents;
 #[cfg(test)]
+mod draws;
+#[cfg(test)]
 mod frames;
 #[cfg(test)]
 mod journals;

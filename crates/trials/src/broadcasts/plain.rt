@@ -4,6 +4,7 @@ ghost use Rattle.std.specs.Prelude.{◌≡◌, ◌<◌};
 ghost use Rattle.rbc.specs.Words.{size_by};
 
 use super::*;
+use crate::draws::Draws;
 
 /// The first value among them of that sender, kind and place.
 fn first_value(heard: &[(u8, Statement)], from: u8, kind: Kind, place: Place) -> Option<Value> {
@@ -90,50 +91,17 @@ impl Lists {
     }
 }
 
-/// Numbers of a linear congruential generator.
-#[derive(Drop)]
-struct Draws {
-    state: u64,
-}
-
-impl Draws {
-    /// A number below `end`, or 0.
-    fn below(&mut self, end: u8) -> u8
-        ensures { result < 255 }
-    {
-        self.state = self
-            .state
-            .wrapping_mul(6_364_136_223_846_793_005)
-            .wrapping_add(1_442_695_040_888_963_407);
-        ((self.state >> 40) % u64::from(end.max(1))) as u8
-    }
-
-    /// A value of the step: of eight, so many are the usual one.
-    fn value(&mut self, step: u8, usual: u8) -> Value {
-        let is_usual = self.below(8) < usual;
-        match (step, is_usual, self.below(3)) {
-            (3, true, _) => SureOne,
-            (3, false, 0) => SureZero,
-            (3, false, 1) => SureOne,
-            (3, false, _) => Unsure,
-            (_, true, _) => One,
-            (_, false, 0) => One,
-            (_, false, _) => Zero,
-        }
-    }
-
-    /// A statement of a cluster of n members, in round 1 or 2.
-    fn statement(&mut self, n: u8, usual: u8) -> Result<Statement, Fail> {
-        let place = Place::new(0, self.below(n), self.below(2) + 1, self.below(3) + 1);
-        let place = place.ok_or("a place")?;
-        let kind = match self.below(4) {
-            0 => Initial,
-            1 => Echo,
-            _ => Ready,
-        };
-        let value = self.value(place.step(), usual);
-        Ok(Statement::new(kind, place, value).ok_or("a value of the step")?)
-    }
+/// A drawn statement of a cluster of n members, in round 1 or 2.
+fn statement(draws: &mut Draws, n: u8, usual: u8) -> Result<Statement, Fail> {
+    let place = Place::new(0, draws.below(n), draws.below(2) + 1, draws.below(3) + 1);
+    let place = place.ok_or("a place")?;
+    let kind = match draws.below(4) {
+        0 => Initial,
+        1 => Echo,
+        _ => Ready,
+    };
+    let value = draws.value(place.step(), usual);
+    Ok(Statement::new(kind, place, value).ok_or("a value of the step")?)
 }
 
 /// The same broadcasts kept in both ways.
@@ -211,11 +179,11 @@ impl Both {
 
 /// Plays 600 events of a cluster of that size, and tells after how many a value was accepted at their place.
 fn play(rt: &(impl Abort + AllocGlobal), n: u8, t: u8, usual: u8) -> Result<u16, Fail> {
-    let mut draws = Draws { state: 7 };
+    let mut draws = Draws::new(7);
     let mut both = Both::new(rt, Size::new(n, t, 1)?);
     let mut accepted = 0_u16;
     for _event in 0..600 {
-        let statement = draws.statement(n, usual)?;
+        let statement = statement(&mut draws, n, usual)?;
         if draws.below(8) == 0 {
             both.say(rt, &statement)?;
         } else {

@@ -4,6 +4,7 @@ ghost use Rattle.std.specs.Prelude.{◌≡◌, ◌<◌};
 ghost use Rattle.validate.specs.Words.{size_by, question_by};
 
 use super::*;
+use crate::draws::Draws;
 
 /// The accepted values of question 0, in order. Of several at a place the first counts.
 #[derive(Drop)]
@@ -63,39 +64,6 @@ impl Plain {
     }
 }
 
-/// Numbers of a linear congruential generator.
-#[derive(Drop)]
-struct Draws {
-    state: u64,
-}
-
-impl Draws {
-    /// A number below `end`, or 0.
-    fn below(&mut self, end: u8) -> u8
-        ensures { result < 255 }
-    {
-        self.state = self
-            .state
-            .wrapping_mul(6_364_136_223_846_793_005)
-            .wrapping_add(1_442_695_040_888_963_407);
-        ((self.state >> 40) % u64::from(end.max(1))) as u8
-    }
-
-    /// A value of the step: of eight, so many are the usual one.
-    fn value(&mut self, step: u8, usual: u8) -> Value {
-        let is_usual = self.below(8) < usual;
-        match (step, is_usual, self.below(3)) {
-            (3, true, _) => SureOne,
-            (3, false, 0) => SureZero,
-            (3, false, 1) => SureOne,
-            (3, false, _) => Unsure,
-            (_, true, _) => One,
-            (_, false, 0) => One,
-            (_, false, _) => Zero,
-        }
-    }
-}
-
 /// Compares the tallies of three rounds and what is valid in them, and gives how many places are valid.
 fn compare(rt: &impl Abort, steps: &Steps, plain: &Plain) -> Result<u16, Fail> {
     let mut places = 0_u16;
@@ -120,7 +88,7 @@ fn compare(rt: &impl Abort, steps: &Steps, plain: &Plain) -> Result<u16, Fail> {
 /// Accepts 150 values of a cluster of that size in three rounds, and gives how many places are valid in the end.
 fn play(rt: &(impl Abort + AllocGlobal), n: u8, t: u8, usual: u8) -> Result<u16, Fail> {
     let size = Size::new(n, t, 1)?;
-    let mut draws = Draws { state: 3 };
+    let mut draws = Draws::new(3);
     let mut steps = Steps::new(rt.alloc(), size, 0);
     let mut plain = Plain {
         size,
