@@ -1,5 +1,5 @@
 -- What a call of a member comes to: the core's answer, and then what was kept of it.
-use Rattle.std.proofs.Common.{◌≡◌, ◌⊎◌, ◌<◌, ◌↔◌, ℕ, ◌^◌, Bool, true, false, Option, Some, None, Result, Ok, Err, IfOk, IfErr, OnOk, OnErr, IsErrOf, List, ◌++◌, length, refl, sym, ap, subst, ◌∙◌, arith}
+use Rattle.std.proofs.Common.{◌≡◌, ◌⊎◌, ◌<◌, ◌≤◌, ◌↔◌, ℕ, ◌^◌, Bool, true, false, Option, Some, None, Result, Ok, Err, IfOk, IfErr, OnOk, OnErr, IsErrOf, List, ◌++◌, length, refl, sym, ap, subst, ◌∙◌, arith}
 use Rattle.std.specs.Prelude.{◌≢◌, nat_le, unwrap_or, if◌then◌else◌}
 use Rattle.std.specs.List.{list_any}
 use Rattle.terms.specs.declared.Kind.TheVariants.{Initial}
@@ -27,12 +27,12 @@ use Rattle.questions.specs.Cores.{Knows, size_of, me_of, failed_of, refusal as c
 use Rattle.questions.specs.Faults.{number_fault}
 use Rattle.questions.specs.Replies.{reply_of}
 use Rattle.member.specs.declared.fault.MemberFault.{MemberFault}
-use Rattle.member.specs.declared.fault.MemberFault.TheVariants.{Memory, JournalFull}
+use Rattle.member.specs.declared.fault.MemberFault.TheVariants.{Device, Memory, JournalFull}
 use Rattle.member.specs.declared.member.Member.{Member}
 use Rattle.member.specs.Answers.{question_of, members_of, heard_after, IsAnswer, StandsAfter, IsFull, gate_after}
 use Rattle.member.specs.Faults.{refusal, told, fault_of, IsFaultOf, Stops}
 use Rattle.member.specs.Sound.{IsFiled, IsSound, AreHeard}
-use Rattle.member.specs.Words.{disk_of, header_of, saved_of, is_stopped_of, StandsFor}
+use Rattle.member.specs.Words.{disk_of, header_of, gate_of, saved_of, is_stopped_of, StandsFor}
 use Rattle.member.proofs.Formed.{IsFormed, heard_then, reply_for}
 
 -- the event counts: it is no repeat, and not foreign
@@ -43,6 +43,7 @@ IsNews me records heard (Proposal question bit) = said records Initial (place_of
 -- what the core says
 pub record Called {D : Type 0} (old : Member D) (toss : ℕ) (event : Event) (core : Core) (answer : Result Answer CoreFault) : Type 0 where
   pub ok : OnOk answer (core_refusal old.core (question_of event) (members_of event) ≡ None)
+  pub few : IfOk answer (λ a. length (records_of (reply_of a)) ≤ 99)
   pub reply : IfOk answer (λ a. (records : List Record) (heard : List (ℕ × Statement)) → Knows old.core records heard
       → IsReply (past_of (size_of old.core) (me_of old.core) (question_of event) records heard) toss event (reply_of a))
   pub knows : IfOk answer (λ a. (records : List Record) (heard : List (ℕ × Statement)) → Knows old.core records heard
@@ -72,6 +73,11 @@ pub record Kept {D : Type 0} (disk : DiskGhosts D) (old : Member D) (core : Core
   pub same_disk : IsErrOf result Memory ⊎ IsErrOf result JournalFull → disk_of new ≡ disk_of old
   pub memory : IsErrOf result Memory → IfOk answer (λ a. 0 < length (records_of (reply_of a)))
   pub full : IsErrOf result JournalFull → (a : Answer) × (answer ≡ Ok a) × (2 ^ 31 < gate_after old (length (records_of (reply_of a))))
+  pub no_call : IfOk result (λ a. length (records_of (reply_of a)) ≡ 0 → disk_of new ≡ disk_of old)
+  pub room : IfOk result (λ a. 0 < length (records_of (reply_of a)) → gate_of new ≡ gate_after old (length (records_of (reply_of a))))
+  pub within : IfOk result (λ a. 0 < length (records_of (reply_of a)) → gate_of new ≤ 2 ^ 31)
+  pub device : IsErrOf result Device → disk.failures (disk_of old) < disk.failures (disk_of new)
+  pub failures : disk.failures (disk_of old) ≤ disk.failures (disk_of new)
   pub kept : disk.keeps (disk_of old) ↔ disk.keeps (disk_of new)
 
 -- a core that hasn't failed refuses for its numbers alone

@@ -1,5 +1,5 @@
 -- The hearing of a group: what it comes to, as a step of the world, and what stands over it.
-use Rattle.std.proofs.Common.{◌≡◌, ◌⊎◌, inl, inr, ◌<◌, ◌≤◌, ℕ, ◌↔◌, Bool, true, false, Some, None, Result, Ok, Err, IfOk, IfErr, OnOk, OnErr, IsErrOf, List, [], ◌∷◌, ◌++◌, refl, sym, ap, subst, ◌∙◌, arith, append-nil, ⊎_elim}
+use Rattle.std.proofs.Common.{◌≡◌, ◌⊎◌, inl, inr, ◌<◌, ◌≤◌, ℕ, ◌*◌, ◌^◌, ◌↔◌, Option, None, length, Bool, true, false, Some, None, Result, Ok, Err, IfOk, IfErr, OnOk, OnErr, IsErrOf, List, [], ◌∷◌, ◌++◌, refl, sym, ap, subst, ◌∙◌, arith, append-nil, ⊎_elim}
 use Rattle.std.specs.Prelude.{nat_le, IsOk, if◌then◌else◌}
 use Rattle.std.specs.Global.{Vec}
 use Rattle.std.specs.List.{list_any}
@@ -30,13 +30,14 @@ use Rattle.member.specs.declared.fault.MemberFault.{MemberFault}
 use Rattle.member.specs.declared.fault.MemberFault.TheVariants.{Stopped, Device, Memory, JournalFull, NoSuchQuestion, NoSuchMember}
 use Rattle.member.specs.declared.group.Group.{Group}
 use Rattle.member.specs.declared.member.Member.{Member}
-use Rattle.member.specs.Answers.{question_of, members_of}
-use Rattle.member.specs.Faults.{fault_of, Stops}
-use Rattle.member.specs.Groups.{replies_of, AreAnswers, AreWellFormed, bad_number, AllReply, AllCome, LivesAll, MayAllBeCutOff, HeardInTurn}
+use Rattle.member.specs.Answers.{question_of, members_of, gate_after}
+use Rattle.member.specs.Faults.{fault_of, IsFaultOf, Stops}
+use Rattle.member.specs.Groups.{replies_of, AreAnswers, AnswersAll, AreOneEvent, AreWellFormed, IsFullOfAll, bad_number, refusal_of_all, AllReply, AllCome, LivesAll, MayAllBeCutOff, HeardInTurn}
 use Rattle.member.specs.Life.{IsAt, Goes}
+use Rattle.member.specs.Outcomes.{HasSaved, HasFailed, StaysOn}
 use Rattle.member.specs.Sound.{IsFiled, IsSound, AreHeard}
 use Rattle.member.specs.Stands.{Stands}
-use Rattle.member.specs.Words.{disk_of, header_of, saved_of, is_stopped_of, StandsFor}
+use Rattle.member.specs.Words.{disk_of, header_of, gate_of, saved_of, is_stopped_of, StandsFor}
 use Rattle.member.proofs.Formed.{heard_more, batch_for}
 use Rattle.member.proofs.Standing.{settled_holds, begins, stands_on}
 
@@ -88,6 +89,12 @@ pub record KeptAll {D : Type 0} (disk : DiskGhosts D) (old : Member D) (core : C
   pub stopping : IfErr result Stops
   pub stops : OnErr result (is_stopped_of new ≡ true)
   pub same_disk : IsErrOf result Memory ⊎ IsErrOf result JournalFull → disk_of new ≡ disk_of old
+  pub no_call : OnOk result (IfOk heard (λ group. length group.records.items ≡ 0 → disk_of new ≡ disk_of old))
+  pub full : IsErrOf result JournalFull → IsOk heard × IfOk heard (λ group. 2 ^ 31 < gate_after old (length group.records.items))
+  pub room : OnOk result (IfOk heard (λ group. 0 < length group.records.items → gate_of new ≡ gate_after old (length group.records.items)))
+  pub within : OnOk result (IfOk heard (λ group. 0 < length group.records.items → gate_of new ≤ 2 ^ 31))
+  pub device : IsErrOf result Device → disk.failures (disk_of old) < disk.failures (disk_of new)
+  pub failures : disk.failures (disk_of old) ≤ disk.failures (disk_of new)
   pub kept : disk.keeps (disk_of old) ↔ disk.keeps (disk_of new)
 
 module _ {D : Type 0} (disk : DiskGhosts D) (es : List (ℕ × Statement × ℕ)) (old : Member D) (core : Core)
@@ -176,6 +183,77 @@ module _ {D : Type 0} (disk : DiskGhosts D) (es : List (ℕ × Statement × ℕ)
               subst (λ (l : List Record). Holds (header_of old) l file) (sym (append-nil (saved_of new)))
               (subst (λ (h : Header). Holds h (saved_of new) file) kept.header
               (settled_holds disk (header_of new) (saved_of new) new.journal file (kept.filed.settled (kept.kept.0 keeps) kept.going) may))
+
+      pub answers_all : (heard : Result Group NoMemory) → CalledAll old es core heard → (result : Result (Vec Answer) MemberFault) → KeptAll disk old core heard result new
+          → IfOk result (λ answers. AnswersAll old es answers.items new)
+      answers_all heard called (Err f) kept = tt
+      answers_all (Err e) called (Ok answers) kept = let no : false ≡ true = kept.heard_is in cc
+      answers_all (Ok group) called (Ok answers) kept = subst (λ (v : Vec Answer). AnswersAll old es v.items new) (sym kept.answers_are) (record {
+        replies = answers_for group called.in_turn;
+        count = called.in_turn.count;
+        stands_for = λ records before k.
+            subst (λ (l : List Record). StandsFor new (records ++ l) (hear_all before (without_tosses es))) called.in_turn.batch (stands_after group answers called.in_turn kept records before k);
+        few = subst (λ (l : List Record). length l ≤ 99 * length es) called.in_turn.batch called.in_turn.few;
+      })
+
+      pub saved_all : (heard : Result Group NoMemory) → CalledAll old es core heard → (result : Result (Vec Answer) MemberFault) → KeptAll disk old core heard result new
+          → IfOk result (λ answers. HasSaved disk old (records_of_all (replies_of answers.items)) new)
+      saved_all heard called (Err f) kept = tt
+      saved_all (Err e) called (Ok answers) kept = let no : false ≡ true = kept.heard_is in cc
+      saved_all (Ok group) called (Ok answers) kept =
+          subst (λ (v : Vec Answer). HasSaved disk old (records_of_all (replies_of v.items)) new) (sym kept.answers_are)
+          (subst (λ (l : List Record). HasSaved disk old l new) called.in_turn.batch (record {
+            grows = kept.saved;
+            goes_on = kept.going;
+            no_call = kept.no_call;
+            room = kept.room;
+            within = kept.within;
+            acknowledged = acknowledged_all (Ok group) (Ok answers) kept;
+          }))
+
+      pub failed_all : refusal_of_all old es ≡ None → (heard : Result Group NoMemory) → CalledAll old es core heard → (result : Result (Vec Answer) MemberFault) → KeptAll disk old core heard result new
+          → IfErr result (λ fault. HasFailed disk old (refusal_of_all old es) (IsFullOfAll old es) fault new)
+      failed_all good heard called (Ok answers) kept = tt
+      failed_all good heard called (Err f) kept = record {
+        cause = subst (λ (o : Option MemberFault). IsFaultOf o f) (sym good) kept.stopping;
+        refused = λ goes_on. absurd (goes_on kept.stopping);
+        stops = λ _. kept.stops;
+        same = kept.same;
+        same_disk = λ which. kept.same_disk (either which);
+        device = λ is. kept.device (ap Failed is);
+        full = λ is. full_of heard called (kept.full (ap Failed is));
+      }
+        where
+          Failed : MemberFault → Result (Vec Answer) MemberFault
+          Failed g = Err g
+
+          either : (f ≡ Memory) ⊎ (f ≡ JournalFull) → (Failed f ≡ Failed Memory) ⊎ (Failed f ≡ Failed JournalFull)
+          either (inl is) = inl (ap Failed is)
+          either (inr is) = inr (ap Failed is)
+
+          full_of : (o : Result Group NoMemory) → CalledAll old es core o → IsOk o × IfOk o (λ group. 2 ^ 31 < gate_after old (length group.records.items)) → IsFullOfAll old es
+          full_of (Err e) told is = let no : false ≡ true = is.0 in cc
+          full_of (Ok group) told is = (
+            replies_of group.answers.items,
+            answers_for group told.in_turn,
+            subst (λ (l : List Record). 2 ^ 31 < gate_after old (length l)) told.in_turn.batch is.1,
+          )
+
+      pub stays_all : (heard : Result Group NoMemory) (result : Result (Vec Answer) MemberFault) → KeptAll disk old core heard result new → StaysOn disk old new
+      stays_all heard result kept = record {
+        header = kept.header;
+        failures = kept.failures;
+        kept = kept.kept;
+        later = λ keeps. later_at heard kept.refused (kept.any_moment keeps);
+        stands = standing_all heard result kept;
+      }
+        where
+          later_at : (o : Result Group NoMemory) → IfErr o (λ _. disk_of new ≡ disk_of old)
+              → IfOk o (λ group. LeavesOnly disk.moment disk.since (disk_of old) (disk_of new)
+              (λ file. Holds (header_of old) (saved_of old) file ⊎ Holds (header_of old) (saved_of old ++ group.records.items) file))
+              → disk.moment (disk_of old) ≤ disk.moment (disk_of new)
+          later_at (Err e) same leaves = let one = ap disk.moment same in omega (arith, one)
+          later_at (Ok group) same leaves = leaves.later
 
       module _ (header : Header) (liars : ℕ → Bool) (w : World) (correct : IsCorrect header.size liars header.me) (at : IsAt disk header w old) (comes : AllCome w es) where
         -- the replies are those of the world's member
@@ -281,3 +359,23 @@ module _ {D : Type 0} (disk : DiskGhosts D) (es : List (ℕ × Statement × ℕ)
                 before = λ t file le left. ⊎_elim (λ was. inl was) (λ may. inr (either group called.in_turn file may)) (l.before t file le left);
               };
             })
+
+-- a bad number is refused, and nothing happens
+module _ {D : Type 0} (disk : DiskGhosts D) (old : Member D) (es : List (ℕ × Statement × ℕ)) (going : is_stopped_of old ≡ false) (f : MemberFault)
+    (bad : bad_number (header_of old).size es ≡ Some f) where
+  pub number_fails : HasFailed disk old (refusal_of_all old es) (IsFullOfAll old es) f old
+  number_fails = record {
+    cause = let first : refusal_of_all old es ≡ Some f = rw going bad in subst (λ (o : Option MemberFault). IsFaultOf o f) (sym first) refl;
+    refused = λ goes_on. refl;
+    stops = λ stops. absurd (no_stop (header_of old).size es f bad stops);
+    same = refl;
+    same_disk = λ which. refl;
+    device = λ is. absurd (no_stop (header_of old).size es f bad (subst Stops (sym is) tt));
+    full = λ is. absurd (no_stop (header_of old).size es f bad (subst Stops (sym is) tt));
+  }
+
+  pub number_no_event : AreOneEvent disk es old (Err f) old
+  number_no_event = record {
+    life = λ header liars w correct at comes. by_number (λ g. LivesAll disk header liars w es (Err g) old old) refl refl (header_of old).size es f bad;
+    cut = λ header liars w correct at comes. inl refl;
+  }

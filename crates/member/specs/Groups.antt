@@ -20,14 +20,14 @@ use Rattle.questions.specs.Replies.{reply_of}
 use Rattle.disk.specs.Model.{LeavesOnly}
 use Rattle.disk.specs.declared.device.Disk.{Ghosts as DiskGhosts}
 use Rattle.journal.specs.File.{Holds}
-use Rattle.world.specs.World.{World, IsAllowed, AllSent}
+use Rattle.world.specs.World.{World, IsCorrect, IsAllowed, AllSent}
 use Rattle.world.specs.World.Step.{Hears}
 use Rattle.member.specs.declared.fault.MemberFault.{MemberFault}
 use Rattle.member.specs.declared.fault.MemberFault.TheVariants.{Stopped, Device, Memory, JournalFull, NoSuchQuestion, NoSuchMember}
 use Rattle.member.specs.declared.member.Member.{Member}
 use Rattle.member.specs.Answers.{question_of, members_of, gate_after}
 use Rattle.member.specs.Faults.{fault_of}
-use Rattle.member.specs.Life.{Goes}
+use Rattle.member.specs.Life.{IsAt, Goes}
 use Rattle.member.specs.Words.{disk_of, header_of, is_stopped_of, StandsFor}
 
 -- the sender, the statement and the toss, as the definitions hear them
@@ -106,6 +106,21 @@ pub record AreCutOff {D : Type 0} (disk : DiskGhosts D) (header : Header) (liars
 abbrev pub MayAllBeCutOff : {D : Type 0} → DiskGhosts D → Header → (ℕ → Bool) → World → List (ℕ × Statement × ℕ) → Member D → Member D → Type 0
 MayAllBeCutOff disk header liars w es old new =
     (disk_of new ≡ disk_of old) ⊎ AreCutOff disk header liars w es old new
+
+-- It answered all of them by the definitions, one after another, and stands for what came of them.
+pub record AnswersAll {D : Type 0} (old : Member D) (es : List (ℕ × Statement × ℕ)) (answers : List Answer) (new : Member D) : Type 0 where
+  pub replies : AreAnswers old es (replies_of answers)
+  pub count : length answers ≡ length es
+  pub stands_for : StandsAfterAll old es (replies_of answers) new
+  pub few : length (records_of_all (replies_of answers)) ≤ 99 * length es
+
+-- For a member that is what the world has of it the call is one event of the world. A crash within it: either it made no
+-- call of the device, or it is that event with the records of all replies in doubt.
+pub record AreOneEvent {D : Type 0} (disk : DiskGhosts D) (es : List (ℕ × Statement × ℕ)) (old : Member D) (result : Result (Vec Answer) MemberFault) (new : Member D) : Type 0 where
+  pub life : (header : Header) (liars : ℕ → Bool) (w : World) → IsCorrect header.size liars header.me
+      → IsAt disk header w old → AllCome w es → LivesAll disk header liars w es result old new
+  pub cut : (header : Header) (liars : ℕ → Bool) (w : World) → IsCorrect header.size liars header.me
+      → IsAt disk header w old → AllCome w es → MayAllBeCutOff disk header liars w es old new
 
 -- A core that heard them one after another: its answers, the records of all of these, and what it stands for now.
 pub record HeardInTurn (old : Core) (es : List (ℕ × Statement × ℕ)) (answers : List Answer) (records : List Record) (new : Core) : Type 0 where

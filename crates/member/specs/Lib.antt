@@ -6,6 +6,7 @@ pub mod Faults
 pub mod Stands
 pub mod Sound
 pub mod Life
+pub mod Outcomes
 pub mod Groups
 pub mod Laws
 pub mod Memory

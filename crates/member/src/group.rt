@@ -1,6 +1,5 @@
 //! Hearing several statements as one group.
 ghost use Rattle.std.specs.Prelude.{◌≡◌, ◌≢◌, ◌⊎◌, ◌↔◌, ◌+◌, ◌*◌, ◌^◌, ◌<◌, ◌≤◌, ℕ, Bool, false, true, Ok, Some, None, List, ◌++◌, length, IsErr, IsErrOf, IfOk, IfErr, IsOk, OnOk, OnErr};
-ghost use Rattle.terms.specs.declared.Header.{Header};
 ghost use Rattle.terms.specs.declared.Record.{Record};
 ghost use Rattle.terms.specs.Reply.{records_of_all};
 ghost use Rattle.terms.specs.Reply.Event.{Hearing};
@@ -10,13 +9,11 @@ ghost use Rattle.journal.specs.File.{Holds};
 ghost use Rattle.journal.specs.WellFormed.{AreWellFormedFor};
 ghost use Rattle.questions.specs.Cores.{size_of, me_of};
 ghost use Rattle.questions.specs.Faults.{number_fault};
-ghost use Rattle.world.specs.World.{World, IsCorrect};
 ghost use Rattle.member.specs.Answers.{question_of, members_of, gate_after};
-ghost use Rattle.member.specs.Faults.{fault_of, IsFaultOf, Stops};
-ghost use Rattle.member.specs.Groups.{hearings, replies_of, AreAnswers, StandsAfterAll, IsFullOfAll, bad_number, refusal_of_all, AllCome, LivesAll, MayAllBeCutOff, HeardInTurn, AreWellFormed};
-ghost use Rattle.member.specs.Life.{IsAt};
+ghost use Rattle.member.specs.Faults.{fault_of, Stops};
+ghost use Rattle.member.specs.Groups.{hearings, replies_of, AnswersAll, AreOneEvent, IsFullOfAll, bad_number, refusal_of_all, HeardInTurn, AreWellFormed};
+ghost use Rattle.member.specs.Outcomes.{HasSaved, HasFailed, StaysOn};
 ghost use Rattle.member.specs.Sound.{IsSound, IsFiled};
-ghost use Rattle.member.specs.Stands.{Stands};
 ghost use Rattle.member.specs.Words.{disk_of, header_of, gate_of, saved_of, is_stopped_of};
 
 use crate::fault::MemberFault;
@@ -36,6 +33,7 @@ pub(crate) struct Group {
     records: Vec<Record>,
 }
 
+#[tactic(auto, unfolding(crate::specs::Words::disk_of, crate::specs::Words::header_of, crate::specs::Words::gate_of, crate::specs::Words::saved_of, crate::specs::Words::outbox_of, crate::specs::Words::is_stopped_of, crate::specs::Words::StandsFor))]
 impl<D: Disk> Member<D> {
     /// Answers to statements, each with its sender and its toss, as hearing one after another answers: at most 256, and
     /// perhaps none. The records of all answers are saved as one batch, by four calls of the device, and then their
@@ -47,68 +45,26 @@ impl<D: Disk> Member<D> {
     /// [`MemberFault::JournalFull`] and [`MemberFault::Device`], which stop the member: none of the answers is given, and
     /// nothing is handed out. Only `Device` comes after a call of the device was made: then all records of the group may be
     /// on the disk, or none.
-    #[tactic(auto, unfolding(crate::specs::Words::disk_of, crate::specs::Words::header_of, crate::specs::Words::gate_of, crate::specs::Words::saved_of, crate::specs::Words::outbox_of, crate::specs::Words::is_stopped_of, crate::specs::Words::StandsFor))]
     pub fn hear_all(&mut self, events: &[(u8, Statement, Toss)]) -> Result<Vec<Answer>, MemberFault>
         requires sound { IsSound D.Disk self.old }
         requires few { length events.now ≤ 256 }
         ensures sound { IsSound D.Disk self.new }
 
-        // It answers what the definitions say to one after another, and saves the records of all answers.
-        ensures reply { IfOk result (λ answers. AreAnswers self.old (hearings events.now) (replies_of answers.items)) }
-        ensures length { IfOk result (λ answers. length answers.items ≡ length events.now) }
-        ensures stands_for { IfOk result (λ answers.
-            StandsAfterAll self.old (hearings events.now) (replies_of answers.items) self.new) }
-        ensures grows { IfOk result (λ answers.
-            saved_of self.new ≡ saved_of self.old ++ records_of_all (replies_of answers.items)) }
-        ensures few { IfOk result (λ answers.
-            length (records_of_all (replies_of answers.items)) ≤ 99 * length events.now) }
-        ensures goes_on { OnOk result (is_stopped_of self.new ≡ false) }
-
-        // All of them are one batch.
-        ensures no_call { IfOk result (λ answers.
-            length (records_of_all (replies_of answers.items)) ≡ 0 → disk_of self.new ≡ disk_of self.old) }
+        // It answers what the definitions say to one after another, and saves the records of all answers as one batch.
+        ensures answers { IfOk result (λ answers. AnswersAll self.old (hearings events.now) answers.items self.new) }
+        ensures saved { IfOk result (λ answers.
+            HasSaved D.Disk self.old (records_of_all (replies_of answers.items)) self.new) }
         ensures four_calls { D.keeps (disk_of self.old) → IfOk result (λ answers.
             0 < length (records_of_all (replies_of answers.items)) →
             D.moment (disk_of self.new) ≡ D.moment (disk_of self.old) + 4) }
-
-        // What it does is one event of the world.
-        ensures life { (header : Header) (liars : ℕ → Bool) (w : World) → IsCorrect header.size liars header.me →
-            IsAt D.Disk header w self.old → AllCome w (hearings events.now) →
-            LivesAll D.Disk header liars w (hearings events.now) result self.old self.new }
-        // A crash within it: either it made no call of the device, or it is that event with the records of all replies in
-        // doubt.
-        ensures cut { (header : Header) (liars : ℕ → Bool) (w : World) → IsCorrect header.size liars header.me →
-            IsAt D.Disk header w self.old → AllCome w (hearings events.now) →
-            MayAllBeCutOff D.Disk header liars w (hearings events.now) self.old self.new }
-
-        // What stood on the disk stands, and once it answered Ok all that it saved stands from then on.
-        ensures later { D.keeps (disk_of self.old) → D.moment (disk_of self.old) ≤ D.moment (disk_of self.new) }
-        ensures stands { D.keeps (disk_of self.old) → (moment : ℕ) (front : List Record) →
-            moment ≤ D.moment (disk_of self.old) → Stands (D.since (disk_of self.old)) (header_of self.old) moment front →
-            Stands (D.since (disk_of self.new)) (header_of self.old) moment front }
-        ensures acknowledged { D.keeps (disk_of self.old) → OnOk result (
-            Stands (D.since (disk_of self.new)) (header_of self.old) (D.moment (disk_of self.new)) (saved_of self.new)) }
+        ensures event { AreOneEvent D.Disk (hearings events.now) self.old result self.new }
 
         // Each refusal has its cause, and leaves what was saved and handed out.
         ensures ok { OnOk result (refusal_of_all self.old (hearings events.now) ≡ None) }
-        ensures err { IfErr result (λ fault. IsFaultOf (refusal_of_all self.old (hearings events.now)) fault) }
-        ensures refused { IfErr result (λ fault. (Stops fault → ⊥) → self.new ≡ self.old) }
-        ensures stops { IfErr result (λ fault. Stops fault → is_stopped_of self.new ≡ true) }
-        ensures same { OnErr result (saved_of self.new ≡ saved_of self.old) }
-        ensures same_disk { IsErrOf result MemberFault.Memory ⊎ IsErrOf result MemberFault.JournalFull →
-            disk_of self.new ≡ disk_of self.old }
-        ensures device { IsErrOf result MemberFault.Device →
-            D.failures (disk_of self.old) < D.failures (disk_of self.new) }
-        ensures full { IsErrOf result MemberFault.JournalFull → IsFullOfAll self.old (hearings events.now) }
-        ensures room { IfOk result (λ answers. 0 < length (records_of_all (replies_of answers.items)) →
-            gate_of self.new ≡ gate_after self.old (length (records_of_all (replies_of answers.items)))) }
-        ensures within { IfOk result (λ answers. 0 < length (records_of_all (replies_of answers.items)) →
-            gate_of self.new ≤ 2 ^ 31) }
+        ensures fault { IfErr result (λ fault. HasFailed D.Disk self.old
+            (refusal_of_all self.old (hearings events.now)) (IsFullOfAll self.old (hearings events.now)) fault self.new) }
         ensures memory_only_at_some { IsErrOf result MemberFault.Memory → 0 < length events.now }
-
-        ensures header { header_of self.new ≡ header_of self.old }
-        ensures failures { D.failures (disk_of self.old) ≤ D.failures (disk_of self.new) }
-        ensures kept { D.keeps (disk_of self.old) ↔ D.keeps (disk_of self.new) }
+        ensures stays { StaysOn D.Disk self.old self.new }
     {
         if self.stopped {
             return Err(MemberFault::Stopped);
@@ -121,7 +77,6 @@ impl<D: Disk> Member<D> {
     }
 
     /// Saves what the core answered to a group, or stops.
-    #[tactic(auto, unfolding(crate::specs::Words::disk_of, crate::specs::Words::header_of, crate::specs::Words::gate_of, crate::specs::Words::saved_of, crate::specs::Words::outbox_of, crate::specs::Words::is_stopped_of, crate::specs::Words::StandsFor))]
     fn keep_all(&mut self, heard: Result<Group, Memory>) -> Result<Vec<Answer>, MemberFault>
         requires few { IfOk heard (λ group. length group.records.items ≤ 65535) }
         requires well_formed { IfOk heard (λ group. AreWellFormedFor (header_of self.old) group.records.items) }

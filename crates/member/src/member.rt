@@ -8,23 +8,19 @@ ghost use Rattle.terms.specs.Reply.{records_of};
 ghost use Rattle.terms.specs.Reply.Event.{Hearing, Proposal};
 ghost use Rattle.terms.specs.Same.{place_of};
 ghost use Rattle.terms.specs.declared.Kind.TheVariants.{Initial};
-ghost use Rattle.disk.specs.Model.{LeavesOnly, MayLeave};
-ghost use Rattle.journal.specs.Faults.{IsOfFile, IsFaultOfOpening};
-ghost use Rattle.journal.specs.File.{Holds, Refuses};
+ghost use Rattle.disk.specs.Model.{LeavesOnly};
+ghost use Rattle.journal.specs.File.{Holds};
 ghost use Rattle.journal.specs.WellFormed.{AreWellFormedFor};
 ghost use Rattle.questions.specs.Cores.{Knows, size_of, me_of};
 ghost use Rattle.questions.specs.Faults.{records_fault};
 ghost use Rattle.terms.specs.Bounds.{IsSize};
 ghost use Rattle.questions.specs.Replies.{reply_of};
 ghost use Rattle.questions.specs.declared.answer.Answer.{Answer};
-ghost use Rattle.world.specs.World.{World, IsCorrect, start};
-ghost use Rattle.world.specs.World.Step.{Restart};
-ghost use Rattle.member.specs.Answers.{IsAnswer, StandsAfter, IsFull, gate_after};
-ghost use Rattle.member.specs.Faults.{refusal, told, IsFaultOf, Stops};
-ghost use Rattle.member.specs.Life.{IsAt, Goes, Lives, Comes, MayBeCutOff};
+ghost use Rattle.member.specs.Answers.{IsFull, gate_after};
+ghost use Rattle.member.specs.Faults.{refusal, told, Stops};
 ghost use Rattle.member.specs.Sealed.{sealed_from};
+ghost use Rattle.member.specs.Outcomes.{AnswersTo, HasSaved, HasFailed, StaysOn, IsOneEvent, IsOpened, IsARestart, IsNotOpened};
 ghost use Rattle.member.specs.Sound.{IsSound, IsFiled};
-ghost use Rattle.member.specs.Stands.{Stands, IsLeft};
 ghost use Rattle.member.specs.Words.{disk_of, header_of, gate_of, saved_of, outbox_of, is_stopped_of, StandsFor};
 
 use crate::fault::MemberFault;
@@ -50,45 +46,17 @@ pub struct Member<D: Disk> {
     pub(crate) stopped: bool,
 }
 
+#[tactic(auto, unfolding(crate::specs::Words::disk_of, crate::specs::Words::header_of, crate::specs::Words::gate_of, crate::specs::Words::saved_of, crate::specs::Words::outbox_of, crate::specs::Words::is_stopped_of, crate::specs::Words::StandsFor))]
 impl<D: Disk> Member<D> {
     /// Opens a member's journal, which a crash may have left: [`adopt`](Member::adopt) where the disk isn't wanted back
     /// after a fault. The disk is gone then, so what a fault left of it is said there alone.
     pub fn open(alloc: Global, disk: D, header: &Header) -> Result<Member<D>, JournalFault>
     where
         D: Drop,
-        ensures sound { IfOk result (λ m. IsSound D.Disk m) }
-        ensures up { IfOk result (λ m. is_stopped_of m ≡ false) }
-        ensures header { IfOk result (λ m. header_of m ≡ header.now) }
-        ensures stands_for { IfOk result (λ m. StandsFor m (saved_of m) []) }
-        ensures held { D.keeps disk → IfOk result (λ m. Holds header.now (saved_of m) (D.state disk).seen) }
-
-        // It is a restart, which keeps what was in doubt or loses all of it; the first opening is no step.
-        ensures restart { (liars : ℕ → Bool) (w : World) → IsCorrect header.now.size liars header.now.me → D.keeps disk →
-            IsLeft (D.state disk) header.now (w.journal header.now.me) (w.doubt header.now.me) →
-            IfOk result (λ m. (kept : Bool) × Goes D.Disk header.now liars w (Restart header.now.me kept) m) }
-        ensures first { D.keeps disk → IsLeft (D.state disk) header.now [] None → IfOk result (λ m. IsAt D.Disk header.now start m) }
-        // A crash at any moment of it leaves nothing but what it might have left before.
-        ensures any_moment { D.keeps disk → IfOk result (λ m.
-            LeavesOnly D.moment D.since disk (disk_of m) (MayLeave (D.state disk))) }
-
-        // What stood on the disk stands, and is at the front of its records, all of which stand from now on.
-        ensures later { D.keeps disk → IfOk result (λ m. D.moment disk ≤ D.moment (disk_of m)) }
-        ensures stands { D.keeps disk → (moment : ℕ) (front : List Record) → moment ≤ D.moment disk →
-            Stands (D.since disk) header.now moment front →
-            IfOk result (λ m. Stands (D.since (disk_of m)) header.now moment front
-            × ((others : List Record) × (front ++ others ≡ saved_of m))) }
-        ensures acknowledged { D.keeps disk → IfOk result (λ m.
-            Stands (D.since (disk_of m)) header.now (D.moment (disk_of m)) (saved_of m)) }
-
-        ensures three_calls { D.keeps disk → IfOk result (λ m. D.moment (disk_of m) ≡ D.moment disk + 3) }
-
-        ensures only { IfErr result IsFaultOfOpening }
-        ensures refused { D.keeps disk → IfErr result (λ fault. IsOfFile fault → Refuses header.now fault (D.state disk).seen) }
-        // That some disk had failed more. The one handed in is gone: `adopt` says it of that one.
-        ensures device { IsErrOf result JournalFault.Device → (after : D) × (D.failures disk < D.failures after) }
-        ensures quiet { IfOk result (λ m. D.failures (disk_of m) ≡ D.failures disk) }
-        ensures failures { IfOk result (λ m. D.failures disk ≤ D.failures (disk_of m)) }
-        ensures kept { IfOk result (λ m. D.keeps disk ↔ D.keeps (disk_of m)) }
+        ensures opened { IfOk result (λ m. IsOpened D.Disk disk header.now m) }
+        ensures restart { IfOk result (λ m. IsARestart D.Disk disk header.now m) }
+        // The disk that is gone: some disk that this one became, since a fault of a call is one of a disk.
+        ensures fault { IfErr result (λ fault. (after : D) × IsNotOpened D.Disk disk header.now fault after) }
     {
         match Member::adopt(alloc, disk, header) {
             Ok(opened) => Ok(opened),
@@ -101,59 +69,10 @@ impl<D: Disk> Member<D> {
     ///
     /// A fault hands the disk back; no byte of its file was changed. The faults are those of the journal's opening:
     /// `BadHeader`, `OtherHeader`, `CutShort` and `BadRecord` for what is wrong with the file, `Memory` and `Device`.
-    #[tactic(auto, unfolding(crate::specs::Words::disk_of, crate::specs::Words::header_of, crate::specs::Words::gate_of, crate::specs::Words::saved_of, crate::specs::Words::outbox_of, crate::specs::Words::is_stopped_of, crate::specs::Words::StandsFor))]
     pub fn adopt(alloc: Global, disk: D, header: &Header) -> Result<Member<D>, (JournalFault, D)>
-        ensures sound { IfOk result (λ m. IsSound D.Disk m) }
-        ensures up { IfOk result (λ m. is_stopped_of m ≡ false) }
-        ensures header { IfOk result (λ m. header_of m ≡ header.now) }
-        ensures stands_for { IfOk result (λ m. StandsFor m (saved_of m) []) }
-        // Its records are those that the file holds.
-        ensures held { D.keeps disk → IfOk result (λ m. Holds header.now (saved_of m) (D.state disk).seen) }
-
-        // It is a restart, which keeps what was in doubt or loses all of it; the first opening is no step.
-        ensures restart { (liars : ℕ → Bool) (w : World) → IsCorrect header.now.size liars header.now.me → D.keeps disk →
-            IsLeft (D.state disk) header.now (w.journal header.now.me) (w.doubt header.now.me) →
-            IfOk result (λ m. (kept : Bool) × Goes D.Disk header.now liars w (Restart header.now.me kept) m) }
-        ensures first { D.keeps disk → IsLeft (D.state disk) header.now [] None →
-            IfOk result (λ m. IsAt D.Disk header.now start m) }
-        // A crash at any moment of it leaves nothing but what it might have left before.
-        ensures any_moment { D.keeps disk → IfOk result (λ m.
-            LeavesOnly D.moment D.since disk (disk_of m) (MayLeave (D.state disk))) }
-        ensures any_moment_err { D.keeps disk → IfErr result (λ refused.
-            LeavesOnly D.moment D.since disk refused.1 (MayLeave (D.state disk))) }
-        // One that fails leaves what might be left.
-        ensures left { D.keeps disk → (saved : List Record) (doubt : Option (List Record)) →
-            IsLeft (D.state disk) header.now saved doubt →
-            IfErr result (λ refused. IsLeft (D.state refused.1) header.now saved doubt) }
-
-        // What stood on the disk stands, and is at the front of its records, all of which stand from now on.
-        ensures later { D.keeps disk → IfOk result (λ m. D.moment disk ≤ D.moment (disk_of m)) }
-        ensures later_err { D.keeps disk → IfErr result (λ refused. D.moment disk ≤ D.moment refused.1) }
-        ensures stands { D.keeps disk → (moment : ℕ) (front : List Record) → moment ≤ D.moment disk →
-            Stands (D.since disk) header.now moment front →
-            IfOk result (λ m. Stands (D.since (disk_of m)) header.now moment front
-            × ((others : List Record) × (front ++ others ≡ saved_of m))) }
-        ensures stands_err { D.keeps disk → (moment : ℕ) (front : List Record) → moment ≤ D.moment disk →
-            Stands (D.since disk) header.now moment front →
-            IfErr result (λ refused. Stands (D.since refused.1) header.now moment front) }
-        ensures acknowledged { D.keeps disk → IfOk result (λ m.
-            Stands (D.since (disk_of m)) header.now (D.moment (disk_of m)) (saved_of m)) }
-
-        ensures three_calls { D.keeps disk → IfOk result (λ m. D.moment (disk_of m) ≡ D.moment disk + 3) }
-
-        // A fault of the file is the one that it has, and no byte was changed.
-        ensures only { IfErr result (λ refused. IsFaultOfOpening refused.0) }
-        ensures refused { D.keeps disk → IfErr result (λ refused.
-            IsOfFile refused.0 → Refuses header.now refused.0 (D.state disk).seen) }
-        ensures same_err { D.keeps disk → IfErr result (λ refused. (D.state refused.1).seen ≡ (D.state disk).seen) }
-        ensures device { IfErr result (λ refused. refused.0 ≡ JournalFault.Device → D.failures disk < D.failures refused.1) }
-        // With any other answer it had not failed.
-        ensures quiet { IfOk result (λ m. D.failures (disk_of m) ≡ D.failures disk) }
-        ensures quiet_err { IfErr result (λ refused. (refused.0 ≡ JournalFault.Device → ⊥) → D.failures refused.1 ≡ D.failures disk) }
-        ensures failures { IfOk result (λ m. D.failures disk ≤ D.failures (disk_of m)) }
-        ensures failures_err { IfErr result (λ refused. D.failures disk ≤ D.failures refused.1) }
-        ensures kept { IfOk result (λ m. D.keeps disk ↔ D.keeps (disk_of m)) }
-        ensures kept_err { IfErr result (λ refused. D.keeps disk ↔ D.keeps refused.1) }
+        ensures opened { IfOk result (λ m. IsOpened D.Disk disk header.now m) }
+        ensures restart { IfOk result (λ m. IsARestart D.Disk disk header.now m) }
+        ensures fault { IfErr result (λ refused. IsNotOpened D.Disk disk header.now refused.0 refused.1) }
     {
         match Journal::adopt(alloc, disk, header) {
             Ok((journal, records)) => match begin(alloc, header, &records) {
@@ -178,58 +97,23 @@ impl<D: Disk> Member<D> {
     /// [`MemberFault::NoSuchMember`], the sender or the statement's origin. These change nothing. Then
     /// [`MemberFault::Memory`], [`MemberFault::JournalFull`] and [`MemberFault::Device`], which stop the member; only
     /// `Device` comes after a call of the device was made.
-    #[tactic(auto, unfolding(crate::specs::Words::disk_of, crate::specs::Words::header_of, crate::specs::Words::gate_of, crate::specs::Words::saved_of, crate::specs::Words::outbox_of, crate::specs::Words::is_stopped_of, crate::specs::Words::StandsFor))]
     pub fn hear(&mut self, from: u8, s: &Statement, toss: Toss) -> Result<Answer, MemberFault>
         requires sound { IsSound D.Disk self.old }
         ensures sound { IsSound D.Disk self.new }
 
         // It answers what the definitions say, and saves the records of its answer.
-        ensures reply { IfOk result (λ answer. IsAnswer self.old toss.0 (Hearing from s.now) (reply_of answer)) }
-        ensures stands_for { IfOk result (λ answer. StandsAfter self.old (Hearing from s.now) (reply_of answer) self.new) }
-        ensures grows { IfOk result (λ answer. saved_of self.new ≡ saved_of self.old ++ records_of (reply_of answer)) }
-        ensures few { IfOk result (λ answer. length (records_of (reply_of answer)) ≤ 99) }
-        ensures goes_on { OnOk result (is_stopped_of self.new ≡ false) }
-        ensures no_call { IfOk result (λ answer.
-            length (records_of (reply_of answer)) ≡ 0 → disk_of self.new ≡ disk_of self.old) }
-
-        // What it does is an event of the world.
-        ensures life { (header : Header) (liars : ℕ → Bool) (w : World) → IsCorrect header.size liars header.me →
-            IsAt D.Disk header w self.old → Comes w (Hearing from s.now) →
-            Lives D.Disk header liars w toss.0 (Hearing from s.now) result self.old self.new }
-        // A crash within it: either it made no call of the device, or it is that event with all records of its reply in doubt.
-        ensures cut { (header : Header) (liars : ℕ → Bool) (w : World) → IsCorrect header.size liars header.me →
-            IsAt D.Disk header w self.old → Comes w (Hearing from s.now) →
-            MayBeCutOff D.Disk header liars w toss.0 (Hearing from s.now) self.old self.new }
-
-        // What stood on the disk stands, and once it answered Ok all that it saved stands from then on.
-        ensures later { D.keeps (disk_of self.old) → D.moment (disk_of self.old) ≤ D.moment (disk_of self.new) }
-        ensures stands { D.keeps (disk_of self.old) → (moment : ℕ) (front : List Record) →
-            moment ≤ D.moment (disk_of self.old) → Stands (D.since (disk_of self.old)) (header_of self.old) moment front →
-            Stands (D.since (disk_of self.new)) (header_of self.old) moment front }
-        ensures acknowledged { D.keeps (disk_of self.old) → OnOk result (
-            Stands (D.since (disk_of self.new)) (header_of self.old) (D.moment (disk_of self.new)) (saved_of self.new)) }
+        ensures answer { IfOk result (λ answer. AnswersTo self.old toss.0 (Hearing from s.now) (reply_of answer) self.new) }
+        ensures saved { IfOk result (λ answer. HasSaved D.Disk self.old (records_of (reply_of answer)) self.new) }
+        ensures event { IsOneEvent D.Disk toss.0 (Hearing from s.now) self.old result self.new }
 
         // Each refusal has its cause, and leaves what was saved and handed out.
         ensures ok { OnOk result (refusal self.old (Hearing from s.now) ≡ None) }
-        ensures err { IfErr result (λ fault. IsFaultOf (refusal self.old (Hearing from s.now)) fault) }
-        ensures refused { IfErr result (λ fault. (Stops fault → ⊥) → self.new ≡ self.old) }
-        ensures stops { IfErr result (λ fault. Stops fault → is_stopped_of self.new ≡ true) }
-        ensures same { OnErr result (saved_of self.new ≡ saved_of self.old) }
-        ensures same_disk { IsErrOf result MemberFault.Memory ⊎ IsErrOf result MemberFault.JournalFull →
-            disk_of self.new ≡ disk_of self.old }
-        ensures device { IsErrOf result MemberFault.Device →
-            D.failures (disk_of self.old) < D.failures (disk_of self.new) }
-        ensures full { IsErrOf result MemberFault.JournalFull → IsFull self.old toss.0 (Hearing from s.now) }
-        ensures room { IfOk result (λ answer. 0 < length (records_of (reply_of answer)) →
-            gate_of self.new ≡ gate_after self.old (length (records_of (reply_of answer)))) }
-        ensures within { IfOk result (λ answer. 0 < length (records_of (reply_of answer)) → gate_of self.new ≤ 2 ^ 31) }
+        ensures fault { IfErr result (λ fault.
+            HasFailed D.Disk self.old (refusal self.old (Hearing from s.now)) (IsFull self.old toss.0 (Hearing from s.now)) fault self.new) }
         ensures memory_only_at_news { IsErrOf result MemberFault.Memory →
             (records : List Record) (heard : List (ℕ × Statement)) → StandsFor self.old records heard →
             (is_foreign from s.now ≡ false) × (got heard from s.now.kind s.now.place ≡ None) }
-
-        ensures header { header_of self.new ≡ header_of self.old }
-        ensures failures { D.failures (disk_of self.old) ≤ D.failures (disk_of self.new) }
-        ensures kept { D.keeps (disk_of self.old) ↔ D.keeps (disk_of self.new) }
+        ensures stays { StaysOn D.Disk self.old self.new }
     {
         if self.stopped {
             return Err(MemberFault::Stopped);
@@ -246,58 +130,23 @@ impl<D: Disk> Member<D> {
     /// Of all faults the first in this order: [`MemberFault::Stopped`]; [`MemberFault::NoSuchQuestion`]. These change
     /// nothing. Then [`MemberFault::Memory`], [`MemberFault::JournalFull`] and [`MemberFault::Device`], which stop the
     /// member; only `Device` comes after a call of the device was made.
-    #[tactic(auto, unfolding(crate::specs::Words::disk_of, crate::specs::Words::header_of, crate::specs::Words::gate_of, crate::specs::Words::saved_of, crate::specs::Words::outbox_of, crate::specs::Words::is_stopped_of, crate::specs::Words::StandsFor))]
     pub fn propose(&mut self, question: u16, bit: bool, toss: Toss) -> Result<Answer, MemberFault>
         requires sound { IsSound D.Disk self.old }
         ensures sound { IsSound D.Disk self.new }
 
         // It answers what the definitions say, and saves the records of its answer.
-        ensures reply { IfOk result (λ answer. IsAnswer self.old toss.0 (Proposal question bit) (reply_of answer)) }
-        ensures stands_for { IfOk result (λ answer. StandsAfter self.old (Proposal question bit) (reply_of answer) self.new) }
-        ensures grows { IfOk result (λ answer. saved_of self.new ≡ saved_of self.old ++ records_of (reply_of answer)) }
-        ensures few { IfOk result (λ answer. length (records_of (reply_of answer)) ≤ 99) }
-        ensures goes_on { OnOk result (is_stopped_of self.new ≡ false) }
-        ensures no_call { IfOk result (λ answer.
-            length (records_of (reply_of answer)) ≡ 0 → disk_of self.new ≡ disk_of self.old) }
-
-        // What it does is an event of the world.
-        ensures life { (header : Header) (liars : ℕ → Bool) (w : World) → IsCorrect header.size liars header.me →
-            IsAt D.Disk header w self.old → Comes w (Proposal question bit) →
-            Lives D.Disk header liars w toss.0 (Proposal question bit) result self.old self.new }
-        // A crash within it: either it made no call of the device, or it is that event with all records of its reply in doubt.
-        ensures cut { (header : Header) (liars : ℕ → Bool) (w : World) → IsCorrect header.size liars header.me →
-            IsAt D.Disk header w self.old → Comes w (Proposal question bit) →
-            MayBeCutOff D.Disk header liars w toss.0 (Proposal question bit) self.old self.new }
-
-        // What stood on the disk stands, and once it answered Ok all that it saved stands from then on.
-        ensures later { D.keeps (disk_of self.old) → D.moment (disk_of self.old) ≤ D.moment (disk_of self.new) }
-        ensures stands { D.keeps (disk_of self.old) → (moment : ℕ) (front : List Record) →
-            moment ≤ D.moment (disk_of self.old) → Stands (D.since (disk_of self.old)) (header_of self.old) moment front →
-            Stands (D.since (disk_of self.new)) (header_of self.old) moment front }
-        ensures acknowledged { D.keeps (disk_of self.old) → OnOk result (
-            Stands (D.since (disk_of self.new)) (header_of self.old) (D.moment (disk_of self.new)) (saved_of self.new)) }
+        ensures answer { IfOk result (λ answer. AnswersTo self.old toss.0 (Proposal question bit) (reply_of answer) self.new) }
+        ensures saved { IfOk result (λ answer. HasSaved D.Disk self.old (records_of (reply_of answer)) self.new) }
+        ensures event { IsOneEvent D.Disk toss.0 (Proposal question bit) self.old result self.new }
 
         // Each refusal has its cause, and leaves what was saved and handed out.
         ensures ok { OnOk result (refusal self.old (Proposal question bit) ≡ None) }
-        ensures err { IfErr result (λ fault. IsFaultOf (refusal self.old (Proposal question bit)) fault) }
-        ensures refused { IfErr result (λ fault. (Stops fault → ⊥) → self.new ≡ self.old) }
-        ensures stops { IfErr result (λ fault. Stops fault → is_stopped_of self.new ≡ true) }
-        ensures same { OnErr result (saved_of self.new ≡ saved_of self.old) }
-        ensures same_disk { IsErrOf result MemberFault.Memory ⊎ IsErrOf result MemberFault.JournalFull →
-            disk_of self.new ≡ disk_of self.old }
-        ensures device { IsErrOf result MemberFault.Device →
-            D.failures (disk_of self.old) < D.failures (disk_of self.new) }
-        ensures full { IsErrOf result MemberFault.JournalFull → IsFull self.old toss.0 (Proposal question bit) }
-        ensures room { IfOk result (λ answer. 0 < length (records_of (reply_of answer)) →
-            gate_of self.new ≡ gate_after self.old (length (records_of (reply_of answer)))) }
-        ensures within { IfOk result (λ answer. 0 < length (records_of (reply_of answer)) → gate_of self.new ≤ 2 ^ 31) }
+        ensures fault { IfErr result (λ fault.
+            HasFailed D.Disk self.old (refusal self.old (Proposal question bit)) (IsFull self.old toss.0 (Proposal question bit)) fault self.new) }
         ensures memory_only_at_first { IsErrOf result MemberFault.Memory →
             (records : List Record) (heard : List (ℕ × Statement)) → StandsFor self.old records heard →
             said records Initial (place_of question (header_of self.old).me 1 1) ≡ None }
-
-        ensures header { header_of self.new ≡ header_of self.old }
-        ensures failures { D.failures (disk_of self.old) ≤ D.failures (disk_of self.new) }
-        ensures kept { D.keeps (disk_of self.old) ↔ D.keeps (disk_of self.new) }
+        ensures stays { StaysOn D.Disk self.old self.new }
     {
         if self.is_stopped() {
             return Err(MemberFault::Stopped);
@@ -307,7 +156,6 @@ impl<D: Disk> Member<D> {
     }
 
     /// Saves what the core answered, or stops.
-    #[tactic(auto, unfolding(crate::specs::Words::disk_of, crate::specs::Words::header_of, crate::specs::Words::gate_of, crate::specs::Words::saved_of, crate::specs::Words::outbox_of, crate::specs::Words::is_stopped_of, crate::specs::Words::StandsFor))]
     fn keep(&mut self, answer: Result<Answer, CoreFault>) -> Result<Answer, MemberFault>
         requires few { IfOk answer (λ a. length (records_of (reply_of a)) ≤ 99) }
         requires well_formed { IfOk answer (λ a. AreWellFormedFor (header_of self.old) (records_of (reply_of a))) }

@@ -19,9 +19,9 @@ use crate::{Member, Sealed};
 use disk::{Disk, MemDisk};
 use terms::{Header, Record};
 
+#[tactic(auto, unfolding(crate::specs::Words::disk_of, crate::specs::Words::header_of, crate::specs::Words::gate_of, crate::specs::Words::saved_of, crate::specs::Words::outbox_of, crate::specs::Words::is_stopped_of, crate::specs::Words::StandsFor))]
 impl<D: Disk> Member<D> {
     /// Stops the member: no call answers from then on. Nothing else changes.
-    #[tactic(auto, unfolding(crate::specs::Words::disk_of, crate::specs::Words::header_of, crate::specs::Words::gate_of, crate::specs::Words::saved_of, crate::specs::Words::outbox_of, crate::specs::Words::is_stopped_of, crate::specs::Words::StandsFor))]
     pub fn stop(&mut self)
         requires sound { IsSound D.Disk self.old }
         ensures sound { IsSound D.Disk self.new }
@@ -39,7 +39,6 @@ impl<D: Disk> Member<D> {
     }
 
     /// Whether the member is stopped, by [`stop`](Member::stop) or by a fault.
-    #[tactic(auto, unfolding(crate::specs::Words::is_stopped_of))]
     pub fn is_stopped(&self) -> bool
         ensures { result ≡ is_stopped_of self.now }
     {
@@ -47,7 +46,6 @@ impl<D: Disk> Member<D> {
     }
 
     /// Whose journal it is.
-    #[tactic(auto, unfolding(crate::specs::Words::header_of))]
     pub fn header(&self) -> Header
         ensures { result ≡ header_of self.now }
     {
@@ -58,7 +56,6 @@ impl<D: Disk> Member<D> {
     ///
     /// Of a correct member they hold, over all its lives, at most one statement of a kind at a place, and at most one
     /// decision of a question, however many others lie.
-    #[tactic(auto, unfolding(crate::specs::Words::saved_of))]
     pub fn records(&self) -> &[Record]
         ensures all { result.now ≡ saved_of self.now }
         ensures says_once { (header : Header) (liars : ℕ → Bool) (steps : List Step) → IsRun header.size liars start steps →
@@ -72,7 +69,6 @@ impl<D: Disk> Member<D> {
     }
 
     /// Their statements, numbered from 0. It takes no memory.
-    #[tactic(auto, unfolding(crate::specs::Words::saved_of, crate::specs::Words::outbox_of))]
     pub fn outbox(&self) -> &[Sealed]
         requires { IsSound D.Disk self.now }
         ensures { result.now ≡ sealed_from 0 (saved_of self.now) }
@@ -84,7 +80,6 @@ impl<D: Disk> Member<D> {
     /// none, and where there is no such question. It takes no memory. Only a stopped member looks for it in its records.
     ///
     /// Correct members' verdicts on a question are of one bit: [`verdicts`](crate::laws::verdicts).
-    #[tactic(auto, unfolding(crate::specs::Words::saved_of, crate::specs::Words::header_of, crate::specs::Words::is_stopped_of))]
     pub fn verdict(&self, question: u16) -> Option<bool>
         requires sound { IsSound D.Disk self.now }
         ensures first { result ≡ verdict_of (saved_of self.now) question }
@@ -100,7 +95,6 @@ impl<D: Disk> Member<D> {
     }
 
     /// Its disk. The member is gone; no call of the device is made. A crash leaves what the world has of the member.
-    #[tactic(auto, unfolding(crate::specs::Words::disk_of))]
     pub fn into_disk(self) -> D
         ensures disk { result ≡ disk_of self }
         ensures left { IsSound D.Disk self → (header : Header) (w : World) → IsAt D.Disk header w self →
@@ -110,7 +104,6 @@ impl<D: Disk> Member<D> {
     }
 
     /// Its disk, and what it saved.
-    #[tactic(auto, unfolding(crate::specs::Words::disk_of, crate::specs::Words::saved_of))]
     pub fn into_parts(self) -> (D, Vec<Record>)
         ensures disk { result.0 ≡ disk_of self }
         ensures left { IsSound D.Disk self → (header : Header) (w : World) → IsAt D.Disk header w self →
@@ -129,12 +122,12 @@ impl<D: Disk> Member<D> {
     }
 }
 
+#[tactic(auto, unfolding(crate::specs::Words::disk_of, crate::specs::Words::header_of, crate::specs::Words::gate_of, crate::specs::Words::saved_of, crate::specs::Words::outbox_of, crate::specs::Words::is_stopped_of, crate::specs::Words::StandsFor))]
 impl Member<MemDisk> {
     ghost use Rattle.member.specs.Memory.{memory_disk};
 
     /// Sets the fuse of its disk, and changes nothing else: the next calls of the device pass, as many as this, and all
     /// after them fail. None takes the fuse out. This is no call of the device, and takes no memory.
-    #[tactic(auto, unfolding(crate::specs::Words::disk_of, crate::specs::Words::header_of, crate::specs::Words::gate_of, crate::specs::Words::saved_of, crate::specs::Words::outbox_of, crate::specs::Words::is_stopped_of, crate::specs::Words::StandsFor))]
     pub fn fuse(&mut self, calls: Option<u64>)
         requires sound { IsSound memory_disk self.old }
         ensures sound { IsSound memory_disk self.new }

@@ -159,6 +159,6 @@ none_left history group answers i is =
     (let a = length-map (drop i group) hearing_of in let b = length-drop i group in let c = length-map (drop i answers) reply_of in let d = length-drop i answers in omega (arith, is, a, b, c, d))
 
 -- the list that the member hears is as long
-pub same_length : (group : List (ℕ × Statement × Toss)) (peer : ℕ) (events : List (Statement × Toss)) → hearings group ≡ heard_from peer events → length group ≡ length events
+pub same_length : (group : List (ℕ × Statement × Toss)) (peer : ℕ) (events : List (Statement × Toss)) → hearings group ≡ heard_from peer events → length (hearings group) ≡ length events
 same_length group peer events same =
-    sym (length-map group hearing_of) ∙ ap length same ∙ length-map events (λ (e : Statement × Toss). (peer, e.0, e.1.0))
+    ap length same ∙ length-map events (λ (e : Statement × Toss). (peer, e.0, e.1.0))

@@ -10,7 +10,7 @@ ghost use Rattle.world.specs.World.{World, IsCorrect};
 ghost use Rattle.member.specs.Answers.{verdict_of, IsFull};
 ghost use Rattle.member.specs.Groups.{replies_of, AllCome, IsFullOfAll};
 ghost use Rattle.member.specs.Life.{IsAt, Comes};
-ghost use Rattle.member.specs.Stands.{Stands};
+ghost use Rattle.member.specs.Outcomes.{HasSaved, StaysOn};
 ghost use Rattle.member.specs.Sealed.{sealed_from};
 ghost use Rattle.member.specs.Sound.{IsSound};
 ghost use Rattle.member.specs.Words.{disk_of, header_of, saved_of, is_stopped_of, StandsFor};
@@ -19,7 +19,7 @@ ghost use Rattle.node.specs.Entries.{noted};
 ghost use Rattle.node.specs.Firsts.{HandsIn};
 ghost use Rattle.node.specs.Groups.{heard_from, said_in, AppliesAll, RefusesAll, LivesOnAll};
 ghost use Rattle.node.specs.Keeps.{AreDecided};
-ghost use Rattle.node.specs.Lives.{LivesOn, Saves};
+ghost use Rattle.node.specs.Lives.{LivesOn, Spares};
 ghost use Rattle.node.specs.Settled.{is_settled};
 ghost use Rattle.node.specs.Verdicts.{known_at, KnowsMore};
 
@@ -123,28 +123,18 @@ impl<D: Disk, J: Naming> Book<D, J> {
         toss: Toss,
     ) -> Result<Answer, MemberFault>
         ensures answer { IfOk result (λ a. Applies self.old (Heard seat.old.peer statement.now toss.0) a self.new) }
+        ensures saved { IfOk result (λ a. HasSaved D.Disk self.old.member (records_of (reply_of a)) self.new.member) }
         ensures seat { OnOk result (HandsIn seat.old seat.new (statement.now ∷ []) 1) }
-        ensures no_call { IfOk result (λ a. length (records_of (reply_of a)) ≡ 0 →
-            disk_of self.new.member ≡ disk_of self.old.member) }
-        // In the world it is the member's event, or the member hears nothing and goes down; what stood on its disk stands.
+        // In the world it is the member's event, or the member hears nothing and goes down.
         ensures life { (header : Header) (liars : ℕ → Bool) (w : World) → IsCorrect header.size liars header.me →
             IsAt D.Disk header w self.old.member → Comes w (Hearing seat.old.peer statement.now) →
             LivesOn D.Disk header liars w toss.0 (Hearing seat.old.peer statement.now) result self.old.member self.new.member }
-        ensures stands { D.keeps (disk_of self.old.member) → Saves D.Disk self.old.member self.new.member }
-        ensures acknowledged { D.keeps (disk_of self.old.member) → OnOk result (
-            Stands (D.since (disk_of self.new.member)) (header_of self.old.member)
-            (D.moment (disk_of self.new.member)) (saved_of self.new.member)) }
 
         ensures fault { IfErr result (λ f. Refuses self.old (Hearing seat.old.peer statement.now) f self.new) }
         ensures kept { OnErr result (seat.new ≡ seat.old) }
-        ensures same_disk { IsErrOf result MemberFault.Memory ⊎ IsErrOf result MemberFault.JournalFull →
-            disk_of self.new.member ≡ disk_of self.old.member }
-        ensures device { IsErrOf result MemberFault.Device →
-            D.failures (disk_of self.old.member) < D.failures (disk_of self.new.member) }
-        ensures full { IsErrOf result MemberFault.JournalFull →
-            IsFull self.old.member toss.0 (Hearing seat.old.peer statement.now) }
-        ensures failures { D.failures (disk_of self.old.member) ≤ D.failures (disk_of self.new.member) }
-        ensures keeps { D.keeps (disk_of self.old.member) ↔ D.keeps (disk_of self.new.member) }
+        ensures disk { IfErr result (λ f. Spares D.Disk
+            (IsFull self.old.member toss.0 (Hearing seat.old.peer statement.now)) f self.old.member self.new.member) }
+        ensures stays { StaysOn D.Disk self.old.member self.new.member }
     {
         if self.member.is_stopped() {
             return Err(MemberFault::Stopped);
@@ -191,32 +181,23 @@ impl<D: Disk, J: Naming> Book<D, J> {
         ensures answer { IfOk result (λ answers.
             AppliesAll self.old (heard_from seat.old.peer events.now) answers.items self.new) }
         ensures length { IfOk result (λ answers. length answers.items ≡ length events.now) }
-        ensures seat { OnOk result (HandsIn seat.old seat.new (said_in events.now) (length events.now)) }
-        ensures no_call { IfOk result (λ answers. length (records_of_all (replies_of answers.items)) ≡ 0 →
-            disk_of self.new.member ≡ disk_of self.old.member) }
+        ensures saved { IfOk result (λ answers.
+            HasSaved D.Disk self.old.member (records_of_all (replies_of answers.items)) self.new.member) }
         ensures four_calls { D.keeps (disk_of self.old.member) → IfOk result (λ answers.
             0 < length (records_of_all (replies_of answers.items)) →
             D.moment (disk_of self.new.member) ≡ D.moment (disk_of self.old.member) + 4) }
-        // In the world it is the member's event, or the member hears nothing and goes down; what stood on its disk stands.
+        ensures seat { OnOk result (HandsIn seat.old seat.new (said_in events.now) (length events.now)) }
+        // In the world it is the member's event, or the member hears nothing and goes down.
         ensures life { (header : Header) (liars : ℕ → Bool) (w : World) → IsCorrect header.size liars header.me →
             IsAt D.Disk header w self.old.member → AllCome w (heard_from seat.old.peer events.now) →
             LivesOnAll D.Disk header liars w (heard_from seat.old.peer events.now) result self.old.member self.new.member }
-        ensures stands { D.keeps (disk_of self.old.member) → Saves D.Disk self.old.member self.new.member }
-        ensures acknowledged { D.keeps (disk_of self.old.member) → OnOk result (
-            Stands (D.since (disk_of self.new.member)) (header_of self.old.member)
-            (D.moment (disk_of self.new.member)) (saved_of self.new.member)) }
 
         ensures fault { IfErr result (λ f. RefusesAll self.old (heard_from seat.old.peer events.now) f self.new) }
         ensures kept { OnErr result (seat.new ≡ seat.old) }
-        ensures same_disk { IsErrOf result MemberFault.Memory ⊎ IsErrOf result MemberFault.JournalFull →
-            disk_of self.new.member ≡ disk_of self.old.member }
-        ensures device { IsErrOf result MemberFault.Device →
-            D.failures (disk_of self.old.member) < D.failures (disk_of self.new.member) }
-        ensures full { IsErrOf result MemberFault.JournalFull →
-            IsFullOfAll self.old.member (heard_from seat.old.peer events.now) }
+        ensures disk { IfErr result (λ f. Spares D.Disk
+            (IsFullOfAll self.old.member (heard_from seat.old.peer events.now)) f self.old.member self.new.member) }
         ensures memory_only_at_some { IsErrOf result MemberFault.Memory → 0 < length events.now }
-        ensures failures { D.failures (disk_of self.old.member) ≤ D.failures (disk_of self.new.member) }
-        ensures keeps { D.keeps (disk_of self.old.member) ↔ D.keeps (disk_of self.new.member) }
+        ensures stays { StaysOn D.Disk self.old.member self.new.member }
     {
         if self.member.is_stopped() {
             return Err(MemberFault::Stopped);
@@ -251,26 +232,16 @@ impl<D: Disk, J: Naming> Book<D, J> {
     /// it stop the book. After each fault the records and the history are as they were.
     pub fn propose(&mut self, question: u16, bit: bool, toss: Toss) -> Result<Answer, MemberFault>
         ensures answer { IfOk result (λ a. Applies self.old (Proposed question bit toss.0) a self.new) }
-        ensures no_call { IfOk result (λ a. length (records_of (reply_of a)) ≡ 0 →
-            disk_of self.new.member ≡ disk_of self.old.member) }
-        // In the world it is the member's event, or the member hears nothing and goes down; what stood on its disk stands.
+        ensures saved { IfOk result (λ a. HasSaved D.Disk self.old.member (records_of (reply_of a)) self.new.member) }
+        // In the world it is the member's event, or the member hears nothing and goes down.
         ensures life { (header : Header) (liars : ℕ → Bool) (w : World) → IsCorrect header.size liars header.me →
             IsAt D.Disk header w self.old.member → Comes w (Proposal question bit) →
             LivesOn D.Disk header liars w toss.0 (Proposal question bit) result self.old.member self.new.member }
-        ensures stands { D.keeps (disk_of self.old.member) → Saves D.Disk self.old.member self.new.member }
-        ensures acknowledged { D.keeps (disk_of self.old.member) → OnOk result (
-            Stands (D.since (disk_of self.new.member)) (header_of self.old.member)
-            (D.moment (disk_of self.new.member)) (saved_of self.new.member)) }
 
         ensures fault { IfErr result (λ f. Refuses self.old (Proposal question bit) f self.new) }
-        ensures same_disk { IsErrOf result MemberFault.Memory ⊎ IsErrOf result MemberFault.JournalFull →
-            disk_of self.new.member ≡ disk_of self.old.member }
-        ensures device { IsErrOf result MemberFault.Device →
-            D.failures (disk_of self.old.member) < D.failures (disk_of self.new.member) }
-        ensures full { IsErrOf result MemberFault.JournalFull →
-            IsFull self.old.member toss.0 (Proposal question bit) }
-        ensures failures { D.failures (disk_of self.old.member) ≤ D.failures (disk_of self.new.member) }
-        ensures keeps { D.keeps (disk_of self.old.member) ↔ D.keeps (disk_of self.new.member) }
+        ensures disk { IfErr result (λ f. Spares D.Disk
+            (IsFull self.old.member toss.0 (Proposal question bit)) f self.old.member self.new.member) }
+        ensures stays { StaysOn D.Disk self.old.member self.new.member }
     {
         if self.member.is_stopped() {
             return Err(MemberFault::Stopped);

@@ -1,8 +1,8 @@
 use Rattle.terms.specs.Reply.Event.{Hearing}
 use Rattle.member.specs.Words.{disk_of, header_of, gate_of, saved_of, is_stopped_of}
-use Rattle.member.proofs.Calls.{Called, Kept, well_formed, sounds, replies, stands_for, fulls, news}
+use Rattle.member.proofs.Calls.{Called, Kept, well_formed, sounds, news}
 use Rattle.member.proofs.Formed.{comes_formed}
-use Rattle.member.proofs.Lives.{standing, acknowledged, lives, cut}
+use Rattle.member.proofs.Outcomes.{answers_to, has_saved, has_failed, stays_on, one_event}
 use Rattle.member.proofs.member.Member.hear.Given.{Over}
 use Rattle.member.proofs.member.Member.hear.Goals as goal
 
@@ -10,7 +10,7 @@ use Rattle.member.proofs.member.Member.hear.Goals as goal
 called : (g : Over) (c : goal.After-keep g) → Called c.args.self.now c.args.toss.0 (Hearing c.args.from c.args.s.now) c.hear-answer.new.self c.hear-answer.result
 called g c =
     let k = c.hear-answer.ensures in
-    record { ok = k.ok; reply = k.reply; knows = k.knows; err = k.err; refused = k.refused; news = k.memory_only_at_news; size = k.size; me = k.me }
+    record { ok = k.ok; few = k.few; reply = k.reply; knows = k.knows; err = k.err; refused = k.refused; news = k.memory_only_at_news; size = k.size; me = k.me }
 
 -- what was kept of it
 kept : (g : Over) (c : goal.After-keep g) → Kept g.D.Disk c.args.self.now c.hear-answer.new.self c.hear-answer.result c.keep.result c.keep.new.self
@@ -34,6 +34,11 @@ kept g c =
       same_disk = k.same_disk;
       memory = k.memory;
       full = k.full;
+      no_call = k.no_call;
+      room = k.room;
+      within = k.within;
+      device = k.device;
+      failures = k.failures;
       kept = k.kept;
     }
 
@@ -42,7 +47,7 @@ unfolding header_of is_stopped_of
 keep-requires-clause-well_formed g c =
     let k = c.hear-answer.ensures in
     well_formed g.D.Disk c.args.toss.0 (Hearing c.args.from c.args.s.now) c.args.self.now c.hear-answer.new.self c.hear-answer.result c.requires.sound c.if-self.false
-    (record { ok = k.ok; reply = k.reply; knows = k.knows; err = k.err; refused = k.refused; news = k.memory_only_at_news; size = k.size; me = k.me }) (comes_formed (header_of c.args.self.now).size c.args.from c.args.s.now c.place.result c.place.ensures c.round-round.ensures.bounds c.value-value.ensures.fits)
+    (record { ok = k.ok; few = k.few; reply = k.reply; knows = k.knows; err = k.err; refused = k.refused; news = k.memory_only_at_news; size = k.size; me = k.me }) (comes_formed (header_of c.args.self.now).size c.args.from c.args.s.now c.place.result c.place.ensures c.round-round.ensures.bounds c.value-value.ensures.fits)
 
 pub returns-clause-sound : goal.returns-clause-sound
 unfolding is_stopped_of
@@ -50,46 +55,34 @@ returns-clause-sound g c =
     sounds g.D.Disk c.args.toss.0 (Hearing c.args.from c.args.s.now) c.args.self.now c.hear-answer.new.self c.hear-answer.result c.requires.sound c.if-self.false (called g c) (comes_formed (header_of c.args.self.now).size c.args.from c.args.s.now c.place.result c.place.ensures c.round-round.ensures.bounds c.value-value.ensures.fits)
     c.keep.new.self c.keep.result (kept g c)
 
-pub returns-clause-reply : goal.returns-clause-reply
+pub returns-clause-answer : goal.returns-clause-answer
 unfolding is_stopped_of
-returns-clause-reply g c =
-    replies g.D.Disk c.args.toss.0 (Hearing c.args.from c.args.s.now) c.args.self.now c.hear-answer.new.self c.hear-answer.result c.requires.sound c.if-self.false (called g c) (comes_formed (header_of c.args.self.now).size c.args.from c.args.s.now c.place.result c.place.ensures c.round-round.ensures.bounds c.value-value.ensures.fits)
+returns-clause-answer g c =
+    answers_to g.D.Disk g.met.D.Disk.counts_now g.met.D.Disk.only_now g.met.D.Disk.may_leave_seen c.args.toss.0 (Hearing c.args.from c.args.s.now) c.args.self.now c.hear-answer.new.self c.hear-answer.result c.requires.sound c.if-self.false (called g c) (comes_formed (header_of c.args.self.now).size c.args.from c.args.s.now c.place.result c.place.ensures c.round-round.ensures.bounds c.value-value.ensures.fits)
     c.keep.new.self c.keep.result (kept g c)
 
-pub returns-clause-stands_for : goal.returns-clause-stands_for
+pub returns-clause-saved : goal.returns-clause-saved
 unfolding is_stopped_of
-returns-clause-stands_for g c =
-    stands_for g.D.Disk c.args.toss.0 (Hearing c.args.from c.args.s.now) c.args.self.now c.hear-answer.new.self c.hear-answer.result c.requires.sound c.if-self.false (called g c) (comes_formed (header_of c.args.self.now).size c.args.from c.args.s.now c.place.result c.place.ensures c.round-round.ensures.bounds c.value-value.ensures.fits)
+returns-clause-saved g c =
+    has_saved g.D.Disk g.met.D.Disk.counts_now g.met.D.Disk.only_now g.met.D.Disk.may_leave_seen c.args.toss.0 (Hearing c.args.from c.args.s.now) c.args.self.now c.hear-answer.new.self c.hear-answer.result c.requires.sound c.if-self.false (called g c) (comes_formed (header_of c.args.self.now).size c.args.from c.args.s.now c.place.result c.place.ensures c.round-round.ensures.bounds c.value-value.ensures.fits)
     c.keep.new.self c.keep.result (kept g c)
 
-pub returns-clause-life : goal.returns-clause-life
+pub returns-clause-event : goal.returns-clause-event
 unfolding is_stopped_of
-returns-clause-life g c header liars w correct at comes =
-    lives g.D.Disk g.met.D.Disk.counts_now g.met.D.Disk.only_now g.met.D.Disk.may_leave_seen c.args.toss.0 (Hearing c.args.from c.args.s.now) c.args.self.now c.hear-answer.new.self c.hear-answer.result
-    c.requires.sound c.if-self.false (called g c) (comes_formed (header_of c.args.self.now).size c.args.from c.args.s.now c.place.result c.place.ensures c.round-round.ensures.bounds c.value-value.ensures.fits) c.keep.new.self c.keep.result (kept g c) header liars w correct at comes
+returns-clause-event g c =
+    one_event g.D.Disk g.met.D.Disk.counts_now g.met.D.Disk.only_now g.met.D.Disk.may_leave_seen c.args.toss.0 (Hearing c.args.from c.args.s.now) c.args.self.now c.hear-answer.new.self c.hear-answer.result c.requires.sound c.if-self.false (called g c) (comes_formed (header_of c.args.self.now).size c.args.from c.args.s.now c.place.result c.place.ensures c.round-round.ensures.bounds c.value-value.ensures.fits)
+    c.keep.new.self c.keep.result (kept g c)
 
-pub returns-clause-cut : goal.returns-clause-cut
+pub returns-clause-fault : goal.returns-clause-fault
 unfolding is_stopped_of
-returns-clause-cut g c header liars w correct at comes =
-    cut g.D.Disk g.met.D.Disk.counts_now g.met.D.Disk.only_now g.met.D.Disk.may_leave_seen c.args.toss.0 (Hearing c.args.from c.args.s.now) c.args.self.now c.hear-answer.new.self c.hear-answer.result
-    c.requires.sound c.if-self.false (called g c) (comes_formed (header_of c.args.self.now).size c.args.from c.args.s.now c.place.result c.place.ensures c.round-round.ensures.bounds c.value-value.ensures.fits) c.keep.new.self c.keep.result (kept g c) header liars w correct at comes
+returns-clause-fault g c =
+    has_failed g.D.Disk g.met.D.Disk.counts_now g.met.D.Disk.only_now g.met.D.Disk.may_leave_seen c.args.toss.0 (Hearing c.args.from c.args.s.now) c.args.self.now c.hear-answer.new.self c.hear-answer.result c.requires.sound c.if-self.false (called g c) (comes_formed (header_of c.args.self.now).size c.args.from c.args.s.now c.place.result c.place.ensures c.round-round.ensures.bounds c.value-value.ensures.fits)
+    c.keep.new.self c.keep.result (kept g c)
 
-pub returns-clause-stands : goal.returns-clause-stands
+pub returns-clause-stays : goal.returns-clause-stays
 unfolding is_stopped_of
-returns-clause-stands g c =
-    standing g.D.Disk g.met.D.Disk.counts_now g.met.D.Disk.only_now g.met.D.Disk.may_leave_seen c.args.toss.0 (Hearing c.args.from c.args.s.now) c.args.self.now c.hear-answer.new.self c.hear-answer.result
-    c.requires.sound c.if-self.false (called g c) (comes_formed (header_of c.args.self.now).size c.args.from c.args.s.now c.place.result c.place.ensures c.round-round.ensures.bounds c.value-value.ensures.fits) c.keep.new.self c.keep.result (kept g c)
-
-pub returns-clause-acknowledged : goal.returns-clause-acknowledged
-unfolding is_stopped_of
-returns-clause-acknowledged g c =
-    acknowledged g.D.Disk g.met.D.Disk.counts_now g.met.D.Disk.only_now g.met.D.Disk.may_leave_seen c.args.toss.0 (Hearing c.args.from c.args.s.now) c.args.self.now c.hear-answer.new.self c.hear-answer.result
-    c.requires.sound c.if-self.false (called g c) (comes_formed (header_of c.args.self.now).size c.args.from c.args.s.now c.place.result c.place.ensures c.round-round.ensures.bounds c.value-value.ensures.fits) c.keep.new.self c.keep.result (kept g c)
-
-pub returns-clause-full : goal.returns-clause-full
-unfolding is_stopped_of
-returns-clause-full g c =
-    fulls g.D.Disk c.args.toss.0 (Hearing c.args.from c.args.s.now) c.args.self.now c.hear-answer.new.self c.hear-answer.result c.requires.sound c.if-self.false (called g c) (comes_formed (header_of c.args.self.now).size c.args.from c.args.s.now c.place.result c.place.ensures c.round-round.ensures.bounds c.value-value.ensures.fits)
+returns-clause-stays g c =
+    stays_on g.D.Disk g.met.D.Disk.counts_now g.met.D.Disk.only_now g.met.D.Disk.may_leave_seen c.args.toss.0 (Hearing c.args.from c.args.s.now) c.args.self.now c.hear-answer.new.self c.hear-answer.result c.requires.sound c.if-self.false (called g c) (comes_formed (header_of c.args.self.now).size c.args.from c.args.s.now c.place.result c.place.ensures c.round-round.ensures.bounds c.value-value.ensures.fits)
     c.keep.new.self c.keep.result (kept g c)
 
 pub returns-clause-memory_only_at_news : goal.returns-clause-memory_only_at_news

@@ -1,10 +1,9 @@
-use Rattle.std.proofs.Common.{rules, Some, refl, ap, subst, ◌∙◌, ◌≡◌, Err}
+use Rattle.std.proofs.Common.{rules, Some, None, ap, sym, subst, ◌∙◌, ◌≡◌}
 use Rattle.terms.specs.declared.Header.{Header}
 use Rattle.terms.specs.declared.Size.{Size}
-use Rattle.member.specs.declared.fault.MemberFault.TheVariants.{Device, JournalFull}
-use Rattle.member.specs.Groups.{bad_number, hearings, LivesAll, AreWellFormed}
+use Rattle.member.specs.Groups.{bad_number, refusal_of_all, hearings, AreWellFormed}
 use Rattle.member.specs.Words.{disk_of, header_of, gate_of, saved_of, is_stopped_of}
-use Rattle.member.proofs.Groups.{CalledAll, KeptAll, by_number, no_stop, no_fault_stops, well_formed_all, sounds_all, standing_all, acknowledged_all, lives_all, cut_all}
+use Rattle.member.proofs.Groups.{CalledAll, KeptAll, well_formed_all, sounds_all, answers_all, saved_all, failed_all, stays_all, lives_all, cut_all, number_fails, number_no_event}
 use Rattle.member.proofs.member.Member.hear_all.Given.{Over}
 use Rattle.member.proofs.member.Member.hear_all.Goals as goal
 
@@ -32,6 +31,12 @@ kept g c =
       stopping = k.stopping;
       stops = k.stops;
       same_disk = k.same_disk;
+      no_call = k.no_call;
+      full = k.full;
+      room = k.room;
+      within = k.within;
+      device = k.device;
+      failures = k.failures;
       kept = k.kept;
     }
 
@@ -42,26 +47,28 @@ formed g c =
     let good : AreWellFormed c.size.result (hearings c.args.events.now) = search (rules, c.bad_number.ensures.well_formed c.in_default.is) in
     subst (λ (z : Size). AreWellFormed z (hearings c.args.events.now)) (c.size.ensures ∙ ap (λ (z : Header). z.size) c.header.ensures) good
 
-pub returns-in-Some-clause-life : goal.returns-in-Some-clause-life
-returns-in-Some-clause-life g c header liars w correct at comes =
-    let bad : bad_number c.size.result (hearings c.args.events.now) ≡ Some c.in-Some.fault = search rules in
-    by_number (λ f. LivesAll g.D.Disk header liars w (hearings c.args.events.now) (Err f) c.args.self.now c.args.self.now) refl refl
-    c.size.result (hearings c.args.events.now) c.in-Some.fault bad
+-- the first bad number, and that there is none
+bad : (g : Over) (c : goal.In-Some g) → bad_number (header_of c.args.self.now).size (hearings c.args.events.now) ≡ Some c.in-Some.fault
+unfolding header_of
+bad g c =
+    subst (λ (z : Size). bad_number z (hearings c.args.events.now) ≡ Some c.in-Some.fault) (c.size.ensures ∙ ap (λ (z : Header). z.size) c.header.ensures)
+    (sym c.bad_number.ensures.first ∙ c.in-Some.is)
 
-pub returns-in-Some-clause-stops : goal.returns-in-Some-clause-stops
-returns-in-Some-clause-stops g c stops =
-    let bad : bad_number c.size.result (hearings c.args.events.now) ≡ Some c.in-Some.fault = search rules in
-    absurd (no_stop c.size.result (hearings c.args.events.now) c.in-Some.fault bad stops)
+good : (g : Over) (c : goal.After-keep_all g) → refusal_of_all c.args.self.now (hearings c.args.events.now) ≡ None
+unfolding header_of is_stopped_of
+good g c =
+    let none : bad_number (header_of c.args.self.now).size (hearings c.args.events.now) ≡ None =
+    subst (λ (z : Size). bad_number z (hearings c.args.events.now) ≡ None) (c.size.ensures ∙ ap (λ (z : Header). z.size) c.header.ensures)
+    (sym c.bad_number.ensures.first ∙ c.in_default.is) in
+    rw c.if-self.false none
 
-pub returns-in-Some-clause-device : goal.returns-in-Some-clause-device
-returns-in-Some-clause-device g c is =
-    let bad : bad_number c.size.result (hearings c.args.events.now) ≡ Some c.in-Some.fault = search rules in
-    absurd (no_fault_stops c.size.result (hearings c.args.events.now) c.in-Some.fault Device bad tt _ refl is)
+pub returns-in-Some-clause-event : goal.returns-in-Some-clause-event
+unfolding is_stopped_of
+returns-in-Some-clause-event g c = number_no_event g.D.Disk c.args.self.now (hearings c.args.events.now) c.if-self.false c.in-Some.fault (bad g c)
 
-pub returns-in-Some-clause-full : goal.returns-in-Some-clause-full
-returns-in-Some-clause-full g c is =
-    let bad : bad_number c.size.result (hearings c.args.events.now) ≡ Some c.in-Some.fault = search rules in
-    absurd (no_fault_stops c.size.result (hearings c.args.events.now) c.in-Some.fault JournalFull bad tt _ refl is)
+pub returns-in-Some-clause-fault : goal.returns-in-Some-clause-fault
+unfolding is_stopped_of
+returns-in-Some-clause-fault g c = number_fails g.D.Disk c.args.self.now (hearings c.args.events.now) c.if-self.false c.in-Some.fault (bad g c)
 
 pub keep_all-requires-clause-well_formed : goal.keep_all-requires-clause-well_formed
 unfolding header_of is_stopped_of
@@ -80,28 +87,43 @@ returns-clause-sound g c =
     sounds_all g.D.Disk (hearings c.args.events.now) c.args.self.now c.hear_in_turn-heard.new.core c.requires.sound c.if-self.false (formed g c)
     c.keep_all.new.self c.hear_in_turn-heard.result (called g c) c.keep_all.result (kept g c)
 
-pub returns-clause-life : goal.returns-clause-life
+pub returns-clause-answers : goal.returns-clause-answers
 unfolding is_stopped_of
-returns-clause-life g c header liars w correct at comes =
-    lives_all g.D.Disk (hearings c.args.events.now) c.args.self.now c.hear_in_turn-heard.new.core c.requires.sound c.if-self.false (formed g c)
-    c.keep_all.new.self g.met.D.Disk.counts_now g.met.D.Disk.only_now g.met.D.Disk.may_leave_seen header liars w correct at comes
+returns-clause-answers g c =
+    answers_all g.D.Disk (hearings c.args.events.now) c.args.self.now c.hear_in_turn-heard.new.core c.requires.sound c.if-self.false (formed g c)
+    c.keep_all.new.self g.met.D.Disk.counts_now g.met.D.Disk.only_now g.met.D.Disk.may_leave_seen
     c.hear_in_turn-heard.result (called g c) c.keep_all.result (kept g c)
 
-pub returns-clause-cut : goal.returns-clause-cut
+pub returns-clause-saved : goal.returns-clause-saved
 unfolding is_stopped_of
-returns-clause-cut g c header liars w correct at comes =
-    cut_all g.D.Disk (hearings c.args.events.now) c.args.self.now c.hear_in_turn-heard.new.core c.requires.sound c.if-self.false (formed g c)
-    c.keep_all.new.self g.met.D.Disk.counts_now g.met.D.Disk.only_now g.met.D.Disk.may_leave_seen header liars w correct at comes
+returns-clause-saved g c =
+    saved_all g.D.Disk (hearings c.args.events.now) c.args.self.now c.hear_in_turn-heard.new.core c.requires.sound c.if-self.false (formed g c)
+    c.keep_all.new.self g.met.D.Disk.counts_now g.met.D.Disk.only_now g.met.D.Disk.may_leave_seen
     c.hear_in_turn-heard.result (called g c) c.keep_all.result (kept g c)
 
-pub returns-clause-stands : goal.returns-clause-stands
+pub returns-clause-event : goal.returns-clause-event
 unfolding is_stopped_of
-returns-clause-stands g c =
-    standing_all g.D.Disk (hearings c.args.events.now) c.args.self.now c.hear_in_turn-heard.new.core c.requires.sound c.if-self.false (formed g c)
-    c.keep_all.new.self g.met.D.Disk.counts_now g.met.D.Disk.only_now g.met.D.Disk.may_leave_seen c.hear_in_turn-heard.result c.keep_all.result (kept g c)
+returns-clause-event g c = record {
+  life = λ header liars w correct at comes.
+      lives_all g.D.Disk (hearings c.args.events.now) c.args.self.now c.hear_in_turn-heard.new.core c.requires.sound c.if-self.false (formed g c)
+    c.keep_all.new.self g.met.D.Disk.counts_now g.met.D.Disk.only_now g.met.D.Disk.may_leave_seen header liars w correct at comes
+      c.hear_in_turn-heard.result (called g c) c.keep_all.result (kept g c);
+  cut = λ header liars w correct at comes.
+      cut_all g.D.Disk (hearings c.args.events.now) c.args.self.now c.hear_in_turn-heard.new.core c.requires.sound c.if-self.false (formed g c)
+    c.keep_all.new.self g.met.D.Disk.counts_now g.met.D.Disk.only_now g.met.D.Disk.may_leave_seen header liars w correct at comes
+      c.hear_in_turn-heard.result (called g c) c.keep_all.result (kept g c);
+}
 
-pub returns-clause-acknowledged : goal.returns-clause-acknowledged
+pub returns-clause-fault : goal.returns-clause-fault
 unfolding is_stopped_of
-returns-clause-acknowledged g c =
-    acknowledged_all g.D.Disk (hearings c.args.events.now) c.args.self.now c.hear_in_turn-heard.new.core c.requires.sound c.if-self.false (formed g c)
-    c.keep_all.new.self g.met.D.Disk.counts_now g.met.D.Disk.only_now g.met.D.Disk.may_leave_seen c.hear_in_turn-heard.result c.keep_all.result (kept g c)
+returns-clause-fault g c =
+    failed_all g.D.Disk (hearings c.args.events.now) c.args.self.now c.hear_in_turn-heard.new.core c.requires.sound c.if-self.false (formed g c)
+    c.keep_all.new.self g.met.D.Disk.counts_now g.met.D.Disk.only_now g.met.D.Disk.may_leave_seen (good g c)
+    c.hear_in_turn-heard.result (called g c) c.keep_all.result (kept g c)
+
+pub returns-clause-stays : goal.returns-clause-stays
+unfolding is_stopped_of
+returns-clause-stays g c =
+    stays_all g.D.Disk (hearings c.args.events.now) c.args.self.now c.hear_in_turn-heard.new.core c.requires.sound c.if-self.false (formed g c)
+    c.keep_all.new.self g.met.D.Disk.counts_now g.met.D.Disk.only_now g.met.D.Disk.may_leave_seen
+    c.hear_in_turn-heard.result c.keep_all.result (kept g c)

@@ -24,18 +24,18 @@ returns-in-Ok-clause-moved c size liars p w batch correct is doubt at =
     let parts = c.in-Some.ensures.parts (mine size p) w (subst (λ (x : Seat). IsSeat (mine size p) w x) (sym c.replace.ensures.value) at) in
     let correct_here = subst (λ (h : Header). IsCorrect h.size liars h.me) (sym is) correct in
     let left = subst (λ (h : Header). IsLeft (memory_state c.in-Some.parts.0) h (w.journal h.me) (w.doubt h.me)) (sym is) parts.1 in
-    reopened size liars p w c.args.fused c.args.header.now c.in-Ok.member is (c.in-Ok.ensures.restart liars w correct_here tt left)
+    reopened size liars p w c.args.fused c.args.header.now c.in-Ok.member is (c.in-Ok.ensures.restart.restart liars w correct_here tt left)
 
 pub returns-in-Ok-clause-begun : goal.returns-in-Ok-clause-begun
 returns-in-Ok-clause-begun c fresh =
-    c.in-Ok.ensures.first tt (c.in-Some.ensures.fresh c.args.header.now (subst (λ (x : Seat). IsFresh c.args.header.now x) (sym c.replace.ensures.value) fresh))
+    c.in-Ok.ensures.restart.first tt (c.in-Some.ensures.fresh c.args.header.now (subst (λ (x : Seat). IsFresh c.args.header.now x) (sym c.replace.ensures.value) fresh))
 
 pub returns-in-Err-Device-default-clause-moved : goal.returns-in-Err-Device-default-clause-moved
 returns-in-Err-Device-default-clause-moved c size liars p w batch correct is doubt at =
     let parts = c.in-Some.ensures.parts (mine size p) w (subst (λ (x : Seat). IsSeat (mine size p) w x) (sym c.replace.ensures.value) at) in
     let left = subst (λ (h : Header). IsLeft (memory_state c.in-Some.parts.0) h (w.journal p) (w.doubt p)) (sym is) parts.1 in
     let kept = subst (λ (h : Header). IsLeft (memory_state c.in-Err-Device-default.disk) h (w.journal p) (w.doubt p)) is
-    (c.in-Err-Device-default.ensures.left tt (w.journal p) (w.doubt p) left) in
+    (c.in-Err-Device-default.ensures.fault.left tt (w.journal p) (w.doubt p) left) in
     record {
       steps = [];
       is = (c.if-fused.true, refl);
