@@ -1,12 +1,13 @@
 //! The words with which the program was started, and what its environment asks for.
 
 ghost use Rattle.bracha.specs.Faults.{IsNoText};
-ghost use Rattle.std.specs.Prelude.{◌≡◌, IfErr, IfOk, string_bytes};
+ghost use Rattle.std.specs.Prelude.{◌≡◌, ◌↔◌, IfErr, IfOk, IsTrue, codes, string_bytes};
 
 use crate::fault::Fault;
 use std::alloc::Global;
 use std::env::FillError;
 use std::rt::Env;
+use words::is;
 
 /// The bytes of the argument at the place, if there is one. The program's name has place 0.
 fn argument(env: &impl Env, alloc: Global, place: usize) -> Result<Option<Vec<u8>>, Fault> {
@@ -48,8 +49,18 @@ pub fn own_words(env: &impl Env, alloc: Global) -> Result<Vec<String>, Fault> {
     Ok(words)
 }
 
+/// Whether this value asks for more: it is `1`.
+fn is_one(value: &[u8]) -> bool
+    ensures { IsTrue result ↔ (value.now ≡ codes "1") }
+{
+    is(value, "1")
+}
+
 /// Whether the environment asks for more to be told of faults: `BRACHA_VERBOSE` is `1`.
 pub fn wants_more(env: &impl Env) -> bool {
     let mut value = [0; 2];
-    matches!(env.var("BRACHA_VERBOSE", &mut value), Ok(1)) && value[0] == b'1'
+    match env.var("BRACHA_VERBOSE", &mut value) {
+        Ok(length) => is_one(&value[..length]),
+        Err(_) => false,
+    }
 }

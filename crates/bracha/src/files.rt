@@ -1,15 +1,18 @@
 //! The commands over the files that their words name, and over the standard streams.
 
+ghost use Rattle.std.specs.Prelude.{◌≡◌};
+
 use crate::fault::Fault;
 use crate::pages::{fault_at, keep_apart, write_page};
-use crate::telling::{dump_failure, not_text, script_failure, settings_failure};
+use crate::telling::{journal_failure, not_text, script_failure, settings_failure};
 use crate::trouble::{Failure, Place};
 use commands::{
-    DumpFault, check_journal, dump_count, dump_lines, init_disk, print_settings, print_verdicts,
-    simulate_pages, takes_output,
+    DumpFault, InitFault, check_journal, dump_count, dump_lines, init_disk, print_settings,
+    print_verdicts, simulate_pages, takes_output,
 };
 use disk::{Disk, FileDisk, MemDisk};
 use hearing::hear_lines;
+use journal::JournalFault;
 use settings::Settings;
 use std::fs::{self, OpenOptions};
 use std::io::{self, BufReader, LineWriter, Read};
@@ -58,7 +61,38 @@ pub fn init_file(rt: &HostRuntime, path: &str) -> Result<u8, Failure> {
     let mut disk = open_disk(rt, journal, true)?;
     match init_disk(&mut disk, &settings) {
         Ok(status) => Ok(status),
-        Err(fault) => Err(Failure::about(rt.alloc(), Fault::from(fault), journal)),
+        Err(fault) => {
+            let found = match fault {
+                InitFault::NotEmpty => JournalFault::NotEmpty,
+                InitFault::Device => JournalFault::Device,
+            };
+            Err(failure_of_journal(rt, journal, Fault::from(fault), found))
+        }
+    }
+}
+
+/// The failure of the journal in the file, in which that was found. Its bytes are read anew.
+pub fn failure_of_journal(
+    rt: &HostRuntime,
+    path: &str,
+    fault: Fault,
+    found: JournalFault,
+) -> Failure
+    ensures { result.fault ≡ fault }
+{
+    match read_unlocked(rt, path) {
+        Ok(bytes) => journal_failure(rt.alloc(), path, fault, found, &bytes),
+        Err(_) => Failure::about(rt.alloc(), fault, path),
+    }
+}
+
+/// The failure of a journal that was to be printed, or counted. A write that failed is not the journal's.
+fn dump_failure(rt: &HostRuntime, path: &str, fault: DumpFault) -> Failure {
+    match fault {
+        DumpFault::Journal(found) => {
+            failure_of_journal(rt, path, Fault::from(DumpFault::Journal(found)), found)
+        }
+        other => Failure::from(Fault::from(other)),
     }
 }
 
@@ -91,7 +125,7 @@ pub fn check_file(rt: &HostRuntime, path: &str) -> Result<u8, Failure> {
     disk.write_at(0, &bytes).map_err(|_| Fault::Memory)?;
     match check_journal(rt.alloc(), &settings.header, disk, &mut output) {
         Ok(status) => Ok(status),
-        Err(fault) => Err(dump_failure(rt.alloc(), journal, fault)),
+        Err(fault) => Err(dump_failure(rt, journal, fault)),
     }
 }
 
@@ -110,7 +144,7 @@ pub fn dump_file(rt: &HostRuntime, path: &str, count: bool) -> Result<u8, Failur
     let disk = open_disk(rt, path, false)?;
     match dump_disk(rt, disk, count) {
         Ok(status) => Ok(status),
-        Err(fault) => Err(dump_failure(rt.alloc(), path, fault)),
+        Err(fault) => Err(dump_failure(rt, path, fault)),
     }
 }
 

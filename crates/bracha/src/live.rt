@@ -4,7 +4,7 @@ ghost use Rattle.bracha.specs.declared.fault.Fault.TheVariants as ends;
 ghost use Rattle.std.specs.Prelude.{◌≡◌, IfErr, IfOk, Err, Ok};
 
 use crate::fault::Fault;
-use crate::files::{open_disk, read_settings};
+use crate::files::{failure_of_journal, open_disk, read_settings};
 use crate::trouble::{Failure, Place, Trouble, trouble_of};
 use member::Member;
 use running::{Addresses, Event, Log, Machine, Operator, RunFault, run_member};
@@ -144,7 +144,7 @@ pub fn run_file<R: Machine>(
     let disk = open_disk(host, journal, false)?;
     let member = match Member::open(host.alloc(), disk, &settings.header) {
         Ok(member) => member,
-        Err(fault) => return Err(Failure::about(host.alloc(), Fault::from(fault), journal)),
+        Err(fault) => return Err(failure_of_journal(host, journal, Fault::from(fault), fault)),
     };
     let mut console = Console {
         host,

@@ -1,8 +1,11 @@
 //! What is told of faults in texts and journals.
 
+ghost use Rattle.std.specs.Prelude.{◌≡◌};
+
 use crate::fault::Fault;
 use crate::trouble::{Failure, Place};
-use commands::{DumpFault, SimulateFault, line_at, line_of_key, text_fault};
+use commands::{SimulateFault, bytes_at, fault_place, line_at, line_of_key, text_fault};
+use journal::JournalFault;
 use settings::{Key, SettingsFault};
 use std::alloc::Global;
 use terms::SizeFault;
@@ -56,14 +59,34 @@ pub fn settings_failure(alloc: Global, path: &str, text: &str, fault: SettingsFa
     }
 }
 
-/// The failure of a journal. A write that failed is not the journal's.
-pub fn dump_failure(alloc: Global, path: &str, fault: DumpFault) -> Failure {
-    let of_journal = matches!(&fault, DumpFault::Journal(_));
-    let fault = Fault::from(fault);
-    if of_journal {
-        Failure::about(alloc, fault, path)
-    } else {
-        Failure::from(fault)
+/// The place at which a journal with these bytes goes wrong, and the words for it: the bytes that stand there, and the
+/// fault. None where the fault isn't the file's, or there is no memory.
+fn journal_words(
+    alloc: Global,
+    fault: &Fault,
+    found: JournalFault,
+    file: &[u8],
+) -> Option<(usize, String)> {
+    let place = fault_place(alloc, found, file).ok()??;
+    let bytes = bytes_at(alloc, file, place).ok()?;
+    let words = format!(in alloc; "{bytes}: {fault}").ok()?;
+    Some((place, words))
+}
+
+/// The failure of a journal in which that was found: the place at which its file goes wrong, and the bytes there. Where
+/// these aren't known the fault is told of the whole file.
+pub fn journal_failure(
+    alloc: Global,
+    path: &str,
+    fault: Fault,
+    found: JournalFault,
+    file: &[u8],
+) -> Failure
+    ensures { result.fault ≡ fault }
+{
+    match journal_words(alloc, &fault, found, file) {
+        Some((place, words)) => Failure::at(alloc, fault, path, Place::Byte(place), &words),
+        None => Failure::about(alloc, fault, path),
     }
 }
 

@@ -9,7 +9,9 @@ use journal::JournalFault;
 use pages::write_page;
 use settings::{Key, SettingsFault};
 use sim::SimFault;
+use std::env::FillError;
 use std::fs;
+use std::rt::Env;
 use std::test::Fail;
 use terms::SizeFault;
 
@@ -356,6 +358,42 @@ fn reads_the_options_of_simulate(rt: HostRuntime) -> Result<(), Fail> {
             .err()
             .ok_or("a fault of the words")?;
         assert!(rt; error.exit_code() == 2, "at {words:?}");
+    }
+    Ok(())
+}
+
+/// An environment in which `BRACHA_VERBOSE` has this value, and nothing else is.
+#[derive(Clone, Copy, Drop)]
+struct Verbose<'a>(&'a [u8]);
+
+impl Env for Verbose<'_> {
+    fn arg(&self, _place: usize, _buf: &mut [u8]) -> Result<usize, FillError> {
+        Err(FillError::NotPresent)
+    }
+
+    fn var(&self, name: &str, buf: &mut [u8]) -> Result<usize, FillError> {
+        if name != "BRACHA_VERBOSE" {
+            return Err(FillError::NotPresent);
+        }
+        match buf.get_mut(..self.0.len()) {
+            Some(front) => {
+                front.copy_from_slice(self.0);
+                Ok(self.0.len())
+            }
+            None => Err(FillError::TooLong),
+        }
+    }
+
+    fn var_at(&self, _place: usize, _buf: &mut [u8]) -> Result<usize, FillError> {
+        Err(FillError::NotPresent)
+    }
+}
+
+#[test]
+fn the_environment_asks_for_more_by_a_one(rt: HostRuntime) -> Result<(), Fail> {
+    assert!(rt; wants_more(&Verbose(b"1")));
+    for value in [b"".as_slice(), b"0", b"2", b"10", b"11", b"1 ", b"true"] {
+        assert!(rt; !wants_more(&Verbose(value)));
     }
     Ok(())
 }

@@ -1,17 +1,34 @@
--- Which of the lines was found.
-use Rattle.std.proofs.Common.{ℕ, zero, suc, ◌≡◌, ◌+◌, ◌-◌, subst, arith, List, [], ◌∷◌, get_or}
-use Rattle.std.specs.Prelude.{IfSome, slice_get}
+-- Which of the lines is the first.
+use Rattle.std.proofs.Common.{ℕ, zero, suc, ◌≡◌, ◌+◌, ◌-◌, ◌<◌, subst, arith, List, [], ◌∷◌, get_or, length, take}
+use Rattle.std.specs.Prelude.{IsSomeAnd, Some, slice_get}
 use denote.Ref.{Bor}
-use Rattle.commands.specs.Places.{texts}
+use Rattle.commands.specs.Places.{IsFirstLine, NoLine, texts}
 
-said_at : (P : List ℕ → Type 0) (d : Bor (List ℕ)) (lines : List (Bor (List ℕ))) (i : ℕ) → P (get_or lines i d).now → IfSome (slice_get (texts lines) i) P
-said_at P d [] i p = tt
-said_at P d (x ∷ xs) zero p = p
-said_at P d (x ∷ xs) (suc i) p = said_at P d xs i p
+-- what is said of a line is said of the one at its place
+is_at : (P : List ℕ → Type 0) (d : Bor (List ℕ)) (lines : List (Bor (List ℕ))) (i : ℕ) → i < length lines → P (get_or lines i d).now → IsSomeAnd (slice_get (texts lines) i) P
+is_at P d [] i below p = absurd (omega (arith, below))
+is_at P d (x ∷ xs) zero below p = p
+is_at P d (x ∷ xs) (suc i) below p = is_at P d xs i (omega (arith, below)) p
 
--- what is said of a line is said of the one with its number among those of the text
-pub said_by_number : (P : List ℕ → Type 0) (d : Bor (List ℕ)) (lines : List (Bor (List ℕ))) (all : List (List ℕ)) (i : ℕ) → texts lines ≡ all
-    → P (get_or lines i d).now → IfSome (slice_get all (i + 1 - 1)) P
-said_by_number P d lines all i are p =
-    let same : i ≡ i + 1 - 1 = omega arith in
-    subst (λ k. IfSome (slice_get all k) P) same (subst (λ ls. IfSome (slice_get ls i) P) are (said_at P d lines i p))
+-- and so it is the first, where none before is
+pub first_at : (P : List ℕ → Type 0) (d : Bor (List ℕ)) (lines : List (Bor (List ℕ))) (i : ℕ) → i < length lines → NoLine P (take i (texts lines)) → P (get_or lines i d).now
+    → IsFirstLine P (texts lines) (Some (i + 1))
+first_at P d lines i below none is =
+    let same : i ≡ i + 1 - 1 = omega arith in (
+      omega arith,
+      subst (λ (k : ℕ). NoLine P (take k (texts lines))) same none,
+      subst (λ (k : ℕ). IsSomeAnd (slice_get (texts lines) k) P) same (is_at P d lines i below is),
+    )
+
+more : (P : List ℕ → Type 0) (d : Bor (List ℕ)) (lines : List (Bor (List ℕ))) (i : ℕ) → i < length lines → NoLine P (take i (texts lines)) → (P (get_or lines i d).now → ⊥)
+    → NoLine P (take (suc i) (texts lines))
+more P d [] i below none not = absurd (omega (arith, below))
+more P d (x ∷ xs) zero below none not = (not, tt)
+more P d (x ∷ xs) (suc i) below none not = (none.0, more P d xs i (omega (arith, below)) none.1 not)
+
+-- one line more that isn't such
+pub none_more : (P : List ℕ → Type 0) (d : Bor (List ℕ)) (lines : List (Bor (List ℕ))) (i : ℕ) → i < length lines → NoLine P (take i (texts lines)) → (P (get_or lines i d).now → ⊥)
+    → NoLine P (take (i + 1) (texts lines))
+none_more P d lines i below none not =
+    let e : suc i ≡ i + 1 = omega arith in
+    subst (λ (k : ℕ). NoLine P (take k (texts lines))) e (more P d lines i below none not)

@@ -2,6 +2,8 @@ pub mod Disks
 pub mod Running
 pub mod Dumping
 pub mod Simulating
+pub mod Counted
 pub mod Reading
 pub mod Checking
 pub mod Finding
+pub mod Batches

@@ -1,5 +1,5 @@
 -- Bytes that are read one after the other.
-use Rattle.std.proofs.Common.{ℕ, ◌≡◌, ◌==◌, ◌∙◌, ap, refl, sym, Bool, false, Option, Some, None, List, [], ◌∷◌, ◌++◌, append_assoc}
+use Rattle.std.proofs.Common.{ℕ, ◌≡◌, ◌==◌, ◌∙◌, ap, refl, sym, false, Option, Some, None, List, [], ◌∷◌, ◌++◌, append_assoc}
 use Rattle.std.specs.Io.KnownBytes.{Consumes}
 use Rattle.words.specs.Lines.{NoEnd}
 

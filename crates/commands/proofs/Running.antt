@@ -2,11 +2,12 @@
 use Rattle.std.proofs.Common.{ℕ, ◌≡◌, ◌⊎◌, Bool, true, false, refl, sym, subst, List, Result, Ok, Err, IfErr, inl, inr}
 use Rattle.std.specs.Result.{IsErrAnd, IsErrOf}
 use Rattle.commands.specs.declared.fault.SimulateFault.{SimulateFault}
+use Rattle.commands.specs.declared.fault.SimulateFault.TheVariants as ended
 use Rattle.script.specs.declared.fault.ScriptFault.{ScriptFault}
 use Rattle.script.specs.declared.fault.ScriptFault.TheVariants as unread
-use Rattle.script.specs.declared.Script.{Script}
-use Rattle.script.specs.Scripts.{IsScript, IsFirstFault}
-use Rattle.sim.specs.declared.cluster.Outcome.{Outcome}
+use Rattle.terms.specs.declared.Size.{Size}
+use Rattle.script.specs.Acts.{Told}
+use Rattle.script.specs.Scripts.{IsTold, IsFirstFault}
 use Rattle.sim.specs.declared.faults.SimFault.{SimFault}
 use Rattle.sim.specs.declared.faults.SimFault.TheVariants as unrun
 use Rattle.sim.specs.Outcomes.{AreLiars}
@@ -32,23 +33,27 @@ pub unread_ends : {A : Type 0} (text : List ℕ) (result : Result A SimulateFaul
 unread_ends text result fault is first = made_of text result (of_script fault) is (of_unread text fault first)
 
 -- the run of a script answered this fault
-abbrev Answered : SimFault → SimFault → Type 0
-Answered fault one = IsErrOf {T = Outcome} {E = SimFault} (Err fault) one
+abbrev Answered : Type 0 → SimFault → SimFault → Type 0
+Answered B fault one = IsErrOf {T = B} {E = SimFault} (Err fault) one
 
-of_unrun : (text : List ℕ) (script : Script) (fault : SimFault) → IsScript text script → (Answered fault unrun.BadLiars → AreLiars script.size script.liars.items → ⊥)
-    → (Answered fault unrun.BadDisks → ⊥) → (Answered fault unrun.Device → ⊥) → (Answered fault unrun.Full → ⊥) → IsOfSimulate text (of_sim fault)
-of_unrun text script unrun.BadLiars says liars disks device full = (script, says, liars refl)
-of_unrun text script unrun.BadDisks says liars disks device full = disks refl
-of_unrun text script unrun.Device says liars disks device full = device refl
-of_unrun text script unrun.Memory says liars disks device full = tt
-of_unrun text script unrun.Full says liars disks device full = full refl
+of_unrun : {B : Type 0} (text : List ℕ) (size : Size) (liars : List ℕ) (events : List Told) (fault : SimFault) → IsTold text size liars events → (Answered B fault unrun.BadLiars → AreLiars size liars → ⊥)
+    → (Answered B fault unrun.BadDisks → ⊥) → (Answered B fault unrun.Device → ⊥) → (Answered B fault unrun.Full → ⊥) → IsOfSimulate text (of_sim fault)
+of_unrun text size liars events unrun.BadLiars says bad disks device full = (size, liars, events, says, bad refl)
+of_unrun text size liars events unrun.BadDisks says bad disks device full = disks refl
+of_unrun text size liars events unrun.Device says bad disks device full = device refl
+of_unrun text size liars events unrun.Memory says bad disks device full = tt
+of_unrun text size liars events unrun.Full says bad disks device full = full refl
 
 -- a script that can't be run
-pub unrun_ends : {A : Type 0} (text : List ℕ) (script : Script) (result : Result A SimulateFault) (fault : SimFault) → IsErrAnd result (λ given. given ≡ of_sim fault) → IsScript text script
-    → (Answered fault unrun.BadLiars → AreLiars script.size script.liars.items → ⊥) → (Answered fault unrun.BadDisks → ⊥) → (Answered fault unrun.Device → ⊥) → (Answered fault unrun.Full → ⊥)
+pub unrun_ends : {A B : Type 0} (text : List ℕ) (size : Size) (liars : List ℕ) (events : List Told) (result : Result A SimulateFault) (fault : SimFault) → IsErrAnd result (λ given. given ≡ of_sim fault)
+    → IsTold text size liars events → (Answered B fault unrun.BadLiars → AreLiars size liars → ⊥) → (Answered B fault unrun.BadDisks → ⊥) → (Answered B fault unrun.Device → ⊥) → (Answered B fault unrun.Full → ⊥)
     → IfErr result (IsOfSimulate text)
-unrun_ends text script result fault is says liars disks device full =
-    made_of text result (of_sim fault) is (of_unrun text script fault says liars disks device full)
+unrun_ends {A} {B} text size liars events result fault is says bad disks device full =
+    made_of text result (of_sim fault) is (of_unrun {B = B} text size liars events fault says bad disks device full)
+
+-- memory was refused
+pub memory_ends : {A : Type 0} (text : List ℕ) (result : Result A SimulateFault) (ends : SimulateFault) → IsErrAnd result (λ given. given ≡ ends) → ends ≡ ended.Memory → IfErr result (IsOfSimulate text)
+memory_ends text result ends is memory = made_of text result ends is (subst (λ (f : SimulateFault). IsOfSimulate text f) (sym memory) tt)
 
 -- tables of one content are one
 pub same_table : (a b : ℕ → Bool) → ((p : ℕ) → a p ≡ b p) → a ≡ b

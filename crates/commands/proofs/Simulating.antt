@@ -9,16 +9,16 @@ use Rattle.sim.specs.declared.events.Mark.{Mark}
 use Rattle.sim.specs.declared.events.Mark.TheVariants.{Done}
 use Rattle.words.specs.Sentences.{bit_digit}
 use Rattle.report.specs.Traces.{is_skipped}
-use Rattle.commands.specs.Simulations.{skipped, verdict_line, count_line}
+use Rattle.commands.specs.Simulations.{skipped, verdict_line, line_of_counts}
 
 pub verdict_pieces : (v : ℕ × ℕ × ℕ × Bool) (digit : ℕ) → digit ≡ bit_digit v.3
     → codes "member " ++ (decimal v.0 ++ (codes " question " ++ (decimal v.1 ++ (codes " round " ++ (decimal v.2
     ++ (codes " bit " ++ (decimal digit ++ codes "\n"))))))) ≡ verdict_line v
 verdict_pieces v digit a = rw a (simp append_assoc)
 
-pub count_pieces : (marks : List Mark) (events skips : ℕ) → events ≡ length marks → skips ≡ skipped marks
-    → codes "events " ++ (decimal events ++ (codes " skipped " ++ (decimal skips ++ codes "\n"))) ≡ count_line marks
-count_pieces marks events skips a b = rw (a, b) (simp append_assoc)
+pub count_pieces : (events skips : ℕ)
+    → codes "events " ++ (decimal events ++ (codes " skipped " ++ (decimal skips ++ codes "\n"))) ≡ line_of_counts events skips
+count_pieces events skips = simp append_assoc
 
 -- the text of one thing more
 pub one_more : {A : Type 0} (show : A → List ℕ) (xs : List A) (i : ℕ) (x : A) (text more new : List ℕ) → x ≡ get_or xs i x → i < length xs
@@ -30,7 +30,7 @@ one_more {A} show xs i x text more new at within before one is =
     is ∙ rw (step, flat_map-append show (take i xs) (x ∷ []), before, one) (simp (append_assoc, append-nil))
 
 -- of two lists of events
-skipped-append : (xs ys : List Mark) → skipped (xs ++ ys) ≡ skipped xs + skipped ys
+pub skipped-append : (xs ys : List Mark) → skipped (xs ++ ys) ≡ skipped xs + skipped ys
 skipped-append [] ys = omega arith
 skipped-append (x ∷ xs) ys = let h = skipped-append xs ys in omega (arith, h)
 
@@ -40,7 +40,7 @@ bit_small true = omega arith
 bit_small false = omega arith
 
 -- no more events were skipped than there are
-few_skipped : (xs : List Mark) → skipped xs ≤ length xs
+pub few_skipped : (xs : List Mark) → skipped xs ≤ length xs
 few_skipped [] = omega arith
 few_skipped (x ∷ xs) = let h = few_skipped xs in let b = bit_small (is_skipped x) in omega (arith, h, b)
 

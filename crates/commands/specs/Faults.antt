@@ -11,8 +11,9 @@ use Rattle.journal.specs.declared.fault.JournalFault.{JournalFault}
 use Rattle.journal.specs.declared.fault.JournalFault.TheVariants as unheld
 use Rattle.script.specs.declared.fault.ScriptFault.{ScriptFault}
 use Rattle.script.specs.declared.fault.ScriptFault.TheVariants as unread
-use Rattle.script.specs.declared.Script.{Script}
-use Rattle.script.specs.Scripts.{IsScript, IsFirstFault}
+use Rattle.terms.specs.declared.Size.{Size}
+use Rattle.script.specs.Acts.{Told}
+use Rattle.script.specs.Scripts.{IsTold, IsFirstFault}
 use Rattle.sim.specs.declared.faults.SimFault.{SimFault}
 use Rattle.sim.specs.declared.faults.SimFault.TheVariants as unrun
 use Rattle.sim.specs.Outcomes.{AreLiars}
@@ -72,7 +73,8 @@ IsOfStream ends = (ends ≡ simulate.Memory) ⊎ (ends ≡ simulate.Stream)
 
 -- the text says a script of liars that can't be: nothing else keeps a script from being run over empty disks
 abbrev pub CannotRun : List ℕ → SimFault → Type 0
-CannotRun text unrun.BadLiars = (script : Script) × IsScript text script × (AreLiars script.size script.liars.items → ⊥)
+CannotRun text unrun.BadLiars =
+    (size : Size) × (liars : List ℕ) × (events : List Told) × IsTold text size liars events × (AreLiars size liars → ⊥)
 CannotRun text unrun.BadDisks = ⊥
 CannotRun text unrun.Device = ⊥
 CannotRun text unrun.Memory = ⊥

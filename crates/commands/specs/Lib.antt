@@ -1,7 +1,9 @@
 pub mod Faults
 pub mod Dumps
 pub mod Simulations
+pub mod Counts
 pub mod Pages
 pub mod Talks
 pub mod Checks
 pub mod Places
+pub mod Damage

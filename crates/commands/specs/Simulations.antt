@@ -19,10 +19,13 @@ verdict_line v =
     line (sentence (codes "member" ∷ decimal v.0 ∷ codes "question" ∷ decimal v.1 ∷ codes "round" ∷ decimal v.2
     ∷ codes "bit" ∷ decimal (bit_digit v.3) ∷ []))
 
+-- the line of so many events, of which so many were skipped
+abbrev pub line_of_counts : ℕ → ℕ → List ℕ
+line_of_counts events skipped = line (sentence (codes "events" ∷ decimal events ∷ codes "skipped" ∷ decimal skipped ∷ []))
+
 -- the line that counts the events
 abbrev pub count_line : List Mark → List ℕ
-count_line marks =
-    line (sentence (codes "events" ∷ decimal (length marks) ∷ codes "skipped" ∷ decimal (skipped marks) ∷ []))
+count_line marks = line_of_counts (length marks) (skipped marks)
 
 -- the lines of the verdicts, and that of the events
 abbrev pub simulation_text : Outcome → List ℕ

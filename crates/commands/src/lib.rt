@@ -3,6 +3,7 @@
 
 mod check;
 mod client;
+mod damage;
 mod dump;
 mod fault;
 mod init;
@@ -13,6 +14,7 @@ mod simulate;
 
 pub use check::{check_journal, print_settings};
 pub use client::{ask_line, propose_line, status_line, talk};
+pub use damage::{bytes_at, fault_place};
 pub use dump::{dump_count, dump_lines};
 pub use fault::{DumpFault, InitFault, SimulateFault, TalkFault};
 pub use init::init_disk;

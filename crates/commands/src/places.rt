@@ -1,9 +1,9 @@
 //! Where in a text a fault is.
 
-ghost use Rattle.std.specs.Prelude.{◌≡◌, ◌+◌, ◌==◌, ◌-◌, ◌↔◌, IfOk, IfSome, IsTrue, map, length, option_map, slice_get, take};
-ghost use Rattle.std.specs.List.{position_from, slice_split};
+ghost use Rattle.std.specs.Prelude.{◌≡◌, ◌-◌, ◌↔◌, IfOk, IfSome, IsNone, IsSome, IsTrue, None, length, option_map, slice_get, take};
 ghost use Rattle.settings.specs.Keys.{key_text};
-ghost use Rattle.commands.specs.Places.{EndsKey, SaysKey, lines_in, texts};
+ghost use Rattle.toml.specs.Parse.{parse_document};
+ghost use Rattle.commands.specs.Places.{EndsKey, IsFirstLine, IsLineIn, SaysKey, lines_in, texts};
 
 use settings::Key;
 use std::alloc::{AllocError, Global};
@@ -37,7 +37,7 @@ fn ends_key(byte: u8) -> bool
 
 /// Whether the line gives the key of that name a value: it begins with the name, and a blank or `=` behind it.
 fn says(line: &[u8], name: &str) -> bool
-    ensures { IsTrue result → SaysKey name.now line.now }
+    ensures { IsTrue result ↔ SaysKey name.now line.now }
 {
     let end = name.len();
     match line.get(end) {
@@ -46,19 +46,25 @@ fn says(line: &[u8], name: &str) -> bool
     }
 }
 
-/// The number of a line, counted from 1, that gives the key a value at its beginning; the first, where there are several.
-pub fn line_of_key(alloc: Global, text: &[u8], key: Key) -> Result<Option<usize>, AllocError>
-    ensures { IfOk result (λ number. IfSome number (λ number.
-        IfSome (slice_get (lines_in text.now) (number - 1)) (SaysKey (key_text key)))) }
+/// The number of the first line, counted from 1, that gives the key of that name a value; none where no line does.
+fn first_line(lines: &[&[u8]], name: &str) -> Option<usize>
+    ensures { IsFirstLine (SaysKey name.now) (texts lines.now) result }
 {
-    let name = key.text();
-    let lines = lines_in(alloc, text)?;
     for (index, line) in lines.iter().enumerate() {
         if says(line, name) {
-            return Ok(Some(index + 1));
+            return Some(index + 1);
         }
     }
-    Ok(None)
+    None
+}
+
+/// The number of a line, counted from 1, that gives the key a value at its beginning; the first, where there are several,
+/// and none where no line does.
+pub fn line_of_key(alloc: Global, text: &[u8], key: Key) -> Result<Option<usize>, AllocError>
+    ensures { IfOk result (IsFirstLine (SaysKey (key_text key)) (lines_in text.now)) }
+{
+    let lines = lines_in(alloc, text)?;
+    Ok(first_line(&lines, key.text()))
 }
 
 /// The number of the line, counted from 1, in which the byte at this place stands.
@@ -69,13 +75,16 @@ pub fn line_of_byte(alloc: Global, text: &[u8], place: usize) -> Result<usize, A
     Ok(lines_in(alloc, front)?.len())
 }
 
-/// The line of a text at which the reader of TOML fails, and why it does, if it does for more than want of memory.
-pub fn text_fault(alloc: Global, text: &str) -> Result<Option<(usize, String)>, AllocError> {
+/// The line of a text, counted from 1, at which the reader of TOML fails, and why it does; none where the text is TOML.
+pub fn text_fault(alloc: Global, text: &str) -> Result<Option<(usize, String)>, AllocError>
+    ensures none { IfOk result (λ found. IsNone found → IsSome (parse_document text.now)) }
+    ensures some { IfOk result (λ found. IfSome found (λ found. (parse_document text.now ≡ None) × IsLineIn text.now found.0)) }
+{
     let Err(error) = toml::table_from_str(alloc, text) else {
         return Ok(None);
     };
     let Some(span) = error.span() else {
-        return Ok(None);
+        return Err(AllocError);
     };
     let line = line_of_byte(alloc, text.as_bytes(), span.start)?;
     Ok(Some((line, String::from_str(alloc, error.message())?)))

@@ -1,27 +1,39 @@
 //! The command `simulate`: a script's cluster, run in memory.
 
-ghost use Rattle.std.specs.Prelude.{◌≡◌, ◌⊎◌, ◌↔◌, ℕ, false, true, Err, IfOk, IfErr, IsTrue, OnOk, Some, codes, option_map, string_bytes};
+ghost use Rattle.std.specs.Prelude.{◌≡◌, ◌⊎◌, ◌↔◌, ◌+◌, ◌≤◌, ◌++◌, ℕ, List, [], length, map, false, true, Err, IfOk, IfErr, IsTrue, OnOk, Some, codes, option_map, string_bytes};
 ghost use Rattle.std.specs.List.{flat_map};
 ghost use Rattle.std.specs.Io.KnownBytes.{Appends};
 ghost use Rattle.script.specs.declared.Script.{Script};
 ghost use Rattle.sim.specs.declared.cluster.Outcome.{Outcome};
-ghost use Rattle.sim.specs.Outcomes.{AreDisks, fused_in};
+ghost use Rattle.terms.specs.declared.Size.{Size};
+ghost use Rattle.sim.specs.declared.TheConstants.{MOST_EVENTS};
+ghost use Rattle.sim.specs.Outcomes.{AreDisks, among, fused_in};
+ghost use Rattle.sim.specs.Plays.{Stands, unplayed};
+ghost use Rattle.script.specs.Acts.{Told, told};
+ghost use Rattle.commands.specs.Counts.{IsCounted};
 ghost use Rattle.script.specs.Scripts.{IsScript};
 ghost use Rattle.commands.specs.Faults.{IsOfSimulate, IsOfStream};
 ghost use Rattle.commands.specs.declared.fault.SimulateFault.{SimulateFault};
 ghost use Rattle.report.specs.Charts.{IsSvg};
 ghost use Rattle.commands.specs.Pages.{IsOutcome, IsPage, IsTrace, ArePages};
-ghost use Rattle.commands.specs.Simulations.{verdict_line, count_line, simulation_text, skipped};
+ghost use Rattle.commands.specs.Simulations.{verdict_line, line_of_counts, simulation_text, skipped};
 
 use crate::fault::SimulateFault;
 use disk::MemDisk;
 use report::{chart_text, is_skipped, trace_text};
-use script::Script;
-use sim::{Mark, Outcome};
+use script::{Script, Source};
+use sim::{Cluster, Event, Mark, Outcome, SimFault};
 use std::alloc::{AllocError, Global};
 use std::io::Write;
 use terms::{Memory, Size};
 use words::is;
+
+/// How many events were played, and how many of them were skipped.
+#[derive(Clone, Copy)]
+struct Counts {
+    events: usize,
+    skipped: usize,
+}
 
 /// The line of a verdict: member, question, round and bit.
 fn verdict_line(alloc: Global, verdict: &(u8, u16, u8, bool)) -> Result<String, AllocError>
@@ -45,11 +57,12 @@ fn skipped(marks: &[Mark]) -> usize
     count
 }
 
-/// The line that counts the events.
-fn count_line(alloc: Global, marks: &[Mark]) -> Result<String, AllocError>
-    ensures { IfOk result (λ text. string_bytes text ≡ count_line marks.now) }
+/// The line of so many events, of which so many were skipped.
+fn count_line(alloc: Global, counts: Counts) -> Result<String, AllocError>
+    ensures { IfOk result (λ text. string_bytes text ≡ line_of_counts counts.events counts.skipped) }
 {
-    format!(in alloc; "events {} skipped {}\n", marks.len(), skipped(marks))
+    let Counts { events, skipped } = counts;
+    format!(in alloc; "events {events} skipped {skipped}\n")
 }
 
 /// The lines of the verdicts.
@@ -64,12 +77,28 @@ fn verdict_lines(alloc: Global, verdicts: &[(u8, u16, u8, bool)]) -> Result<Stri
 }
 
 /// The text of an outcome: a line for each verdict, and one that counts the events.
+fn outcome_text(
+    alloc: Global,
+    verdicts: &[(u8, u16, u8, bool)],
+    counts: Counts,
+) -> Result<String, AllocError>
+    ensures { IfOk result (λ text.
+        string_bytes text ≡ flat_map verdict_line verdicts.now ++ line_of_counts counts.events counts.skipped) }
+{
+    let mut text = verdict_lines(alloc, verdicts)?;
+    text.push_str(count_line(alloc, counts)?.as_str())?;
+    Ok(text)
+}
+
+/// The text of an outcome whose events were kept.
 fn simulation_text(alloc: Global, outcome: &Outcome) -> Result<String, AllocError>
     ensures { IfOk result (λ text. string_bytes text ≡ simulation_text outcome.now) }
 {
-    let mut text = verdict_lines(alloc, &outcome.verdicts)?;
-    text.push_str(count_line(alloc, &outcome.marks)?.as_str())?;
-    Ok(text)
+    let counts = Counts {
+        events: outcome.marks.len(),
+        skipped: skipped(&outcome.marks),
+    };
+    outcome_text(alloc, &outcome.verdicts, counts)
 }
 
 /// An empty disk for each member, without a fuse.
@@ -82,6 +111,74 @@ fn empty_disks(alloc: Global, size: Size) -> Result<Vec<MemDisk>, Memory>
         disks.push(MemDisk::new(alloc))?;
     }
     Ok(disks)
+}
+
+/// Plays events one after another, and counts them.
+fn play_batch(
+    alloc: Global,
+    cluster: &mut Cluster,
+    events: &[Event],
+    counts: Counts,
+) -> Result<Counts, SimFault>
+    requires room { counts.events + length events.now ≤ MOST_EVENTS }
+    requires fewer { counts.skipped ≤ counts.events }
+    ensures room { IfOk result (λ now. now.events ≡ counts.events + length events.now) }
+    ensures fewer { IfOk result (λ now. now.skipped ≤ now.events) }
+    ensures counted { (size : Size) (liars : List ℕ) (all left : List Told) →
+        IsCounted size liars all (map told events.now ++ left) cluster.old counts.events counts.skipped →
+        IfOk result (λ now. IsCounted size liars all left cluster.new now.events now.skipped) }
+    ensures memory { (size : Size) (liars : List ℕ) (all left : List Told) →
+        IsCounted size liars all (map told events.now ++ left) cluster.old counts.events counts.skipped →
+        IfErr result (λ fault. fault ≡ SimFault.Memory) }
+{
+    let mut played = counts.events;
+    let mut skipped = counts.skipped;
+    for event in events {
+        let mark = cluster.play(alloc, event)?;
+        played += 1;
+        skipped += usize::from(is_skipped(&mark));
+    }
+    Ok(Counts {
+        events: played,
+        skipped,
+    })
+}
+
+/// Plays a script's events as they are made, and counts them. It keeps no more of them than the source has at a time.
+fn play_all(
+    alloc: Global,
+    source: &mut Source,
+    cluster: &mut Cluster,
+) -> Result<Counts, SimulateFault>
+    requires few { length source.old.left ≤ MOST_EVENTS }
+    ensures counted { (size : Size) (liars : List ℕ) → Stands (unplayed size (among liars) (λ p. false)) cluster.old →
+        IfOk result (λ counts. IsCounted size liars source.old.left [] cluster.new counts.events counts.skipped) }
+    ensures memory { (size : Size) (liars : List ℕ) → Stands (unplayed size (among liars) (λ p. false)) cluster.old →
+        IfErr result (λ fault. fault ≡ SimulateFault.Memory) }
+{
+    let mut counts = Counts {
+        events: 0,
+        skipped: 0,
+    };
+    'batches: while source.more(alloc)? {
+        counts = play_batch(alloc, cluster, source.batch(), counts)?;
+    }
+    Ok(counts)
+}
+
+/// Plays the script over empty disks in memory, keeps nothing of its events but their counts, and makes the text of its
+/// outcome.
+fn counted_text(alloc: Global, text: &[u8]) -> Result<String, SimulateFault>
+    ensures all { IfOk result (λ made. (script : Script) × (outcome : Outcome)
+        × IsScript text.now script × IsOutcome script outcome × (string_bytes made ≡ simulation_text outcome)) }
+    ensures only { IfErr result (IsOfSimulate text.now) }
+{
+    let mut source = Source::of(alloc, text)?;
+    let disks = empty_disks(alloc, source.size())?;
+    let mut cluster = Cluster::open(alloc, source.size(), source.liars(), disks)?;
+    let counts = play_all(alloc, &mut source, &mut cluster)?;
+    let verdicts = cluster.verdicts(alloc)?;
+    Ok(outcome_text(alloc, &verdicts, counts)?)
 }
 
 /// Reads the script, and runs it over empty disks in memory.
@@ -148,7 +245,7 @@ pub struct Pages {
 }
 
 /// Runs the script over empty disks in memory, and makes the text of its outcome, and a trace and a chart where they are
-/// wanted.
+/// wanted. Where none is, the events are played as they are read, and nothing of them is kept but their counts.
 ///
 /// [`SimulateFault::Line`], [`SimulateFault::Size`] and [`SimulateFault::Events`] for a text that is no script, [`SimulateFault::Sim`] for a script that
 /// can't be run, [`SimulateFault::Memory`] where a growth failed.
@@ -163,6 +260,13 @@ pub fn simulate_pages(
         × IsScript text.now script × IsOutcome script outcome × ArePages trace chart script outcome made) }
     ensures only { IfErr result (IsOfSimulate text.now) }
 {
+    if !trace && !chart {
+        return Ok(Pages {
+            verdicts: counted_text(alloc, text)?,
+            trace: None,
+            chart: None,
+        });
+    }
     let (script, outcome) = run(alloc, text)?;
     Ok(Pages {
         verdicts: simulation_text(alloc, &outcome)?,

@@ -4,13 +4,11 @@ use Rattle.std.proofs.lemmas.List.{take_at, drop_at, drop-drop, nil_from_length}
 use Rattle.std.specs.List.{flat_map}
 use Rattle.terms.specs.declared.Kind.{Kind}
 use Rattle.terms.specs.declared.Kind.TheVariants.{Initial, Echo, Ready}
-use Rattle.terms.specs.declared.Value.{Value}
-use Rattle.terms.specs.declared.Value.TheVariants.{Zero, One, SureZero, SureOne, Unsure}
 use Rattle.terms.specs.declared.Record.{Record}
 use Rattle.terms.specs.declared.Record.TheVariants.{Said, Decided}
 use Rattle.terms.specs.declared.Header.{Header}
 use Rattle.terms.specs.Bounds.{IsSize}
-use Rattle.terms.specs.Same.{place_of, statement_of, value_code}
+use Rattle.terms.specs.Same.{place_of, statement_of}
 use Rattle.spelling.specs.Statements.{kind_byte, kind_of, value_of}
 use Rattle.spelling.proofs.Statements.{kind_again, value_again}
 use Rattle.journal.specs.Texts.{bit_byte, record_text, header_text, Batch, batch_text, texts, records_of}

@@ -14,6 +14,7 @@ use crate::JournalFault;
 use crate::commit::commit;
 use crate::open::load;
 use crate::record::{RECORD, record_bytes};
+use crate::spare::Spare;
 use disk::{Disk, MemDisk};
 use std::alloc::{AllocError, Global};
 use terms::{Header, Record};
@@ -29,6 +30,7 @@ pub struct Journal<D: Disk> {
     header: Header,
     gate: usize,
     stopped: bool,
+    spare: Spare,
 }
 
 impl<D: Disk> Journal<D> {
@@ -92,11 +94,12 @@ impl<D: Disk> Journal<D> {
         if self.gate > LAST_GATE - len {
             return Err(JournalFault::Full);
         }
-        let bytes = encode(self.alloc, records)?;
+        let bytes = encode(self.spare.take(self.alloc), records)?;
         if commit(&mut self.disk, self.gate, &bytes).is_err() {
             self.stopped = true;
             return Err(JournalFault::Device);
         }
+        self.spare.keep(bytes);
         self.gate += len;
         Ok(())
     }
@@ -190,6 +193,7 @@ impl<D: Disk> Journal<D> {
                     header: *header,
                     gate,
                     stopped: false,
+                    spare: Spare::none(alloc),
                 },
                 records,
             )),
@@ -224,18 +228,20 @@ impl<D: Disk> Journal<D> {
             header: _,
             gate: _,
             stopped: _,
+            spare: _,
         } = self;
         disk
     }
 }
 
-// The bytes behind a batch's gate, and the closed gate behind them.
-fn encode(alloc: Global, records: &[Record]) -> Result<Vec<u8>, AllocError>
-    requires { length records.now ≤ 65535 }
+// The bytes behind a batch's gate, and the closed gate behind them, in a buffer that is empty.
+fn encode(buffer: Vec<u8>, records: &[Record]) -> Result<Vec<u8>, AllocError>
+    requires empty { buffer.items ≡ [] }
+    requires few { length records.now ≤ 65535 }
     ensures { IfOk result (λ bytes. bytes.items ≡ body records.now ++ 0 ∷ []) }
 {
     let count = records.len() as u16;
-    let mut bytes = Vec::new(alloc);
+    let mut bytes = buffer;
     bytes.extend_from_slice(&count.to_be_bytes())?;
     for entry in records {
         bytes.extend_from_slice(&record_bytes(entry))?;

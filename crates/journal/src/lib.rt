@@ -39,6 +39,7 @@ pub mod laws;
 mod open;
 mod read;
 mod record;
+mod spare;
 
 pub use fault::JournalFault;
 pub use journal::Journal;

@@ -119,3 +119,10 @@ told_all disk header all batch old mid new heard group e b n leaves =
 
 pub told_none : (P : Group → Type 0) (heard : Result Group Memory) (fault : Memory) → heard ≡ Err fault → IfOk heard P
 told_none P heard fault e = rw e tt
+
+-- what a crash may leave of a journal that was opened, it might have left before
+pub left_opened : {D : Type 0} (disk : DiskGhosts D)
+    (counts_now : (d : D) (t : ℕ) (file : List ℕ) → disk.keeps d → t ≤ disk.moment d → MayLeave (disk.state d) file → disk.since d t file)
+    (old new : D) → disk.keeps new → LeavesOnly disk.moment disk.since old new (MayLeave (disk.state old))
+    → (file : List ℕ) → MayLeave (disk.state new) file → MayLeave (disk.state old) file
+left_opened disk counts_now old new keeps leaves file may = leaves.each file (counts_now new (disk.moment old) file keeps leaves.later may)

@@ -120,7 +120,6 @@ impl<D: Disk> Member<D> {
         let fault = match heard {
             Ok(Group { records, answers }) => {
                 match save(
-                    self.alloc,
                     &mut self.journal,
                     &mut self.records,
                     &mut self.outbox,

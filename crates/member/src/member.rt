@@ -196,7 +196,6 @@ impl<D: Disk> Member<D> {
         let fault = match answer {
             Ok(answer) => {
                 match save(
-                    self.alloc,
                     &mut self.journal,
                     &mut self.records,
                     &mut self.outbox,
@@ -244,7 +243,11 @@ fn begin(
 {
     let _members = header.size().n();
     match Core::new(alloc, header.size(), header.me(), records) {
-        Ok(core) => Ok((core, seal(alloc, 0, records)?)),
+        Ok(core) => {
+            let mut outbox = Vec::with_capacity(alloc, records.len())?;
+            seal(&mut outbox, records);
+            Ok((core, outbox))
+        }
         Err(CoreFault::Memory) => Err(JournalFault::Memory),
         Err(_) => Err(JournalFault::BadRecord),
     }

@@ -1,5 +1,6 @@
 //! Saving a batch.
 ghost use Rattle.std.specs.Prelude.{◌≡◌, ◌⊎◌, ◌↔◌, ℕ, ◌+◌, ◌*◌, ◌^◌, ◌<◌, ◌≤◌, false, List, ◌++◌, length, IsErr, IsErrOf, IfErr, OnOk, OnErr};
+ghost use Rattle.std.specs.Vec.{vec_capacity};
 ghost use Rattle.disk.specs.Model.{LeavesOnly};
 ghost use Rattle.terms.specs.declared.Header.{Header};
 ghost use Rattle.journal.specs.File.{Holds};
@@ -12,13 +13,12 @@ use crate::Sealed;
 use crate::sealed::seal;
 use disk::Disk;
 use journal::{Journal, JournalFault};
-use std::alloc::Global;
+use std::alloc::AllocError;
 use terms::Record;
 
 /// Adds the batch to the journal, and then its records and statements to these. All room is made before the first call of
 /// the device. An empty batch makes none, and takes no memory.
 pub(crate) fn save<D: Disk>(
-    alloc: Global,
     journal: &mut Journal<D>,
     records: &mut Vec<Record>,
     outbox: &mut Vec<Sealed>,
@@ -60,11 +60,25 @@ pub(crate) fn save<D: Disk>(
     if batch.is_empty() {
         return Ok(());
     }
-    records.reserve(batch.len())?;
-    outbox.reserve(batch.len())?;
-    let sealed = seal(alloc, outbox.len(), batch)?;
+    make_room(records, outbox, batch.len())?;
     journal.append(batch)?;
     let _ = records.extend_from_slice(batch);
-    let _ = outbox.extend_from_slice(&sealed);
+    seal(outbox, batch);
+    Ok(())
+}
+
+/// Room for so many records and statements more.
+fn make_room(
+    records: &mut Vec<Record>,
+    outbox: &mut Vec<Sealed>,
+    count: usize,
+) -> Result<(), AllocError>
+    ensures records { records.new.items ≡ records.old.items }
+    ensures outbox { outbox.new.items ≡ outbox.old.items }
+    ensures room_for_records { OnOk result (length records.new.items + count ≤ vec_capacity records.new) }
+    ensures room_for_statements { OnOk result (length outbox.new.items + count ≤ vec_capacity outbox.new) }
+{
+    records.reserve(count)?;
+    outbox.reserve(count)?;
     Ok(())
 }

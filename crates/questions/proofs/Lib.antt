@@ -3,7 +3,9 @@ pub mod Keeping
 pub mod Taking
 pub mod Beginning
 pub mod Quiet
+pub mod Waiting
 pub mod Replying
+pub mod Saying
 pub mod Others
 pub mod Replies
 pub mod Once

@@ -20,7 +20,10 @@ use Rattle.terms.proofs.Heard.{Accepted-one}
 use Rattle.terms.proofs.Lawful.{Accepted-more}
 use Rattle.terms.proofs.Same.{place_eq-true}
 use Rattle.rbc.specs.declared.Heard.TheVariants.{News, Repeat, Foreign}
-use Rattle.rbc.specs.Answers.{IsAccepted, heard_as}
+use Rattle.rbc.specs.declared.Brought.{Brought}
+use Rattle.rbc.specs.declared.Taken.{Taken}
+use Rattle.rbc.specs.declared.Taken.TheVariants.{News as TakenNews}
+use Rattle.rbc.specs.Answers.{IfNews, IsAccepted, IsNewlyAccepted, heard_as}
 use Rattle.rbc.specs.Stands.{Stands as HasBroadcasts}
 use Rattle.rounds.specs.declared.questions.Question.{Question}
 use Rattle.rounds.specs.Stands.{Stands as HasRounds, IsSameElse}
@@ -29,6 +32,10 @@ use Rattle.questions.specs.declared.instance.Instance.{Instance}
 use Rattle.questions.specs.Instances.{Has}
 use Rattle.questions.specs.Parts.{plain_if}
 use Rattle.questions.proofs.Rows.{keep_nothing}
+
+-- what is so of what news brings
+pub if_news : (taken : Taken) (brought : Brought) (P : Brought → Type 0) → taken ≡ TakenNews brought → IfNews taken P → P brought
+if_news taken brought P e h = subst (λ (t : Taken). IfNews t P) e h
 
 -- how a statement is taken, by its parts
 pub record IsNews (past : Past) (from : ℕ) (s : Statement) : Type 0 where
@@ -187,3 +194,38 @@ taken_none q place p = sym (keep_nothing (taken_for q p))
 
 pub same_rest : (q : Question) → IsSameElse q q
 same_rest q = record { size = refl; me = refl; question = refl; own = λ p. refl; decision = refl }
+
+-- a value that is kept is kept over itself
+kept_itself : (q : Question) (place p : Place) (m : Value) → taken_for q place ≡ Some m → taken_for q p ≡ keep_or (taken_for q p) (given_at place p (Some m))
+kept_itself q place p m e = step (cases_Bool (place_eq place p))
+  where
+    step : (place_eq place p ≡ true) ⊎ (place_eq place p ≡ false) → taken_for q p ≡ keep_or (taken_for q p) (given (place_eq place p) m)
+    step (inl h) =
+        let there : taken_for q p ≡ Some m = subst (λ (x : Place). taken_for q x ≡ Some m) (place_eq-true place p h) e in
+        there ∙ sym (ap (λ o. keep_or o (given (place_eq place p) m)) there)
+    step (inr h) = sym (ap (λ b. keep_or (taken_for q p) (given b m)) h ∙ keep_nothing (taken_for q p))
+
+-- and the instance, where nothing is newly accepted, and nothing was taken
+pub has_heard_nothing : (old new : Instance) (past : Past) (from : ℕ) (s : Statement) → Has old past → heard_as past from s ≡ News
+    → new.me ≡ old.me → new.question ≡ old.question → new.proposed ≡ old.proposed → HasBroadcasts new.broadcasts (after_hearing past from s)
+    → new.rounds ≡ old.rounds → s.place.question ≡ past.question → IsNewlyAccepted past from s None
+    → Has new (after_hearing past from s)
+has_heard_nothing old new past from s has news me question proposed broadcasts rounds asked nothing = step (taken_for old.rounds s.place) refl
+  where
+    rest : IsSameElse old.rounds new.rounds
+    rest = subst (λ (q : Question). IsSameElse old.rounds q) (sym rounds) (same_rest old.rounds)
+
+    longer : (m : Value) → Accepted past.size past.heard s.place m → Accepted past.size (hear past.heard (from, s)) s.place m
+    longer m a =
+        subst (λ (x : List (ℕ × Statement)). Accepted past.size x s.place m) (sym (heard-news past from s (news_parts past from s news)))
+        (Accepted-more past.size past.heard ((from, s) ∷ []) s.place m a)
+
+    step : (o : Option Value) → taken_for old.rounds s.place ≡ o → Has new (after_hearing past from s)
+    step None e =
+        has_heard old new past from s has news me question proposed broadcasts s.place refl None
+        (λ m a. let there : taken_for old.rounds s.place ≡ Some m = has.own.rounds.rounds.all s.place m asked (nothing m a) in cc)
+        (λ p. ap (λ (q : Question). taken_for q p) rounds ∙ taken_none old.rounds s.place p) rest
+    step (Some m) e =
+        has_heard old new past from s has news me question proposed broadcasts s.place refl (Some m)
+        (longer m (has.own.rounds.rounds.taken s.place m asked e))
+        (λ p. ap (λ (q : Question). taken_for q p) rounds ∙ kept_itself old.rounds s.place p m e) rest

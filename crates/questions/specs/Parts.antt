@@ -9,8 +9,9 @@ use Rattle.terms.specs.declared.Record.TheVariants.{Said, Decided}
 use Rattle.terms.specs.declared.Size.{Size}
 use Rattle.terms.specs.Keep.{given}
 use Rattle.terms.specs.Past.{Past}
-use Rattle.terms.specs.Answer.{MaySay, MayBegin, AreInitials, IsFirstDecision, after_records, decided_if}
+use Rattle.terms.specs.Answer.{MayAdd, MaySay, MayBegin, AreInitials, IsFirstDecision, after_records, decided_if}
 use Rattle.terms.specs.Same.{plain, is_about}
+use Rattle.rbc.specs.declared.Brought.{Brought}
 
 -- the record's origin is below n, if it is a statement
 abbrev pub IsFrom : Size → Record → Type 0
@@ -32,10 +33,21 @@ abbrev pub if_there : Option Record → List Record
 if_there None = []
 if_there (Some x) = x ∷ []
 
+-- it brings nothing to say, and no value that is accepted
+pub record IsNothing (brought : Brought) : Type 0 where
+  pub echo : brought.due.echo ≡ None
+  pub ready : brought.due.ready ≡ None
+  pub accepted : brought.accepted ≡ None
+
 -- no Echo and no Ready may be said at another place of the question
 pub record IsQuietElsewhere (past : Past) (place : Place) : Type 0 where
   pub echo : (p : Place) (m : Value) → p.question ≡ past.question → (place ≡ p → ⊥) → MaySay past Echo p m → ⊥
   pub ready : (p : Place) (m : Value) → p.question ≡ past.question → (place ≡ p → ⊥) → MaySay past Ready p m → ⊥
+
+-- no decision and no own Initial may be added: the rounds wait for a value to be accepted
+pub record IsWaiting (past : Past) : Type 0 where
+  pub decision : (round : ℕ) (bit : Bool) → MayAdd past (Decided past.question round bit) → ⊥
+  pub initial : (t : Statement) → MayBegin past t → ⊥
 
 -- the records are its decision
 pub record Decides (past : Past) (records : List Record) : Type 0 where

@@ -1,5 +1,5 @@
 //! One question at one member: an instance of the agreement.
-ghost use Rattle.std.specs.Prelude.{◌≡◌, ◌<◌, ◌≤◌, ◌++◌, ℕ, Bool, false, List, [], None, Some, IfOk, IfSome, OnOk, OnErr, length};
+ghost use Rattle.std.specs.Prelude.{◌≡◌, ◌↔◌, IsTrue, ◌<◌, ◌≤◌, ◌++◌, ℕ, Bool, false, List, [], None, Some, IfOk, IfSome, OnOk, OnErr, length};
 ghost use Rattle.terms.specs.declared.Kind.TheVariants.{Initial};
 ghost use Rattle.terms.specs.Past.{Past, after_record};
 ghost use Rattle.terms.specs.Answer.{question_of};
@@ -7,10 +7,10 @@ ghost use Rattle.terms.specs.Same.{place_of, statement_of, plain, is_about};
 ghost use Rattle.rbc.specs.Words.{size_by};
 ghost use Rattle.rbc.specs.Stands.{Stands as HasBroadcasts};
 ghost use Rattle.rounds.specs.Words.{size_for, question_for};
-ghost use Rattle.questions.specs.Parts.{IsFrom, if_there, plain_if, initial_in, IsQuietElsewhere, Decides, Begins};
+ghost use Rattle.questions.specs.Parts.{IsFrom, if_there, plain_if, initial_in, IsNothing, IsQuietElsewhere, IsWaiting, Decides, Begins};
 
 use crate::answer::Answer;
-use rbc::{Broadcasts, Heard};
+use rbc::{Broadcasts, Brought, Taken};
 use rounds::{Question, Toss};
 use std::alloc::Global;
 use terms::{Kind, Memory, Place, Record, Size, Statement, Value};
@@ -34,15 +34,15 @@ pub(crate) struct Instance {
 
 impl Instance {
     ghost use Rattle.terms.specs.declared.Kind.{Kind};
-    ghost use Rattle.terms.specs.declared.Kind.TheVariants.{Initial};
-    ghost use Rattle.terms.specs.Answer.{AreDue, after_records, said_if};
+    ghost use Rattle.terms.specs.declared.Kind.TheVariants.{Initial, Echo, Ready};
+    ghost use Rattle.terms.specs.Answer.{AreDue, IsLeast, MaySay, after_records, said_if};
     ghost use Rattle.terms.specs.Fit.{AllFit, FitsIf};
     ghost use Rattle.terms.specs.Heard.{got, is_foreign};
     ghost use Rattle.terms.specs.Journal.{said, decided};
     ghost use Rattle.terms.specs.Past.{no_past, after_hearing};
     ghost use Rattle.terms.specs.Reply.{IsReply, after_reply, records_of};
     ghost use Rattle.terms.specs.Reply.Event.{Hearing, Proposal};
-    ghost use Rattle.rbc.specs.Answers.{heard_as};
+    ghost use Rattle.rbc.specs.Answers.{heard_as, heard_of, IfNews, IsNewlyAccepted, IsQuietAt};
     ghost use Rattle.rbc.specs.declared.Heard.TheVariants.{News};
     ghost use Rattle.questions.specs.Replies.{reply_of};
     ghost use Rattle.questions.specs.Instances.{
@@ -114,10 +114,10 @@ impl Instance {
     {
         let _value = s.value();
         match self.take(from, s)? {
-            Heard::Foreign => Ok(Answer::Foreign),
-            Heard::Repeat => Ok(Answer::Repeat),
-            Heard::News => {
-                let records = self.say_all(s.place(), toss)?;
+            Taken::Foreign => Ok(Answer::Foreign),
+            Taken::Repeat => Ok(Answer::Repeat),
+            Taken::News(brought) => {
+                let records = self.say_all(s.place(), brought, toss)?;
                 Ok(Answer::Taken(records))
             }
         }
@@ -159,52 +159,69 @@ impl Instance {
         self.rounds.verdict()
     }
 
-    /// Hears the statement, and takes the value that is then accepted at its place.
-    fn take(&mut self, from: u8, s: &Statement) -> Result<Heard, Memory>
+    /// Hears the statement, and takes the value that is accepted for it at its place.
+    fn take(&mut self, from: u8, s: &Statement) -> Result<Taken, Memory>
         requires from { from < (size_at self.old).n }
         requires origin { s.now.place.origin < (size_at self.old).n }
         requires question { s.now.place.question ≡ question_at self.old }
 
-        ensures heard { IfOk result (λ heard. (past : Past) → Has self.old past → heard ≡ heard_as past from s.now) }
+        ensures heard { IfOk result (λ taken.
+            (past : Past) → Has self.old past → heard_of taken ≡ heard_as past from s.now) }
         ensures has { OnOk result (
             (past : Past) → Has self.old past → Has self.new (after_hearing past from s.now)) }
+        ensures echo { IfOk result (λ taken. IfNews taken (λ brought.
+            (past : Past) → Has self.old past → IsQuietAt past s.now.place →
+            IsLeast (MaySay (after_hearing past from s.now) Echo s.now.place) brought.due.echo)) }
+        ensures ready { IfOk result (λ taken. IfNews taken (λ brought.
+            (past : Past) → Has self.old past → IsQuietAt past s.now.place →
+            IsLeast (MaySay (after_hearing past from s.now) Ready s.now.place) brought.due.ready)) }
+        ensures accepted { IfOk result (λ taken. IfNews taken (λ brought.
+            (past : Past) → Has self.old past → IsNewlyAccepted past from s.now brought.accepted)) }
 
         ensures err { OnErr result ((past : Past) → Has self.old past → heard_as past from s.now ≡ News) }
         ensures size { size_at self.new ≡ size_at self.old }
         ensures me { me_at self.new ≡ me_at self.old }
         ensures question { question_at self.new ≡ question_at self.old }
     {
-        match self.broadcasts.hear(from, s)? {
-            Heard::News => {
-                let place = s.place();
-                if let Some(value) = self.broadcasts.accepted(place) {
-                    self.rounds.accept(place, value)?;
+        match self.broadcasts.take(from, s)? {
+            Taken::News(brought) => {
+                if let Some(value) = brought.accepted {
+                    self.rounds.accept(s.place(), value)?;
                 }
-                Ok(Heard::News)
+                Ok(Taken::News(brought))
             }
             known => Ok(known),
         }
     }
 
-    /// Says all that is due, once a statement of that place was heard.
-    fn say_all(&mut self, place: Place, toss: Toss) -> Result<Vec<Record>, Memory>
+    /// Says all that is due, once a statement of that place was heard and brought this. A decision and own Initials are
+    /// due only where a value is newly accepted.
+    fn say_all(&mut self, place: Place, brought: Brought, toss: Toss) -> Result<Vec<Record>, Memory>
         requires origin { place.origin < (size_at self.old).n }
         requires question { place.question ≡ question_at self.old }
 
         ensures due { IfOk result (λ records.
             (past : Past) → Has self.old past → AllFit past → IsQuietElsewhere past place →
+            IsLeast (MaySay past Echo place) brought.due.echo → IsLeast (MaySay past Ready place) brought.due.ready →
+            (brought.accepted ≡ None → IsWaiting past) →
             AreDue past place toss.0 records.items) }
         ensures has { IfOk result (λ records.
-            (past : Past) → Has self.old past → AllFit past → Has self.new (after_records past records.items)) }
+            (past : Past) → Has self.old past → Has self.new (after_records past records.items)) }
         ensures few { IfOk result (λ records. length records.items ≤ 99) }
 
         ensures size { size_at self.new ≡ size_at self.old }
         ensures me { me_at self.new ≡ me_at self.old }
         ensures question { question_at self.new ≡ question_at self.old }
     {
-        let due = self.broadcasts.due(place);
-        let echo = self.say(Kind::Echo, place, due.echo)?;
-        let ready = self.say(Kind::Ready, place, due.ready)?;
+        if is_nothing(brought) {
+            return Ok(Vec::new(self.alloc));
+        }
+        let echo = self.say(Kind::Echo, place, brought.due.echo)?;
+        let ready = self.say(Kind::Ready, place, brought.due.ready)?;
+        if brought.accepted.is_none() {
+            let said = gather(self.alloc, echo, ready, None, &[])?;
+            return Ok(said);
+        }
         let decided = self.decide();
         let begun = self.begin(toss)?;
         let records = gather(self.alloc, echo, ready, decided, &begun)?;
@@ -307,6 +324,13 @@ impl Instance {
         self.rounds.note(noted);
         self.proposed = self.proposed.or(proposed_by(self.question, self.me, noted));
     }
+}
+
+/// Whether nothing is to be said, and nothing is newly accepted.
+fn is_nothing(brought: Brought) -> bool
+    ensures { IsTrue result ↔ IsNothing brought }
+{
+    brought.due.echo.is_none() && brought.due.ready.is_none() && brought.accepted.is_none()
 }
 
 /// Notes a record in the broadcasts, which look at Echos and Readys.

@@ -62,7 +62,7 @@ pub record SaysOne (b b' : Broadcasts) (s : Statement) : Type 0 where
   pub readied : (place : Place) → said_by b' Ready place ≡ said_with b s Ready place
 
 -- no value is there
-is_None : {A : Type 0} (o : Option A) → is_some o ≡ false → o ≡ None
+pub is_None : {A : Type 0} (o : Option A) → is_some o ≡ false → o ≡ None
 is_None None h = refl
 is_None (Some x) h = cc
 

@@ -220,24 +220,15 @@ pub fn accepted(known: Known, place: Place) -> Option<Value>
     }
 }
 
-/// With one more vote.
-fn voted(known: Known, from: u8, kind: Kind, value: Value) -> Known
+/// Adds a vote.
+fn vote(known: &mut Known, from: u8, kind: Kind, value: Value)
     requires { from < 32 }
-    ensures { result ≡ voted_known known from kind value }
+    ensures { known.new ≡ voted_known known.old from kind value }
 {
     match kind {
-        Kind::Initial => Known {
-            initial: with_vote(known.initial, value, from),
-            ..known
-        },
-        Kind::Echo => Known {
-            echo: with_vote(known.echo, value, from),
-            ..known
-        },
-        Kind::Ready => Known {
-            ready: with_vote(known.ready, value, from),
-            ..known
-        },
+        Kind::Initial => known.initial = with_vote(known.initial, value, from),
+        Kind::Echo => known.echo = with_vote(known.echo, value, from),
+        Kind::Ready => known.ready = with_vote(known.ready, value, from),
     }
 }
 
@@ -248,19 +239,16 @@ fn is_reached(known: Known, size: Size, place: Place, kind: Kind, value: Value) 
     kind == Kind::Ready && count(known, size, place, Kind::Ready, value) >= size.accept()
 }
 
-/// After one more statement: a value is accepted once an accept set is ready for it.
-pub fn heard(known: Known, size: Size, from: u8, s: Statement) -> Known
+/// Hears one more statement: a value is accepted once an accept set is ready for it.
+pub fn hear(known: &mut Known, size: Size, from: u8, s: Statement)
     requires { from < 32 }
-    ensures { result ≡ heard_known s.place known size from s.kind s.value }
+    ensures { known.new ≡ heard_known s.place known.old size from s.kind s.value }
 {
-    let voted = voted(known, from, s.kind(), s.value());
-    let accepted = accepted(known, s.place());
-    let reached = is_reached(voted, size, s.place(), s.kind(), s.value());
+    let accepted = accepted(*known, s.place());
+    vote(known, from, s.kind(), s.value());
+    let reached = is_reached(*known, size, s.place(), s.kind(), s.value());
     let first = if reached { Some(s.value()) } else { None };
-    Known {
-        accepted: accepted.or(first),
-        ..voted
-    }
+    known.accepted = accepted.or(first);
 }
 
 /// What was said of that kind.

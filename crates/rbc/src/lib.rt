@@ -15,6 +15,7 @@
 #![tactic(auto)]
 
 ghost use Rattle.std.specs.Prelude.{◌≡◌, ◌≢◌, ◌<◌, ℕ, IfOk, IfSome, OnOk, OnErr, IsOk};
+ghost use Rattle.rbc.specs.Answers.{heard_of};
 
 use std::alloc::Global;
 use terms::{Kind, Memory, Place, Size, Statement, Value};
@@ -45,6 +46,26 @@ pub struct Due {
     pub ready: Option<Value>,
 }
 
+/// What a statement that counts brings at its place.
+#[derive(Clone, Copy, Debug, PartialEq, Eq)]
+pub struct Brought {
+    /// What is to be said there for it, where nothing was to be said there before.
+    pub due: Due,
+    /// The value that is accepted there for it. None where none is, and where one was accepted before.
+    pub accepted: Option<Value>,
+}
+
+/// How a statement was taken, as [`Heard`] says, and what it brings.
+#[derive(Clone, Copy, Debug, PartialEq, Eq)]
+pub enum Taken {
+    /// It counts: the first of its sender, kind and place.
+    News(Brought),
+    /// One of its sender, kind and place counts already, of this value or another. Nothing changed.
+    Repeat,
+    /// An Initial whose sender isn't its origin. It doesn't count, and nothing changed.
+    Foreign,
+}
+
 /// The broadcasts of one question, at one member: what it heard, and what it said itself.
 #[derive(Drop)]
 pub struct Broadcasts {
@@ -64,7 +85,7 @@ impl Broadcasts {
     ghost use Rattle.rbc.specs.declared.Heard.TheVariants.{News};
     ghost use Rattle.rbc.specs.Words.{size_by};
     ghost use Rattle.rbc.specs.Stands.{Stands};
-    ghost use Rattle.rbc.specs.Answers.{heard_as, IsAccepted, IsTouched};
+    ghost use Rattle.rbc.specs.Answers.{heard_as, heard_of, IsAccepted, IsNewlyAccepted, IsQuietAt, IfNews, IsTouched};
 
     /// Those of the member `me`, below `size.n()`, that heard and said nothing yet. It takes no memory: `alloc` is
     /// kept for [`hear`](Broadcasts::hear) and [`say`](Broadcasts::say).
@@ -85,7 +106,6 @@ impl Broadcasts {
     ///
     /// [`Memory`]: the statement is news, and there was no memory to note it. Nothing changed, so it may be heard
     /// again. A place at which something that counts was heard, or something was said, has its memory already.
-    #[tactic(auto, unfolding(crate::specs::Words::got_by, crate::specs::Words::size_by))]
     pub fn hear(&mut self, from: u8, s: &Statement) -> Result<Heard, Memory>
         requires from { from < (size_by self.old).n }
         requires origin { s.now.place.origin < (size_by self.old).n }
@@ -107,19 +127,65 @@ impl Broadcasts {
             IsTouched past s.now.place → IsOk result }
         ensures size { size_by self.new ≡ size_by self.old }
     {
+        match self.take(from, s) {
+            Ok(taken) => Ok(heard_of(taken)),
+            Err(refused) => Err(refused),
+        }
+    }
+
+    /// Hears a statement from the member `from`, as [`hear`](Broadcasts::hear) does, and says what it brings at its place.
+    ///
+    /// `from` and the origin of the place are below n: the caller sees to it.
+    ///
+    /// [`Memory`]: the statement is news, and there was no memory to note it. Nothing changed, so it may be heard
+    /// again. A place at which something that counts was heard, or something was said, has its memory already.
+    #[tactic(auto, unfolding(crate::specs::Words::got_by, crate::specs::Words::size_by))]
+    pub fn take(&mut self, from: u8, s: &Statement) -> Result<Taken, Memory>
+        requires from { from < (size_by self.old).n }
+        requires origin { s.now.place.origin < (size_by self.old).n }
+
+        ensures answer { IfOk result (λ taken.
+            (past : Past) → Stands self.old past → s.now.place.question ≡ past.question →
+            heard_of taken ≡ heard_as past from s.now) }
+        ensures ok { OnOk result (
+            (past : Past) → Stands self.old past → s.now.place.question ≡ past.question →
+            Stands self.new (after_hearing past from s.now)) }
+        ensures unchanged_unless_news { IfOk result (λ taken. heard_of taken ≢ News →
+            (past : Past) → Stands self.old past → Stands self.new past) }
+
+        // What may be said at a place where nothing might be said before is of the statement's own value.
+        ensures echo { IfOk result (λ taken. IfNews taken (λ brought.
+            (past : Past) → Stands self.old past → s.now.place.question ≡ past.question → IsQuietAt past s.now.place →
+            IsLeast (MaySay (after_hearing past from s.now) Echo s.now.place) brought.due.echo)) }
+        ensures ready { IfOk result (λ taken. IfNews taken (λ brought.
+            (past : Past) → Stands self.old past → s.now.place.question ≡ past.question → IsQuietAt past s.now.place →
+            IsLeast (MaySay (after_hearing past from s.now) Ready s.now.place) brought.due.ready)) }
+        ensures accepted { IfOk result (λ taken. IfNews taken (λ brought.
+            (past : Past) → Stands self.old past → s.now.place.question ≡ past.question →
+            IsNewlyAccepted past from s.now brought.accepted)) }
+        ensures fits { IfOk result (λ taken. IfNews taken (λ brought.
+            IfSome brought.accepted (λ m. FitsStep s.now.place.step m))) }
+
+        ensures err { OnErr result ((past : Past) → Stands self.old past → Stands self.new past) }
+        ensures err_only_at_news { OnErr result (
+            (past : Past) → Stands self.old past → s.now.place.question ≡ past.question →
+            heard_as past from s.now ≡ News) }
+        ensures no_memory { (past : Past) → Stands self.old past → s.now.place.question ≡ past.question →
+            IsTouched past s.now.place → IsOk result }
+        ensures size { size_by self.new ≡ size_by self.old }
+    {
         let _members = self.size.n();
         if known::is_foreign(from, *s) {
-            return Ok(Heard::Foreign);
+            return Ok(Taken::Foreign);
         }
         let place = s.place();
         let _value = s.value();
         let before = table::known_at(&self.cells, self.size, place);
         if known::value(before, place, from, s.kind()).is_some() {
-            return Ok(Heard::Repeat);
+            return Ok(Taken::Repeat);
         }
-        let after = known::heard(before, self.size, from, *s);
-        table::keep(&mut self.cells, self.size, place, after)?;
-        Ok(Heard::News)
+        let after = table::hear(&mut self.cells, self.size, from, *s)?;
+        Ok(Taken::News(rules::brought(before, after, self.size, *s)))
     }
 
     /// What is to be said at the place, whose origin is below n. It takes no memory.
@@ -184,5 +250,16 @@ impl Broadcasts {
         ensures fits { IfSome result (λ m. FitsStep place.step m) }
     {
         known::accepted(table::known_at(&self.cells, self.size, place), place)
+    }
+}
+
+/// How the statement was taken.
+fn heard_of(taken: Taken) -> Heard
+    ensures { result ≡ heard_of taken }
+{
+    match taken {
+        Taken::News(_) => Heard::News,
+        Taken::Repeat => Heard::Repeat,
+        Taken::Foreign => Heard::Foreign,
     }
 }

@@ -1,11 +1,13 @@
 //! What is known of a place is reason for: to say a value.
-ghost use Rattle.std.specs.Prelude.{◌≡◌, ◌+◌, ◌*◌, ◌||◌, nat_lt};
+ghost use Rattle.std.specs.Prelude.{◌≡◌, ◌+◌, ◌*◌, ◌||◌, nat_lt, cond, is_some, None, IfSome};
+ghost use Rattle.terms.specs.Bounds.{FitsStep};
 ghost use Rattle.terms.specs.Same.{value_is};
-ghost use Rattle.rbc.specs.Due.{is_backed, least_of, due_known};
-ghost use Rattle.rbc.specs.Known.{got_known};
+ghost use Rattle.rbc.specs.Due.{is_backed, is_backed_as, least_of, due_known, unless_said, echo_for, ready_for};
+ghost use Rattle.rbc.specs.Known.{got_known, accepted_known};
 
 use crate::known::{self, Known};
-use terms::{Kind, Place, Size, Value};
+use crate::{Brought, Due};
+use terms::{Kind, Place, Size, Statement, Value};
 
 /// The values in the order of their codes, the least first.
 const VALUES: [Value; 5] = [
@@ -59,4 +61,61 @@ pub fn due(
         return None;
     }
     least_due(known, size, place, initial)
+}
+
+/// Whether an echo quorum sent the value, of an Echo, or a help set, of a Ready.
+fn is_backed_as(known: Known, size: Size, kind: Kind, place: Place, m: Value) -> bool
+    ensures { result ≡ is_backed_as size (got_known known) kind place m }
+{
+    match kind {
+        Kind::Initial => false,
+        Kind::Echo => is_echo_quorum(size, known::count(known, size, place, Kind::Echo, m)),
+        Kind::Ready => known::count(known, size, place, Kind::Ready, m) >= size.ready_help(),
+    }
+}
+
+/// The value, if there is a reason to say it and nothing was said.
+fn unless_said(said: Option<Value>, reason: bool, m: Value) -> Option<Value>
+    ensures { result ≡ unless_said said reason m }
+{
+    if said.is_none() && reason {
+        Some(m)
+    } else {
+        None
+    }
+}
+
+/// What a statement is reason to say, by what is known of its place after it.
+fn due_for(known: Known, size: Size, s: Statement) -> Due
+    ensures echo { result.echo ≡ echo_for size known s }
+    ensures ready { result.ready ≡ ready_for size known s }
+{
+    let backed = is_backed_as(known, size, s.kind(), s.place(), s.value());
+    Due {
+        echo: unless_said(
+            known.echoed,
+            known::is_initial(s.kind()) || backed,
+            s.value(),
+        ),
+        ready: unless_said(known.readied, backed, s.value()),
+    }
+}
+
+/// What a statement brings that is news: by what was known of its place before it, and is known after it.
+pub fn brought(before: Known, after: Known, size: Size, s: Statement) -> Brought
+    ensures echo { result.due.echo ≡ echo_for size after s }
+    ensures ready { result.due.ready ≡ ready_for size after s }
+    ensures accepted { result.accepted ≡ cond (is_some (accepted_known s.place before)) None (accepted_known s.place after) }
+    ensures fits { IfSome result.accepted (λ m. FitsStep s.place.step m) }
+{
+    let place = s.place();
+    let accepted = if known::accepted(before, place).is_some() {
+        None
+    } else {
+        known::accepted(after, place)
+    };
+    Brought {
+        due: due_for(after, size, s),
+        accepted,
+    }
 }

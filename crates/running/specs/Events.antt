@@ -6,7 +6,7 @@ use Rattle.wire.specs.declared.message.WireFault.TheVariants.{BadLength, BadType
 use Rattle.links.specs.declared.ends.LinkEnd.{LinkEnd}
 use Rattle.links.specs.declared.ends.LinkEnd.TheVariants as cause
 use Rattle.running.specs.declared.events.Event.{Event}
-use Rattle.running.specs.declared.events.Event.TheVariants.{Ready, LinkUp, LinkDown, Refused, Decided, Stopped, Missed, End}
+use Rattle.running.specs.declared.events.Event.TheVariants.{Ready, LinkUp, LinkDown, LinkUpTo, LinkDownTo, Refused, Decided, Stopped, Missed, End}
 
 -- what is wrong with bytes that begin no frame
 abbrev pub fault_text : WireFault → List ℕ
@@ -38,6 +38,8 @@ abbrev pub event_text : Event → List ℕ
 event_text (Ready me) = codes "ready member " ++ decimal me
 event_text (LinkUp peer) = codes "link-up from " ++ decimal peer
 event_text (LinkDown peer end) = codes "link-down from " ++ (decimal peer ++ (codes " " ++ cause_text end))
+event_text (LinkUpTo peer) = codes "link-up to " ++ decimal peer
+event_text (LinkDownTo peer end) = codes "link-down to " ++ (decimal peer ++ (codes " " ++ cause_text end))
 event_text (Refused end) = codes "refused " ++ cause_text end
 event_text (Decided question bit) = codes "decided " ++ (decimal question ++ (codes " " ++ decimal (bit_number bit)))
 event_text Stopped = codes "stopped"

@@ -16,6 +16,10 @@ pub enum Event {
     LinkUp(u8),
     /// It isn't read any more, for this cause.
     LinkDown(u8, LinkEnd),
+    /// A link to this member was welcomed, and what this one says is written to it from now on.
+    LinkUpTo(u8),
+    /// It isn't written any more, for this cause.
+    LinkDownTo(u8, LinkEnd),
     /// A connection to the links' address was closed for this cause, before it became a link.
     Refused(LinkEnd),
     /// A question was decided for this bit.
@@ -69,6 +73,8 @@ impl fmt::Display for Event {
             Event::Ready(me) => write!(f, "ready member {me}"),
             Event::LinkUp(peer) => write!(f, "link-up from {peer}"),
             Event::LinkDown(peer, end) => write!(f, "link-down from {peer} {}", cause_text(end)),
+            Event::LinkUpTo(peer) => write!(f, "link-up to {peer}"),
+            Event::LinkDownTo(peer, end) => write!(f, "link-down to {peer} {}", cause_text(end)),
             Event::Refused(end) => write!(f, "refused {}", cause_text(end)),
             Event::Decided(question, bit) => write!(f, "decided {question} {}", u8::from(bit)),
             Event::Stopped => f.write_str("stopped"),

@@ -2,6 +2,7 @@
 
 use crate::events::Event;
 use crate::machine::Machine;
+use crate::outgoing::Outgoing;
 use crate::shared::Shared;
 use disk::Disk;
 use links::{LinkEnd, NetStream, Open, greet, read_link, write_link};
@@ -27,17 +28,35 @@ fn stream_at<D: Disk, J: Naming, R: Machine>(
     }
 }
 
-/// Writes the link to a peer over the socket at a place.
+/// Writes the link to another member over the stream. That it comes up, and that it goes down again, is to be told.
+fn write_told<D: Disk, J: Naming, R: Machine>(
+    rt: &R,
+    it: &Shared<D, J>,
+    peer: u8,
+    stream: NetStream,
+) -> LinkEnd {
+    let mut outgoing = Outgoing::new(rt, stream, &it.telling, Event::LinkUpTo(peer));
+    let end = write_link(rt, it.alloc, &it.hub, peer, &mut outgoing, &Open);
+    if outgoing.is_up() {
+        it.note_link(rt, Event::LinkDownTo(peer, end));
+    }
+    end
+}
+
+/// Writes the link to a peer over the socket at a place. The link from the member to itself is none of the log's.
 fn write_at<D: Disk, J: Naming, R: Machine>(
     rt: &R,
     it: &Shared<D, J>,
     peer: u8,
     place: usize,
 ) -> LinkEnd {
-    match stream_at(rt, it, place) {
-        Some(mut stream) => write_link(rt, it.alloc, &it.hub, peer, &mut stream, &Open),
-        None => LinkEnd::Lost,
+    let Some(mut stream) = stream_at(rt, it, place) else {
+        return LinkEnd::Lost;
+    };
+    if peer == it.hub.header().me() {
+        return write_link(rt, it.alloc, &it.hub, peer, &mut stream, &Open);
     }
+    write_told(rt, it, peer, stream)
 }
 
 /// One session of the link to a peer; none where nobody listens there.

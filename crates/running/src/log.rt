@@ -1,6 +1,6 @@
 //! Events that wait to be told, and who tells them.
 
-ghost use Rattle.std.specs.Prelude.{◌≡◌, ◌⊎◌, ◌≤◌, ◌++◌, ◌∷◌, [], length, true, false};
+ghost use Rattle.std.specs.Prelude.{◌≡◌, ◌↔◌, ◌⊎◌, ◌≤◌, ◌++◌, ◌∷◌, [], length, IsTrue};
 ghost use Rattle.running.specs.Queues.{none, one_more};
 
 use crate::events::Event;
@@ -56,7 +56,7 @@ impl Queue {
 
     /// Whether nothing waits.
     pub fn is_empty(&self) -> bool
-        ensures { result ≡ true → self.now.events ≡ [] }
+        ensures { IsTrue result ↔ (self.now ≡ none) }
     {
         self.events.is_empty() && self.missed == 0
     }

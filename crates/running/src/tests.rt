@@ -448,6 +448,85 @@ fn a_log_tells_a_life(rt: HostRuntime) -> Result<(), Fail> {
     alone(&rt, rt.alloc())
 }
 
+/// Lets the log have so many events, for at most ten seconds.
+fn wait_for<R: Machine>(rt: &R, log: &Mutex<Kept>, count: usize) {
+    for _ in 0..200u32 {
+        if log.lock(rt).events.len() >= count {
+            return;
+        }
+        thread::sleep(rt, Duration::from_millis(50));
+    }
+}
+
+/// As a peer welcomes the link that is dialled to it: it reads the Hello, writes the Welcome, and reads an Idle.
+fn welcome<R: Machine + Abort>(rt: &R, listener: &TcpListener) -> Result<TcpStream, Fail> {
+    let (mut link, _) = listener.accept()?;
+    link.set_read_timeout(Some(Duration::from_secs(5)))?;
+    let mut hello = [0u8; 18];
+    link.read_exact(&mut hello)?;
+    assert!(rt; hello == [0, 16, 1, 1, 0, 0, 0, 0, 0, 0, 0, 7, 4, 1, 0, 1, 0, 1]);
+    link.write_all(&[0, 9, 2, 0, 0, 0, 0, 0, 0, 0, 0])?;
+    let mut idle = [0u8; 3];
+    link.read_exact(&mut idle)?;
+    assert!(rt; idle == [0, 1, 0]);
+    Ok(link)
+}
+
+/// A member that has a log, and a peer that welcomes its link, and leaves.
+fn peer_leaves<R: Machine + Abort>(rt: &R, alloc: Global) -> Result<(), Fail> {
+    let cluster = Cluster {
+        n: 4,
+        t: 1,
+        port: 47250,
+    };
+    let listener = TcpListener::bind(rt, cluster.address(1))?;
+    let kept = Mutex::new(Kept {
+        events: Vec::new(alloc),
+    });
+    let cue = Cue::new();
+    let (cue, log) = (&cue, &kept);
+    thread::scope(thread::scope_env(), rt, |scope| -> Result<(), Fail> {
+        let _run = scope.spawn(move || {
+            let ended = run_told(rt, alloc, cluster, 0, None, cue, Some(log));
+            *cue.ended.lock(rt) = Some(ended);
+        });
+        assert!(rt; cue.is_ready(rt));
+        let link = welcome(rt, &listener)?;
+        wait_for(rt, log, 2);
+        drop(link);
+        wait_for(rt, log, 3);
+        assert!(rt; cue.ends(rt) == Some(Ok(())));
+        Ok(())
+    })?;
+    let told = kept.into_inner().events;
+    let want = [
+        Event::Ready(0),
+        Event::LinkUpTo(1),
+        Event::LinkDownTo(1, LinkEnd::Lost),
+        Event::End,
+    ];
+    assert!(rt; told.as_slice() == want.as_slice(), "told {told:?}");
+    Ok(())
+}
+
+#[test]
+fn a_log_tells_of_links_to_peers(rt: HostRuntime) -> Result<(), Fail> {
+    let _types = no_sockets();
+    peer_leaves(&rt, rt.alloc())
+}
+
+#[test]
+fn a_link_is_up_once_it_is_written_behind_a_read(rt: HostRuntime) -> Result<(), Fail> {
+    let hello = Standing::Greeting.written();
+    assert!(&rt; hello == Standing::Greeting && !hello.comes_up());
+    let answered = hello.read().read();
+    assert!(&rt; answered == Standing::Answered && answered.comes_up());
+    let up = answered.written();
+    assert!(&rt; up == Standing::Up && !up.comes_up());
+    assert!(&rt; up.read() == Standing::Up && up.written() == Standing::Up);
+    Ok(())
+}
+
 #[test]
 fn events_are_lines(rt: HostRuntime) -> Result<(), Fail> {
     for (event, want) in [
@@ -469,6 +548,12 @@ fn events_are_lines(rt: HostRuntime) -> Result<(), Fail> {
         (
             Event::LinkDown(3, LinkEnd::Memory),
             "link-down from 3 memory",
+        ),
+        (Event::LinkUpTo(2), "link-up to 2"),
+        (Event::LinkDownTo(31, LinkEnd::Lost), "link-down to 31 lost"),
+        (
+            Event::LinkDownTo(0, LinkEnd::Memory),
+            "link-down to 0 memory",
         ),
         (Event::Refused(LinkEnd::Stranger), "refused stranger"),
         (Event::Refused(LinkEnd::Busy), "refused busy"),

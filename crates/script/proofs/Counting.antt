@@ -1,7 +1,5 @@
 -- How many events there are, and events in turn.
-use Rattle.std.proofs.Common.{ℕ, zero, suc, ◌≡◌, ◌+◌, ◌*◌, ◌-◌, ◌<◌, ◌≤◌, refl, sym, ap, ◌∙◌, subst, arith, List, [], ◌∷◌, ◌++◌, length, drop, length-append, get_or, add-one, ◌^◌, min, mul-le-mul_left, Result, Ok, Err, OnOk, IfErr}
-use Rattle.script.specs.declared.fault.ScriptFault.{ScriptFault}
-use Rattle.script.specs.declared.fault.ScriptFault.TheVariants as faults
+use Rattle.std.proofs.Common.{ℕ, zero, suc, ◌≡◌, ◌+◌, ◌*◌, ◌-◌, ◌<◌, ◌≤◌, refl, sym, ap, ◌∙◌, subst, arith, List, [], ◌∷◌, ◌++◌, length, drop, length-append, get_or, add-one, ◌^◌, min, mul-le-mul_left}
 use Rattle.sim.specs.declared.TheConstants.{MOST_EVENTS}
 use Rattle.std.proofs.Math.Seq.{drop-cons}
 use Rattle.sim.specs.declared.events.Which.TheVariants.{Next}
@@ -9,7 +7,7 @@ use Rattle.script.specs.Acts.Act.{Deliver}
 use Rattle.std.specs.List.{flat_map}
 use Rattle.terms.specs.declared.Size.{Size}
 use Rattle.script.specs.Acts.{Act}
-use Rattle.script.specs.Making.{Made, add, add_drawn, adds, draws, row, round, times, AreFew, IsOver}
+use Rattle.script.specs.Making.{Made, add, add_drawn, adds, draws, row, round, times}
 
 pub length-add : (act : Act) (made : Made) → length (add act made).events ≡ length made.events + 1
 unfolding add
@@ -93,6 +91,21 @@ pub draws-next : (size : Size) (n i : ℕ) (made : Made) → i < n
     → draws size (n - i) made ≡ draws size (n - (i + 1)) (add_drawn size made)
 draws-next size n i made h = ap (λ k. draws size k made) (less-one n i h)
 
+-- one round, and those behind it
+pub round_first : (k : ℕ) (acts : List Act) (made : Made) → 0 < k → adds (times (k - 1) acts) (adds acts made) ≡ adds (times k acts) made
+round_first zero acts made h = absurd (omega (arith, h))
+round_first (suc k) acts made h =
+    let e : suc k - 1 ≡ k = omega arith in
+    rw e (sym (adds-append acts (times k acts) made))
+
+-- some drawn events, and those behind them
+pub draws_split : (size : Size) (k n : ℕ) (made : Made) → n ≤ k → draws size (k - n) (draws size n made) ≡ draws size k made
+draws_split size k zero made h = let e : k - 0 ≡ k = omega arith in rw e refl
+draws_split size zero (suc n) made h = absurd (omega (arith, h))
+draws_split size (suc k) (suc n) made h =
+    let e : suc k - suc n ≡ k - n = omega arith in
+    rw e (draws_split size k n (add_drawn size made) (omega (arith, h)))
+
 -- rounds of no members
 pub times-none : (k : ℕ) (made : Made) → adds (times k (round [])) made ≡ made
 times-none zero made = refl
@@ -108,45 +121,15 @@ length-rounds k members made =
 pub count_one : (act : Act) (made : Made) → length (add act made).events ≡ length made.events + 1
 count_one act made = length-add act made
 
-pub count_drawn : (size : Size) (k : ℕ) (made : Made) → length (draws size k made).events ≡ length made.events + k
-count_drawn size k made = length-draws size k made
-
--- a product that is cut at the greatest number is no greater than the product
-pub over_room : (have k l links sat : ℕ) → links ≡ min l (2 ^ 64 - 1) → sat ≡ min (k * links) (2 ^ 64 - 1)
-    → MOST_EVENTS < have + sat → MOST_EVENTS < have + k * l
-over_room have k l links sat e f h =
-    let small : links ≤ l = omega arith in
-    let grows : k * links ≤ k * l = mul-le-mul_left k small in
-    omega arith
-
 -- where it is no more than there may be, it wasn't cut
-pub in_room : (have k l links sat : ℕ) → links ≡ min l (2 ^ 64 - 1) → sat ≡ min (k * links) (2 ^ 64 - 1)
-    → have + sat ≤ MOST_EVENTS → have + k * l ≤ MOST_EVENTS
-in_room have zero l links sat e f h = omega arith
-in_room have (suc k) l links sat e f h =
+pub uncut : (have k l links sat : ℕ) → links ≡ min l (2 ^ 64 - 1) → sat ≡ min (k * links) (2 ^ 64 - 1)
+    → have + sat ≤ MOST_EVENTS → sat ≡ k * l
+uncut have zero l links sat e f h = omega arith
+uncut have (suc k) l links sat e f h =
     let whole : links ≡ l = omega arith in
-    subst (λ x. have + suc k * x ≤ MOST_EVENTS) whole (omega arith)
+    subst (λ x. sat ≡ suc k * x) whole (omega arith)
 
 -- rounds of members of whom there are none
 pub no_rounds : (k : ℕ) (members : List ℕ) (made : Made) → length members ≡ 0 → adds (times k (round members)) made ≡ made
 no_rounds k [] made h = times-none k made
 no_rounds k (m ∷ members) made h = absurd (omega arith)
-
--- what the room for rounds says
-pub rounds_fit : (k : ℕ) (members : List ℕ) (made : Made) (links sat : ℕ) (r : Result (Unit {0}) ScriptFault)
-    → links ≡ min (length members * length members) (2 ^ 64 - 1) → sat ≡ min (k * links) (2 ^ 64 - 1)
-    → OnOk r (length made.events + sat ≤ MOST_EVENTS) → OnOk r (AreFew (adds (times k (round members)) made))
-rounds_fit k members made links sat (Ok u) e f h =
-    let l = length-rounds k members made in
-    let g = in_room (length made.events) k (length members * length members) links sat e f h in
-    omega arith
-rounds_fit k members made links sat (Err x) e f h = tt
-
-pub rounds_are_over : (k : ℕ) (members : List ℕ) (made : Made) (links sat : ℕ) (r : Result (Unit {0}) ScriptFault)
-    → links ≡ min (length members * length members) (2 ^ 64 - 1) → sat ≡ min (k * links) (2 ^ 64 - 1)
-    → IfErr r (λ fault. (MOST_EVENTS < length made.events + sat) × (fault ≡ faults.Events)) → IfErr r (IsOver (adds (times k (round members)) made))
-rounds_are_over k members made links sat (Ok u) e f h = tt
-rounds_are_over k members made links sat (Err x) e f h =
-    let l = length-rounds k members made in
-    let g = over_room (length made.events) k (length members * length members) links sat e f h.0 in
-    (omega arith, h.1)

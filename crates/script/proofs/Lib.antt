@@ -3,6 +3,9 @@ pub mod Parts
 pub mod Splits
 pub mod Heads
 pub mod Leading
+pub mod Counted
+pub mod Fronts
+pub mod Sources
 pub mod Exact
 pub mod Determined
 pub mod Total

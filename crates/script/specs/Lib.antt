@@ -6,3 +6,4 @@ pub mod Steps
 pub mod Untossed
 pub mod Making
 pub mod Scripts
+pub mod Sources

@@ -1,5 +1,5 @@
 -- What lines of events stand for.
-use Rattle.std.specs.Prelude.{ℕ, zero, suc, ◌≡◌, ◌<◌, ◌≤◌, ◌⊎◌, if◌then◌else◌, List, [], ◌∷◌, ◌++◌, length, map}
+use Rattle.std.specs.Prelude.{ℕ, zero, suc, ◌≡◌, ◌<◌, ◌≤◌, ◌*◌, ◌⊎◌, if◌then◌else◌, List, [], ◌∷◌, ◌++◌, length, map}
 use Rattle.std.specs.List.{flat_map}
 use Rattle.rand_chacha.specs.ChaCha.{ChaCha}
 use Rattle.terms.specs.declared.Size.{Size}
@@ -62,6 +62,23 @@ abbrev pub after_step : Size → List ℕ → Step → Made → Made
 after_step size correct (Once act) made = add act made
 after_step size correct (Rounds k) made = adds (times k (round correct)) made
 after_step size correct (Random k) made = draws size k made
+
+-- what there is behind these steps, in turn
+abbrev pub after_steps : Size → List ℕ → List Step → Made → Made
+after_steps size correct [] made = made
+after_steps size correct (step ∷ steps) made = after_steps size correct steps (after_step size correct step made)
+
+-- how many events a step stands for, where so many members don't lie
+abbrev pub how_many : ℕ → Step → ℕ
+how_many members (Once act) = 1
+how_many members (Rounds k) = k * (members * members)
+how_many members (Random k) = k
+
+-- in how many turns, at most, a step's events are made
+abbrev pub turns : Step → ℕ
+turns (Once act) = 1
+turns (Rounds k) = k
+turns (Random k) = k
 
 -- there are no more events than may be
 abbrev pub AreFew : Made → Type 0

@@ -1,5 +1,5 @@
 -- Which script a text says, or which fault is its first.
-use Rattle.std.specs.Prelude.{ℕ, ◌≡◌, ◌⊎◌, nat_lt, if◌then◌else◌, Some, None, List, [], ◌∷◌, codes, drop, map}
+use Rattle.std.specs.Prelude.{ℕ, ◌≡◌, ◌⊎◌, Some, None, List, [], ◌∷◌, codes, drop, map}
 use Rattle.terms.specs.declared.Size.{Size}
 use Rattle.terms.specs.Sizes.{size_of, size_fault}
 use Rattle.terms.specs.declared.SizeFault.{SizeFault}

@@ -1,6 +1,7 @@
 -- What stands in the code for acts and steps.
 use Rattle.std.specs.Prelude.{ℕ, Bool, true, false, List, [], ◌∷◌, map}
 use denote.Ref.{Bor}
+use Rattle.terms.specs.declared.Size.{Size}
 use Rattle.script.specs.declared.draw.Untossed.{Untossed}
 use Rattle.script.specs.declared.draw.Untossed.TheVariants as untossed
 use Rattle.script.specs.declared.step.Order.{Order}
@@ -10,6 +11,7 @@ use Rattle.script.specs.Acts.{Act}
 use Rattle.script.specs.Acts.Act.{Propose, Deliver, DeliverAll, Lie, Fuse, Crash, Restart, Reset}
 use Rattle.script.specs.Steps.{Step}
 use Rattle.script.specs.Steps.Step.{Once, Rounds, Random}
+use Rattle.script.specs.Making.{Made, after_steps}
 
 -- what an event without its toss is
 abbrev pub act_of : Untossed → Act
@@ -27,6 +29,10 @@ abbrev pub step_of : Order → Step
 step_of (order.Once event) = Once (act_of event)
 step_of (order.Rounds count) = Rounds count
 step_of (order.Random count) = Random count
+
+-- what there is behind what these orders stand for
+abbrev pub made_by : Size → List ℕ → List Order → Made → Made
+made_by size correct orders made = after_steps size correct (map step_of orders) made
 
 -- the bytes of words
 abbrev pub texts : List (Bor (List ℕ)) → List (List ℕ)

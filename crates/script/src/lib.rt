@@ -16,6 +16,8 @@ mod head;
 pub mod laws;
 mod lines;
 mod making;
+mod orders;
+mod source;
 mod step;
 mod values;
 
@@ -23,7 +25,9 @@ pub use fault::ScriptFault;
 use head::{HEAD_LINES, Head};
 use lines::Lines;
 use making::Making;
+use orders::orders;
 use sim::{Event, MOST_EVENTS};
+pub use source::Source;
 use std::alloc::{AllocError, Global};
 use terms::Size;
 
@@ -66,8 +70,9 @@ pub fn read(alloc: Global, text: &[u8]) -> Result<Script, ScriptFault>
     let lines = Lines::of(alloc, text)?;
     let Head { size, liars, seed } = Head::read(alloc, &lines)?;
     let correct = correct_members(alloc, size.n(), &liars)?;
+    let orders = orders(alloc, &correct, lines.behind(HEAD_LINES))?;
     let mut making = Making::new(alloc, seed);
-    making.take_all(alloc, size, &correct, lines.behind(HEAD_LINES))?;
+    making.take_all(alloc, size, &correct, orders)?;
     let events = making.into_events();
     Ok(Script {
         size,

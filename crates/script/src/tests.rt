@@ -378,3 +378,45 @@ fn names_each_fault(rt: HostRuntime) -> Result<(), Fail> {
     }
     Ok(())
 }
+
+/// Drawn events of more than one piece, rounds, lines that stand for nothing, and a line that is an event.
+const ALL_SORTS: &str = "n 4
+t 1
+questions 3
+liars 3
+seed 5
+propose 1 0 1
+rounds 0
+random 300
+lie 3 0 000100
+rounds 3
+random 0
+restart 2
+";
+
+/// How many of the source's events are those of the list at their places.
+fn as_listed(alloc: Global, source: &mut Source, events: &[Event]) -> Result<usize, ScriptFault> {
+    let mut place = 0usize;
+    let mut same = 0usize;
+    'batches: while source.more(alloc)? {
+        for event in source.batch() {
+            if events.get(place) == Some(event) {
+                same = same.saturating_add(1);
+            }
+            place = place.saturating_add(1);
+        }
+    }
+    Ok(same)
+}
+
+#[test]
+fn a_source_gives_what_is_read(rt: HostRuntime) -> Result<(), Fail> {
+    let script = read(rt.alloc(), ALL_SORTS.as_bytes())?;
+    assert_eq!(rt; script.events.len(), 330);
+    let mut source = Source::of(rt.alloc(), ALL_SORTS.as_bytes())?;
+    assert!(rt; source.size() == script.size);
+    assert!(rt; source.liars() == script.liars.as_slice());
+    let same = as_listed(rt.alloc(), &mut source, &script.events)?;
+    assert_eq!(rt; same, 330);
+    Ok(())
+}

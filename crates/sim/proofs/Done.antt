@@ -252,6 +252,27 @@ module _ (size : Size) (liars : ℕ → Bool) (c : Scene) (p : ℕ) (old : Post)
     };
   }
 
+  -- a link that begins anew
+  pub reset_done : (from : ℕ) (bytes : List ℕ) (new : Post) (i : ℕ) (link : Link) → length old.incoming.items ≡ size.n → from < size.n → i ≡ from
+      → link.place ≡ 0 → link.size ≡ size → link.end ≡ Rest []
+      → new.header ≡ old.header → new.seat ≡ old.seat → new.fused ≡ old.fused → new.incoming.items ≡ set old.incoming.items i link
+      → IsDone size liars c p (task.Reset from) bytes Done new
+  reset_done from bytes new i link len member ei at is end h s f items = record {
+    steps = [];
+    does = (refl, refl);
+    is_run = tt;
+    at = record {
+      header = h ∙ post.header;
+      side = ap is_liar s ∙ post.side;
+      at = λ honest. subst (λ (x : Seat). IsSeat (mine size p) c.world x) (sym s) (post.at honest);
+      fused = λ honest. f ∙ post.fused honest;
+      links = λ a x la. subst (λ (l : List Link). IsLink size (liars a) (put_at c.place from p 0 a p) (put_at c.fed from p [] a p) (get_or l a x)) (sym items)
+          (link_set size liars c (record c { place = put_at c.place from p 0; fed = put_at c.fed from p [] }) p from i old.incoming.items link len member ei post.links
+          (link_new size (liars from) _ _ link (put_at-here c.place from p 0) (put_at-here c.fed from p []) at is end)
+          (λ b ne. put_at-row c.place from p 0 b ne) (λ b ne. put_at-row c.fed from p [] b ne) a x la);
+    };
+  }
+
   -- a crash
   pub crash_done : (pick : Pick) (bytes : List ℕ) (seat : Seat) → is_liar seat ≡ is_liar old.seat → liars p ≡ false
       → IsSeat (mine size p) (after c.world (CrashStep p)) seat

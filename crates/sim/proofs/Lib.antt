@@ -14,3 +14,4 @@ pub mod Opening
 pub mod Verdicts
 pub mod Proposals
 pub mod Simulations
+pub mod Playing

@@ -12,7 +12,7 @@ use Rattle.wire.specs.Texts.{text, Fits}
 use Rattle.wire.specs.Reading.{End, Rest}
 use Rattle.wire.specs.Feeding.{Feeds}
 use Rattle.wire.proofs.Cutting.{written_is_fed}
-use Rattle.sim.specs.Links.{statements_in, Takes}
+use Rattle.sim.specs.Links.{statements_in}
 
 pub statements-append : (xs ys : List Message) → statements_in (xs ++ ys) ≡ statements_in xs ++ statements_in ys
 statements-append [] ys = refl
@@ -28,14 +28,13 @@ statements_more ms i d m l e =
     ap statements_in (take_more ms i d l ∙ ap (λ (x : Message). take i ms ++ x ∷ []) e) ∙ statements-append (take i ms) (m ∷ [])
 
 -- the frame of a statement gives that statement, where nothing was held before
-pub arrives : (size : Size) (s : Statement) (end last : End) (statements : List Statement) → IsSize size → IsWellFormed size s
-    → end ≡ Rest [] → Takes size end (text (message.Statement s)) statements last → (statements ≡ s ∷ []) × (last ≡ Rest [])
-arrives size s end last statements lawful well e takes =
-    let fed : Feeds size (Rest []) (text (message.Statement s)) [] takes.0 last =
-    subst (λ (x : End). Feeds size x (text (message.Statement s)) [] takes.0 last) e takes.1 in
-    let w = written_is_fed size (message.Statement s ∷ []) [] takes.0 (text (message.Statement s) ∷ []) last lawful (well, tt) refl
-    (takes.0, last, fed, (refl, refl)) in
-    (takes.2 ∙ ap statements_in w.0, w.1)
+pub arrives : (size : Size) (s : Statement) (end last : End) (messages : List Message) → IsSize size → IsWellFormed size s
+    → end ≡ Rest [] → Feeds size end (text (message.Statement s)) [] messages last → (messages ≡ message.Statement s ∷ []) × (last ≡ Rest [])
+arrives size s end last messages lawful well e feeds =
+    let fed : Feeds size (Rest []) (text (message.Statement s)) [] messages last =
+    subst (λ (x : End). Feeds size x (text (message.Statement s)) [] messages last) e feeds in
+    written_is_fed size (message.Statement s ∷ []) [] messages (text (message.Statement s) ∷ []) last lawful (well, tt) refl
+    (messages, last, fed, (refl, refl))
 
 -- each statement among messages that fit is well formed
 pub all_formed : (size : Size) (ms : List Message) → AllByRecursion (Fits size) ms → AllByRecursion (IsWellFormed size) (statements_in ms)

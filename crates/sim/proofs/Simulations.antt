@@ -1,5 +1,5 @@
 -- What a simulation promises.
-use Rattle.std.proofs.Common.{◌≡◌, ◌≤◌, ℕ, Bool, List, sym, subst, arith}
+use Rattle.std.proofs.Common.{◌≤◌, ℕ, Bool, List, sym, subst, arith}
 use Rattle.std.specs.Global.{Vec}
 use Rattle.terms.specs.declared.Size.{Size}
 use Rattle.terms.specs.declared.Record.{Record}
@@ -9,26 +9,14 @@ use Rattle.world.specs.World.{World, EveryRun}
 use Rattle.world.specs.Claims.{Agree, Unanimous}
 use Rattle.sim.specs.declared.events.Event.{Event}
 use Rattle.sim.specs.declared.events.Mark.{Mark}
-use Rattle.sim.specs.declared.posts.Post.{Post}
-use Rattle.sim.specs.Scene.{Scene, opening}
-use Rattle.sim.specs.Posts.{IsCluster}
-use Rattle.sim.specs.Runs.{IsFollowed}
-use Rattle.sim.specs.Outcomes.{AreLiars, IsSimulation, HaveOneBit, AreUnanimous, Verdict, among, verdicts_of}
+use Rattle.sim.specs.Scene.{opening}
+use Rattle.sim.specs.Outcomes.{AreLiars, IsSimulation, HaveOneBit, AreUnanimous, Verdict, among}
 use Rattle.sim.proofs.Rising.{few_among}
 use Rattle.sim.proofs.Verdicts.{verdicts_agree, verdicts_unanimous}
 use Rattle.sim.proofs.Proposals.{script_on}
 
 pub few_lie : (size : Size) (liars : List ℕ) → AreLiars size liars → count_below size.n (among liars) ≤ size.t
 few_lie size liars are = let many = few_among size.n liars in omega (arith, many, are.1)
-
-pub simulated : (size : Size) (liars fused : ℕ → Bool) (script : List Event) (marks : List Mark) (saved : List (Vec Record)) (old new : List Post) (verdicts : List Verdict)
-    → IsCluster size liars (opening fused) old
-    → (IsCluster size liars (opening fused) old → IsFollowed size liars (opening fused) script marks saved new)
-    → ((c : Scene) → IsCluster size liars c new → verdicts ≡ verdicts_of size liars c.world)
-    → IsSimulation size liars fused script marks saved verdicts
-simulated size liars fused script marks saved old new verdicts cluster run are =
-    let f = run cluster in
-    record { steps = f.steps; last = f.last; run = f.run; world_is = f.world_is; is_run = f.is_run; verdicts_are = are f.last f.at }
 
 module _ (size : Size) (liars fused : ℕ → Bool) (script : List Event) (marks : List Mark) (saved : List (Vec Record)) (verdicts : List Verdict) (ok : IsSize size) (few : count_below size.n liars ≤ size.t)
     (s : IsSimulation size liars fused script marks saved verdicts) where

@@ -1,8 +1,9 @@
 -- The verdicts are those of the world.
-use Rattle.std.proofs.Common.{◌≡◌, ◌<◌, ◌+◌, ℕ, zero, suc, Bool, true, false, cond, List, [], ◌∷◌, ◌++◌, refl, sym, ap, subst, ◌∙◌, add-one, append-nil}
+use Rattle.std.proofs.Common.{◌≡◌, ◌<◌, ◌+◌, ℕ, zero, suc, Bool, true, false, cond, List, [], ◌∷◌, ◌++◌, refl, sym, ap, subst, ◌∙◌, add-one, append-nil, append_assoc, length, drop, get_or}
 use Rattle.terms.specs.declared.Size.{Size}
 use Rattle.terms.specs.declared.Header.{Header}
 use Rattle.terms.specs.declared.Record.{Record}
+use Rattle.terms.specs.declared.Statement.{Statement}
 use Rattle.sim.specs.declared.posts.Post.{Post}
 use Rattle.sim.specs.declared.seats.Seat.{Seat}
 use Rattle.sim.specs.declared.seats.Seat.TheVariants.{Here, Down, Liar}
@@ -13,6 +14,7 @@ use Rattle.std.specs.Prelude.{◌&&◌, ◌||◌, ◌==◌, ◌⊎◌, Option, S
 use Rattle.std.specs.Bool.{beq}
 use Rattle.std.specs.List.{Contains}
 use Rattle.std.proofs.Common.{arith, inl, inr}
+use Rattle.std.proofs.Math.Seq.{drop-cons}
 use Rattle.std.proofs.lemmas.Bool.{eq-eqb}
 use Rattle.std.proofs.lemmas.List.Elements.{Contains-append_cases}
 use Rattle.terms.specs.declared.Record.TheVariants.{Said, Decided}
@@ -50,6 +52,40 @@ verdicts_more size liars c p post questions me records old new is number all sav
     (ap (λ (q : ℕ). verdicts_below q me records) all ∙ ap (λ (m : ℕ). verdicts_below size.questions m records) mine
     ∙ ap (λ (r : List Record). verdicts_below size.questions p r) saved ∙ of_post size liars c p post is)
     ∙ ap (λ (k : ℕ). verdicts_of_below k size.questions liars c.world) (sym (add-one p))
+
+-- lists of records that decide the same have the same verdicts
+pub same_below : (questions p : ℕ) (xs ys : List Record) → ((q : ℕ) → decided xs q ≡ decided ys q) → verdicts_below questions p xs ≡ verdicts_below questions p ys
+same_below zero p xs ys same = refl
+same_below (suc q) p xs ys same =
+    ap (λ (l : List Verdict). l ++ verdict_in p q (decided xs q)) (same_below q p xs ys same)
+    ∙ ap (λ (o : Option (ℕ × Bool)). verdicts_below q p ys ++ verdict_in p q o) (same q)
+
+-- a statement decides nothing
+pub without_said : (kept rest : List Record) (s : Statement) (q : ℕ) → decided (kept ++ Said s ∷ rest) q ≡ decided (kept ++ rest) q
+without_said [] rest s q = refl
+without_said (Said t ∷ kept) rest s q = without_said kept rest s q
+without_said (Decided of round bit ∷ kept) rest s q = ap (λ (o : Option (ℕ × Bool)). cond (of == q) (Some (round, bit)) o) (without_said kept rest s q)
+
+-- what is left of the records at an index
+next_left : (records : List Record) (i : ℕ) (x : Record) → i < length records → x ≡ get_or records i x → drop i records ≡ x ∷ drop (i + 1) records
+next_left records i x h is = rw add-one (drop-cons records i x h ∙ ap (λ (y : Record). y ∷ drop (suc i) records) (sym is))
+
+-- a decision is kept
+pub decision_kept : (kept now records : List Record) (i : ℕ) (x : Record) (q : ℕ) (all : Option (ℕ × Bool)) → i < length records → x ≡ get_or records i x
+    → now ≡ kept ++ x ∷ [] → decided (kept ++ drop i records) q ≡ all → decided (now ++ drop (i + 1) records) q ≡ all
+decision_kept kept now records i x q all h is kept_is before =
+    ap (λ (l : List Record). decided (l ++ drop (i + 1) records) q) kept_is
+    ∙ (ap (λ (l : List Record). decided l q) (append_assoc kept (x ∷ []) (drop (i + 1) records))
+    ∙ (ap (λ (l : List Record). decided (kept ++ l) q) (sym (next_left records i x h is)) ∙ before))
+
+-- a statement is left out
+pub statement_left_out : (kept now records : List Record) (i : ℕ) (x : Record) (s : Statement) (q : ℕ) (all : Option (ℕ × Bool)) → i < length records → x ≡ get_or records i x → x ≡ Said s
+    → now ≡ kept → decided (kept ++ drop i records) q ≡ all → decided (now ++ drop (i + 1) records) q ≡ all
+statement_left_out kept now records i x s q all h is said kept_is before =
+    ap (λ (l : List Record). decided (l ++ drop (i + 1) records) q) kept_is
+    ∙ (sym (without_said kept (drop (i + 1) records) s q)
+    ∙ (ap (λ (y : Record). decided (kept ++ y ∷ drop (i + 1) records) q) (sym said)
+    ∙ (ap (λ (l : List Record). decided (kept ++ l) q) (sym (next_left records i x h is)) ∙ before)))
 
 -- what a verdict says of the world
 pub record Says (m : ℕ) (liars : ℕ → Bool) (w : World) (v : Verdict) : Type 0 where

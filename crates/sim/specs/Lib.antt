@@ -4,4 +4,5 @@ pub mod Scene
 pub mod Posts
 pub mod Runs
 pub mod Outcomes
+pub mod Plays
 pub mod Texts

@@ -1,6 +1,9 @@
 //! Whole simulations.
 
-ghost use Rattle.std.specs.Prelude.{◌≡◌, ◌++◌, ◌<◌, ◌≤◌, ℕ, Bool, List, length, drop, get_or, false, true, IfOk, IfErr, OnOk, IsErrOf, IsTrue, Err, ◌↔◌, ◌≢◌};
+ghost use Rattle.std.specs.Prelude.{◌≡◌, ◌++◌, ◌<◌, ◌≤◌, ◌^◌, ℕ, Bool, List, length, drop, get_or, false, true, IfOk, IfErr, OnOk, IsErrOf, IsTrue, Err, option_map, ◌↔◌, ◌≢◌};
+ghost use Rattle.std.specs.Global.{Vec};
+ghost use Rattle.terms.specs.declared.Size.{Size};
+ghost use Rattle.terms.specs.declared.Record.{Record};
 ghost use Rattle.terms.specs.Bounds.{IsSize};
 ghost use Rattle.terms.specs.Count.{count_below};
 ghost use Rattle.sim.specs.Scene.{Scene, opening};
@@ -9,15 +12,16 @@ ghost use Rattle.sim.specs.Outcomes.{AreLiars, AreDisks, HasFuse, IsSimulation, 
 ghost use Rattle.sim.specs.declared.faults.SimFault.TheVariants as faults;
 ghost use Rattle.sim.specs.declared.posts.Post.{Post};
 ghost use Rattle.sim.specs.Seats.{is_liar, mine};
-ghost use Rattle.sim.specs.Runs.{IsTurn, IsSteady, IsFollowed};
+ghost use Rattle.sim.specs.Runs.{IsTurn, IsSteady};
+ghost use Rattle.sim.specs.Plays.{Played, Stands, played, unplayed, and_then, last_saved, saved_among, saved_behind};
 ghost use Rattle.terms.specs.Journal.{decided};
-ghost use Rattle.world.specs.World.{start};
 
 use crate::posts::Post;
 use crate::tasks::{brought, bytes_in, plan};
 use crate::{Event, Mark, SimFault};
 use disk::MemDisk;
 use std::alloc::Global;
+use std::marker::Model;
 use terms::{Header, Record, Size};
 use world::safety;
 
@@ -32,6 +36,118 @@ pub struct Outcome {
     /// Of each event, in order, the records that it made the member it came to save: what that member said because of it,
     /// and what it decided. After a restart these are the records of a batch that was in doubt and that the disk has kept.
     pub saved: Vec<Vec<Record>>,
+}
+
+/// A cluster in memory, the one of number 0, on which events are played one after another. It keeps nothing of them but
+/// what its members have saved.
+///
+/// What was played on it (`Played`: the events, the mark of each and the records that each saved) is a run of the crate
+/// `world`, after which the cluster is where it is (`Stands`). After an error nothing is known of the cluster.
+#[derive(Drop)]
+pub struct Cluster {
+    size: Size,
+    posts: Vec<Post>,
+    /// Of the last event the member that it was for, and how many records that had saved before. None where the event was
+    /// skipped.
+    last: Option<(u8, usize)>,
+}
+
+impl Model for Cluster {
+    ghost use Rattle.sim.specs.Posts.{AreReady};
+    ghost use Rattle.sim.specs.Plays.{ClusterFields};
+
+    ghost Value = { ClusterFields };
+
+    ghost view = { λ c. record { size = c.size; posts = c.posts.items; last = c.last } };
+
+    ghost invariant = { λ c. AreReady c.size c.posts.items };
+}
+
+impl Cluster {
+    /// A cluster on which nothing was played. Each member has its disk, by number; a journal is created on the disks of
+    /// correct members alone, on all of them before the first is opened. The liars are numbers of members, upwards.
+    ///
+    /// - `bad_liars`: `BadLiars` exactly where the liars' numbers don't rise, one is not below n, or they are more than t.
+    /// - `bad_disks`: `BadDisks` exactly where the liars are right, and there are not n disks or one is not empty.
+    /// - `device`: `Device` only where a fuse is in the disk of a correct member.
+    ///
+    /// `Memory` comes where there is no memory.
+    pub fn open(
+        alloc: Global,
+        size: Size,
+        liars: &[u8],
+        disks: Vec<MemDisk>,
+    ) -> Result<Cluster, SimFault>
+        ensures bad_liars { IsErrOf result faults.BadLiars ↔ (AreLiars size liars.now → ⊥) }
+        ensures bad_disks { IsErrOf result faults.BadDisks ↔ (AreLiars size liars.now × (AreDisks size disks.items → ⊥)) }
+        ensures device { IsErrOf result faults.Device → HasFuse liars.now disks.items }
+        ensures stands { IfOk result (Stands (unplayed size (among liars.now) (fused_in disks.items))) }
+        ensures few_lie { IfOk result (λ _. count_below size.n (among liars.now) ≤ size.t) }
+        ensures never_full { result ≡ Err faults.Full → ⊥ }
+    {
+        if !are_liars(size, liars) {
+            return Err(SimFault::BadLiars);
+        }
+        if !are_disks(size, &disks) {
+            return Err(SimFault::BadDisks);
+        }
+        let _members = size.n();
+        let posts = opened(alloc, size, liars, disks)?;
+        Ok(Cluster {
+            size,
+            posts,
+            last: None,
+        })
+    }
+
+    /// Plays an event: what became of it.
+    ///
+    /// - `stands`: with the event, its mark and the records that it saved, all that was played is still a run of the world,
+    ///   and the cluster is where it leads. What an event saved is all that its member's journal has behind what it had
+    ///   before, in order; an event whose plan is to skip it saved nothing.
+    /// - `memory`: no error but `Memory` comes. So `Full` never does, whatever was played: all that a correct member may
+    ///   ever save has room in its journal.
+    pub fn play(&mut self, alloc: Global, event: &Event) -> Result<Mark, SimFault>
+        ensures stands { (past : Played) (saved : Vec Record) → Stands past self.old → saved.items ≡ last_saved self.new →
+            IfOk result (λ mark. Stands (and_then past event.now mark saved) self.new) }
+        ensures room { IfOk result (λ _. length (last_saved self.new) < 2 ^ 63) }
+        ensures memory { (past : Played) → Stands past self.old → IfErr result (λ fault. fault ≡ faults.Memory) }
+    {
+        let (mark, last) = step(alloc, self.size, self.posts.as_mut_slice(), event)?;
+        self.last = last;
+        Ok(mark)
+    }
+
+    /// The records that the last event made its member save: what the member said because of it, and what it decided.
+    /// After a restart these are the records of a batch that was in doubt and that the disk has kept.
+    pub fn saved(&self) -> &[Record]
+        ensures { result.now ≡ last_saved self.now }
+    {
+        match self.last {
+            Some((to, before)) => saved_behind(self.posts.get(usize::from(to)), before),
+            None => &[],
+        }
+    }
+
+    /// The decisions that correct members have saved, by member and then by question.
+    ///
+    /// - `run`: they are all decisions of the world that was played.
+    /// - `agree`: two verdicts of one question have one bit.
+    /// - `unanimous`: where all proposals of a question that weren't skipped are of one bit, so is each verdict of it.
+    ///
+    /// `Memory` comes where there is no memory.
+    pub fn verdicts(&self, alloc: Global) -> Result<Vec<(u8, u16, u8, bool)>, SimFault>
+        ensures run { (past : Played) → Stands past self.now → IfOk result (λ verdicts.
+            IsSimulation past.size past.liars past.fused past.script past.marks past.saved verdicts.items) }
+        ensures agree { (past : Played) → Stands past self.now → IfOk result (λ verdicts. HaveOneBit verdicts.items) }
+        ensures unanimous { (past : Played) → Stands past self.now → IfOk result (λ verdicts.
+            AreUnanimous past.script past.marks verdicts.items) }
+        ensures memory { IfErr result (λ fault. fault ≡ faults.Memory) }
+    {
+        // The theorem, which does nothing: `agree` and `unanimous` are its promises of this run.
+        safety();
+        verdicts(alloc, self.size, &self.posts)
+    }
 }
 
 /// Runs a script against a whole cluster, the one of number 0. The script, what was marked and what was decided are a
@@ -72,19 +188,9 @@ pub fn run(
     ensures unanimous { IfOk result (λ outcome. AreUnanimous script.now outcome.marks.items outcome.verdicts.items) }
     ensures never_full { result ≡ Err faults.Full → ⊥ }
 {
-    if !are_liars(size, liars) {
-        return Err(SimFault::BadLiars);
-    }
-    if !are_disks(size, &disks) {
-        return Err(SimFault::BadDisks);
-    }
-    // The theorem, which does nothing: `agree` and `unanimous` are its promises of this run.
-    safety();
-    let _members = size.n();
-    let mut posts = opened(alloc, size, liars, disks)?;
-    let all = posts.as_mut_slice();
-    let (marks, saved) = follow(alloc, size, all, script)?;
-    let verdicts = verdicts(alloc, size, all)?;
+    let mut cluster = Cluster::open(alloc, size, liars, disks)?;
+    let (marks, saved) = follow(alloc, &mut cluster, script)?;
+    let verdicts = cluster.verdicts(alloc)?;
     Ok(Outcome {
         marks,
         verdicts,
@@ -174,43 +280,40 @@ fn begin(alloc: Global, posts: &mut [Post]) -> Result<(), SimFault>
     Ok(())
 }
 
-/// Carries all events out: of each its mark, and what it saved.
+/// Plays all events: of each its mark, and what it saved.
 fn follow(
     alloc: Global,
-    size: Size,
-    posts: &mut [Post],
+    cluster: &mut Cluster,
     script: &[Event],
 ) -> Result<(Vec<Mark>, Vec<Vec<Record>>), SimFault>
-    requires ready { AreReady size posts.old }
-    ensures ready { AreReady size posts.new }
-    ensures only { IfErr result IsOfRun }
-    ensures run { (liars : ℕ → Bool) (c : Scene) → IsSize size → count_below size.n liars ≤ size.t → c.world ≡ start →
-        IsCluster size liars c posts.old → IfOk result (λ done. IsFollowed size liars c script.now done.0.items done.1.items posts.new) }
-    ensures memory { (liars : ℕ → Bool) (c : Scene) → IsSize size → count_below size.n liars ≤ size.t → c.world ≡ start →
-        IsCluster size liars c posts.old → IfErr result (λ fault. fault ≡ faults.Memory) }
+    ensures stands { (size : Size) (liars fused : ℕ → Bool) → Stands (unplayed size liars fused) cluster.old →
+        IfOk result (λ done. Stands (played size liars fused script.now done.0.items done.1.items) cluster.new) }
+    ensures memory { (size : Size) (liars fused : ℕ → Bool) → Stands (unplayed size liars fused) cluster.old →
+        IfErr result (λ fault. fault ≡ faults.Memory) }
 {
     let mut marks = Vec::with_capacity(alloc, script.len())?;
     let mut saved = Vec::with_capacity(alloc, script.len())?;
     for event in script {
-        let (mark, records) = step(alloc, size, posts, event)?;
-        marks.push(mark)?;
+        marks.push(cluster.play(alloc, event)?)?;
+        let records = Vec::from_slice(alloc, cluster.saved())?;
         saved.push(records)?;
     }
     Ok((marks, saved))
 }
 
-/// Carries one event out: its mark, and the records that its member came to save.
+/// Carries one event out: its mark, and where it wasn't skipped its member, and how many records that had saved before.
 fn step(
     alloc: Global,
     size: Size,
     posts: &mut [Post],
     event: &Event,
-) -> Result<(Mark, Vec<Record>), SimFault>
+) -> Result<(Mark, Option<(u8, usize)>), SimFault>
     requires ready { AreReady size posts.old }
     ensures ready { AreReady size posts.new }
     ensures only { IfErr result IsOfRun }
     ensures turn { (liars : ℕ → Bool) (c : Scene) → IsSize size → IsSteady size liars c → IsCluster size liars c posts.old →
-        IfOk result (λ done. IsTurn size liars c event.now done.0 done.1.items posts.new) }
+        IfOk result (λ done. IsTurn size liars c event.now done.0 (saved_among posts.new done.1) posts.new) }
+    ensures room { IfOk result (λ done. length (saved_among posts.new done.1) < 2 ^ 63) }
     ensures memory { (liars : ℕ → Bool) (c : Scene) → IsSize size → IsSteady size liars c → IsCluster size liars c posts.old →
         IfErr result (λ fault. fault ≡ faults.Memory) }
 {
@@ -220,22 +323,32 @@ fn step(
             let post = &mut posts[usize::from(to)];
             let before = post.records().len();
             let mark = post.carry(alloc, task, bytes_in(event), &group)?;
-            let saved = behind(alloc, post.records(), before)?;
-            Ok((mark, saved))
+            let _after = post.records().len();
+            Ok((mark, Some((to, before))))
         }
-        Err(reason) => Ok((Mark::Skipped(reason), Vec::new(alloc))),
+        Err(reason) => Ok((Mark::Skipped(reason), None)),
     }
 }
 
-/// A copy of the records behind the first so many.
-fn behind(alloc: Global, records: &[Record], count: usize) -> Result<Vec<Record>, SimFault>
-    ensures copied { IfOk result (λ copy. copy.items ≡ drop count records.now) }
-    ensures only { IfErr result (λ fault. fault ≡ faults.Memory) }
+/// What the post, if it is there, has saved behind its first so many records.
+fn saved_behind(post: Option<&Post>, before: usize) -> &[Record]
+    ensures { result.now ≡ saved_behind (option_map (λ p. p.now) post.entry) before }
 {
-    if count < records.len() {
-        return Ok(Vec::from_slice(alloc, &records[count..])?);
+    match post {
+        Some(post) => behind(post.records(), before),
+        None => &[],
     }
-    Ok(Vec::new(alloc))
+}
+
+/// The records behind the first so many.
+fn behind(records: &[Record], before: usize) -> &[Record]
+    ensures { result.now ≡ drop before records.now }
+{
+    if before <= records.len() {
+        &records[before..]
+    } else {
+        &[]
+    }
 }
 
 /// The decisions that correct members have saved, by member and then by question.
@@ -247,9 +360,25 @@ fn verdicts(alloc: Global, size: Size, posts: &[Post]) -> Result<Vec<(u8, u16, u
 {
     let mut verdicts = Vec::new(alloc);
     for post in posts {
-        append_decisions(&mut verdicts, post.me(), size.questions(), post.records())?;
+        let decisions = decisions_among(alloc, post.records())?;
+        append_decisions(&mut verdicts, post.me(), size.questions(), &decisions)?;
     }
     Ok(verdicts)
+}
+
+/// The decisions among the records, in order: so records are gone through once, and not once a question.
+fn decisions_among(alloc: Global, records: &[Record]) -> Result<Vec<Record>, SimFault>
+    ensures same { IfOk result (λ kept. (question : ℕ) → decided kept.items question ≡ decided records.now question) }
+    ensures only { IfErr result (λ fault. fault ≡ faults.Memory) }
+{
+    let mut decisions = Vec::new(alloc);
+    for item in records {
+        match *item {
+            Record::Decided { .. } => decisions.push(*item)?,
+            Record::Said(_) => {}
+        }
+    }
+    Ok(decisions)
 }
 
 /// Appends the first decision of each question, by question.

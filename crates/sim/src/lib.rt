@@ -17,6 +17,6 @@ pub const MOST_EVENTS: usize = 1_000_000;
 /// How many statements a group may have.
 pub const MOST_IN_GROUP: u16 = 256;
 
-pub use cluster::{Outcome, run};
+pub use cluster::{Cluster, Outcome, run};
 pub use events::{Event, Mark, Reason, Which};
 pub use faults::SimFault;

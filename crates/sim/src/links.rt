@@ -1,9 +1,12 @@
 //! A link from one member to another: how far it has come in the sender's outbox, and what it reads.
 
-ghost use Rattle.std.specs.Prelude.{◌≡◌, ◌≤◌, ◌++◌, [], ◌∷◌, Some, IfOk, length, map};
+ghost use Rattle.std.specs.Prelude.{◌≡◌, ◌≤◌, ◌++◌, [], ◌∷◌, Some, IfOk, OnErr, length, map};
 ghost use Rattle.std.specs.List.{AllByRecursion};
+ghost use Rattle.terms.specs.declared.Statement.{Statement};
 ghost use Rattle.terms.specs.Bounds.{IsSize};
 ghost use Rattle.terms.specs.WellFormed.{IsWellFormed};
+ghost use Rattle.wire.specs.declared.message.Message.TheVariants as variants;
+ghost use Rattle.wire.specs.Feeding.{Feeds};
 ghost use Rattle.wire.specs.Reading.{End, Rest};
 ghost use Rattle.sim.specs.Links.{statements_in, is_broken_at, Takes};
 
@@ -19,6 +22,10 @@ pub(crate) struct Link {
     place: u64,
     feeder: Feeder,
     broken: bool,
+    /// The frame that was carried last. Its memory serves the next.
+    frame: Vec<u8>,
+    /// What was read last. Its memory serves what is read next.
+    messages: Vec<Message>,
 }
 
 impl Model for Link {
@@ -34,7 +41,7 @@ impl Model for Link {
 
 impl Link {
     /// A link at its start: its next statement is the sender's first, and it has read nothing.
-    pub(crate) fn new(size: Size) -> Link
+    pub(crate) fn new(alloc: Global, size: Size) -> Link
         ensures place { result.place ≡ 0 }
         ensures size { result.size ≡ size }
         ensures end { result.end ≡ Rest [] }
@@ -43,7 +50,20 @@ impl Link {
             place: 0,
             feeder: Feeder::new(size),
             broken: false,
+            frame: Vec::new(alloc),
+            messages: Vec::new(alloc),
         }
+    }
+
+    /// It is at its start again, in a cluster of this size.
+    pub(crate) fn begin_anew(&mut self, size: Size)
+        ensures place { self.new.place ≡ 0 }
+        ensures size { self.new.size ≡ size }
+        ensures end { self.new.end ≡ Rest [] }
+    {
+        self.place = 0;
+        self.feeder = Feeder::new(size);
+        self.broken = false;
     }
 
     /// How many of the sender's statements it has delivered in order.
@@ -76,18 +96,12 @@ impl Link {
         ensures place { self.new.place ≡ self.old.place }
         ensures size { self.new.size ≡ self.old.size }
     {
-        let mut messages = Vec::new(alloc);
-        let fed = self.feeder.feed(bytes, &mut messages)?;
-        self.broken = matches!(fed, Fed::Broken(_));
-        statements_among(alloc, &messages)
+        self.broken = read(&mut self.feeder, bytes, &mut self.messages)?;
+        statements_among(alloc, &self.messages)
     }
 
     /// Carries a statement as a frame, and gives what comes out at the other end.
-    pub(crate) fn carry(
-        &mut self,
-        alloc: Global,
-        statement: &Statement,
-    ) -> Result<Option<Statement>, Memory>
+    pub(crate) fn carry(&mut self, statement: &Statement) -> Result<Option<Statement>, Memory>
         ensures arrives { IsSize self.old.size → IsWellFormed self.old.size statement.now → self.old.end ≡ Rest [] →
             IfOk result (λ arrived. arrived ≡ Some statement.now) }
         ensures end { IsSize self.old.size → IsWellFormed self.old.size statement.now → self.old.end ≡ Rest [] →
@@ -95,10 +109,10 @@ impl Link {
         ensures place { self.new.place ≡ self.old.place }
         ensures size { self.new.size ≡ self.old.size }
     {
-        let mut frame = Vec::new(alloc);
-        encode(&Message::Statement(*statement), &mut frame)?;
-        let arrived = self.take(alloc, &frame)?;
-        Ok(arrived.first().copied())
+        self.frame.clear();
+        encode(&Message::Statement(*statement), &mut self.frame)?;
+        self.broken = read(&mut self.feeder, &self.frame, &mut self.messages)?;
+        Ok(statement_alone(&self.messages))
     }
 
     /// Carries statements as frames, and gives what comes out at the other end, each with its sender and a toss.
@@ -119,11 +133,34 @@ impl Link {
     {
         let mut all = Vec::new(alloc);
         for statement in statements {
-            if let Some(arrived) = self.carry(alloc, statement)? {
+            if let Some(arrived) = self.carry(statement)? {
                 all.push((from, arrived, toss))?;
             }
         }
         Ok(all)
+    }
+}
+
+/// Reads the next bytes: the messages are then those that they complete. Whether a byte came that no frame has there.
+fn read(feeder: &mut Feeder, bytes: &[u8], messages: &mut Vec<Message>) -> Result<bool, Memory>
+    ensures reads { IfOk result (λ _.
+        Feeds feeder.old.size feeder.old.end bytes.now [] messages.new.items feeder.new.end) }
+    ensures broken { IfOk result (λ broken. broken ≡ is_broken_at feeder.new.end) }
+    ensures size { feeder.new.size ≡ feeder.old.size }
+    ensures err { OnErr result (feeder.new ≡ feeder.old) }
+{
+    messages.clear();
+    let fed = feeder.feed(bytes, messages)?;
+    Ok(matches!(fed, Fed::Broken(_)))
+}
+
+/// The statement, where the messages are one alone.
+fn statement_alone(messages: &[Message]) -> Option<Statement>
+    ensures { (statement : Statement) → messages.now ≡ variants.Statement statement ∷ [] → result ≡ Some statement }
+{
+    match messages {
+        [Message::Statement(statement)] => Some(*statement),
+        _ => None,
     }
 }
 

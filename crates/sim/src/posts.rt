@@ -184,7 +184,7 @@ impl Post {
         match task {
             Task::Propose(question, bit, toss) => self.propose(question, bit, toss),
             Task::Deliver(from, statement, place, toss) => {
-                self.deliver(alloc, from, statement, place, toss)
+                self.deliver(from, statement, place, toss)
             }
             Task::DeliverAll(from, _, toss) => self.deliver_all(alloc, from, group, toss),
             Task::Lie(liar, toss) => self.hear_lies(alloc, liar, bytes, toss),
@@ -214,7 +214,6 @@ impl Post {
     /// A statement comes to it over the link from its sender, which then has that place.
     fn deliver(
         &mut self,
-        alloc: Global,
         from: u8,
         statement: Statement,
         place: u64,
@@ -234,7 +233,7 @@ impl Post {
     {
         let link = &mut self.incoming[usize::from(from)];
         link.go_to(place);
-        match link.carry(alloc, &statement)? {
+        match link.carry(&statement)? {
             Some(arrived) => self.seat.hear(self.fused, from, &arrived, toss),
             None => Ok(Mark::Skipped(Reason::Nothing)),
         }
@@ -359,7 +358,7 @@ impl Post {
     {
         let size = self.header.size();
         for link in self.incoming.iter_mut() {
-            *link = Link::new(size);
+            link.begin_anew(size);
         }
     }
 
@@ -374,7 +373,7 @@ impl Post {
             IsPost size liars c p self.old → Fits size liars c p (tasks.Reset from) → (bytes : List ℕ) →
             IfOk result (λ mark. IsDone size liars c p (tasks.Reset from) bytes mark self.new) }
     {
-        self.incoming[usize::from(from)] = Link::new(self.header.size());
+        self.incoming[usize::from(from)].begin_anew(self.header.size());
         Ok(Mark::Done)
     }
 }
@@ -387,7 +386,7 @@ fn links(alloc: Global, size: Size) -> Result<Vec<Link>, SimFault>
 {
     let mut links = Vec::with_capacity(alloc, usize::from(size.n()))?;
     for _from in 0..size.n() {
-        links.push(Link::new(size))?;
+        links.push(Link::new(alloc, size))?;
     }
     Ok(links)
 }

@@ -551,6 +551,21 @@ fn largest_cluster_runs(rt: HostRuntime) -> Result<(), Fail> {
     Ok(())
 }
 
+#[test]
+fn events_are_played_one_after_another(rt: HostRuntime) -> Result<(), Fail> {
+    let size = Size::new(1, 0, 1)?;
+    let mut cluster = Cluster::open(rt.alloc(), size, &[], disks(&rt, 1)?)?;
+    let proposed = cluster.play(rt.alloc(), &propose(0, true))?;
+    assert!(rt; proposed == Mark::Done);
+    assert!(rt; cluster.saved() == &[initial(1, 1)?][..]);
+    let skipped = cluster.play(rt.alloc(), &next(0, 1))?;
+    assert!(rt; skipped == Mark::Skipped(Reason::NoSuch));
+    assert!(rt; cluster.saved().is_empty());
+    let verdicts = cluster.verdicts(rt.alloc())?;
+    assert!(rt; verdicts.is_empty());
+    Ok(())
+}
+
 /// A liar speaks, a disk fails, crashes and is opened again.
 fn many_sided(rt: &impl AllocGlobal, size: Size) -> Result<Outcome, SimFault> {
     let bytes = Vec::from_slice(rt.alloc(), &LIES[..10])?;

@@ -255,7 +255,7 @@ fn a_second_line_names_the_thing(rt: HostRuntime) -> Result<(), Fail> {
         ),
         (
             "dump bracha_tests_more.journal",
-            "bracha: journal BadHeader\nbracha_tests_more.journal: journal BadHeader\n",
+            "bracha: journal BadHeader\nbracha_tests_more.journal: byte 0: bytes 42 52 41 43 48 41 4a 31: journal BadHeader\n",
         ),
         (
             "check bracha_tests_more_text.toml",
@@ -301,6 +301,61 @@ fn a_second_line_names_the_thing(rt: HostRuntime) -> Result<(), Fail> {
     Ok(())
 }
 
+/// The journal's header with an echo in a batch behind it, and a record of no kind in the next.
+const ODD: [u8; 45] =
+    *b"BRACHAJ1\0\0\0\0\0\0\0\x07\x04\x01\0\x01\x01\0\0\0\x01\0\x01\x02\0\0\0\x01\x01\x01\x01\0\x01\x09\0\0\0\x01\x01\x01\0";
+
+#[test]
+fn a_second_line_shows_the_bytes_of_a_journal(rt: HostRuntime) -> Result<(), Fail> {
+    let (path, other, journal) = (
+        "bracha_tests_bytes_of.toml",
+        "bracha_tests_bytes_of_other.toml",
+        "bracha_tests_bytes_of.journal",
+    );
+    fs::write(&rt, path, settings_of_four(&rt, journal, 7)?.as_str())?;
+    fs::write(&rt, other, settings_of_four(&rt, journal, 8)?.as_str())?;
+    let front = "42 52 41 43 48 41 4a 31 00 00 00 00 00 00 00 07 ..";
+    let odd = "byte 34: bytes 01 00 01 09 00 00 00 01 01 01 00: journal BadRecord";
+    for (bytes, words, place) in [
+        (ODD.as_slice(), "dump bracha_tests_bytes_of.journal", odd),
+        (
+            ODD.as_slice(),
+            "dump --count bracha_tests_bytes_of.journal",
+            odd,
+        ),
+        (ODD.as_slice(), "check bracha_tests_bytes_of.toml", odd),
+        (ODD.as_slice(), "run bracha_tests_bytes_of.toml", odd),
+        (
+            &ODD[..24],
+            "run bracha_tests_bytes_of.toml",
+            "byte 24: end of file: journal CutShort",
+        ),
+        (
+            &ODD[..34],
+            "check bracha_tests_bytes_of.toml",
+            "byte 24: bytes 01 00 01 02 00 00 00 01 01 01: journal CutShort",
+        ),
+    ] {
+        fs::write(&rt, journal, bytes)?;
+        let line = format!(in rt.alloc(); "\n{journal}: {place}\n")?;
+        let told = told_more(&rt, words, false)?;
+        assert!(rt; told.as_str().contains(line.as_str()), "{words}: {told}");
+    }
+    fs::write(&rt, journal, EMPTY.as_slice())?;
+    for (words, fault) in [
+        ("init bracha_tests_bytes_of.toml", "NotEmpty"),
+        ("check bracha_tests_bytes_of_other.toml", "OtherHeader"),
+    ] {
+        let line = format!(in rt.alloc(); "\n{journal}: byte 0: bytes {front}: journal {fault}\n")?;
+        let told = told_more(&rt, words, true)?;
+        assert!(rt; told.as_str().contains(line.as_str()), "{words}: {told}");
+    }
+    for path in [path, other, journal] {
+        fs::remove_file(&rt, path)?;
+    }
+    Ok(())
+}
+
 #[test]
 fn a_journal_that_another_has_is_named(rt: HostRuntime) -> Result<(), Fail> {
     let journal = "bracha_tests_locked.journal";
@@ -315,6 +370,13 @@ fn a_journal_that_another_has_is_named(rt: HostRuntime) -> Result<(), Fail> {
     );
     fs::remove_file(&rt, journal)?;
     Ok(())
+}
+
+/// The settings of member 1 of four, one question, of a cluster of this number.
+fn settings_of_four(rt: &HostRuntime, journal: &str, cluster: u8) -> Result<String, Fail> {
+    Ok(format!(in rt.alloc();
+        "cluster = {cluster}\nn = 4\nt = 1\nquestions = 1\nme = 1\njournal = '{journal}'\npeers = ['127.0.0.1:47120', '127.0.0.1:47121', '127.0.0.1:47122', '127.0.0.1:47123']\ndesk = '127.0.0.1:47131'\nseed = '0000000000000000000000000000000000000000000000000000000000000001'\n"
+    )?)
 }
 
 /// The settings of a member by itself, cluster 7, one question.

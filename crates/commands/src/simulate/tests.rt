@@ -78,6 +78,16 @@ fn prints_verdicts_and_counts(rt: HostRuntime) -> Result<(), Fail> {
 
 /// A member alone has one statement more after each, so its groups are what `rounds` delivers.
 #[test]
+fn a_trace_changes_no_verdict(rt: HostRuntime) -> Result<(), Fail> {
+    for script in [ONE_LIAR, FOURTEEN_LINES] {
+        let alone = simulate_pages(rt.alloc(), script.as_bytes(), false, false)?;
+        let traced = simulate_pages(rt.alloc(), script.as_bytes(), true, false)?;
+        assert_eq!(rt; alone.verdicts.as_str(), traced.verdicts.as_str());
+    }
+    Ok(())
+}
+
+#[test]
 fn groups_of_a_member_alone_print_the_same(rt: HostRuntime) -> Result<(), Fail> {
     let head = "n 1\nt 0\nquestions 1\nliars\nseed 7\npropose 0 0 1\n";
     let groups = "group 0 0 256\n".repeat(rt.alloc(), 20)?;

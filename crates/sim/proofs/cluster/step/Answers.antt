@@ -1,28 +1,38 @@
-use Rattle.std.proofs.Common.{◌∙◌, ℕ, sym, ap, subst, List, length, drop, get_or}
+use Rattle.std.proofs.Common.{◌∙◌, ◌<◌, ◌^◌, arith, ℕ, refl, sym, ap, subst, List, length, drop, get_or}
 use Rattle.std.proofs.lemmas.Result.{err_from_is_err_and}
 use Rattle.terms.specs.declared.Record.{Record}
 use Rattle.sim.specs.Seats.{saved_in}
 use Rattle.sim.specs.Posts.{IsPost}
 use Rattle.sim.proofs.Planned.{plan_right}
 use Rattle.sim.proofs.Turn.{turned, skipped_turn}
+use Rattle.sim.proofs.Playing.{saved_there, few_behind}
 use Rattle.sim.proofs.cluster.step.Goals as goal
 
 pub plan-requires : goal.plan-requires
 plan-requires c = record { ready = c.requires.ready }
 
-pub returns-in_ok-saved-in-Ok-clause-turn : goal.returns-in_ok-saved-in-Ok-clause-turn
-returns-in_ok-saved-in-Ok-clause-turn c liars s lawful steady cluster =
+pub returns-in_ok-mark-in-Ok-clause-turn : goal.returns-in_ok-mark-in-Ok-clause-turn
+returns-in_ok-mark-in-Ok-clause-turn c liars s lawful steady cluster =
     let plan = sym (c.plan.ensures.plan liars s cluster) ∙ c.in-Ok.is in
     let right = plan_right c.args.size liars s steady c.in-Ok.to c.in-Ok.task c.args.event.now plan in
-    turned c.args.size liars s c.args.event.now c.in-Ok.to c.in-Ok.task c.bytes_in.result.now c.from.result c.in_ok-mark-in-Ok.mark c.in_ok-saved-in-Ok.saved.items c.args.posts.now c.index-posts-from.result c.carry.new.self
+    let below : c.in-Ok.to < length c.args.posts.now = omega (arith, right.below, c.requires.ready.count) in
+    turned c.args.size liars s c.args.event.now c.in-Ok.to c.in-Ok.task c.bytes_in.result.now c.from.result c.in_ok-mark-in-Ok.mark _ c.args.posts.now c.index-posts-from.result c.carry.new.self
     lawful c.from.ensures c.bytes_in.ensures c.requires.ready.count plan right cluster
     (λ sized below post fits. c.in_ok-mark-in-Ok.ensures.done c.args.size liars s c.in-Ok.to sized below post fits (c.in_ok-group-in-Ok.ensures.brings liars s cluster right.fits))
-    (c.in_ok-saved-in-Ok.ensures.copied ∙ ap (λ (l : List Record). drop (length c.records-before.result.now) l) c.records.ensures
+    (saved_there c.args.posts.now c.from.result c.in-Ok.to c.carry.new.self (length c.records-before.result.now) c.from.ensures below
     ∙ ap (λ (l : List Record). drop (length l) (saved_in c.carry.new.self.seat)) c.records-before.ensures)
+
+pub returns-in_ok-mark-in-Ok-clause-room : goal.returns-in_ok-mark-in-Ok-clause-room
+returns-in_ok-mark-in-Ok-clause-room c =
+    let below : c.in-Ok.to < length c.args.posts.now = omega (arith, c.in-Ok.ensures.within, c.requires.ready.count) in
+    let few : length c.records-after.result.now < 2 ^ 63 = omega arith in
+    subst (λ (l : List Record). length l < 2 ^ 63)
+    (sym (saved_there c.args.posts.now c.from.result c.in-Ok.to c.carry.new.self (length c.records-before.result.now) c.from.ensures below))
+    (few_behind (saved_in c.carry.new.self.seat) (length c.records-before.result.now) (subst (λ (l : List Record). length l < 2 ^ 63) c.records-after.ensures few))
 
 pub returns-in-Err-clause-turn : goal.returns-in-Err-clause-turn
 returns-in-Err-clause-turn c liars s lawful steady cluster =
-    skipped_turn c.args.size liars s c.args.event.now c.in-Err.reason c.new.result.items c.args.posts.now (sym (c.plan.ensures.plan liars s cluster) ∙ c.in-Err.is) c.new.ensures.items cluster
+    skipped_turn c.args.size liars s c.args.event.now c.in-Err.reason _ c.args.posts.now (sym (c.plan.ensures.plan liars s cluster) ∙ c.in-Err.is) refl cluster
 
 pub returns-in_err-mark-in-Ok-clause-memory : goal.returns-in_err-mark-in-Ok-clause-memory
 returns-in_err-mark-in-Ok-clause-memory c liars s lawful steady cluster =

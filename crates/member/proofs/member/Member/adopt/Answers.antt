@@ -8,7 +8,8 @@ use Rattle.member.specs.Words.{disk_of, header_of, gate_of, saved_of, outbox_of,
 use Rattle.member.specs.Stands.{Stands}
 use Rattle.member.proofs.Asked.{held_asked}
 use Rattle.member.proofs.Opened.{restarts, begins_run}
-use Rattle.member.proofs.Standing.{stands_opened, begins, stands_settled}
+use Rattle.disk.specs.Model.{MayLeave}
+use Rattle.member.proofs.Standing.{stands_opened, left_opened, begins, stands_settled}
 use Rattle.member.proofs.member.Member.adopt.Given.{Over}
 use Rattle.member.proofs.member.Member.adopt.Goals as goal
 
@@ -66,7 +67,9 @@ returns-in-Err-begin-clause-fault g c =
           absurd (subst IsOfFile (c.in-Err-begin.ensures.memory asked) of_file);
       same = search rules;
       any_moment = search rules;
-      left = search rules;
+      left = λ keeps saved doubt left file may.
+          left file (left_opened g.D.Disk g.met.D.Disk.counts_now c.args.disk (disk_by c.in-Ok.journal) (o.kept.0 keeps) (o.any_moment keeps) file
+          (subst (λ d. MayLeave (g.D.Disk.state d) file) c.into_disk.ensures may));
       stands = λ keeps moment front le stands.
           subst (λ d. Stands (g.D.Disk.since d) c.args.header.now moment front) (sym c.into_disk.ensures)
           (stands_opened g.D.Disk g.met.D.Disk.counts_now c.args.header.now c.args.disk (disk_by c.in-Ok.journal) moment front keeps le (o.any_moment keeps) stands);

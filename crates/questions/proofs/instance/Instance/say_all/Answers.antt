@@ -1,93 +1,80 @@
-use Rattle.std.proofs.Common.{◌≡◌, ◌∙◌, sym, ap, subst, List, ◌++◌}
+use Rattle.std.proofs.Common.{◌≡◌, ◌∙◌, refl, sym, ap, subst, List, ◌++◌}
 use Rattle.terms.specs.declared.Kind.TheVariants.{Echo, Ready}
 use Rattle.terms.specs.declared.Record.{Record}
 use Rattle.terms.specs.Past.{Past}
 use Rattle.terms.specs.Fit.{AllFit}
-use Rattle.terms.specs.Answer.{MaySay, IsLeast, IsFirstDecision, after_records, said_if, decided_if, AreDue}
-use Rattle.terms.proofs.Fit.{echo_fits, ready_fits}
+use Rattle.terms.specs.Answer.{MaySay, IsLeast, after_records, AreDue}
 use Rattle.questions.specs.Instances.{Has}
-use Rattle.questions.specs.Parts.{IsQuietElsewhere, Decides, Begins, if_there}
-use Rattle.questions.proofs.Rows.{rows-append, rows-three, rows-four, rows-question}
-use Rattle.questions.proofs.Replying.{due}
+use Rattle.questions.specs.Parts.{IsQuietElsewhere, Decides, if_there}
+use Rattle.questions.proofs.Rows.{rows-four}
+use Rattle.questions.proofs.Saying.{all_due, all_waiting, nothing_due, not_some, said_alone}
 use Rattle.questions.proofs.instance.Instance.say_all.Goals as goal
 use Rattle.questions.proofs.instance.Instance.say_all.Goals.{After-drop-begun-2}
 
-module _ (c : After-drop-begun-2) (past : Past) (has : Has c.args.self.now past) (fit : AllFit past) where
-  here : c.args.place.question ≡ past.question
-  here = c.requires.question ∙ has.own.question
-
-  echo_is : IsLeast (MaySay past Echo c.args.place) c.due-due.result.echo
-  echo_is = c.due-due.ensures.echo past has.broadcasts here
-
-  ready_is : IsLeast (MaySay past Ready c.args.place) c.due-due.result.ready
-  ready_is = c.due-due.ensures.ready past has.broadcasts here
-
+module _ (c : After-drop-begun-2) (past : Past) (has : Has c.args.self.now past) where
+  -- what is said, as it was answered
   abbrev echos : List Record
-  echos = said_if Echo c.args.place c.due-due.result.echo
+  echos = if_there c.in_ok-echo.echo
 
   abbrev readys : List Record
-  readys = said_if Ready c.args.place c.due-due.result.ready
+  readys = if_there c.in_ok-ready.ready
 
-  echo_said : if_there c.in_ok-echo.echo ≡ echos
-  echo_said = c.in_ok-echo.ensures.said (echo_fits past fit c.args.place c.due-due.result.echo echo_is)
+  abbrev decided : List Record
+  decided = if_there c.decide-decided.result
 
-  ready_said : if_there c.in_ok-ready.ready ≡ readys
-  ready_said = c.in_ok-ready.ensures.said (ready_fits past fit c.args.place c.due-due.result.ready ready_is)
-
-  -- once the Echo was said
-  abbrev echoed : Past
-  echoed = after_records past echos
-
-  -- and the Ready
+  -- once the Echo and the Ready were said
   abbrev readied : Past
-  readied = after_records echoed readys
-
-  has_echoed : Has c.say.new.self echoed
-  has_echoed = subst (λ (xs : List Record). Has c.say.new.self (after_records past xs)) echo_said (c.in_ok-echo.ensures.has past has)
+  readied = after_records (after_records past echos) readys
 
   has_readied : Has c.say-2.new.self readied
-  has_readied = subst (λ (xs : List Record). Has c.say-2.new.self (after_records echoed xs)) ready_said (c.in_ok-ready.ensures.has echoed has_echoed)
+  has_readied = c.in_ok-ready.ensures.has (after_records past echos) (c.in_ok-echo.ensures.has past has)
 
-  readied_question : readied.question ≡ past.question
-  readied_question = rows-question echoed readys ∙ rows-question past echos
-
-  decides : Decides readied (if_there c.decide-decided.result)
-  decides = c.decide-decided.ensures.decides readied has_readied
-
-  decided_is : if_there c.decide-decided.result ≡ decided_if past.question decides.decision
-  decided_is = decides.are ∙ ap (λ q. decided_if q decides.decision) readied_question
-
-  has_decided : Has c.decide-decided.new.self (after_records readied (if_there c.decide-decided.result))
+  has_decided : Has c.decide-decided.new.self (after_records readied decided)
   has_decided = c.decide-decided.ensures.has readied has_readied
 
-  begins : Begins (after_records readied (if_there c.decide-decided.result)) c.args.toss.0 c.in_ok-begun.begun.items
-  begins = c.in_ok-begun.ensures.begins (after_records readied (if_there c.decide-decided.result)) has_decided
-
   -- the records, in their order
-  listed : c.in_ok-records.records.items ≡ echos ++ readys ++ if_there c.decide-decided.result ++ c.in_ok-begun.begun.items
-  listed =
-      c.in_ok-records.ensures
-      ∙ ap (λ (xs : List Record). xs ++ if_there c.in_ok-ready.ready ++ if_there c.decide-decided.result ++ c.deref.result.now) echo_said
-      ∙ ap (λ (xs : List Record). echos ++ xs ++ if_there c.decide-decided.result ++ c.deref.result.now) ready_said
-      ∙ ap (λ (xs : List Record). echos ++ readys ++ if_there c.decide-decided.result ++ xs) c.deref.ensures.value
+  listed : c.in_ok-records.records.items ≡ echos ++ readys ++ decided ++ c.in_ok-begun.begun.items
+  listed = c.in_ok-records.ensures ∙ ap (λ (xs : List Record). echos ++ readys ++ decided ++ xs) c.deref.ensures.value
 
   has_after : Has c.begin.new.self (after_records past c.in_ok-records.records.items)
   has_after =
       subst (λ (x : Past). Has c.begin.new.self x)
-      (sym (ap (λ (xs : List Record). after_records past xs) listed ∙ rows-four past echos readys (if_there c.decide-decided.result) c.in_ok-begun.begun.items))
-      (c.in_ok-begun.ensures.has (after_records readied (if_there c.decide-decided.result)) has_decided)
+      (sym (ap (λ (xs : List Record). after_records past xs) listed ∙ rows-four past echos readys decided c.in_ok-begun.begun.items))
+      (c.in_ok-begun.ensures.has (after_records readied decided) has_decided)
 
-  due_after : IsQuietElsewhere past c.args.place → AreDue past c.args.place c.args.toss.0 c.in_ok-records.records.items
-  due_after elsewhere =
-      due past c.args.place c.args.toss.0 c.due-due.result.echo c.due-due.result.ready decides.decision c.in_ok-begun.begun.items elsewhere echo_is ready_is
-      (subst (λ (x : Past). IsFirstDecision x decides.decision) (sym (rows-append past echos readys)) decides.first)
-      (subst (λ (x : Past). Begins x c.args.toss.0 c.in_ok-begun.begun.items)
-      (ap (λ (xs : List Record). after_records readied xs) decided_is ∙ sym (rows-three past echos readys (decided_if past.question decides.decision))) begins)
-      c.in_ok-records.records.items
-      (listed ∙ ap (λ (xs : List Record). echos ++ readys ++ xs ++ c.in_ok-begun.begun.items) decided_is)
+  module _ (fit : AllFit past) (elsewhere : IsQuietElsewhere past c.args.place) (echo_is : IsLeast (MaySay past Echo c.args.place) c.args.brought.due.echo)
+      (ready_is : IsLeast (MaySay past Ready c.args.place) c.args.brought.due.ready) where
+    due_after : AreDue past c.args.place c.args.toss.0 c.in_ok-records.records.items
+    due_after =
+        let decides : Decides readied decided = c.decide-decided.ensures.decides readied has_readied in
+        all_due past c.args.place c.args.toss.0 fit c.args.brought.due.echo c.args.brought.due.ready c.in_ok-echo.echo c.in_ok-ready.ready
+        c.in_ok-echo.ensures.said c.in_ok-ready.ensures.said elsewhere echo_is ready_is decided c.in_ok-begun.begun.items decides
+        (c.in_ok-begun.ensures.begins (after_records readied decided) has_decided) c.in_ok-records.records.items listed
 
 pub returns-clause-due : goal.returns-clause-due
-returns-clause-due c = λ past has fit elsewhere. due_after c past has fit elsewhere
+returns-clause-due c = λ past has fit elsewhere echo_is ready_is waiting. due_after c past has fit elsewhere echo_is ready_is
 
 pub returns-clause-has : goal.returns-clause-has
-returns-clause-has c = λ past has fit. has_after c past has fit
+returns-clause-has c = λ past has. has_after c past has
+
+-- where nothing is newly accepted
+pub returns-then-is_none-clause-due : goal.returns-then-is_none-clause-due
+returns-then-is_none-clause-due c = λ past has fit elsewhere echo_is ready_is waiting.
+    all_waiting past c.args.place c.args.toss.0 fit c.args.brought.due.echo c.args.brought.due.ready c.in_ok-echo.echo c.in_ok-ready.ready
+    c.in_ok-echo.ensures.said c.in_ok-ready.ensures.said elsewhere echo_is ready_is
+    (waiting (not_some c.args.brought.accepted c.if-is_none.ensures)) c.in_ok-said.said.items c.in_ok-said.ensures
+
+pub returns-then-is_none-clause-has : goal.returns-then-is_none-clause-has
+returns-then-is_none-clause-has c = λ past has.
+    subst (λ (x : Past). Has c.say-2.new.self x) (said_alone past (if_there c.in_ok-echo.echo) (if_there c.in_ok-ready.ready) c.in_ok-said.said.items c.in_ok-said.ensures)
+    (c.in_ok-ready.ensures.has (after_records past (if_there c.in_ok-echo.echo)) (c.in_ok-echo.ensures.has past has))
+
+-- where the statement brought nothing
+pub returns-then-is_nothing-clause-due : goal.returns-then-is_nothing-clause-due
+returns-then-is_nothing-clause-due c = λ past has fit elsewhere echo_is ready_is waiting.
+    subst (λ (xs : List Record). AreDue past c.args.place c.args.toss.0 xs) (sym c.new.ensures.items)
+    (nothing_due past c.args.place c.args.toss.0 fit c.args.brought (c.if-is_nothing.ensures.0 refl) elsewhere echo_is ready_is waiting)
+
+pub returns-then-is_nothing-clause-has : goal.returns-then-is_nothing-clause-has
+returns-then-is_nothing-clause-has c = λ past has.
+    subst (λ (xs : List Record). Has c.args.self.now (after_records past xs)) (sym c.new.ensures.items) has

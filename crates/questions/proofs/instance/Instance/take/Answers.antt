@@ -1,23 +1,32 @@
-use Rattle.std.proofs.Common.{◌≡◌, ◌∙◌, refl, sym, ap, Some, None}
+use Rattle.std.proofs.Common.{◌≡◌, ◌∙◌, refl, sym, ap, subst, Option, Some, None}
 use Rattle.terms.specs.declared.Place.{Place}
-use Rattle.terms.specs.Past.{after_hearing}
-use Rattle.questions.proofs.Taking.{has_heard, taken_none, same_rest}
+use Rattle.terms.specs.declared.Value.{Value}
+use Rattle.terms.specs.Heard.{Accepted, hear}
+use Rattle.rbc.specs.Answers.{heard_as, heard_of, IsNewlyAccepted}
+use Rattle.rbc.specs.declared.Heard.TheVariants.{News}
+use Rattle.questions.proofs.Taking.{has_heard, has_heard_nothing, if_news}
 use Rattle.questions.proofs.instance.Instance.take.Goals as goal
 
 pub returns-in_ok-accept-in-News-clause-has : goal.returns-in_ok-accept-in-News-clause-has
 returns-in_ok-accept-in-News-clause-has c = λ past has.
     let asked : c.args.s.now.place.question ≡ past.question = c.requires.question ∙ has.own.question in
     let now = c.in_ok-known.ensures.ok past has.broadcasts asked in
-    has_heard c.args.self.now _ past c.args.from c.args.s.now has (sym (c.in_ok-known.ensures.answer past has.broadcasts asked) ∙ c.in-News.is) refl refl refl now
-    c.place-place.result c.place-place.ensures (Some c.in-Some.value)
-    (c.in-Some.ensures.value (after_hearing past c.args.from c.args.s.now) now (ap (λ (p : Place). p.question) c.place-place.ensures ∙ asked))
+    let news : heard_as past c.args.from c.args.s.now ≡ News =
+    sym (c.in_ok-known.ensures.answer past has.broadcasts asked) ∙ ap heard_of c.in-News.is in
+    let newly : IsNewlyAccepted past c.args.from c.args.s.now (Some c.in-Some.value) =
+    subst (λ (o : Option Value). IsNewlyAccepted past c.args.from c.args.s.now o) c.in-Some.is
+    (if_news c.in_ok-known.known c.in-News.brought _ c.in-News.is c.in_ok-known.ensures.accepted past has.broadcasts asked) in
+    has_heard c.args.self.now _ past c.args.from c.args.s.now has news refl refl refl now c.place.result c.place.ensures (Some c.in-Some.value)
+    (subst (λ (p : Place). Accepted past.size (hear past.heard (c.args.from, c.args.s.now)) p c.in-Some.value) (sym c.place.ensures) newly.0)
     c.in_ok-accept-in-News.ensures.ok c.in_ok-accept-in-News.ensures.rest
 
 pub returns-in_default-accepted-clause-has : goal.returns-in_default-accepted-clause-has
 returns-in_default-accepted-clause-has c = λ past has.
     let asked : c.args.s.now.place.question ≡ past.question = c.requires.question ∙ has.own.question in
     let now = c.in_ok-known.ensures.ok past has.broadcasts asked in
-    has_heard c.args.self.now _ past c.args.from c.args.s.now has (sym (c.in_ok-known.ensures.answer past has.broadcasts asked) ∙ c.in-News.is) refl refl refl now
-    c.place-place.result c.place-place.ensures None
-    (c.in_default-accepted.ensures.value (after_hearing past c.args.from c.args.s.now) now (ap (λ (p : Place). p.question) c.place-place.ensures ∙ asked))
-    (taken_none c.args.self.now.rounds c.place-place.result) (same_rest c.args.self.now.rounds)
+    let news : heard_as past c.args.from c.args.s.now ≡ News =
+    sym (c.in_ok-known.ensures.answer past has.broadcasts asked) ∙ ap heard_of c.in-News.is in
+    let newly : IsNewlyAccepted past c.args.from c.args.s.now None =
+    subst (λ (o : Option Value). IsNewlyAccepted past c.args.from c.args.s.now o) c.in_default-accepted.is
+    (if_news c.in_ok-known.known c.in-News.brought _ c.in-News.is c.in_ok-known.ensures.accepted past has.broadcasts asked) in
+    has_heard_nothing c.args.self.now _ past c.args.from c.args.s.now has news refl refl refl now refl asked newly

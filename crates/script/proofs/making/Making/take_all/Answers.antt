@@ -1,14 +1,22 @@
-use Rattle.std.proofs.lemmas.Result.{err_from_is_err_and}
-use Rattle.script.proofs.Leading.{reached_next, broken_or_refused}
+use Rattle.std.proofs.Common.{◌≡◌, List, [], sym, ap, ◌∙◌}
+use Rattle.std.specs.Vec.Iter.{into_iter_items}
+use Rattle.script.specs.declared.step.Order.{Order}
+use Rattle.script.specs.Making.{Made}
+use Rattle.script.specs.Untossed.{made_by}
+use Rattle.script.proofs.Sources.{none_left}
 use Rattle.script.proofs.making.Making.take_all.Goals as goal
 
-pub returns-in_err-take_line-clause-err : goal.returns-in_err-take_line-clause-err
-returns-in_err-take_line-clause-err c =
-    let p = err_from_is_err_and c.from_residual.result c.from_residual.ensures.1 in
-    rw (p.1, p.2) (broken_or_refused c.args.size c.args.correct.now c.args.self.now c.args.lines.now c.loop-line.line-index _ c.loop-line.self
-    c.in_err-take_line.field-0.0 c.loop-line-test.true c.in_err-take_line.ensures.err c.loop-line.invariant)
+pub loop-order-preserved : goal.loop-order-preserved
+loop-order-preserved c =
+    let size = c.args.size in
+    let correct = c.args.correct.now in
+    ap (λ (m : Made). made_by size correct (into_iter_items c.next.new.self) m) c.in_ok-take.ensures.ok
+    ∙ (ap (λ (l : List Order). made_by size correct l c.loop-order.self) (sym c.in-Some.ensures.steps.0) ∙ c.loop-order.invariant)
 
-pub loop-line-preserved : goal.loop-line-preserved
-loop-line-preserved c =
-    reached_next c.args.size c.args.correct.now c.args.self.now c.args.lines.now c.loop-line.line-index _ c.loop-line.self c.take_line.new.self
-    c.loop-line-test.true c.in_ok-take_line.ensures.ok c.loop-line.invariant
+pub returns-clause-ok : goal.returns-clause-ok
+returns-clause-ok c =
+    let size = c.args.size in
+    let correct = c.args.correct.now in
+    let none : into_iter_items c.loop-order.order-iterator ≡ [] = none_left (into_iter_items c.loop-order.order-iterator) (sym c.loop-order.order-iterator.rest.ok.0 ∙ c.in-None.ensures.steps.0) in
+    sym (ap (λ (l : List Order). made_by size correct l c.loop-order.self) none)
+    ∙ (c.loop-order.invariant ∙ ap (λ (l : List Order). made_by size correct l c.args.self.now) c.into_iter-order-iterator.ensures.into_iter_gives.0)

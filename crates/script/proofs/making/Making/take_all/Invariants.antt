@@ -1,8 +1,8 @@
-use Rattle.std.proofs.Common.{drop}
-use Rattle.script.specs.Untossed.{numbered}
-use Rattle.script.proofs.Leading.{Reached}
+use Rattle.std.proofs.Common.{◌≡◌}
+use Rattle.std.specs.Vec.Iter.{into_iter_items}
+use Rattle.script.specs.Untossed.{made_by}
 use Rattle.script.proofs.making.Making.take_all.Given as goal
 
--- what the lines that are left come to, all come to
-abbrev pub invariant-loop-line : goal.invariant-loop-line
-invariant-loop-line l = Reached l.size l.correct l.fn.self (numbered l.lines) l.self (numbered (drop l.line-index l.lines))
+-- the orders that are left lead to where all would have led
+abbrev pub invariant-loop-order : goal.invariant-loop-order
+invariant-loop-order l = made_by l.size l.correct (into_iter_items l.order-iterator) l.self ≡ made_by l.size l.correct (into_iter_items l.initial.order-iterator) l.fn.self

@@ -1,0 +1,8 @@
+use Rattle.std.proofs.Common.{rules, subst, sym, ℕ, List}
+use Rattle.journal.specs.File.{HasHeader}
+use Rattle.commands.proofs.damage.header_of.Goals as goal
+
+pub returns-in-Err-BadHeader-clause-none : goal.returns-in-Err-BadHeader-clause-none
+returns-in-Err-BadHeader-clause-none c = λ none header has.
+    c.peek.ensures.bad_header tt (search (rules, c.in-Err-BadHeader.is, c.in-Err-BadHeader.field-0-is)) header
+    (subst (λ (l : List ℕ). HasHeader header l) (sym c.in_ok-disk.ensures) has)

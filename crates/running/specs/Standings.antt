@@ -1,0 +1,22 @@
+-- How far a link that is written has come.
+use Rattle.std.specs.Prelude.{Bool, true, false}
+use Rattle.running.specs.declared.outgoing.Standing.{Standing}
+use Rattle.running.specs.declared.outgoing.Standing.TheVariants.{Greeting, Answered, Up}
+
+-- a read gave bytes
+abbrev pub after_read : Standing → Standing
+after_read Greeting = Answered
+after_read Answered = Answered
+after_read Up = Up
+
+-- a write took bytes: the first one behind a read is to a peer that has welcomed the link
+abbrev pub after_write : Standing → Standing
+after_write Greeting = Greeting
+after_write Answered = Up
+after_write Up = Up
+
+-- it wasn't up before, and is up now
+abbrev pub has_come_up : Standing → Standing → Bool
+has_come_up Greeting Up = true
+has_come_up Answered Up = true
+has_come_up before after = false
