@@ -13,8 +13,8 @@ use Rattle.bracha.specs.declared.trouble.Failure.{Failure}
 use Rattle.bracha.specs.declared.fault.Fault.TheVariants as ends
 
 -- the fault that an error of a file is: want of memory, or the one that was meant for it
-abbrev pub IsOfFile : Fault → Error → Fault → Type 0
-IsOfFile meant error given = (error_kind error ≡ OutOfMemory → given ≡ ends.Memory) × (error_kind error ≢ OutOfMemory → given ≡ meant)
+abbrev pub IsFileFault : Fault → Error → Fault → Type 0
+IsFileFault meant error given = (error_kind error ≡ OutOfMemory → given ≡ ends.Memory) × (error_kind error ≢ OutOfMemory → given ≡ meant)
 
 -- the same, of an error that isn't known
 abbrev pub IsMeant : Fault → Fault → Type 0

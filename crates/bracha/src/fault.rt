@@ -1,7 +1,7 @@
 //! What ends the program before its work is done.
 
 ghost use Rattle.bracha.specs.declared.fault.Fault.TheVariants as ends;
-ghost use Rattle.bracha.specs.Faults.{IsMeant, IsOfFile, fault_status, of_journal};
+ghost use Rattle.bracha.specs.Faults.{IsMeant, IsFileFault, fault_status, of_journal};
 ghost use Rattle.std.specs.Prelude.{◌≡◌};
 
 use commands::{DumpFault, InitFault, SimulateFault, TalkFault};
@@ -86,7 +86,7 @@ impl Fault {
     /// The fault of a file that couldn't be opened, read or written: this one, but for want of memory.
     pub fn of_file(self, error: io::Error) -> Fault
         ensures meant { IsMeant self result }
-        ensures kind { IsOfFile self error result }
+        ensures kind { IsFileFault self error result }
     {
         if error.kind() == io::ErrorKind::OutOfMemory {
             Fault::Memory
@@ -124,7 +124,7 @@ impl<T: Drop> From<AllocFailed<T>> for Fault {
 }
 
 impl From<io::Error> for Fault {
-    ghost from_gives = { λ error given. IsOfFile ends.Stream error given };
+    ghost from_gives = { λ error given. IsFileFault ends.Stream error given };
 
     fn from(error: io::Error) -> Fault {
         Fault::Stream.of_file(error)

@@ -1,6 +1,6 @@
 //! What can be told of the thing that a fault is about.
 
-ghost use Rattle.bracha.specs.Faults.{IsMeant, IsOfFile};
+ghost use Rattle.bracha.specs.Faults.{IsMeant, IsFileFault};
 ghost use Rattle.std.specs.Prelude.{◌≡◌, None, false, true};
 
 use crate::fault::Fault;
@@ -123,7 +123,7 @@ impl Failure {
         error: io::Error,
     ) -> Failure
         ensures meant { IsMeant fault result.fault }
-        ensures kind { IsOfFile fault error result.fault }
+        ensures kind { IsFileFault fault error result.fault }
     {
         let trouble = trouble_of(alloc, thing, place, &error);
         Failure {

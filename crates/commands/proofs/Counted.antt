@@ -1,24 +1,23 @@
 -- Scripts whose events are only counted.
-use Rattle.std.proofs.Common.{ℕ, ◌≡◌, ◌+◌, ◌<◌, ◌≤◌, ◌^◌, false, refl, sym, ap, ◌∙◌, subst, arith, length-append, append-nil, List, [], ◌∷◌, ◌++◌, length, map}
+use Rattle.std.proofs.Common.{ℕ, ◌≡◌, ◌+◌, ◌<◌, ◌≤◌, ◌^◌, false, refl, sym, ap, ◌∙◌, subst, arith, length-append, append-nil, List, [], ◌∷◌, ◌++◌, length, map, Global}
 use denote.RawPtr.{null_ptr}
-use Rattle.std.specs.Global.{Vec, Global}
+use Rattle.std.specs.Global.{Vec}
 use Rattle.std.specs.List.{flat_map}
-use Rattle.terms.specs.declared.Size.{Size}
-use Rattle.terms.specs.declared.Record.{Record}
+use Rattle.vocabulary.specs.Terms.{Size, Record}
 use Rattle.script.specs.declared.Script.{Script}
-use Rattle.script.specs.Acts.{Told, told}
+use Rattle.script.specs.Acts.{TossedAct, tossed_act}
 use Rattle.script.specs.Scripts.{IsTold, IsScript}
 use Rattle.sim.specs.declared.events.Event.{Event}
 use Rattle.sim.specs.declared.events.Mark.{Mark}
 use Rattle.sim.specs.declared.cluster.Cluster.{Cluster}
 use Rattle.sim.specs.declared.cluster.Outcome.{Outcome}
 use Rattle.sim.specs.declared.TheConstants.{MOST_EVENTS}
-use Rattle.sim.specs.Plays.{Played, Stands, played, unplayed, and_then, last_saved}
+use Rattle.sim.specs.Plays.{Played, ClusterStandsFor, played, unplayed, and_then, last_saved}
 use Rattle.sim.specs.Outcomes.{IsSimulation, Verdict, among}
 use Rattle.words.specs.Sentences.{bit_digit}
 use Rattle.report.specs.Traces.{is_skipped}
 use Rattle.commands.specs.Simulations.{verdict_line, line_of_counts, simulation_text}
-use Rattle.commands.specs.Counts.{IsCounted}
+use Rattle.commands.specs.Counts.{CountsPlayed}
 use Rattle.commands.specs.Pages.{IsOutcome}
 use Rattle.commands.proofs.Simulating.{skipped-append}
 
@@ -26,17 +25,17 @@ use Rattle.commands.proofs.Simulating.{skipped-append}
 pub holding : {A : Type 0} → Global → (xs : List A) → length xs < 2 ^ 63 → Vec A
 holding alloc xs few = record { ptr = null_ptr; len = length xs; cap = length xs; alloc = alloc; items = xs; ok = (refl, omega arith); small = few }
 
-told_more : (script : List Event) (event : Event) (left : List Told) → map told (script ++ event ∷ []) ++ left ≡ map told script ++ told event ∷ left
+told_more : (script : List Event) (event : Event) (left : List TossedAct) → map tossed_act (script ++ event ∷ []) ++ left ≡ map tossed_act script ++ tossed_act event ∷ left
 told_more [] event left = refl
-told_more (first ∷ script) event left = ap (λ (l : List Told). told first ∷ l) (told_more script event left)
+told_more (first ∷ script) event left = ap (λ (l : List TossedAct). tossed_act first ∷ l) (told_more script event left)
 
-pub length-told : (script : List Event) → length (map told script) ≡ length script
+pub length-told : (script : List Event) → length (map tossed_act script) ≡ length script
 length-told [] = refl
 length-told (event ∷ script) = let h = length-told script in omega (arith, h)
 
 -- nothing was played yet
-pub none_counted : (size : Size) (liars : List ℕ) (all : List Told) (cluster : Cluster) → Stands (unplayed size (among liars) (λ p. false)) cluster
-    → IsCounted size liars all all cluster 0 0
+pub none_counted : (size : Size) (liars : List ℕ) (all : List TossedAct) (cluster : Cluster) → ClusterStandsFor (unplayed size (among liars) (λ p. false)) cluster
+    → CountsPlayed size liars all all cluster 0 0
 none_counted size liars all cluster stands = record {
   script = [];
   marks = [];
@@ -50,10 +49,10 @@ none_counted size liars all cluster stands = record {
 }
 
 -- one event more
-pub one_counted : (alloc : Global) (size : Size) (liars : List ℕ) (all left : List Told) (old new : Cluster) (event : Event) (mark : Mark) (events skips digit : ℕ)
-    → ((past : Played) (saved : Vec Record) → Stands past old → saved.items ≡ last_saved new → Stands (and_then past event mark saved) new)
+pub one_counted : (alloc : Global) (size : Size) (liars : List ℕ) (all left : List TossedAct) (old new : Cluster) (event : Event) (mark : Mark) (events skips digit : ℕ)
+    → ((past : Played) (saved : Vec Record) → ClusterStandsFor past old → saved.items ≡ last_saved new → ClusterStandsFor (and_then past event mark saved) new)
     → length (last_saved new) < 2 ^ 63 → digit ≡ bit_digit (is_skipped mark)
-    → IsCounted size liars all (told event ∷ left) old events skips → IsCounted size liars all left new (events + 1) (skips + digit)
+    → CountsPlayed size liars all (tossed_act event ∷ left) old events skips → CountsPlayed size liars all left new (events + 1) (skips + digit)
 unfolding holding
 one_counted alloc size liars all left old new event mark events skips digit stands few is so =
     let saved = holding alloc (last_saved new) few in
@@ -74,15 +73,15 @@ one_counted alloc size liars all left old new event mark events skips digit stan
     }
 
 -- all were played: what is printed is of a script that the text says, and of an outcome of it
-pub told_whole : (alloc : Global) (text : List ℕ) (size : Size) (liars : List ℕ) (all : List Told) (cluster : Cluster) (events skips : ℕ) (verdicts : Vec Verdict) (made : List ℕ)
-    → length liars < 2 ^ 63 → length all ≤ MOST_EVENTS → IsTold text size liars all → (so : IsCounted size liars all [] cluster events skips)
+pub told_whole : (alloc : Global) (text : List ℕ) (size : Size) (liars : List ℕ) (all : List TossedAct) (cluster : Cluster) (events skips : ℕ) (verdicts : Vec Verdict) (made : List ℕ)
+    → length liars < 2 ^ 63 → length all ≤ MOST_EVENTS → IsTold text size liars all → (so : CountsPlayed size liars all [] cluster events skips)
     → IsSimulation size (among liars) (λ p. false) so.script so.marks so.saved verdicts.items
     → made ≡ flat_map verdict_line verdicts.items ++ line_of_counts events skips
     → (script : Script) × (outcome : Outcome) × IsScript text script × IsOutcome script outcome × (made ≡ simulation_text outcome)
 unfolding holding
 told_whole alloc text size liars all cluster events skips verdicts made short few says so simulated is =
-    let told_are : map told so.script ≡ all = sym (append-nil (map told so.script)) ∙ so.told_are in
-    let long = ap (λ (l : List Told). length l) told_are in
+    let told_are : map tossed_act so.script ≡ all = sym (append-nil (map tossed_act so.script)) ∙ so.told_are in
+    let long = ap (λ (l : List TossedAct). length l) told_are in
     let count : length so.script ≤ MOST_EVENTS = omega (arith, long, length-told so.script, few) in
     let marked = so.marked in
     let each_saved = so.each_saved in
@@ -94,7 +93,7 @@ told_whole alloc text size liars all cluster events skips verdicts made short fe
     } in (
       script,
       outcome,
-      subst (λ (l : List Told). IsTold text size liars l) (sym told_are) says,
+      subst (λ (l : List TossedAct). IsTold text size liars l) (sym told_are) says,
       simulated,
       is ∙ (ap (λ (k : ℕ). flat_map verdict_line verdicts.items ++ line_of_counts k skips) so.events_are
           ∙ ap (λ (k : ℕ). flat_map verdict_line verdicts.items ++ line_of_counts (length so.marks) k) so.skips_are),

@@ -2,12 +2,11 @@
 use Rattle.std.proofs.Common.{ℕ, ◌≡◌, ◌+◌, ◌<◌, refl, sym, ap, ◌∙◌, subst, arith, append_assoc, append-nil, codes, List, [], ◌∷◌, ◌++◌, length, take, get_or, suc}
 use Rattle.std.specs.Fmt.{decimal}
 use Rattle.std.proofs.Math.Seq.{take-suc}
-use Rattle.terms.specs.declared.Record.{Record}
-use Rattle.terms.specs.declared.Header.{Header}
+use Rattle.vocabulary.specs.Terms.{Record, Header}
 use Rattle.journal.specs.declared.fault.JournalFault.{JournalFault}
 use Rattle.journal.specs.declared.fault.JournalFault.TheVariants as unheld
 use Rattle.journal.specs.Faults.{IsOfFile, IsFaultOfOpening}
-use Rattle.journal.specs.File.{HasHeader, Refuses}
+use Rattle.journal.specs.File.{HasHeader, RefusesFile}
 use Rattle.journal.proofs.One.{one_header}
 use Rattle.commands.specs.declared.fault.DumpFault.TheVariants as dump
 use Rattle.commands.specs.Faults.{of_opening}
@@ -32,7 +31,7 @@ lines-snoc records i r head text more new at within before one is =
     is ∙ rw (step, lines-append, before, one) (simp (append_assoc, append-nil))
 
 -- what opening found wrong is wrong with a file that begins with the header
-unread : (header : Header) (why : JournalFault) (file : List ℕ) → HasHeader header file → (IsOfFile why → Refuses header why file) → IsFaultOfOpening why
+unread : (header : Header) (why : JournalFault) (file : List ℕ) → HasHeader header file → (IsOfFile why → RefusesFile header why file) → IsFaultOfOpening why
     → (why ≡ unheld.Memory → ⊥) → IsUnreadable why file
 unread header unheld.NotEmpty file has found of other = of
 unread header unheld.BadHeader file has found of other = found tt
@@ -56,7 +55,7 @@ same_fault unheld.Memory named e = cc
 same_fault unheld.Stopped named e = ((λ h. cc), cc)
 same_fault unheld.Full named e = ((λ h. cc), cc)
 
-pub unreadable : (header : Header) (why named : JournalFault) (file : List ℕ) → HasHeader header file → (IsOfFile why → Refuses header why file) → IsFaultOfOpening why
+pub unreadable : (header : Header) (why named : JournalFault) (file : List ℕ) → HasHeader header file → (IsOfFile why → RefusesFile header why file) → IsFaultOfOpening why
     → of_opening why ≡ dump.Journal named → IsUnreadable named file
 unreadable header why named file has found of e =
     let s = same_fault why named e in

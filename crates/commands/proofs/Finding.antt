@@ -1,7 +1,5 @@
 -- Which of the lines is the first.
-use Rattle.std.proofs.Common.{ℕ, zero, suc, ◌≡◌, ◌+◌, ◌-◌, ◌<◌, subst, arith, List, [], ◌∷◌, get_or, length, take}
-use Rattle.std.specs.Prelude.{IsSomeAnd, Some, slice_get}
-use denote.Ref.{Bor}
+use Rattle.std.proofs.Common.{ℕ, zero, suc, ◌≡◌, ◌+◌, ◌-◌, ◌<◌, subst, arith, List, [], ◌∷◌, get_or, length, take, IsSomeAnd, Some, slice_get, Bor}
 use Rattle.commands.specs.Places.{IsFirstLine, NoLine, texts}
 
 -- what is said of a line is said of the one at its place

@@ -1,23 +1,22 @@
 -- What a script came to that nobody looked into.
 use Rattle.std.specs.Prelude.{ℕ, ◌≡◌, false, List, ◌++◌, length, map}
 use Rattle.std.specs.Global.{Vec}
-use Rattle.terms.specs.declared.Size.{Size}
-use Rattle.terms.specs.declared.Record.{Record}
-use Rattle.script.specs.Acts.{Told, told}
+use Rattle.vocabulary.specs.Terms.{Size, Record}
+use Rattle.script.specs.Acts.{TossedAct, tossed_act}
 use Rattle.sim.specs.declared.events.Event.{Event}
 use Rattle.sim.specs.declared.events.Mark.{Mark}
 use Rattle.sim.specs.declared.cluster.Cluster.{Cluster}
-use Rattle.sim.specs.Plays.{Stands, played}
+use Rattle.sim.specs.Plays.{ClusterStandsFor, played}
 use Rattle.sim.specs.Outcomes.{among}
 use Rattle.commands.specs.Simulations.{skipped}
 
 -- all of these events but those that are left were played over disks without a fuse: so many, of which so many were skipped
-pub record IsCounted (size : Size) (liars : List ℕ) (all left : List Told) (cluster : Cluster) (events skips : ℕ) : Type 0 where
+pub record CountsPlayed (size : Size) (liars : List ℕ) (all left : List TossedAct) (cluster : Cluster) (events skips : ℕ) : Type 0 where
   pub script : List Event
   pub marks : List Mark
   pub saved : List (Vec Record)
-  pub stands : Stands (played size (among liars) (λ p. false) script marks saved) cluster
-  pub told_are : map told script ++ left ≡ all
+  pub stands : ClusterStandsFor (played size (among liars) (λ p. false) script marks saved) cluster
+  pub told_are : map tossed_act script ++ left ≡ all
   pub marked : length marks ≡ length script
   pub each_saved : length saved ≡ length script
   pub events_are : events ≡ length marks

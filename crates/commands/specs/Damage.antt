@@ -2,25 +2,25 @@
 use Rattle.std.specs.Prelude.{ℕ, ◌≡◌, ◌≢◌, ◌+◌, ◌*◌, ◌<◌, if◌then◌else◌, nat_lt, List, [], ◌∷◌, ◌++◌, codes, length, take, Option, Some, None, IsSomeAnd}
 use Rattle.std.specs.List.{flat_map}
 use Rattle.sim.specs.Texts.{byte_text}
-use Rattle.terms.specs.declared.Header.{Header}
+use Rattle.vocabulary.specs.Terms.{Header}
 use Rattle.journal.specs.declared.fault.JournalFault.{JournalFault}
 use Rattle.journal.specs.declared.fault.JournalFault.TheVariants.{NotEmpty, BadHeader, OtherHeader, BadRecord, CutShort, Device, Memory, Stopped, Full}
 use Rattle.journal.specs.File.{HasHeader}
-use Rattle.journal.specs.Texts.{Batch, batch_text, header_text, texts}
+use Rattle.journal.specs.Texts.{Batch, batch_bytes, header_text, batches_bytes}
 use Rattle.journal.specs.WellFormed.{AreBatches, IsBatch}
 
 -- no batch of the header with a gate behind it stands at the start of these bytes
 abbrev pub NoBatch : Header → List ℕ → Type 0
 NoBatch header bytes =
-    (batch : Batch) (gate : ℕ) (behind : List ℕ) → IsBatch header batch → bytes ≢ batch_text batch ++ gate ∷ behind
+    (batch : Batch) (gate : ℕ) (behind : List ℕ) → IsBatch header batch → bytes ≢ batch_bytes batch ++ gate ∷ behind
 
 -- so many bytes of the file are its header and whole batches, each with a gate behind it, and no such batch follows
 pub record IsGoodUpTo (header : Header) (place : ℕ) (file : List ℕ) : Type 0 where
   pub batches : List Batch
   pub rest : List ℕ
   pub good : AreBatches header batches
-  pub is : file ≡ header_text header ++ texts batches ++ rest
-  pub place_is : place ≡ length (header_text header ++ texts batches)
+  pub is : file ≡ header_text header ++ batches_bytes batches ++ rest
+  pub place_is : place ≡ length (header_text header ++ batches_bytes batches)
   pub gated : rest ≡ [] → batches ≡ []
   pub last : NoBatch header rest
 
@@ -45,14 +45,14 @@ IsPlaceOf Full file place = place ≡ None
 pub record BeginsWithBatch (header : Header) (bytes behind : List ℕ) : Type 0 where
   pub batch : Batch
   pub good : IsBatch header batch
-  pub is : bytes ≡ batch_text batch ++ behind
+  pub is : bytes ≡ batch_bytes batch ++ behind
   pub gated : 0 < length behind
 
 -- the bytes are batches of the header, each with a gate behind it, and this rest, which begins with no such batch
 pub record IsSkipped (header : Header) (bytes rest : List ℕ) : Type 0 where
   pub batches : List Batch
   pub good : AreBatches header batches
-  pub is : bytes ≡ texts batches ++ rest
+  pub is : bytes ≡ batches_bytes batches ++ rest
   pub gated : rest ≡ [] → batches ≡ []
   pub last : NoBatch header rest
 

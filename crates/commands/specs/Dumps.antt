@@ -2,11 +2,10 @@
 use Rattle.std.specs.Prelude.{ℕ, Bool, false, true, List, [], ◌∷◌, ◌++◌, codes, length}
 use Rattle.std.specs.List.{flat_map}
 use Rattle.std.specs.Fmt.{decimal}
-use Rattle.terms.specs.declared.Record.{Record}
-use Rattle.terms.specs.declared.Header.{Header}
+use Rattle.vocabulary.specs.Terms.{Record, Header}
 use Rattle.journal.specs.declared.fault.JournalFault.{JournalFault}
 use Rattle.journal.specs.declared.fault.JournalFault.TheVariants.{NotEmpty, BadHeader, OtherHeader, BadRecord, CutShort, Device, Memory, Stopped, Full}
-use Rattle.journal.specs.File.{HasHeader, Refuses}
+use Rattle.journal.specs.File.{HasHeader, RefusesFile}
 use Rattle.words.specs.Sentences.{sentence}
 use Rattle.report.specs.Records.{record_text}
 use Rattle.words.specs.Lines.{line}
@@ -44,8 +43,8 @@ abbrev pub IsUnreadable : JournalFault → List ℕ → Type 0
 IsUnreadable NotEmpty file = ⊥
 IsUnreadable BadHeader file = (header : Header) → HasHeader header file → ⊥
 IsUnreadable OtherHeader file = ⊥
-IsUnreadable BadRecord file = (header : Header) × Refuses header BadRecord file
-IsUnreadable CutShort file = (header : Header) × Refuses header CutShort file
+IsUnreadable BadRecord file = (header : Header) × RefusesFile header BadRecord file
+IsUnreadable CutShort file = (header : Header) × RefusesFile header CutShort file
 IsUnreadable Device file = Unit {0}
 IsUnreadable Memory file = ⊥
 IsUnreadable Stopped file = ⊥

@@ -11,8 +11,8 @@ use Rattle.journal.specs.declared.fault.JournalFault.{JournalFault}
 use Rattle.journal.specs.declared.fault.JournalFault.TheVariants as unheld
 use Rattle.script.specs.declared.fault.ScriptFault.{ScriptFault}
 use Rattle.script.specs.declared.fault.ScriptFault.TheVariants as unread
-use Rattle.terms.specs.declared.Size.{Size}
-use Rattle.script.specs.Acts.{Told}
+use Rattle.vocabulary.specs.Terms.{Size}
+use Rattle.script.specs.Acts.{TossedAct}
 use Rattle.script.specs.Scripts.{IsTold, IsFirstFault}
 use Rattle.sim.specs.declared.faults.SimFault.{SimFault}
 use Rattle.sim.specs.declared.faults.SimFault.TheVariants as unrun
@@ -68,13 +68,13 @@ of_sim unrun.Memory = simulate.Memory
 of_sim unrun.Full = simulate.Sim unrun.Full
 
 -- a write failed, or memory was refused
-abbrev pub IsOfStream : SimulateFault → Type 0
-IsOfStream ends = (ends ≡ simulate.Memory) ⊎ (ends ≡ simulate.Stream)
+abbrev pub IsOfWriting : SimulateFault → Type 0
+IsOfWriting ends = (ends ≡ simulate.Memory) ⊎ (ends ≡ simulate.Stream)
 
 -- the text says a script of liars that can't be: nothing else keeps a script from being run over empty disks
 abbrev pub CannotRun : List ℕ → SimFault → Type 0
 CannotRun text unrun.BadLiars =
-    (size : Size) × (liars : List ℕ) × (events : List Told) × IsTold text size liars events × (AreLiars size liars → ⊥)
+    (size : Size) × (liars : List ℕ) × (events : List TossedAct) × IsTold text size liars events × (AreLiars size liars → ⊥)
 CannotRun text unrun.BadDisks = ⊥
 CannotRun text unrun.Device = ⊥
 CannotRun text unrun.Memory = ⊥

@@ -2,10 +2,7 @@
 use Rattle.std.specs.Prelude.{ℕ, ◌≡◌, ◌⊎◌, ◌==◌, ◌-◌, ◌≤◌, List, length, map, take, slice_get, IsSomeAnd, Option, Some, None}
 use Rattle.std.specs.List.{AllByRecursion, slice_split}
 use denote.Ref.{Bor}
-
--- the bytes of words
-abbrev pub texts : List (Bor (List ℕ)) → List (List ℕ)
-texts words = map (λ word. word.now) words
+pub use Rattle.words.specs.Sentences.{texts}
 
 -- what stands before, between and behind the bytes 10
 abbrev pub lines_in : List ℕ → List (List ℕ)

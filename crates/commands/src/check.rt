@@ -4,9 +4,9 @@ ghost use Rattle.std.specs.Prelude.{◌≡◌, List, length, Err, IfErr, IfOk, O
 ghost use Rattle.std.specs.List.{flat_map};
 ghost use Rattle.std.specs.Io.KnownBytes.{Appends};
 ghost use Rattle.journal.specs.Faults.{IsOfFile};
-ghost use Rattle.journal.specs.File.{Holds, Refuses};
+ghost use Rattle.journal.specs.File.{Holds, RefusesFile};
 ghost use Rattle.journal.specs.declared.fault.JournalFault.{JournalFault};
-ghost use Rattle.terms.specs.declared.Record.{Record};
+ghost use Rattle.vocabulary.specs.Terms.{Record};
 ghost use Rattle.commands.specs.Checks.{address_text, peer_line, records_line, settings_text};
 ghost use Rattle.commands.specs.Faults.{IsOfDump, IsOfPrint};
 
@@ -101,7 +101,7 @@ pub fn check_journal<D: Disk + Drop, W: Write>(
     ensures all { D.keeps disk → OnOk result ((records : List Record)
         × Holds header.now records (D.state disk).seen
         × Appends (W.contents output.old) (W.contents output.new) (records_line (length records))) }
-    ensures fault { D.keeps disk → (fault : JournalFault) → result ≡ Err (DumpFault.Journal fault) → IsOfFile fault → Refuses header.now fault (D.state disk).seen }
+    ensures fault { D.keeps disk → (fault : JournalFault) → result ≡ Err (DumpFault.Journal fault) → IsOfFile fault → RefusesFile header.now fault (D.state disk).seen }
     ensures nothing { (fault : JournalFault) → result ≡ Err (DumpFault.Journal fault) → output.new ≡ output.old }
     ensures only { IfErr result IsOfDump }
 {

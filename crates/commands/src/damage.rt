@@ -2,10 +2,9 @@
 
 ghost use Rattle.std.specs.Prelude.{◌≡◌, ◌<◌, ◌++◌, ◌∷◌, [], ℕ, drop, false, true, length, IfOk, IfSome, IsNone, List, string_bytes};
 ghost use Rattle.disk.specs.Memory.{memory_state};
-ghost use Rattle.terms.specs.declared.Header.{Header};
-ghost use Rattle.terms.specs.declared.Record.{Record};
+ghost use Rattle.vocabulary.specs.Terms.{Header, Record};
 ghost use Rattle.journal.specs.declared.fault.JournalFault.{JournalFault};
-ghost use Rattle.journal.specs.File.{HasHeader, Holds, Refuses};
+ghost use Rattle.journal.specs.File.{HasHeader, Holds, RefusesFile};
 ghost use Rattle.journal.specs.Texts.{header_text};
 ghost use Rattle.journal.specs.WellFormed.{IsHeader};
 ghost use Rattle.commands.specs.Damage.{BeginsWithBatch, IsChunk, IsGoodUpTo, IsPlaceOf, IsSkipped, NoBatch, NoChunk, byte_word, hex_words, shown_bytes};
@@ -84,7 +83,7 @@ fn file_of(alloc: Global, front: &[u8], bytes: &[u8]) -> Result<Vec<u8>, AllocEr
 /// Whether the file of this header's bytes, these and a closed gate is a journal.
 fn is_journal(alloc: Global, header: &Header, front: &[u8], bytes: &[u8]) -> Result<bool, Memory>
     ensures yes { IfOk result (λ is. is ≡ true → (records : List Record) × Holds header.now records (front.now ++ bytes.now ++ 0 ∷ [])) }
-    ensures no { IfOk result (λ is. is ≡ false → (fault : JournalFault) × Refuses header.now fault (front.now ++ bytes.now ++ 0 ∷ [])) }
+    ensures no { IfOk result (λ is. is ≡ false → (fault : JournalFault) × RefusesFile header.now fault (front.now ++ bytes.now ++ 0 ∷ [])) }
 {
     let file = file_of(alloc, front, bytes)?;
     let disk = disk_of(alloc, &file)?;

@@ -5,8 +5,7 @@ ghost use Rattle.std.specs.Io.KnownBytes.{Appends};
 ghost use Rattle.journal.specs.File.{Holds};
 ghost use Rattle.journal.specs.declared.fault.JournalFault.{JournalFault};
 ghost use Rattle.journal.specs.declared.fault.JournalFault.TheVariants.{Device};
-ghost use Rattle.terms.specs.declared.Header.{Header};
-ghost use Rattle.terms.specs.declared.Record.{Record};
+ghost use Rattle.vocabulary.specs.Terms.{Header, Record};
 ghost use Rattle.commands.specs.Faults.{IsOfDump};
 ghost use Rattle.commands.specs.Dumps.{header_line, record_line, dump_text, number_text, dump_page, IsUnreadable};
 

@@ -5,14 +5,14 @@ ghost use Rattle.std.specs.List.{flat_map};
 ghost use Rattle.std.specs.Io.KnownBytes.{Appends};
 ghost use Rattle.script.specs.declared.Script.{Script};
 ghost use Rattle.sim.specs.declared.cluster.Outcome.{Outcome};
-ghost use Rattle.terms.specs.declared.Size.{Size};
+ghost use Rattle.vocabulary.specs.Terms.{Size};
 ghost use Rattle.sim.specs.declared.TheConstants.{MOST_EVENTS};
 ghost use Rattle.sim.specs.Outcomes.{AreDisks, among, fused_in};
-ghost use Rattle.sim.specs.Plays.{Stands, unplayed};
-ghost use Rattle.script.specs.Acts.{Told, told};
-ghost use Rattle.commands.specs.Counts.{IsCounted};
+ghost use Rattle.sim.specs.Plays.{ClusterStandsFor, unplayed};
+ghost use Rattle.script.specs.Acts.{TossedAct, tossed_act};
+ghost use Rattle.commands.specs.Counts.{CountsPlayed};
 ghost use Rattle.script.specs.Scripts.{IsScript};
-ghost use Rattle.commands.specs.Faults.{IsOfSimulate, IsOfStream};
+ghost use Rattle.commands.specs.Faults.{IsOfSimulate, IsOfWriting};
 ghost use Rattle.commands.specs.declared.fault.SimulateFault.{SimulateFault};
 ghost use Rattle.report.specs.Charts.{IsSvg};
 ghost use Rattle.commands.specs.Pages.{IsOutcome, IsPage, IsTrace, ArePages};
@@ -124,11 +124,11 @@ fn play_batch(
     requires fewer { counts.skipped ≤ counts.events }
     ensures room { IfOk result (λ now. now.events ≡ counts.events + length events.now) }
     ensures fewer { IfOk result (λ now. now.skipped ≤ now.events) }
-    ensures counted { (size : Size) (liars : List ℕ) (all left : List Told) →
-        IsCounted size liars all (map told events.now ++ left) cluster.old counts.events counts.skipped →
-        IfOk result (λ now. IsCounted size liars all left cluster.new now.events now.skipped) }
-    ensures memory { (size : Size) (liars : List ℕ) (all left : List Told) →
-        IsCounted size liars all (map told events.now ++ left) cluster.old counts.events counts.skipped →
+    ensures counted { (size : Size) (liars : List ℕ) (all left : List TossedAct) →
+        CountsPlayed size liars all (map tossed_act events.now ++ left) cluster.old counts.events counts.skipped →
+        IfOk result (λ now. CountsPlayed size liars all left cluster.new now.events now.skipped) }
+    ensures memory { (size : Size) (liars : List ℕ) (all left : List TossedAct) →
+        CountsPlayed size liars all (map tossed_act events.now ++ left) cluster.old counts.events counts.skipped →
         IfErr result (λ fault. fault ≡ SimFault.Memory) }
 {
     let mut played = counts.events;
@@ -151,9 +151,9 @@ fn play_all(
     cluster: &mut Cluster,
 ) -> Result<Counts, SimulateFault>
     requires few { length source.old.left ≤ MOST_EVENTS }
-    ensures counted { (size : Size) (liars : List ℕ) → Stands (unplayed size (among liars) (λ p. false)) cluster.old →
-        IfOk result (λ counts. IsCounted size liars source.old.left [] cluster.new counts.events counts.skipped) }
-    ensures memory { (size : Size) (liars : List ℕ) → Stands (unplayed size (among liars) (λ p. false)) cluster.old →
+    ensures counted { (size : Size) (liars : List ℕ) → ClusterStandsFor (unplayed size (among liars) (λ p. false)) cluster.old →
+        IfOk result (λ counts. CountsPlayed size liars source.old.left [] cluster.new counts.events counts.skipped) }
+    ensures memory { (size : Size) (liars : List ℕ) → ClusterStandsFor (unplayed size (among liars) (λ p. false)) cluster.old →
         IfErr result (λ fault. fault ≡ SimulateFault.Memory) }
 {
     let mut counts = Counts {
@@ -279,7 +279,7 @@ pub fn simulate_pages(
 pub fn print<W: Write>(text: &str, output: &mut W) -> Result<u8, SimulateFault>
     ensures status { IfOk result (λ status. status ≡ 0) }
     ensures all { OnOk result (Appends (W.contents output.old) (W.contents output.new) text.now) }
-    ensures only { IfErr result IsOfStream }
+    ensures only { IfErr result IsOfWriting }
 {
     output.write_all(text.as_bytes())?;
     output.flush()?;
@@ -302,7 +302,7 @@ pub fn simulate_text<W: Write>(
         × IsScript text.now script × IsOutcome script outcome
         × Appends (W.contents output.old) (W.contents output.new) (simulation_text outcome)) }
     // A fault of the script comes before anything is written.
-    ensures nothing { (fault : SimulateFault) → result ≡ Err fault → (IsOfStream fault → ⊥) → output.new ≡ output.old }
+    ensures nothing { (fault : SimulateFault) → result ≡ Err fault → (IsOfWriting fault → ⊥) → output.new ≡ output.old }
     ensures only { IfErr result (IsOfSimulate text.now) }
 {
     let pages = simulate_pages(alloc, text, false, false)?;
@@ -339,7 +339,7 @@ pub fn print_verdicts<W: Write, E: Write>(
     ensures aside { aside ≡ true → OnOk result (Appends (E.contents errors.old) (E.contents errors.new) verdicts.now) }
     ensures no_errors { aside ≡ false → errors.new ≡ errors.old }
     ensures no_output { aside ≡ true → output.new ≡ output.old }
-    ensures only { IfErr result IsOfStream }
+    ensures only { IfErr result IsOfWriting }
 {
     if aside {
         print(verdicts, errors)

@@ -7,7 +7,7 @@ use Rattle.desk.specs.declared.line.Line.{Line}
 use Rattle.desk.specs.declared.line.Line.TheVariants.{Propose, Ask, Status}
 use Rattle.words.specs.Numbers.{IsBelow}
 use Rattle.words.specs.Spaces.{NoSpace}
-use Rattle.desk.specs.Lines.{IsQuestion, IsWord, IsBit, IsProposal, Asks}
+use Rattle.desk.specs.Lines.{IsQuestion, IsWord, IsBitWord, IsProposal, Asks}
 use Rattle.words.proofs.Cuts.{digits_spaceless, one_cut, no_cut}
 
 -- five digits write a small number
@@ -32,10 +32,10 @@ question_at text digits word question bit whole none p =
     subst (λ ds. IsQuestion ds question) (parts_are text digits word question bit whole none p).0 p.question_is
 
 pub word_at : (text digits word : List ℕ) (question : ℕ) (bit : Option Bool) → text ≡ digits ++ 32 ∷ word → NoSpace digits
-    → IsProposal text question bit → IsWord word × IsBit word bit
+    → IsProposal text question bit → IsWord word × IsBitWord word bit
 word_at text digits word question bit whole none p =
     let e = (parts_are text digits word question bit whole none p).1 in
-    (subst IsWord e p.word_is, subst (λ w. IsBit w bit) e p.bit_is)
+    (subst IsWord e p.word_is, subst (λ w. IsBitWord w bit) e p.bit_is)
 
 -- a text without a space is no proposal
 pub no_proposal : (text : List ℕ) (question : ℕ) (bit : Option Bool) → NoSpace text → IsProposal text question bit → ⊥

@@ -1,17 +1,17 @@
 -- The replies to commands.
 use Rattle.std.specs.Prelude.{ℕ, ◌≡◌, ◌⊎◌, ◌<◌, nat_lt, Bool, true, Option, Some, None, length, if◌then◌else◌}
 use Rattle.terms.specs.Reply.{Reply as Answers}
-use Rattle.terms.specs.Reply.Event.{Proposal}
+use Rattle.vocabulary.specs.Terms.{Proposal}
 use Rattle.terms.specs.Reply.Reply.{Foreign as AsForeign, Repeat as AsRepeat, Have as AsHave, Taken as AsTaken}
 use Rattle.questions.specs.Replay.Entry.{Proposed}
 use Rattle.questions.specs.Replies.{reply_of}
 use Rattle.questions.specs.declared.answer.Answer.{Answer}
 use Rattle.member.specs.Answers.{verdict_of, IsFull}
 use Rattle.member.specs.Sealed.{sealed_from}
-use Rattle.member.specs.Words.{disk_of, header_of, saved_of, is_stopped_of}
+use Rattle.member.specs.Readers.{member_disk, member_header, member_saved, member_is_stopped}
 use Rattle.member.specs.declared.fault.MemberFault.{MemberFault}
 use Rattle.member.specs.declared.fault.MemberFault.TheVariants as member
-use Rattle.node.specs.Books.{Applies, Refuses, decided_below}
+use Rattle.node.specs.Books.{Applies, RefusesEvent, decided_below}
 use Rattle.node.specs.Views.{BookView}
 use Rattle.desk.specs.declared.reply.Reply.{Reply}
 use Rattle.desk.specs.declared.reply.Reply.TheVariants.{Taken, Have, Stopped, Decided, Undecided, Up, BadQuestion, Memory}
@@ -36,14 +36,14 @@ refusal_reply member.NoSuchMember = Stopped
 abbrev pub Proposes : {D : Type 0} → BookView D → ℕ → Bool → ℕ → Reply → BookView D → Type 0
 Proposes old question bit toss reply new =
     ((answer : Answer) × Applies old (Proposed question bit toss) answer new × IsReplyFor (reply_of answer) reply)
-    ⊎ ((fault : MemberFault) × Refuses old (Proposal question bit) fault new × (reply ≡ refusal_reply fault))
+    ⊎ ((fault : MemberFault) × RefusesEvent old (Proposal question bit) fault new × (reply ≡ refusal_reply fault))
 
 -- why a proposal is answered by a member that is stopped: it was so before, its disk failed in this call, or its journal
 -- has no room for the records of the proposal
 abbrev pub WhyStopped : {D : Type 0} → (D → ℕ) → BookView D → ℕ → Bool → ℕ → BookView D → Type 0
 WhyStopped failures old question bit toss new =
-    (is_stopped_of old.member ≡ true)
-    ⊎ ((failures (disk_of old.member) < failures (disk_of new.member)) ⊎ IsFull old.member toss (Proposal question bit))
+    (member_is_stopped old.member ≡ true)
+    ⊎ ((failures (member_disk old.member) < failures (member_disk new.member)) ⊎ IsFull old.member toss (Proposal question bit))
 
 -- the reply for a verdict
 abbrev pub verdict_reply : Option Bool → Reply
@@ -53,10 +53,10 @@ verdict_reply (Some bit) = Decided bit
 -- the reply to a question's asking: the book's decision, if there is such a question
 abbrev pub asking_reply : {D : Type 0} → BookView D → ℕ → Reply
 asking_reply b question =
-    if nat_lt question (header_of b.member).size.questions then verdict_reply (verdict_of (saved_of b.member) question) else BadQuestion
+    if nat_lt question (member_header b.member).size.questions then verdict_reply (verdict_of (member_saved b.member) question) else BadQuestion
 
 -- how far the member is
 abbrev pub status_reply : {D : Type 0} → BookView D → Reply
 status_reply b =
-    if is_stopped_of b.member then Stopped
-    else Up (length (sealed_from 0 (saved_of b.member))) (decided_below (header_of b.member).size.questions (saved_of b.member))
+    if member_is_stopped b.member then Stopped
+    else Up (length (sealed_from 0 (member_saved b.member))) (decided_below (member_header b.member).size.questions (member_saved b.member))

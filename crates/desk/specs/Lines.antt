@@ -17,10 +17,10 @@ pub record IsWord (text : List ℕ) : Type 0 where
   pub no_space : NoSpace text
 
 -- the bit that a word is, none where it is another word
-abbrev pub IsBit : List ℕ → Option Bool → Type 0
-IsBit word (Some false) = word ≡ codes "0"
-IsBit word (Some true) = word ≡ codes "1"
-IsBit word None = (word ≡ codes "0" → ⊥) × (word ≡ codes "1" → ⊥)
+abbrev pub IsBitWord : List ℕ → Option Bool → Type 0
+IsBitWord word (Some false) = word ≡ codes "0"
+IsBitWord word (Some true) = word ≡ codes "1"
+IsBitWord word None = (word ≡ codes "0" → ⊥) × (word ≡ codes "1" → ⊥)
 
 -- digits that write the question, a space, and the word where the bit should be
 pub record IsProposal (text : List ℕ) (question : ℕ) (bit : Option Bool) : Type 0 where
@@ -29,7 +29,7 @@ pub record IsProposal (text : List ℕ) (question : ℕ) (bit : Option Bool) : T
   pub whole : text ≡ digits ++ 32 ∷ word
   pub question_is : IsQuestion digits question
   pub word_is : IsWord word
-  pub bit_is : IsBit word bit
+  pub bit_is : IsBitWord word bit
 
 -- the line asks this
 abbrev pub Asks : List ℕ → Line → Type 0

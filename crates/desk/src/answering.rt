@@ -1,7 +1,7 @@
 //! The replies to commands.
 
 ghost use Rattle.std.specs.Prelude.{ℕ, ◌≡◌, Bool};
-ghost use Rattle.member.specs.Words.{disk_of};
+ghost use Rattle.member.specs.Readers.{member_disk};
 ghost use Rattle.desk.specs.Answers.{Proposes, WhyStopped, verdict_reply, asking_reply, status_reply, refusal_reply};
 ghost use Rattle.desk.specs.declared.command.Command.TheVariants.{Propose, Ask, Status};
 ghost use Rattle.desk.specs.declared.reply.Reply.TheVariants as reply;
@@ -32,7 +32,7 @@ fn refusal_reply(fault: MemberFault) -> Reply
 fn propose<D: Disk, J: Naming>(book: &mut Book<D, J>, question: u16, bit: bool, toss: Toss) -> Reply
     ensures reply { Proposes book.old question bit toss.0 result book.new }
     ensures stopped { result ≡ reply.Stopped → WhyStopped D.failures book.old question bit toss.0 book.new }
-    ensures memory { result ≡ reply.Memory → disk_of book.new.member ≡ disk_of book.old.member }
+    ensures memory { result ≡ reply.Memory → member_disk book.new.member ≡ member_disk book.old.member }
 {
     match book.propose(question, bit, toss) {
         Ok(Answer::Taken(_)) => Reply::Taken,
@@ -93,7 +93,7 @@ pub fn answer<D: Disk, J: Naming>(book: &mut Book<D, J>, command: &Command, toss
     ensures stopped { (question : ℕ) (bit : Bool) → command.now ≡ Propose question bit → result ≡ reply.Stopped →
         WhyStopped D.failures book.old question bit toss.0 book.new }
     ensures memory { (question : ℕ) (bit : Bool) → command.now ≡ Propose question bit → result ≡ reply.Memory →
-        disk_of book.new.member ≡ disk_of book.old.member }
+        member_disk book.new.member ≡ member_disk book.old.member }
     ensures ask { (question : ℕ) → command.now ≡ Ask question →
         (book.new ≡ book.old) × (result ≡ asking_reply book.old question) }
     ensures status { command.now ≡ Status → (book.new ≡ book.old) × (result ≡ status_reply book.old) }

@@ -2,7 +2,7 @@
 
 ghost use Rattle.std.specs.Prelude.{◌≡◌, nat_lt, Ok, Err, if◌then◌else◌};
 ghost use Rattle.desk.specs.Lines.{LineAsks};
-ghost use Rattle.desk.specs.Commands.{command_for, with_bit, AsksNothing};
+ghost use Rattle.desk.specs.Commands.{command_for, proposal_for, AsksNothing};
 ghost use Rattle.desk.specs.declared.line.Line.{Line};
 ghost use Rattle.desk.specs.declared.reply.Reply.TheVariants.{BadLine, BadQuestion};
 

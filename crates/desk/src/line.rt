@@ -1,7 +1,7 @@
 //! What a line asks, whether or not there is such a question.
 
 ghost use Rattle.std.specs.Prelude.{ℕ, ◌≡◌, ◌-◌, ◌<◌, ◌↔◌, ◌∷◌, ◌++◌, List, Bool, Option, Some, length, slice_get, IfSome, IsTrue, MatchOption};
-ghost use Rattle.desk.specs.Lines.{IsQuestion, IsWord, IsBit, IsProposal, Asks, LineAsks, is_return, trimmed};
+ghost use Rattle.desk.specs.Lines.{IsQuestion, IsWord, IsBitWord, IsProposal, Asks, LineAsks, is_return, trimmed};
 ghost use Rattle.desk.specs.declared.line.Line.{Line};
 
 use words::{first_space, is, number, split_at_space};
@@ -36,8 +36,8 @@ fn question(digits: &[u8]) -> Option<u64>
 
 /// The bit that the word is, none where it is another word.
 fn bit(word: &[u8]) -> Option<bool>
-    ensures is { IsBit word.now result }
-    ensures exact { (bit : Option Bool) → IsBit word.now bit → result ≡ bit }
+    ensures is { IsBitWord word.now result }
+    ensures exact { (bit : Option Bool) → IsBitWord word.now bit → result ≡ bit }
 {
     if is(word, "0") {
         Some(false)

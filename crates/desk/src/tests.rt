@@ -3,7 +3,7 @@ ghost use Rattle.std.specs.Prelude.{◌≡◌, ◌≤◌, false, length, vec_len
 ghost use Rattle.std.specs.Arc.{arc_value};
 ghost use Rattle.member.specs.Memory.{memory_disk};
 ghost use Rattle.member.specs.Sound.{IsSound};
-ghost use Rattle.member.specs.Words.{header_of, saved_of, is_stopped_of, StandsFor};
+ghost use Rattle.member.specs.Readers.{member_header, member_saved, member_is_stopped, MemberStandsFor};
 
 use crate::{Command, DeskEnd, Reply, answer, parse, serve};
 use disk::MemDisk;
@@ -101,8 +101,8 @@ fn header_of_one() -> Result<Header, Fail>
 /// Its member on a new disk, of which so many calls pass once it is open.
 fn member_of_one(rt: &impl AllocGlobal, calls: Option<u64>) -> Result<Member<MemDisk>, Fail>
     ensures sound { IfOk result (λ m. IsSound memory_disk m) }
-    ensures fresh { IfOk result (λ m. is_stopped_of m ≡ false → StandsFor m (saved_of m) []) }
-    ensures questions { IfOk result (λ m. (header_of m).size.questions ≡ 1) }
+    ensures fresh { IfOk result (λ m. member_is_stopped m ≡ false → MemberStandsFor m (member_saved m) []) }
+    ensures questions { IfOk result (λ m. (member_header m).size.questions ≡ 1) }
 {
     let header = header_of_one()?;
     let mut disk = MemDisk::new(rt.alloc());

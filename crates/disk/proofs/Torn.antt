@@ -1,7 +1,7 @@
 -- What may be left of a write.
 use Rattle.std.proofs.Common.{◌≡◌, ◌⊎◌, ℕ, ◌+◌, ◌<◌, ◌≤◌, false, List, [], ◌∷◌, ◌++◌, length, get_or, sym, subst, ◌∙◌, arith, length-append}
 use Rattle.std.proofs.lemmas.List.{get_or_append_left}
-use Rattle.disk.specs.Model.{State, MayLeave, is_touched, put, at_rest}
+use Rattle.disk.specs.Model.{State, MayLeave, is_touched, overwritten, at_rest}
 use Rattle.disk.specs.Laws.{untouched_push, length_put, put_elsewhere}
 
 pub longer : (file behind : List ℕ) → MayLeave (at_rest file) (file ++ behind)
@@ -28,7 +28,7 @@ module _ (s t : State) (at n : ℕ) (file : List ℕ) (synced : t.synced ≡ s.s
     same_outside = same;
   }
 
-  pub torn : (others : List ℕ) → length others ≡ n → MayLeave t (put file at others)
+  pub torn : (others : List ℕ) → length others ≡ n → MayLeave t (overwritten file at others)
   torn others len = record {
     no_shorter = let old = untorn.no_shorter in omega (arith, length_put file at others);
     same_outside = λ k within outside.

@@ -1,8 +1,8 @@
 -- What lay under a write, laid back.
-use Rattle.std.proofs.Common.{◌≡◌, ◌⊎◌, inl, inr, ℕ, ◌+◌, ◌-◌, ◌<◌, ◌≤◌, min, List, [], ◌∷◌, ◌++◌, length, get_or, take, drop, set, refl, sym, ◌∙◌, ap, arith, rules, length-append, length-drop}
+use Rattle.std.proofs.Common.{◌≡◌, ◌⊎◌, inl, inr, ℕ, ◌+◌, ◌-◌, ◌<◌, ◌≤◌, min, List, [], ◌∷◌, ◌++◌, length, get_or, take, drop, set, refl, sym, ◌∙◌, ap, arith, rules, length-append, length-drop, append_assoc, length-set, length-take-le}
 use Rattle.std.proofs.lemmas.Bool.{cases_lt}
-use Rattle.std.proofs.lemmas.List.{same_lists, places, append_assoc, set_at, length-set, take_more, length-take-le, take-append-le, drop-append-le}
-use Rattle.disk.specs.Model.{put}
+use Rattle.std.proofs.lemmas.List.{same_lists, places, set_at, take_more, take-append-le, drop-append-le}
+use Rattle.disk.specs.Model.{overwritten}
 use Rattle.disk.specs.System.{placed}
 use Rattle.disk.specs.Under.{laid_back}
 use Rattle.disk.proofs.Placing.{placed-append}
@@ -32,7 +32,7 @@ laid_over front (x ∷ old) (y ∷ new) behind at is same =
 -- In a file a write from a place on covers c of the bytes that were there at the last sync, which are the first n.
 module _ (file bytes : List ℕ) (n at c : ℕ) (in_file : n ≤ length file) where
   -- none, where it begins behind them
-  pub behind : n ≤ at → at ≤ length file → take n (put file at bytes) ≡ take n file
+  pub behind : n ≤ at → at ≤ length file → take n (overwritten file at bytes) ≡ take n file
   behind past fits = same_lists _ _ (search (rules, places)) (λ k d h. grind (arith, places))
 
   module _ (few : c ≤ length bytes) (within : at + c ≤ n) where
@@ -40,7 +40,7 @@ module _ (file bytes : List ℕ) (n at c : ℕ) (in_file : n ≤ length file) wh
     pub before_is : take n file ≡ take at file ++ (take c (drop at file) ++ drop (at + c) (take n file))
     before_is = same_lists _ _ (search (rules, places)) (λ k d h. grind (arith, places))
 
-    pub after_is : (c ≡ length bytes) ⊎ (at + c ≡ n) → take n (put file at bytes) ≡ take at file ++ (take c bytes ++ drop (at + c) (take n file))
+    pub after_is : (c ≡ length bytes) ⊎ (at + c ≡ n) → take n (overwritten file at bytes) ≡ take at file ++ (take c bytes ++ drop (at + c) (take n file))
     after_is (inl all) = same_lists _ _ (search (rules, places)) (λ k d h. grind (arith, places))
     after_is (inr rest) = same_lists _ _ (search (rules, places)) (λ k d h. grind (arith, places))
 
@@ -61,7 +61,7 @@ laid_back_last under old place byte file is =
 
 -- a write of what is inside the file over the file with what is past it
 pub grown : (file bytes : List ℕ) (at inside : ℕ) → at ≤ length file → inside ≡ min (length bytes) (length file - at)
-    → put (file ++ drop inside bytes) at (take inside bytes) ≡ put file at bytes
+    → overwritten (file ++ drop inside bytes) at (take inside bytes) ≡ overwritten file at bytes
 grown file bytes at inside fits is = elim (cases_lt (length bytes) (length file - at)) [
   | inl less ↦ same_lists _ _ (search (rules, places)) (λ k d h. grind (arith, places))
   | inr more ↦ same_lists _ _ (search (rules, places)) (λ k d h. grind (arith, places))
@@ -69,14 +69,14 @@ grown file bytes at inside fits is = elim (cases_lt (length bytes) (length file 
 
 -- what was kept of a write makes the file of the last sync of the file after it
 pub still_under : (file bytes saved : List ℕ) (n at c : ℕ) (under : List (ℕ × ℕ)) → n ≤ length file → at ≤ length file → c ≡ min (length bytes) (n - at) → saved ≡ take c (drop at file)
-    → laid_back (under ++ placed at saved) (take n (put file at bytes)) ≡ laid_back under (take n file)
+    → laid_back (under ++ placed at saved) (take n (overwritten file at bytes)) ≡ laid_back under (take n file)
 still_under file bytes saved n at c under in_file fits is kept =
-    laid_back_more under (placed at saved) (take n (put file at bytes)) ∙ ap (λ (l : List ℕ). laid_back under l) (elim (cases_lt at n) [
+    laid_back_more under (placed at saved) (take n (overwritten file at bytes)) ∙ ap (λ (l : List ℕ). laid_back under l) (elim (cases_lt at n) [
       | inl inside ↦ inside_is inside
       | inr past ↦ past_is past
     ])
   where
-    inside_is : at < n → laid_back (placed at saved) (take n (put file at bytes)) ≡ take n file
+    inside_is : at < n → laid_back (placed at saved) (take n (overwritten file at bytes)) ≡ take n file
     inside_is inside =
         let few : c ≤ length bytes = omega (arith, is) in
         let within : at + c ≤ n = omega (arith, is, inside) in
@@ -89,10 +89,10 @@ still_under file bytes saved n at c under in_file fits is kept =
         (length-take-le c bytes few ∙ sym (length-take-le c (drop at file) (omega (arith, length-drop at file, within, in_file))))
         ∙ sym (before_is file bytes n at c in_file few within)
 
-    past_is : n ≤ at → laid_back (placed at saved) (take n (put file at bytes)) ≡ take n file
+    past_is : n ≤ at → laid_back (placed at saved) (take n (overwritten file at bytes)) ≡ take n file
     past_is past =
         let none : saved ≡ [] = kept ∙ ap (λ (k : ℕ). take k (drop at file)) (let zero_is : c ≡ 0 = omega (arith, is, past) in zero_is) in
-        ap (λ (l : List ℕ). laid_back (placed at l) (take n (put file at bytes))) none ∙ behind file bytes n at c in_file past fits
+        ap (λ (l : List ℕ). laid_back (placed at l) (take n (overwritten file at bytes))) none ∙ behind file bytes n at c in_file past fits
 
 -- what is kept is read of the file before the write
 pub kept_is : (file tail : List ℕ) (n at c : ℕ) (bytes : List ℕ) → n ≤ length file → at ≤ length file → c ≡ min (length bytes) (n - at) → take (at + c - at) (drop at (file ++ tail)) ≡ take c (drop at file)

@@ -1,10 +1,10 @@
 -- What a deed makes of an account.
-use Rattle.disk.specs.System.{Done, has_told, has_read, has_written, has_synced}
+use Rattle.disk.specs.System.{Done, with_told, with_read, with_written, with_synced}
 use Rattle.disk.specs.declared.account.Deed.{Deed}
 use Rattle.disk.specs.declared.account.Deed.TheVariants as deed
 
-abbrev pub after_deed : Done → Deed → Done
-after_deed done (deed.Told n) = has_told done n
-after_deed done (deed.Read at bytes) = has_read done at bytes.now
-after_deed done (deed.Wrote at bytes) = has_written done at bytes.now
-after_deed done deed.Synced = has_synced done
+abbrev pub done_after : Done → Deed → Done
+done_after done (deed.Told n) = with_told done n
+done_after done (deed.Read at bytes) = with_read done at bytes.now
+done_after done (deed.Wrote at bytes) = with_written done at bytes.now
+done_after done deed.Synced = with_synced done

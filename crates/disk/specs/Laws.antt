@@ -1,9 +1,9 @@
 -- What holds of every list of calls.
-use Rattle.std.proofs.Common.{◌≡◌, ◌⊎◌, inl, inr, ◌&&◌, ℕ, ◌+◌, ◌<◌, ◌≤◌, false, nat_le, nat_lt, List, [], ◌∷◌, ◌++◌, length, get_or, take, drop, refl, sym, ◌∙◌, subst, arith, length-append, length-drop}
+use Rattle.std.proofs.Common.{◌≡◌, ◌⊎◌, inl, inr, ◌&&◌, ℕ, ◌+◌, ◌<◌, ◌≤◌, false, nat_le, nat_lt, List, [], ◌∷◌, ◌++◌, length, get_or, take, drop, refl, sym, ◌∙◌, subst, arith, length-append, length-drop, take_all, length-take}
 use Rattle.std.proofs.lemmas.Bool.{or_parts, cases_lt}
 use Rattle.std.proofs.lemmas.Bool.Decides.{nat_tests}
-use Rattle.std.proofs.lemmas.List.{take_all, length-take, places}
-use Rattle.disk.specs.Model.{State, MayLeave, at_rest, is_touched, put}
+use Rattle.std.proofs.lemmas.List.{places}
+use Rattle.disk.specs.Model.{State, MayLeave, at_rest, is_touched, overwritten}
 use Rattle.disk.specs.Replay.{Call, after_call, replay, LeftSince}
 use Rattle.disk.specs.Replay.Call.{Still, Wrote, Failed, Synced}
 
@@ -25,12 +25,12 @@ untouched_push k (range ∷ ranges) at n none =
     (grind (arith, nat_tests, parts.0, rest.0), rest.1)
 
 -- a write makes no file shorter
-pub length_put : (file : List ℕ) (at : ℕ) (bytes : List ℕ) → length file ≤ length (put file at bytes)
+pub length_put : (file : List ℕ) (at : ℕ) (bytes : List ℕ) → length file ≤ length (overwritten file at bytes)
 length_put file at bytes =
     omega (arith, length-append (take at file ++ bytes) (drop (at + length bytes) file), length-append (take at file) bytes, length-take at file, length-drop (at + length bytes) file)
 
 -- a write changes no place outside its range
-pub put_elsewhere : (file : List ℕ) (at : ℕ) (bytes : List ℕ) (k : ℕ) → k < length file → (k < at) ⊎ (at + length bytes ≤ k) → get_or (put file at bytes) k 0 ≡ get_or file k 0
+pub put_elsewhere : (file : List ℕ) (at : ℕ) (bytes : List ℕ) (k : ℕ) → k < length file → (k < at) ⊎ (at + length bytes ≤ k) → get_or (overwritten file at bytes) k 0 ≡ get_or file k 0
 put_elsewhere file at bytes k within (inl before) = grind (arith, places)
 put_elsewhere file at bytes k within (inr past) = grind (arith, places)
 

@@ -1,6 +1,6 @@
 -- Laws of what may be lost by a crash, or by a write that failed.
 use Rattle.std.specs.Prelude.{◌≡◌, ◌⊎◌, ℕ, ◌+◌, ◌<◌, ◌≤◌, false, List, ◌++◌, length, get_or}
-use Rattle.disk.specs.Model.{State, MayLeave, FailedWrite, is_touched, put, at_rest, after_write}
+use Rattle.disk.specs.Model.{State, MayLeave, FailedWrite, is_touched, overwritten, at_rest, after_write}
 
 -- each file no shorter than at the last sync may be left that is the same there outside what was written since
 abbrev pub LeavesAnything : Type 0
@@ -17,13 +17,13 @@ LeavesLonger = (file behind : List ℕ) → MayLeave (at_rest file) (file ++ beh
 abbrev pub LeavesTorn : Type 0
 LeavesTorn =
     (s : State) (at : ℕ) (bytes others file : List ℕ) → length others ≡ length bytes → MayLeave s file
-    → MayLeave (after_write s at bytes) file × MayLeave (after_write s at bytes) (put file at others)
+    → MayLeave (after_write s at bytes) file × MayLeave (after_write s at bytes) (overwritten file at others)
 
 -- and so after one that failed
 abbrev pub LeavesTornOnceFailed : Type 0
 LeavesTornOnceFailed =
     (old new : State) (at n : ℕ) (others file : List ℕ) → FailedWrite at n old new → length others ≡ n → MayLeave old file
-    → MayLeave new file × MayLeave new (put file at others)
+    → MayLeave new file × MayLeave new (overwritten file at others)
 
 -- a write that failed leaves what reads give, of all that is on the disk, outside its range
 abbrev pub LeavesElsewhere : Type 0

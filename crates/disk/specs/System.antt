@@ -17,24 +17,24 @@ abbrev pub nothing_done : Done
 nothing_done = record { lengths = []; read = []; written = []; syncs = 0 }
 
 -- it told this length
-abbrev pub has_told : Done → ℕ → Done
-has_told done n = record done { lengths = done.lengths ++ n ∷ [] }
+abbrev pub with_told : Done → ℕ → Done
+with_told done n = record done { lengths = done.lengths ++ n ∷ [] }
 
 -- it read these bytes from a place on
-abbrev pub has_read : Done → ℕ → List ℕ → Done
-has_read done at bytes = record done { read = done.read ++ placed at bytes }
+abbrev pub with_read : Done → ℕ → List ℕ → Done
+with_read done at bytes = record done { read = done.read ++ placed at bytes }
 
 -- it wrote these bytes from a place on
-abbrev pub has_written : Done → ℕ → List ℕ → Done
-has_written done at bytes = record done { written = done.written ++ placed at bytes }
+abbrev pub with_written : Done → ℕ → List ℕ → Done
+with_written done at bytes = record done { written = done.written ++ placed at bytes }
 
 -- it put the file on the disk
-abbrev pub has_synced : Done → Done
-has_synced done = record done { syncs = done.syncs + 1 }
+abbrev pub with_synced : Done → Done
+with_synced done = record done { syncs = done.syncs + 1 }
 
 -- a beginning of these bytes was written from a place on
 pub record WroteSome (old new : Done) (at : ℕ) (bytes : List ℕ) : Type 0 where
   pub part : List ℕ
   pub rest : List ℕ
   pub whole : bytes ≡ part ++ rest
-  pub now : new ≡ has_written old at part
+  pub now : new ≡ with_written old at part

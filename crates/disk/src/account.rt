@@ -32,7 +32,7 @@ pub(crate) enum Deed<'a> {
 }
 
 impl Account {
-    ghost use Rattle.disk.specs.Deeds.{after_deed};
+    ghost use Rattle.disk.specs.Deeds.{done_after};
 
     /// Nothing was done.
     pub(crate) fn new() -> Account
@@ -44,7 +44,7 @@ impl Account {
     /// The account with one deed more.
     #[inline(always)]
     pub(crate) fn then(&self, _deed: &Deed<'_>) -> Account
-        ensures { result.done ≡ after_deed self.now.done _deed.now }
+        ensures { result.done ≡ done_after self.now.done _deed.now }
     {
         Account {}
     }

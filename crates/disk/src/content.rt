@@ -1,7 +1,7 @@
 //! The bytes of a file in memory, and what a crash may leave of them.
 ghost use Rattle.std.specs.Prelude.{◌≡◌, ◌+◌, ◌<◌, ◌≤◌, ◌^◌, ◌++◌, [], length, take, drop, OnOk, OnErr};
 ghost use Rattle.std.specs.Vec.{vec_len, vec_capacity};
-ghost use Rattle.disk.specs.Model.{at_rest, put, after_write};
+ghost use Rattle.disk.specs.Model.{at_rest, overwritten, after_write};
 ghost use Rattle.disk.specs.System.{placed};
 ghost use Rattle.disk.specs.Replay.{after_failed_write};
 ghost use Rattle.disk.specs.Under.{laid_back};
@@ -122,7 +122,7 @@ impl Content {
 // Puts these bytes over what is at a place.
 fn put_over(file: &mut [u8], at: usize, bytes: &[u8])
     requires { at + length bytes.now ≤ length file.old }
-    ensures { file.new ≡ put file.old at bytes.now }
+    ensures { file.new ≡ overwritten file.old at bytes.now }
 {
     file[at..at + bytes.len()].copy_from_slice(bytes);
 }

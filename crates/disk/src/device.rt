@@ -1,6 +1,6 @@
 //! The calls of a disk, and what they make of its bytes.
 ghost use Rattle.std.specs.Prelude.{◌≡◌, ◌⊎◌, ◌↔◌, ◌+◌, ◌≤◌, List, ℕ, length, take, drop, IfOk, OnOk, OnErr};
-ghost use Rattle.disk.specs.Model.{State, MayLeave, FailedWrite, Elapses, HasCause, after_write, at_rest};
+ghost use Rattle.disk.specs.Model.{State, MayLeave, FailedWrite, Elapses, CountsFailures, after_write, at_rest};
 
 use thiserror::Error;
 
@@ -37,7 +37,7 @@ pub trait Disk {
         ensures time { keeps self.old → Elapses (moment self.old) (moment self.new)
             (since self.old) (since self.new) (state self.old) (state self.new) result }
         ensures kept { keeps self.old ↔ keeps self.new }
-        ensures cause { HasCause (failures self.old) (failures self.new) result };
+        ensures cause { CountsFailures (failures self.old) (failures self.new) result };
 
     /// Fills the buffer with the bytes from `at` on. The caller keeps within the length. A fault changes nothing of the
     /// file, and may leave anything in the buffer.
@@ -49,7 +49,7 @@ pub trait Disk {
         ensures time { keeps self.old → Elapses (moment self.old) (moment self.new)
             (since self.old) (since self.new) (state self.old) (state self.new) result }
         ensures kept { keeps self.old ↔ keeps self.new }
-        ensures cause { HasCause (failures self.old) (failures self.new) result };
+        ensures cause { CountsFailures (failures self.old) (failures self.new) result };
 
     /// Writes the bytes at `at`, over what is there and past the end. The caller keeps `at` not past the length. Until a
     /// sync succeeds a crash may leave any bytes in the range, also where the write failed. After a fault reads may
@@ -63,7 +63,7 @@ pub trait Disk {
         ensures time { keeps self.old → Elapses (moment self.old) (moment self.new)
             (since self.old) (since self.new) (state self.old) (state self.new) result }
         ensures kept { keeps self.old ↔ keeps self.new }
-        ensures cause { HasCause (failures self.old) (failures self.new) result };
+        ensures cause { CountsFailures (failures self.old) (failures self.new) result };
 
     /// Puts on the disk what reads give. A fault changes nothing: a crash may leave what it might have left before.
     fn sync(&mut self) -> Result<(), DeviceFault>
@@ -72,7 +72,7 @@ pub trait Disk {
         ensures time { keeps self.old → Elapses (moment self.old) (moment self.new)
             (since self.old) (since self.new) (state self.old) (state self.new) result }
         ensures kept { keeps self.old ↔ keeps self.new }
-        ensures cause { HasCause (failures self.old) (failures self.new) result };
+        ensures cause { CountsFailures (failures self.old) (failures self.new) result };
 
     /// This moment is one of those since an earlier one.
     ghost counts_now: { (disk : Self) (t : ℕ) (file : List ℕ) → keeps disk → t ≤ moment disk →

@@ -1,7 +1,7 @@
 //! A disk that is a file. Nothing is proved of its bytes: that a real file keeps the model is a premise.
 ghost use Rattle.std.specs.Prelude.{◌≡◌, [], true, false, IfOk, OnOk, OnErr};
-ghost use Rattle.disk.specs.Model.{at_rest, HasCause};
-ghost use Rattle.disk.specs.System.{has_told, has_read, has_written, has_synced, WroteSome};
+ghost use Rattle.disk.specs.Model.{at_rest, CountsFailures};
+ghost use Rattle.disk.specs.System.{with_told, with_read, with_written, with_synced, WroteSome};
 
 use crate::named::NamedFile;
 use crate::system::RealFile;
@@ -71,36 +71,36 @@ impl Disk for FileDisk {
     ghost may_leave_seen = { λ disk keeps. absurd keeps };
 
     fn len(&mut self) -> Result<usize, DeviceFault>
-        ensures told { IfOk result (λ n. file_done self.new ≡ has_told (file_done self.old) n) }
+        ensures told { IfOk result (λ n. file_done self.new ≡ with_told (file_done self.old) n) }
         ensures folder { (folder_done self.new ≡ folder_done self.old) × (is_named self.new ≡ is_named self.old) }
-        ensures cause { HasCause (file_failures self.old) (file_failures self.new) result }
+        ensures cause { CountsFailures (file_failures self.old) (file_failures self.new) result }
     {
         self.named.len()
     }
 
     fn read_at(&mut self, at: usize, buf: &mut [u8]) -> Result<(), DeviceFault>
-        ensures got { OnOk result (file_done self.new ≡ has_read (file_done self.old) at buf.new) }
+        ensures got { OnOk result (file_done self.new ≡ with_read (file_done self.old) at buf.new) }
         ensures folder { (folder_done self.new ≡ folder_done self.old) × (is_named self.new ≡ is_named self.old) }
-        ensures cause { HasCause (file_failures self.old) (file_failures self.new) result }
+        ensures cause { CountsFailures (file_failures self.old) (file_failures self.new) result }
     {
         self.named.read_at(at, buf)
     }
 
     fn write_at(&mut self, at: usize, bytes: &[u8]) -> Result<(), DeviceFault>
-        ensures whole { OnOk result (file_done self.new ≡ has_written (file_done self.old) at bytes.now) }
+        ensures whole { OnOk result (file_done self.new ≡ with_written (file_done self.old) at bytes.now) }
         ensures part { OnErr result (WroteSome (file_done self.old) (file_done self.new) at bytes.now) }
         ensures folder { (folder_done self.new ≡ folder_done self.old) × (is_named self.new ≡ is_named self.old) }
-        ensures cause { HasCause (file_failures self.old) (file_failures self.new) result }
+        ensures cause { CountsFailures (file_failures self.old) (file_failures self.new) result }
     {
         self.named.write_at(at, bytes)
     }
 
     fn sync(&mut self) -> Result<(), DeviceFault>
-        ensures file { OnOk result (file_done self.new ≡ has_synced (file_done self.old)) }
-        ensures folder { OnOk result (is_named self.old ≡ false → folder_done self.new ≡ has_synced (folder_done self.old)) }
+        ensures file { OnOk result (file_done self.new ≡ with_synced (file_done self.old)) }
+        ensures folder { OnOk result (is_named self.old ≡ false → folder_done self.new ≡ with_synced (folder_done self.old)) }
         ensures named { OnOk result (is_named self.new ≡ true) }
         ensures unnamed { OnErr result (is_named self.new ≡ is_named self.old) }
-        ensures cause { HasCause (file_failures self.old) (file_failures self.new) result }
+        ensures cause { CountsFailures (file_failures self.old) (file_failures self.new) result }
     {
         self.named.sync()
     }

@@ -1,14 +1,14 @@
 //! The calls that a disk in memory has answered, as an account that only clauses read. No word of memory holds it.
 ghost use Rattle.std.specs.Prelude.{◌≡◌, []};
 ghost use Rattle.std.specs.Borrow.{ftrue};
-ghost use Rattle.disk.specs.Replay.{Past, begun};
+ghost use Rattle.disk.specs.Replay.{FilePast, begun};
 
 use std::marker::Model;
 
 /// The file at first, and each call since then. A value takes no memory, and has no word at run time.
 #[derive(Drop)]
 pub(crate) struct History {
-    pub ghost past: { Past },
+    pub ghost past: { FilePast },
 }
 
 impl Model for History {
@@ -34,7 +34,7 @@ pub(crate) enum Deed<'a> {
 }
 
 impl History {
-    ghost use Rattle.disk.specs.Happened.{after_deed};
+    ghost use Rattle.disk.specs.Happened.{past_after};
 
     /// No call yet, on an empty file.
     pub(crate) fn new() -> History
@@ -46,7 +46,7 @@ impl History {
     /// The history with one deed more.
     #[inline(always)]
     pub(crate) fn then(&self, _deed: &Deed<'_>) -> History
-        ensures { result.past ≡ after_deed self.now.past _deed.now }
+        ensures { result.past ≡ past_after self.now.past _deed.now }
     {
         History {}
     }

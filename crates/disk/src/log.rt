@@ -20,10 +20,10 @@ pub struct Log {
 
 impl Model for Log {
     ghost use Rattle.std.specs.Prelude.{◌≡◌};
-    ghost use Rattle.disk.specs.Replay.{Past, state_of};
+    ghost use Rattle.disk.specs.Replay.{FilePast, state_of};
     ghost use Rattle.disk.specs.Content.{content_state};
 
-    ghost Value = { Past };
+    ghost Value = { FilePast };
 
     ghost view = { λ log. log.history.past };
 

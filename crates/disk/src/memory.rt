@@ -1,6 +1,6 @@
 //! A disk in memory. It is written in place, and can be told to fail.
 ghost use Rattle.std.specs.Prelude.{◌≡◌, ◌↔◌, ◌+◌, [], length, is_some, IsOk, IsErr, IsTrue, IfOk, OnOk, OnErr};
-ghost use Rattle.disk.specs.Model.{at_rest, MayLeave, HasCause};
+ghost use Rattle.disk.specs.Model.{at_rest, MayLeave, CountsFailures};
 ghost use Rattle.disk.specs.Fuse.{lets_pass, burnt, CountsFault};
 ghost use Rattle.disk.specs.Laws.{counts_now, only_now, may_leave_seen};
 ghost use Rattle.disk.specs.Crash.{left};
@@ -95,7 +95,7 @@ impl MemDisk {
         ensures log { self.new.log ≡ self.old.log }
         ensures ok { IsOk result ↔ IsTrue (lets_pass (fuse_left self.old)) }
         ensures burnt { fuse_left self.new ≡ burnt (fuse_left self.old) }
-        ensures cause { HasCause (memory_failures self.old) (memory_failures self.new) result }
+        ensures cause { CountsFailures (memory_failures self.old) (memory_failures self.new) result }
         ensures counted { CountsFault (memory_failures self.old) (memory_failures self.new) result }
     {
         let passes = self.passes();
@@ -108,7 +108,7 @@ impl MemDisk {
         ensures log { self.new.log ≡ self.old.log }
         ensures err { IsErr result }
         ensures fuse { fuse_left self.new ≡ fuse_left self.old }
-        ensures cause { HasCause (memory_failures self.old) (memory_failures self.new) result }
+        ensures cause { CountsFailures (memory_failures self.old) (memory_failures self.new) result }
         ensures counted { CountsFault (memory_failures self.old) (memory_failures self.new) result }
     {
         self.failures.raise();
@@ -155,7 +155,7 @@ impl Disk for MemDisk {
         ensures listed { memory_moment self.new ≡ memory_moment self.old + 1 }
         ensures fuse { Burns (memory_moment self.old) (memory_moment self.new)
             (fuse_left self.old) (fuse_left self.new) result }
-        ensures cause { HasCause (memory_failures self.old) (memory_failures self.new) result }
+        ensures cause { CountsFailures (memory_failures self.old) (memory_failures self.new) result }
         ensures counted { CountsFault (memory_failures self.old) (memory_failures self.new) result }
     {
         self.log.look();
@@ -172,7 +172,7 @@ impl Disk for MemDisk {
         ensures listed { memory_moment self.new ≡ memory_moment self.old + 1 }
         ensures fuse { Burns (memory_moment self.old) (memory_moment self.new)
             (fuse_left self.old) (fuse_left self.new) result }
-        ensures cause { HasCause (memory_failures self.old) (memory_failures self.new) result }
+        ensures cause { CountsFailures (memory_failures self.old) (memory_failures self.new) result }
         ensures counted { CountsFault (memory_failures self.old) (memory_failures self.new) result }
     {
         self.log.look();
@@ -191,7 +191,7 @@ impl Disk for MemDisk {
             (memory_since self.old) (memory_since self.new) (memory_state self.old) (memory_state self.new) result }
         ensures fuse { Burns (memory_moment self.old) (memory_moment self.new)
             (fuse_left self.old) (fuse_left self.new) result }
-        ensures cause { HasCause (memory_failures self.old) (memory_failures self.new) result }
+        ensures cause { CountsFailures (memory_failures self.old) (memory_failures self.new) result }
         ensures counted { CountsFault (memory_failures self.old) (memory_failures self.new) result }
     {
         let passes = self.passes();
@@ -209,7 +209,7 @@ impl Disk for MemDisk {
         ensures listed { memory_moment self.new ≡ memory_moment self.old + 1 }
         ensures fuse { Burns (memory_moment self.old) (memory_moment self.new)
             (fuse_left self.old) (fuse_left self.new) result }
-        ensures cause { HasCause (memory_failures self.old) (memory_failures self.new) result }
+        ensures cause { CountsFailures (memory_failures self.old) (memory_failures self.new) result }
         ensures counted { CountsFault (memory_failures self.old) (memory_failures self.new) result }
     {
         let passes = self.passes();

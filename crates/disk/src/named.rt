@@ -1,7 +1,7 @@
 //! An open file and the folder that has its name.
 ghost use Rattle.std.specs.Prelude.{◌≡◌, ◌↔◌, true, false, Ok, IfOk, IsOk, OnOk, OnErr};
-ghost use Rattle.disk.specs.Model.{HasCause};
-ghost use Rattle.disk.specs.System.{has_told, has_read, has_written, has_synced, WroteSome};
+ghost use Rattle.disk.specs.Model.{CountsFailures};
+ghost use Rattle.disk.specs.System.{with_told, with_read, with_written, with_synced, WroteSome};
 
 use crate::DeviceFault;
 use crate::failures::Failures;
@@ -23,7 +23,7 @@ pub(crate) struct NamedFile<F: SystemFile> {
 fn answer<T: Drop>(failures: &mut Failures, done: io::Result<T>) -> Result<T, DeviceFault>
     ensures ok { IfOk result (λ value. done ≡ Ok value) }
     ensures err { OnErr result (OnErr done (Unit {0})) }
-    ensures cause { HasCause failures.old.count failures.new.count result }
+    ensures cause { CountsFailures failures.old.count failures.new.count result }
 {
     match done {
         Ok(value) => Ok(value),
@@ -52,9 +52,9 @@ impl<F: SystemFile> NamedFile<F> {
 
     /// How many bytes the file has.
     pub(crate) fn len(&mut self) -> Result<usize, DeviceFault>
-        ensures told { IfOk result (λ n. F.done self.new.file ≡ has_told (F.done self.old.file) n) }
+        ensures told { IfOk result (λ n. F.done self.new.file ≡ with_told (F.done self.old.file) n) }
         ensures folder { (self.new.folder ≡ self.old.folder) × (self.new.named ≡ self.old.named) }
-        ensures cause { HasCause self.old.failures.count self.new.failures.count result }
+        ensures cause { CountsFailures self.old.failures.count self.new.failures.count result }
     {
         let length = length_of(&mut self.file);
         answer(&mut self.failures, length)
@@ -62,9 +62,9 @@ impl<F: SystemFile> NamedFile<F> {
 
     /// Fills the buffer with the bytes from a place on.
     pub(crate) fn read_at(&mut self, at: usize, buf: &mut [u8]) -> Result<(), DeviceFault>
-        ensures got { OnOk result (F.done self.new.file ≡ has_read (F.done self.old.file) at buf.new) }
+        ensures got { OnOk result (F.done self.new.file ≡ with_read (F.done self.old.file) at buf.new) }
         ensures folder { (self.new.folder ≡ self.old.folder) × (self.new.named ≡ self.old.named) }
-        ensures cause { HasCause self.old.failures.count self.new.failures.count result }
+        ensures cause { CountsFailures self.old.failures.count self.new.failures.count result }
     {
         let read = read_whole(&mut self.file, at, buf);
         answer(&mut self.failures, read)
@@ -72,10 +72,10 @@ impl<F: SystemFile> NamedFile<F> {
 
     /// Writes the bytes from a place on. After a fault a beginning of them was written.
     pub(crate) fn write_at(&mut self, at: usize, bytes: &[u8]) -> Result<(), DeviceFault>
-        ensures whole { OnOk result (F.done self.new.file ≡ has_written (F.done self.old.file) at bytes.now) }
+        ensures whole { OnOk result (F.done self.new.file ≡ with_written (F.done self.old.file) at bytes.now) }
         ensures part { OnErr result (WroteSome (F.done self.old.file) (F.done self.new.file) at bytes.now) }
         ensures folder { (self.new.folder ≡ self.old.folder) × (self.new.named ≡ self.old.named) }
-        ensures cause { HasCause self.old.failures.count self.new.failures.count result }
+        ensures cause { CountsFailures self.old.failures.count self.new.failures.count result }
     {
         let written = write_whole(&mut self.file, at, bytes);
         answer(&mut self.failures, written)
@@ -83,11 +83,11 @@ impl<F: SystemFile> NamedFile<F> {
 
     /// Puts the file on the disk, and the folder too until that has once succeeded.
     pub(crate) fn sync(&mut self) -> Result<(), DeviceFault>
-        ensures file { OnOk result (F.done self.new.file ≡ has_synced (F.done self.old.file)) }
-        ensures folder { OnOk result (self.old.named ≡ false → F.done self.new.folder ≡ has_synced (F.done self.old.folder)) }
+        ensures file { OnOk result (F.done self.new.file ≡ with_synced (F.done self.old.file)) }
+        ensures folder { OnOk result (self.old.named ≡ false → F.done self.new.folder ≡ with_synced (F.done self.old.folder)) }
         ensures named { OnOk result (self.new.named ≡ true) }
         ensures unnamed { OnErr result (self.new.named ≡ self.old.named) }
-        ensures cause { HasCause self.old.failures.count self.new.failures.count result }
+        ensures cause { CountsFailures self.old.failures.count self.new.failures.count result }
     {
         let settled = settle_both(&mut self.file, &mut self.folder, self.named);
         match answer(&mut self.failures, settled) {
@@ -102,8 +102,8 @@ impl<F: SystemFile> NamedFile<F> {
 
 // Puts the file on the disk, and the folder where it isn't there yet.
 fn settle_both<F: SystemFile>(file: &mut F, folder: &mut F, named: bool) -> io::Result<()>
-    ensures file { OnOk result (F.done file.new ≡ has_synced (F.done file.old)) }
-    ensures folder { OnOk result (named ≡ false → F.done folder.new ≡ has_synced (F.done folder.old)) }
+    ensures file { OnOk result (F.done file.new ≡ with_synced (F.done file.old)) }
+    ensures folder { OnOk result (named ≡ false → F.done folder.new ≡ with_synced (F.done folder.old)) }
 {
     settle(file)?;
     if named {

@@ -1,6 +1,6 @@
 //! The calls of the system on an open file.
 ghost use Rattle.std.specs.Prelude.{◌≡◌, ◌≤◌, length, take, IfOk, OnOk, OnErr};
-ghost use Rattle.disk.specs.System.{Done, nothing_done, has_told, has_read, has_written, has_synced};
+ghost use Rattle.disk.specs.System.{Done, nothing_done, with_told, with_read, with_written, with_synced};
 
 use crate::account::{Account, Deed};
 use std::fs::File;
@@ -18,24 +18,24 @@ pub(crate) trait SystemFile {
 
     /// How many bytes it has.
     fn len(&mut self) -> io::Result<usize>
-        ensures ok { IfOk result (λ n. done self.new ≡ has_told (done self.old) n) }
+        ensures ok { IfOk result (λ n. done self.new ≡ with_told (done self.old) n) }
         ensures err { OnErr result (done self.new ≡ done self.old) };
 
     /// Reads some bytes from a place on into the front of the buffer, and answers how many: 0 at the end.
     fn read_at(&mut self, at: usize, buf: &mut [u8]) -> io::Result<usize>
         ensures within { IfOk result (λ n. n ≤ length buf.new) }
-        ensures ok { IfOk result (λ n. done self.new ≡ has_read (done self.old) at (take n buf.new)) }
+        ensures ok { IfOk result (λ n. done self.new ≡ with_read (done self.old) at (take n buf.new)) }
         ensures err { OnErr result (done self.new ≡ done self.old) };
 
     /// Writes some of these bytes, from their front, from a place on, and answers how many.
     fn write_at(&mut self, at: usize, bytes: &[u8]) -> io::Result<usize>
         ensures within { IfOk result (λ n. n ≤ length bytes.now) }
-        ensures ok { IfOk result (λ n. done self.new ≡ has_written (done self.old) at (take n bytes.now)) }
+        ensures ok { IfOk result (λ n. done self.new ≡ with_written (done self.old) at (take n bytes.now)) }
         ensures err { OnErr result (done self.new ≡ done self.old) };
 
     /// Puts it on the disk.
     fn sync(&mut self) -> io::Result<()>
-        ensures ok { OnOk result (done self.new ≡ has_synced (done self.old)) }
+        ensures ok { OnOk result (done self.new ≡ with_synced (done self.old)) }
         ensures err { OnErr result (done self.new ≡ done self.old) };
 }
 

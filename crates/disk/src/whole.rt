@@ -1,6 +1,6 @@
 //! Whole reads and writes, over calls of the system that may move a part and be interrupted.
 ghost use Rattle.std.specs.Prelude.{◌≡◌, ◌≤◌, false, length, take, IfOk, OnOk, OnErr};
-ghost use Rattle.disk.specs.System.{has_read, has_written, has_told, has_synced, WroteSome};
+ghost use Rattle.disk.specs.System.{with_read, with_written, with_told, with_synced, WroteSome};
 
 use crate::system::SystemFile;
 use std::io::{self, ErrorKind};
@@ -20,7 +20,7 @@ fn is_interrupted<T>(done: &io::Result<T>) -> bool
 
 /// How many bytes the file has.
 pub(crate) fn length_of<F: SystemFile>(file: &mut F) -> io::Result<usize>
-    ensures ok { IfOk result (λ n. F.done file.new ≡ has_told (F.done file.old) n) }
+    ensures ok { IfOk result (λ n. F.done file.new ≡ with_told (F.done file.old) n) }
     ensures err { OnErr result (F.done file.new ≡ F.done file.old) }
 {
     for _ in 0..TRIES {
@@ -34,7 +34,7 @@ pub(crate) fn length_of<F: SystemFile>(file: &mut F) -> io::Result<usize>
 
 /// Puts the file on the disk.
 pub(crate) fn settle<F: SystemFile>(file: &mut F) -> io::Result<()>
-    ensures ok { OnOk result (F.done file.new ≡ has_synced (F.done file.old)) }
+    ensures ok { OnOk result (F.done file.new ≡ with_synced (F.done file.old)) }
     ensures err { OnErr result (F.done file.new ≡ F.done file.old) }
 {
     for _ in 0..TRIES {
@@ -49,7 +49,7 @@ pub(crate) fn settle<F: SystemFile>(file: &mut F) -> io::Result<()>
 // Reads once, and again where a signal interrupted it.
 fn read_some<F: SystemFile>(file: &mut F, at: usize, buf: &mut [u8]) -> io::Result<usize>
     ensures within { IfOk result (λ n. n ≤ length buf.new) }
-    ensures ok { IfOk result (λ n. F.done file.new ≡ has_read (F.done file.old) at (take n buf.new)) }
+    ensures ok { IfOk result (λ n. F.done file.new ≡ with_read (F.done file.old) at (take n buf.new)) }
     ensures err { OnErr result (F.done file.new ≡ F.done file.old) }
 {
     for _ in 0..TRIES {
@@ -64,7 +64,7 @@ fn read_some<F: SystemFile>(file: &mut F, at: usize, buf: &mut [u8]) -> io::Resu
 // Writes once, and again where a signal interrupted it.
 fn write_some<F: SystemFile>(file: &mut F, at: usize, bytes: &[u8]) -> io::Result<usize>
     ensures within { IfOk result (λ n. n ≤ length bytes.now) }
-    ensures ok { IfOk result (λ n. F.done file.new ≡ has_written (F.done file.old) at (take n bytes.now)) }
+    ensures ok { IfOk result (λ n. F.done file.new ≡ with_written (F.done file.old) at (take n bytes.now)) }
     ensures err { OnErr result (F.done file.new ≡ F.done file.old) }
 {
     for _ in 0..TRIES {
@@ -78,7 +78,7 @@ fn write_some<F: SystemFile>(file: &mut F, at: usize, bytes: &[u8]) -> io::Resul
 
 /// Fills the buffer with the bytes from a place on. Where the file ends before, that is an error.
 pub(crate) fn read_whole<F: SystemFile>(file: &mut F, at: usize, buf: &mut [u8]) -> io::Result<()>
-    ensures ok { OnOk result (F.done file.new ≡ has_read (F.done file.old) at buf.new) }
+    ensures ok { OnOk result (F.done file.new ≡ with_read (F.done file.old) at buf.new) }
 {
     let mut done = 0;
     while done < buf.len() {
@@ -96,7 +96,7 @@ pub(crate) fn read_whole<F: SystemFile>(file: &mut F, at: usize, buf: &mut [u8])
 
 /// Writes all of the bytes from a place on. After an error a beginning of them was written.
 pub(crate) fn write_whole<F: SystemFile>(file: &mut F, at: usize, bytes: &[u8]) -> io::Result<()>
-    ensures ok { OnOk result (F.done file.new ≡ has_written (F.done file.old) at bytes.now) }
+    ensures ok { OnOk result (F.done file.new ≡ with_written (F.done file.old) at bytes.now) }
     ensures err { OnErr result (WroteSome (F.done file.old) (F.done file.new) at bytes.now) }
 {
     let mut place = at;

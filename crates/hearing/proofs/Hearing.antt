@@ -1,23 +1,13 @@
 -- What one statement's answer is made of, and what it leaves.
-use Rattle.std.proofs.Common.{ℕ, ◌≡◌, refl, sym, ap, ◌∙◌, subst, Option, Some, None, List, ◌++◌, append_assoc}
-use Rattle.std.specs.Prelude.{codes}
+use Rattle.std.proofs.Common.{ℕ, ◌≡◌, refl, sym, ap, ◌∙◌, subst, Option, Some, None, List, ◌++◌, append_assoc, codes}
 use Rattle.std.specs.List.{flat_map}
-use Rattle.terms.specs.declared.Kind.{Kind}
-use Rattle.terms.specs.declared.Kind.TheVariants.{Echo, Ready}
-use Rattle.terms.specs.declared.Value.{Value}
-use Rattle.terms.specs.declared.Place.{Place}
-use Rattle.terms.specs.declared.Statement.{Statement}
-use Rattle.terms.specs.declared.Size.{Size}
-use Rattle.terms.specs.Bounds.{FitsStep}
-use Rattle.terms.specs.Past.{Past, after_hearing}
-use Rattle.terms.specs.Answer.{MaySay, IsLeast, said_if, after_records}
-use Rattle.terms.specs.Fit.{AllFit, FitsIf}
+use Rattle.vocabulary.specs.Terms.{Kind, Echo, Ready, Value, Place, Statement, Size, FitsStep, Past, after_hearing, MaySay, IsLeast, said_if, after_records, AllFit, FitsIf}
 use Rattle.terms.proofs.Fit.{fit_heard, echo_fits, ready_fits}
 use Rattle.rbc.specs.declared.Heard.{Heard}
 use Rattle.rbc.specs.declared.Heard.TheVariants.{News, Repeat, Foreign}
 use Rattle.rbc.specs.declared.Broadcasts.{Broadcasts}
 use Rattle.rbc.specs.Answers.{heard_as}
-use Rattle.rbc.specs.Stands.{Stands}
+use Rattle.rbc.specs.Stands.{BroadcastsStandFor}
 use Rattle.words.specs.Lines.{line}
 use Rattle.hearing.specs.Replies.{frame_line, AnswersAs, AnswersStatement}
 use Rattle.hearing.specs.Sessions.{IsOf}
@@ -50,16 +40,16 @@ answered_of size q from past s after text fits h of = step (heard_as past from s
 -- a statement and its answer
 abbrev pub IsAnswered : ℕ → Past → Statement → Broadcasts → List ℕ → List ℕ → Type 0
 IsAnswered from past s b old new =
-    (after : Past) × (others : List ℕ) × AnswersStatement from past s after others × Stands b after × (new ≡ old ++ others)
+    (after : Past) × (others : List ℕ) × AnswersStatement from past s after others × BroadcastsStandFor b after × (new ≡ old ++ others)
 
 -- what a call of `say` says
 pub record Says (kind : Kind) (place : Place) (due : Option Value) (b c : Broadcasts) (old new : List ℕ) : Type 0 where
   pub text : FitsIf place due → new ≡ old ++ flat_map frame_line (said_if kind place due)
-  pub stands : FitsIf place due → (past : Past) → Stands b past → place.question ≡ past.question → Stands c (after_records past (said_if kind place due))
+  pub stands : FitsIf place due → (past : Past) → BroadcastsStandFor b past → place.question ≡ past.question → BroadcastsStandFor c (after_records past (said_if kind place due))
 
 module _ (from : ℕ) (past : Past) (s : Statement) (b c d : Broadcasts) (old first second third : List ℕ) (echo ready : Option Value) where
   pub news_answered : AllFit past → FitsStep s.place.step s.value → s.place.question ≡ past.question
-      → News ≡ heard_as past from s → Stands b (after_hearing past from s)
+      → News ≡ heard_as past from s → BroadcastsStandFor b (after_hearing past from s)
       → first ≡ old ++ line (codes "news")
       → IsLeast (MaySay (after_hearing past from s) Echo s.place) echo → IsLeast (MaySay (after_hearing past from s) Ready s.place) ready
       → Says Echo s.place echo b c first second → Says Ready s.place ready c d second third
@@ -93,7 +83,7 @@ module _ (from : ℕ) (past : Past) (s : Statement) (b c d : Broadcasts) (old fi
 
   -- the same, where the place was read by a call
   pub news_at : (place : Place) → place ≡ s.place → AllFit past → FitsStep s.place.step s.value → s.place.question ≡ past.question
-      → News ≡ heard_as past from s → Stands b (after_hearing past from s)
+      → News ≡ heard_as past from s → BroadcastsStandFor b (after_hearing past from s)
       → first ≡ old ++ line (codes "news")
       → IsLeast (MaySay (after_hearing past from s) Echo place) echo → IsLeast (MaySay (after_hearing past from s) Ready place) ready
       → Says Echo place echo b c first second → Says Ready place ready c d second third

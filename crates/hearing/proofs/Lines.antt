@@ -1,17 +1,15 @@
 -- Lines, one after the other.
-use Rattle.std.proofs.Common.{ℕ, zero, suc, ◌==◌, ◌-◌, ◌≡◌, ◌+◌, Bool, true, false, eqb, refl, sym, ap, ◌∙◌, subst, ◌⊎◌, inl, inr, arith, Option, Some, None, List, [], ◌∷◌, ◌++◌, length, append_assoc, append-nil, length-append}
-use Rattle.std.specs.Prelude.{IfSome, slice_get}
+use Rattle.std.proofs.Common.{ℕ, zero, suc, ◌==◌, ◌-◌, ◌≡◌, ◌+◌, Bool, true, false, eqb, refl, sym, ap, ◌∙◌, subst, ◌⊎◌, inl, inr, arith, Option, Some, None, List, [], ◌∷◌, ◌++◌, length, append_assoc, append-nil, length-append, IfSome, slice_get, eqb-true}
 use Rattle.std.specs.Io.KnownBytes.{Appends, IsAtEnd}
 use Rattle.std.specs.Io.BufRead.{take_through, drop_through, DropsThrough}
-use Rattle.std.proofs.lemmas.Bool.{eqb-true}
-use Rattle.terms.specs.declared.Size.{Size}
+use Rattle.vocabulary.specs.Terms.{Size}
 use Rattle.hearing.specs.declared.session.Session.{Session}
 use Rattle.hearing.specs.Pieces.{IsNoPiece}
 use Rattle.words.specs.Lines.{NoEnd, lines_of, onto_line}
 use Rattle.hearing.specs.InTurn.{InTurn}
 use Rattle.hearing.specs.Replies.{Hearing, no_hearing, AnswersLine}
-use Rattle.hearing.specs.Keeping.{IsAt}
-use Rattle.hearing.specs.Hears.{Hears, Writes}
+use Rattle.hearing.specs.Keeping.{SessionStandsFor}
+use Rattle.hearing.specs.Hears.{Hears, WritesReplies}
 use Rattle.hearing.proofs.Turns.{InTurn-snoc}
 
 -- the first line of bytes that aren't all read
@@ -47,7 +45,7 @@ abbrev pub AreHeard : Size → ℕ → List ℕ → Option (List ℕ) → Sessio
 AreHeard size me all left session old new number =
     (rest : List ℕ) × (good : List (List ℕ)) × (after : Hearing) × (text : List ℕ)
     × (left ≡ Some rest) × (lines_of all ≡ good ++ lines_of rest) × InTurn (AnswersLine size) (no_hearing size me) good after text
-    × IsAt session after × Appends old new text × (number ≡ length good + 1)
+    × SessionStandsFor session after × Appends old new text × (number ≡ length good + 1)
 
 -- bytes with no end of a line have none anywhere
 pub no_end : (xs ys : List ℕ) → NoEnd (xs ++ 10 ∷ ys) → ⊥
@@ -101,7 +99,7 @@ last_at (x ∷ front) = subst (λ i. slice_get (x ∷ front ++ 10 ∷ []) i ≡ 
     index = let l = length-append front (10 ∷ []) in omega (arith, l)
 
 -- nothing was heard yet
-pub nothing_heard : (size : Size) (me : ℕ) (known contents : Option (List ℕ)) (session : Session) → IsAt session (no_hearing size me)
+pub nothing_heard : (size : Size) (me : ℕ) (known contents : Option (List ℕ)) (session : Session) → SessionStandsFor session (no_hearing size me)
     → IfSome known (λ all. AreHeard size me all known session contents contents 1)
 nothing_heard size me None contents session at = tt
 nothing_heard size me (Some all) contents session at = (all, [], no_hearing size me, [], refl, refl, (refl, refl), at, same contents, refl)
@@ -112,7 +110,7 @@ nothing_heard size me (Some all) contents session at = (all, [], no_hearing size
 
 -- all was heard
 pub ended : (size : Size) (me number : ℕ) (known left old new : Option (List ℕ)) (session : Session)
-    → IfSome known (λ all. AreHeard size me all left session old new number) → IsAtEnd left → Writes size me known None old new
+    → IfSome known (λ all. AreHeard size me all left session old new number) → IsAtEnd left → WritesReplies size me known None old new
 ended size me number None left old new session h end = tt
 ended size me number (Some all) left old new session (rest, good, after, text, is, lines, answered, at, shown, count) end =
     (text, all_heard size me all rest good after text (subst (λ (o : Option (List ℕ)). IsAtEnd o) is end) lines answered, shown)
@@ -131,7 +129,7 @@ pub bad_line : (size : Size) (me number n : ℕ) (known left next old new : Opti
     → IfSome known (λ all. AreHeard size me all left session old new number)
     → WasRead left next line → length line ≡ n → (n ≡ 0 → ⊥)
     → ((front : List ℕ) → line ≡ front ++ 10 ∷ [] → text ≡ front) → (NoEnd line → text ≡ line)
-    → IsNoPiece size.n text → Writes size me known (Some number) old new
+    → IsNoPiece size.n text → WritesReplies size me known (Some number) old new
 bad_line size me number n None left next old new session line text h read len some cut last bad = tt
 bad_line size me number n (Some all) left next old new session line text (rest, good, after, shown, is, lines, answered, at, grown, count) read len some cut last bad =
     let r : WasRead (Some rest) next line = subst (λ (o : Option (List ℕ)). WasRead o next line) is read in
@@ -143,7 +141,7 @@ pub one_line : (size : Size) (me number n : ℕ) (known left next old mid new : 
     → IfSome known (λ all. AreHeard size me all left session old mid number)
     → WasRead left next line → length line ≡ n → (n ≡ 0 → ⊥)
     → ((front : List ℕ) → line ≡ front ++ 10 ∷ [] → text ≡ front) → (NoEnd line → text ≡ line)
-    → ((h : Hearing) → IsAt session h → (after : Hearing) × (shown : List ℕ) × AnswersLine size h text after shown × IsAt later after × Appends mid new shown)
+    → ((h : Hearing) → SessionStandsFor session h → (after : Hearing) × (shown : List ℕ) × AnswersLine size h text after shown × SessionStandsFor later after × Appends mid new shown)
     → IfSome known (λ all. AreHeard size me all next later old new (number + 1))
 one_line size me number n None left next old mid new session later line text h read len some cut last answers = tt
 one_line size me number n (Some all) left next old mid new session later line text (rest, good, before, shown, is, lines, answered, at, grown, count) read len some cut last answers =

@@ -2,7 +2,7 @@
 use Rattle.std.specs.Prelude.{ℕ, ◌≡◌, ◌+◌, Option, Some, None, List, [], ◌∷◌, ◌++◌, length}
 use Rattle.std.specs.Prelude.{IfSome}
 use Rattle.std.specs.Io.KnownBytes.{Appends}
-use Rattle.terms.specs.declared.Size.{Size}
+use Rattle.vocabulary.specs.Terms.{Size}
 use Rattle.hearing.specs.Pieces.{IsNoPiece}
 use Rattle.words.specs.Lines.{lines_of}
 use Rattle.hearing.specs.InTurn.{InTurn}
@@ -25,6 +25,6 @@ pub record Hears (size : Size) (me : ℕ) (input : List ℕ) (bad : Option ℕ) 
   pub stops : StopsAt size good bad others
 
 -- where the input is known and the output tells what it holds, the output grows by such an answer and nothing else
-abbrev pub Writes : Size → ℕ → Option (List ℕ) → Option ℕ → Option (List ℕ) → Option (List ℕ) → Type 0
-Writes size me input bad old new =
+abbrev pub WritesReplies : Size → ℕ → Option (List ℕ) → Option ℕ → Option (List ℕ) → Option (List ℕ) → Type 0
+WritesReplies size me input bad old new =
     IfSome input (λ bytes. (text : List ℕ) × Hears size me bytes bad text × Appends old new text)

@@ -1,20 +1,12 @@
 -- What `hear` answers to one statement, to one piece of a stream, and to one line.
 use Rattle.std.specs.Prelude.{ℕ, ◌≡◌, ◌==◌, cond, Option, List, [], ◌∷◌, ◌++◌, codes}
 use Rattle.std.specs.List.{flat_map}
-use Rattle.terms.specs.declared.Kind.TheVariants.{Echo, Ready}
-use Rattle.terms.specs.declared.Value.{Value}
-use Rattle.terms.specs.declared.Place.{Place}
-use Rattle.terms.specs.declared.Statement.{Statement}
-use Rattle.terms.specs.declared.Record.{Record}
-use Rattle.terms.specs.declared.Record.TheVariants.{Said, Decided}
-use Rattle.terms.specs.declared.Size.{Size}
-use Rattle.terms.specs.Past.{Past, no_past, after_hearing}
-use Rattle.terms.specs.Answer.{MaySay, IsLeast, said_if, after_records}
+use Rattle.vocabulary.specs.Terms.{Echo, Ready, Value, Place, Statement, Record, Said, Decided, Size, Past, no_past, after_hearing, MaySay, IsLeast, said_if, after_records}
 use Rattle.wire.specs.declared.message.Message.{Message}
 use Rattle.wire.specs.declared.message.Message.TheVariants as message
 use Rattle.wire.specs.declared.message.WireFault.{WireFault}
 use Rattle.wire.specs.declared.message.WireFault.TheVariants.{BadLength, BadType, BadKind, BadPlace, BadValue, BadHello}
-use Rattle.wire.specs.Texts.{text}
+use Rattle.wire.specs.Texts.{frame_bytes}
 use Rattle.wire.specs.Reading.{End, Rest, Broken}
 use Rattle.wire.specs.Feeding.{Feeds}
 use Rattle.rbc.specs.declared.Heard.{Heard}
@@ -24,20 +16,21 @@ use Rattle.hex.specs.Hex.{encode_lower}
 use Rattle.words.specs.Lines.{line}
 use Rattle.hearing.specs.Pieces.{IsPiece}
 use Rattle.hearing.specs.InTurn.{InTurn}
+pub use Rattle.terms.specs.Keep.{put}
 
 -- the frame of what was said, in lower case digits
 abbrev pub frame_line : Record → List ℕ
-frame_line (Said s) = line (encode_lower (text (message.Statement s)))
+frame_line (Said s) = line (encode_lower (frame_bytes (message.Statement s)))
 frame_line (Decided question round bit) = []
 
 -- of the name of a fault
-abbrev pub name_of : WireFault → List ℕ
-name_of BadLength = codes "BadLength"
-name_of BadType = codes "BadType"
-name_of BadKind = codes "BadKind"
-name_of BadPlace = codes "BadPlace"
-name_of BadValue = codes "BadValue"
-name_of BadHello = codes "BadHello"
+abbrev pub fault_name : WireFault → List ℕ
+fault_name BadLength = codes "BadLength"
+fault_name BadType = codes "BadType"
+fault_name BadKind = codes "BadKind"
+fault_name BadPlace = codes "BadPlace"
+fault_name BadValue = codes "BadValue"
+fault_name BadHello = codes "BadHello"
 
 -- what is said after news: the Echo and the Ready that are then due, each where one is
 pub record SaysDue (past : Past) (place : Place) (after : Past) (text : List ℕ) : Type 0 where
@@ -68,10 +61,6 @@ pub record Hearing : Type 0 where
 abbrev pub no_hearing : Size → ℕ → Hearing
 no_hearing size me = record { ends = λ a. Rest []; pasts = λ q. no_past size me q }
 
--- x at k, and elsewhere as before
-abbrev pub put : {A : Type 0} → (ℕ → A) → ℕ → A → ℕ → A
-put f k x j = cond (j == k) x (f j)
-
 abbrev pub with_end : Hearing → ℕ → End → Hearing
 with_end h from end = record { ends = put h.ends from end; pasts = h.pasts }
 
@@ -91,7 +80,7 @@ AnswersMessage from before (message.Statement s) after text =
 -- a stream that is broken is named so, once for each piece
 abbrev pub broken_line : End → List ℕ
 broken_line (Rest rest) = []
-broken_line (Broken fault) = line (codes "broken " ++ name_of fault)
+broken_line (Broken fault) = line (codes "broken " ++ fault_name fault)
 
 -- the sender's piece is answered by the text: the messages that it completes in turn, and then the fault
 pub record AnswersPiece (size : Size) (from : ℕ) (before : Hearing) (piece : List ℕ) (after : Hearing) (text : List ℕ) : Type 0 where

@@ -3,7 +3,7 @@
 ghost use Rattle.std.specs.Prelude.{ℕ, List, ◌≡◌, ◌≤◌, ◌↔◌, ◌∷◌, ◌++◌, [], IfOk, None, Some};
 ghost use Rattle.std.specs.Io.KnownBytes.{Keeps};
 ghost use Rattle.words.specs.Lines.{NoEnd};
-ghost use Rattle.hearing.specs.Hears.{Writes};
+ghost use Rattle.hearing.specs.Hears.{WritesReplies};
 
 use crate::fault::HearFault;
 use crate::session::Session;
@@ -38,9 +38,9 @@ pub fn hear_lines<R: BufRead, W: Write>(
 ) -> Result<u8, HearFault>
     // Where the bytes of the streams are known, what is written is the answer to what is read, and nothing else.
     ensures all { IfOk result (λ status. (status ≡ 0)
-        × Writes size me (R.remaining input.old) None (W.contents output.old) (W.contents output.new)) }
+        × WritesReplies size me (R.remaining input.old) None (W.contents output.old) (W.contents output.new)) }
     ensures line { (number : ℕ) → result ≡ Err (HearFault.Line number) →
-        Writes size me (R.remaining input.old) (Some number) (W.contents output.old) (W.contents output.new) }
+        WritesReplies size me (R.remaining input.old) (Some number) (W.contents output.old) (W.contents output.new) }
     ensures me { (result ≡ Err HearFault.Me) ↔ (size.n ≤ me) }
     ensures none { result ≡ Err HearFault.Me → Keeps (W.contents output.old) (W.contents output.new) }
 {

@@ -1,7 +1,7 @@
 //! A line of `hear`: a sender, one space, and a piece of the sender's stream in hexadecimal digits.
 
 ghost use Rattle.std.specs.Prelude.{IfOk, IfSome, IsSome, ℕ, MatchOption};
-ghost use Rattle.hearing.specs.Pieces.{IsMember, IsNoPiece, IsPiece};
+ghost use Rattle.hearing.specs.Pieces.{IsMemberBelow, IsNoPiece, IsPiece};
 
 use std::alloc::Global;
 use terms::Memory;
@@ -18,8 +18,8 @@ pub struct Piece {
 
 /// The sender that these decimal digits name, if there is one below n. Leading zeros are taken.
 fn sender(n: u8, digits: &[u8]) -> Option<u8>
-    ensures some { IfSome result (IsMember n digits.now) }
-    ensures exact { (member : ℕ) → IsMember n digits.now member → IsSome result }
+    ensures some { IfSome result (IsMemberBelow n digits.now) }
+    ensures exact { (member : ℕ) → IsMemberBelow n digits.now member → IsSome result }
 {
     match number8(digits) {
         Some(number) if number < n => Some(number),

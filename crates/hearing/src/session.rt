@@ -4,18 +4,15 @@ ghost use Rattle.std.specs.Prelude.{ℕ, ◌≡◌, ◌<◌, ◌++◌, OnOk, IfO
 ghost use Rattle.std.specs.Io.KnownBytes.{Appends};
 ghost use Rattle.std.specs.List.{flat_map, AllByRecursion};
 ghost use Rattle.terms.specs.declared.Size.{Size as SizeOf};
-ghost use Rattle.terms.specs.Bounds.{IsSize, FitsStep};
-ghost use Rattle.terms.specs.Past.{Past, no_past};
-ghost use Rattle.terms.specs.Answer.{said_if, after_records};
-ghost use Rattle.terms.specs.Fit.{AllFit, FitsIf};
-ghost use Rattle.wire.specs.Texts.{text as text_of, Fits};
+ghost use Rattle.vocabulary.specs.Terms.{IsSize, FitsStep, Past, no_past, said_if, after_records, AllFit, FitsIf};
+ghost use Rattle.wire.specs.Texts.{frame_bytes as text_of, Fits};
 ghost use Rattle.wire.specs.Reading.{End};
 ghost use Rattle.hex.specs.Hex.{encode_lower};
-ghost use Rattle.rbc.specs.Words.{size_by};
-ghost use Rattle.rbc.specs.Stands.{Stands};
+ghost use Rattle.rbc.specs.Readers.{broadcasts_size};
+ghost use Rattle.rbc.specs.Stands.{BroadcastsStandFor};
 ghost use Rattle.hearing.specs.InTurn.{InTurn};
 ghost use Rattle.words.specs.Lines.{line};
-ghost use Rattle.hearing.specs.Replies.{frame_line, name_of, broken_line, AnswersStatement, AnswersMessage, AnswersPiece, AnswersLine, Hearing, no_hearing};
+ghost use Rattle.hearing.specs.Replies.{frame_line, fault_name, broken_line, AnswersStatement, AnswersMessage, AnswersPiece, AnswersLine, Hearing, no_hearing};
 ghost use Rattle.hearing.specs.Pieces.{IsNoPiece};
 ghost use Rattle.hearing.specs.Faults.{IsOfStream};
 ghost use Rattle.hearing.specs.Sessions.{HasFeeders, HasBroadcasts, AreFed, AreStanding};
@@ -49,11 +46,11 @@ fn say(
     due: Option<Value>,
     text: &mut Vec<u8>,
 ) -> Result<(), Memory>
-    requires { place.origin < (size_by broadcasts.old).n }
+    requires { place.origin < (broadcasts_size broadcasts.old).n }
     ensures text { OnOk result (FitsIf place due → text.new.items ≡ text.old.items ++ flat_map frame_line (said_if kind place due)) }
-    ensures stands { OnOk result (FitsIf place due → (past : Past) → Stands broadcasts.old past → place.question ≡ past.question →
-        Stands broadcasts.new (after_records past (said_if kind place due))) }
-    ensures size { size_by broadcasts.new ≡ size_by broadcasts.old }
+    ensures stands { OnOk result (FitsIf place due → (past : Past) → BroadcastsStandFor broadcasts.old past → place.question ≡ past.question →
+        BroadcastsStandFor broadcasts.new (after_records past (said_if kind place due))) }
+    ensures size { broadcasts_size broadcasts.new ≡ broadcasts_size broadcasts.old }
 {
     let Some(value) = due else {
         return Ok(());
@@ -75,13 +72,13 @@ fn hear(
     statement: &Statement,
     text: &mut Vec<u8>,
 ) -> Result<(), Memory>
-    requires from { from < (size_by broadcasts.old).n }
-    requires origin { statement.now.place.origin < (size_by broadcasts.old).n }
-    ensures answers { OnOk result ((past : Past) → Stands broadcasts.old past → statement.now.place.question ≡ past.question → AllFit past →
+    requires from { from < (broadcasts_size broadcasts.old).n }
+    requires origin { statement.now.place.origin < (broadcasts_size broadcasts.old).n }
+    ensures answers { OnOk result ((past : Past) → BroadcastsStandFor broadcasts.old past → statement.now.place.question ≡ past.question → AllFit past →
         FitsStep statement.now.place.step statement.now.value →
         (after : Past) × (others : List ℕ) × AnswersStatement from past statement.now after others
-        × Stands broadcasts.new after × (text.new.items ≡ text.old.items ++ others)) }
-    ensures size { size_by broadcasts.new ≡ size_by broadcasts.old }
+        × BroadcastsStandFor broadcasts.new after × (text.new.items ≡ text.old.items ++ others)) }
+    ensures size { broadcasts_size broadcasts.new ≡ broadcasts_size broadcasts.old }
 {
     match broadcasts.hear(from, statement)? {
         Heard::Foreign => text.extend_from_slice(b"foreign\n")?,
@@ -149,7 +146,7 @@ fn hear_all(
 
 /// Adds the line that names the fault.
 fn show_fault(fault: WireFault, text: &mut Vec<u8>) -> Result<(), Memory>
-    ensures { OnOk result (text.new.items ≡ text.old.items ++ line (codes "broken " ++ name_of fault)) }
+    ensures { OnOk result (text.new.items ≡ text.old.items ++ line (codes "broken " ++ fault_name fault)) }
 {
     let name: &str = match fault {
         WireFault::BadLength => "BadLength",
@@ -175,12 +172,12 @@ pub struct Session {
 }
 
 impl Session {
-    ghost use Rattle.hearing.specs.Keeping.{IsSound, IsAt};
+    ghost use Rattle.hearing.specs.Keeping.{IsWhole, SessionStandsFor};
 
     /// The session of member `me`, at the beginning of all streams.
     pub fn new(alloc: Global, size: Size, me: u8) -> Result<Session, Memory>
-        ensures sound { IfOk result (IsSound size) }
-        ensures start { IfOk result (λ session. IsAt session (no_hearing size me)) }
+        ensures sound { IfOk result (IsWhole size) }
+        ensures start { IfOk result (λ session. SessionStandsFor session (no_hearing size me)) }
     {
         let mut feeders = Vec::new(alloc);
         for _ in 0..size.n() {
@@ -200,12 +197,12 @@ impl Session {
 
     /// Takes the next piece of the sender's stream, and adds the answers to the text.
     pub fn take(&mut self, sender: u8, piece: &[u8], text: &mut Vec<u8>) -> Result<(), Memory>
-        requires sound { IsSound self.old.size self.old }
+        requires sound { IsWhole self.old.size self.old }
         requires sender { sender < self.old.size.n }
-        ensures answers { OnOk result ((h : Hearing) → IsAt self.old h →
+        ensures answers { OnOk result ((h : Hearing) → SessionStandsFor self.old h →
             (after : Hearing) × (others : List ℕ) × AnswersPiece self.old.size sender h piece.now after others
-            × IsAt self.new after × (text.new.items ≡ text.old.items ++ others)) }
-        ensures sound { OnOk result (IsSound self.old.size self.new) }
+            × SessionStandsFor self.new after × (text.new.items ≡ text.old.items ++ others)) }
+        ensures sound { OnOk result (IsWhole self.old.size self.new) }
     {
         let mut messages = Vec::new(self.alloc);
         let fed = self.feeders[usize::from(sender)].feed(piece, &mut messages)?;
@@ -231,11 +228,11 @@ impl Session {
     ///
     /// [`HearFault::Stream`] and [`HearFault::Memory`]: a write or a growth failed, and the session is not to be used again.
     pub fn answer<W: Write>(&mut self, line: &[u8], output: &mut W) -> Result<bool, HearFault>
-        requires { IsSound self.old.size self.old }
-        ensures answers { result ≡ Ok true → (h : Hearing) → IsAt self.old h →
+        requires { IsWhole self.old.size self.old }
+        ensures answers { result ≡ Ok true → (h : Hearing) → SessionStandsFor self.old h →
             (after : Hearing) × (text : List ℕ) × AnswersLine self.old.size h line.now after text
-            × IsAt self.new after × Appends (W.contents output.old) (W.contents output.new) text }
-        ensures sound { result ≡ Ok true → IsSound self.old.size self.new }
+            × SessionStandsFor self.new after × Appends (W.contents output.old) (W.contents output.new) text }
+        ensures sound { result ≡ Ok true → IsWhole self.old.size self.new }
         ensures no_piece { result ≡ Ok false → IsNoPiece self.old.size.n line.now }
         ensures nothing { result ≡ Ok false → output.new ≡ output.old }
         ensures fault { IfErr result IsOfStream }

@@ -1,10 +1,9 @@
 -- What an append leaves.
 use Rattle.std.proofs.Common.{◌≡◌, ◌≢◌, ◌⊎◌, inl, ℕ, ◌+◌, ◌*◌, ◌≤◌, List, [], ◌∷◌, ◌++◌, length, take, sym, ◌∙◌, ap, subst, arith}
-use Rattle.terms.specs.declared.Record.{Record}
-use Rattle.terms.specs.declared.Header.{Header}
-use Rattle.disk.specs.Model.{State, MayLeave, LeavesOnly, at_rest, put}
+use Rattle.vocabulary.specs.Terms.{Record, Header}
+use Rattle.disk.specs.Model.{State, MayLeave, LeavesOnly, at_rest, overwritten}
 use Rattle.disk.proofs.Moments.{leaves_more}
-use Rattle.journal.specs.Texts.{header_text, body, texts}
+use Rattle.journal.specs.Texts.{header_text, batch_body, batches_bytes}
 use Rattle.journal.specs.WellFormed.{AreWellFormedFor}
 use Rattle.journal.specs.File.{Holds, IsHeld}
 use Rattle.journal.specs.Commit.{IsCommit}
@@ -20,9 +19,9 @@ module _ (s : State) (header : Header) (place : ℕ) (all : List Record) (held :
     before = λ t file le left. inl left;
   }
 
-  module _ (records : List Record) (bytes : List ℕ) (some : 1 ≤ length records) (few : length records ≤ 65535) (good : AreWellFormedFor header records) (encoded : bytes ≡ body records ++ 0 ∷ []) where
+  module _ (records : List Record) (bytes : List ℕ) (some : 1 ≤ length records) (few : length records ≤ 65535) (good : AreWellFormedFor header records) (encoded : bytes ≡ batch_body records ++ 0 ∷ []) where
     abbrev text : List ℕ
-    text = header_text header ++ texts held.batches
+    text = header_text header ++ batches_bytes held.batches
 
     pub commit_leaves : {D : Type 0} (moment : D → ℕ) (since : D → ℕ → List ℕ → Type 0) (old new : D) → LeavesOnly moment since old new (IsCommit (take place s.seen) bytes) → LeavesOnly moment since old new (λ file. Holds header all file ⊎ Holds header (all ++ records) file)
     commit_leaves moment since old new leaves =
@@ -30,12 +29,12 @@ module _ (s : State) (header : Header) (place : ℕ) (all : List Record) (held :
         holds_commit s header place all held records some few good file
         (subst (λ (l : List ℕ). IsCommit text l file) encoded (subst (λ (l : List ℕ). IsCommit l bytes file) (held_front s header place all held) is))) leaves
 
-    pub now_held : (new : State) (place' : ℕ) → new ≡ at_rest (put (put s.seen (place + 1) bytes) place (1 ∷ [])) → place' ≡ place + 3 + 7 * length records → IsHeld new header place' (all ++ records)
+    pub now_held : (new : State) (place' : ℕ) → new ≡ at_rest (overwritten (overwritten s.seen (place + 1) bytes) place (1 ∷ [])) → place' ≡ place + 3 + 7 * length records → IsHeld new header place' (all ++ records)
     now_held new place' done gate =
         let shut = held_shut s header place all held in
         let stands = committed s.seen place bytes shut.within shut.closed in
         let front = held_front s header place all held in
-        let seen_is : new.seen ≡ (text ++ 1 ∷ (body records ++ 0 ∷ [])) ++ stands.0 =
+        let seen_is : new.seen ≡ (text ++ 1 ∷ (batch_body records ++ 0 ∷ [])) ++ stands.0 =
         ap (λ (t : State). t.seen) done ∙ stands.1 ∙ (λ i. (front i ++ 1 ∷ encoded i) ++ stands.0) in
         let open_1 : 1 ≢ 0 = λ e. cc e in
         held_more s header place all held records some few good new place' 1 stands.0 open_1 (done ∙ ap (λ (t : State). at_rest t.seen) (sym done)) seen_is gate

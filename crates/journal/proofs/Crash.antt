@@ -1,9 +1,9 @@
 -- What a crash leaves in each of the two steps of a commit.
-use Rattle.std.proofs.Common.{◌≡◌, ◌⊎◌, inl, inr, ℕ, ◌+◌, ◌<◌, ◌≤◌, false, List, [], ◌∷◌, ◌++◌, length, get_or, take, drop, refl, sym, ◌∙◌, ap, arith, append_assoc, length-append, length-drop, take-append-drop}
+use Rattle.std.proofs.Common.{◌≡◌, ◌⊎◌, inl, inr, ℕ, ◌+◌, ◌<◌, ◌≤◌, false, List, [], ◌∷◌, ◌++◌, length, get_or, take, drop, refl, sym, ◌∙◌, ap, arith, append_assoc, length-append, length-drop, take-append-drop, length-take-le, take_at, drop_at, take-take, get_or-take, get_or-drop}
 use Rattle.std.proofs.lemmas.Bool.Decides.{nat_tests}
-use Rattle.std.proofs.lemmas.List.{length-take-le, take_at, drop_at, drop_more, take_more, take-take, take-append-le, same_lists, get_or-take, get_or-drop, get_or_default}
-use Rattle.disk.specs.Model.{MayLeave, after_write, at_rest, put, is_touched}
-use Rattle.journal.specs.File.{Begins}
+use Rattle.std.proofs.lemmas.List.{drop_more, take_more, take-append-le, same_lists, get_or_default}
+use Rattle.disk.specs.Model.{MayLeave, after_write, at_rest, overwritten, is_touched}
+use Rattle.journal.specs.File.{IsFrontOf}
 use Rattle.journal.specs.Commit.{IsCommit}
 
 -- a part that agrees place by place
@@ -24,7 +24,7 @@ outside_one k at n (inr past) = grind (arith, nat_tests)
 
 module _ (file : List ℕ) (gate : ℕ) (body : List ℕ) (within : gate < length file) (closed : get_or file gate 0 ≡ 0) where
   abbrev staged : List ℕ
-  staged = put file (gate + 1) body
+  staged = overwritten file (gate + 1) body
 
   -- the closed gate stands in each outcome of the first write
   pub stage : (c : List ℕ) → MayLeave (after_write (at_rest file) (gate + 1) body) c → IsCommit (take gate file) body c
@@ -67,7 +67,7 @@ module _ (file : List ℕ) (gate : ℕ) (body : List ℕ) (within : gate < lengt
       inr (b, (rest, whole ∙ sym (append_assoc (take gate file) (b ∷ body) rest)))
 
   -- and then they stand behind an open gate
-  pub committed : Begins (take gate file ++ 1 ∷ body) (put staged gate (1 ∷ []))
+  pub committed : IsFrontOf (take gate file ++ 1 ∷ body) (overwritten staged gate (1 ∷ []))
   committed =
       let rest = drop (gate + 1 + length body) file in
       let behind : drop (gate + 1) staged ≡ body ++ rest =
@@ -78,7 +78,7 @@ module _ (file : List ℕ) (gate : ℕ) (body : List ℕ) (within : gate < lengt
       )
 
 -- a file that is all on the disk stands at the front of each that a crash leaves
-pub begins_kept : (front file c : List ℕ) → Begins front file → MayLeave (at_rest file) c → Begins front c
+pub begins_kept : (front file c : List ℕ) → IsFrontOf front file → MayLeave (at_rest file) c → IsFrontOf front c
 begins_kept front file c begins may =
     let same : take (length front) c ≡ take (length front) file =
     same_part file c 0 (length front) (omega (arith, ap (λ (l : List ℕ). length l) begins.1, length-append front begins.0)) may.no_shorter

@@ -1,16 +1,11 @@
 -- The bytes of a header, there and back.
-use Rattle.std.proofs.Common.{◌≡◌, ℕ, zero, suc, ◌+◌, ◌<◌, Bool, true, ◌&&◌, nat_eq, List, [], ◌∷◌, ◌++◌, length, get_or, take, drop, Option, Some, None, IsSome, IsNone, refl, sym, ◌∙◌, ap, subst, arith, append_assoc, length-drop, take-append-drop}
-use Rattle.std.proofs.lemmas.List.{drop_more, drop-drop, take_all, places}
-use Rattle.std.proofs.lemmas.Bool.{and_parts, and_from, eqb-true, eq-eqb}
+use Rattle.std.proofs.Common.{◌≡◌, ℕ, zero, suc, ◌+◌, ◌<◌, Bool, true, ◌&&◌, nat_eq, List, [], ◌∷◌, ◌++◌, length, get_or, take, drop, Option, Some, None, IsSome, IsNone, refl, sym, ◌∙◌, ap, subst, arith, append_assoc, length-drop, take-append-drop, drop-drop, take_all, eqb-true, eq-eqb, codes, IfSome}
+use Rattle.std.proofs.lemmas.List.{drop_more, places}
+use Rattle.std.proofs.lemmas.Bool.{and_parts, and_from}
 use Rattle.std.proofs.lemmas.Bool.Decides.{nat_tests}
 use Rattle.std.proofs.lemmas.Nat.{from_be_bytes-to_be_bytes_2, from_be_bytes-to_be_bytes_8}
-use Rattle.std.specs.Prelude.{codes, IfSome}
 use Rattle.std.specs.Int.{w16, w64, to_be_bytes, from_be_bytes}
-use Rattle.terms.specs.declared.Size.{Size}
-use Rattle.terms.specs.declared.Header.{Header}
-use Rattle.terms.specs.Bounds.{IsSize}
-use Rattle.terms.specs.Sizes.{size_of, size_fault}
-use Rattle.terms.specs.Headers.{header_of}
+use Rattle.vocabulary.specs.Terms.{Size, Header, IsSize, new_size, size_fault, new_header}
 use Rattle.journal.specs.Texts.{header_text}
 use Rattle.journal.specs.WellFormed.{IsHeader}
 
@@ -74,7 +69,7 @@ module _ (b : List ℕ) (h : Header) (same : b ≡ header_text h) where
   me_again = ap (λ (l : List ℕ). get_or l 20 0) same
 
 -- a lawful size has no fault
-pub no_fault : (n t q : ℕ) → IsSize (size_of n t q) → size_fault n t q ≡ None
+pub no_fault : (n t q : ℕ) → IsSize (new_size n t q) → size_fault n t q ≡ None
 no_fault n t q lawful = grind (arith, nat_tests, lawful.some, lawful.most, lawful.liars, lawful.asks, lawful.few)
 
 -- two bytes
@@ -89,19 +84,19 @@ questions_back b h lawful same =
     ap (λ (l : List ℕ). from_be_bytes w16 l) (questions_again b h same) ∙ from_be_bytes-to_be_bytes_2 h.size.questions (omega (arith, lawful.size.few))
 
 -- a size read off the bytes of a lawful header is lawful
-pub size_back : (b : List ℕ) (h : Header) → IsHeader h → b ≡ header_text h → IsSize (size_of (get_or b 16 0) (get_or b 17 0) (from_be_bytes w16 (get_or b 18 0 ∷ get_or b 19 0 ∷ [])))
+pub size_back : (b : List ℕ) (h : Header) → IsHeader h → b ≡ header_text h → IsSize (new_size (get_or b 16 0) (get_or b 17 0) (from_be_bytes w16 (get_or b 18 0 ∷ get_or b 19 0 ∷ [])))
 size_back b h lawful same =
-    subst (λ (s : Size). IsSize s) (λ i. size_of (sym (n_again b h same) i) (sym (t_again b h same) i) (sym (questions_back b h lawful same) i)) lawful.size
+    subst (λ (s : Size). IsSize s) (λ i. new_size (sym (n_again b h same) i) (sym (t_again b h same) i) (sym (questions_back b h lawful same) i)) lawful.size
 
 -- the header that these bytes are, read off them
 pub read_off : List ℕ → Header
-read_off b = header_of (from_be_bytes w64 (take 8 (drop 8 b))) (size_of (get_or b 16 0) (get_or b 17 0) (from_be_bytes w16 (get_or b 18 0 ∷ get_or b 19 0 ∷ []))) (get_or b 20 0)
+read_off b = new_header (from_be_bytes w64 (take 8 (drop 8 b))) (new_size (get_or b 16 0) (get_or b 17 0) (from_be_bytes w16 (get_or b 18 0 ∷ get_or b 19 0 ∷ []))) (get_or b 20 0)
 
 pub read_back : (b : List ℕ) (h : Header) → IsHeader h → b ≡ header_text h → read_off b ≡ h
 unfolding read_off
 read_back b h lawful same =
     let cluster : from_be_bytes w64 (take 8 (drop 8 b)) ≡ h.cluster = ap (λ (l : List ℕ). from_be_bytes w64 l) (cluster_again b h same) ∙ from_be_bytes-to_be_bytes_8 h.cluster lawful.cluster in
-    (λ i. header_of (cluster i) (size_of (n_again b h same i) (t_again b h same i) (questions_back b h lawful same i)) (me_again b h same i))
+    (λ i. new_header (cluster i) (new_size (n_again b h same i) (t_again b h same i) (questions_back b h lawful same i)) (me_again b h same i))
 
 -- two headers with one text are one
 pub same_header : (h k : Header) → IsHeader h → IsHeader k → header_text h ≡ header_text k → h ≡ k
@@ -128,7 +123,7 @@ same_by a b test =
     let two = and_parts (nat_eq a.size.n b.size.n && (nat_eq a.size.t b.size.t && nat_eq a.size.questions b.size.questions)) _ one.1 in
     let three = and_parts (nat_eq a.size.n b.size.n) _ two.0 in
     let four = and_parts (nat_eq a.size.t b.size.t) _ three.1 in
-    (λ i. header_of (eqb-true a.cluster b.cluster one.0 i) (size_of (eqb-true a.size.n b.size.n three.0 i) (eqb-true a.size.t b.size.t four.0 i) (eqb-true a.size.questions b.size.questions four.1 i)) (eqb-true a.me b.me two.1 i))
+    (λ i. new_header (eqb-true a.cluster b.cluster one.0 i) (new_size (eqb-true a.size.n b.size.n three.0 i) (eqb-true a.size.t b.size.t four.0 i) (eqb-true a.size.questions b.size.questions four.1 i)) (eqb-true a.me b.me two.1 i))
 
 own : (a : Header) → header_eq a a ≡ true
 own a =

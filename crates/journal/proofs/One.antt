@@ -1,17 +1,11 @@
 -- Bytes are read in one way: a file holds one list of records at most, and ends in one way.
-use Rattle.std.proofs.Common.{◌≡◌, ◌≢◌, inl, inr, ℕ, zero, suc, ◌+◌, ◌*◌, ◌/◌, ◌%◌, ◌<◌, Bool, true, false, nat_eq, if◌then◌else◌, List, [], ◌∷◌, ◌++◌, length, get_or, take, drop, refl, sym, ◌∙◌, ap, subst, arith, append_assoc, length-append}
-use Rattle.std.proofs.lemmas.List.{take_at, drop_at, drop-drop, nil_from_length}
+use Rattle.std.proofs.Common.{◌≡◌, ◌≢◌, inl, inr, ℕ, zero, suc, ◌+◌, ◌*◌, ◌/◌, ◌%◌, ◌<◌, Bool, true, false, nat_eq, if◌then◌else◌, List, [], ◌∷◌, ◌++◌, length, get_or, take, drop, refl, sym, ◌∙◌, ap, subst, arith, append_assoc, length-append, take_at, drop_at, drop-drop}
+use Rattle.std.proofs.lemmas.List.{nil_from_length}
 use Rattle.std.specs.List.{flat_map}
-use Rattle.terms.specs.declared.Kind.{Kind}
-use Rattle.terms.specs.declared.Kind.TheVariants.{Initial, Echo, Ready}
-use Rattle.terms.specs.declared.Record.{Record}
-use Rattle.terms.specs.declared.Record.TheVariants.{Said, Decided}
-use Rattle.terms.specs.declared.Header.{Header}
-use Rattle.terms.specs.Bounds.{IsSize}
-use Rattle.terms.specs.Same.{place_of, statement_of}
-use Rattle.spelling.specs.Statements.{kind_byte, kind_of, value_of}
+use Rattle.vocabulary.specs.Terms.{Kind, Initial, Echo, Ready, Record, Said, Decided, Header, IsSize, new_place, new_statement}
+use Rattle.spelling.specs.Statements.{kind_byte, kind_from, value_from}
 use Rattle.spelling.proofs.Statements.{kind_again, value_again}
-use Rattle.journal.specs.Texts.{bit_byte, record_text, header_text, Batch, batch_text, texts, records_of}
+use Rattle.journal.specs.Texts.{bit_byte, record_bytes, header_text, Batch, batch_bytes, batches_bytes, batch_records}
 use Rattle.journal.specs.WellFormed.{IsWellFormedFor, AreWellFormedFor, IsBatch, AreBatches}
 use Rattle.journal.specs.File.{HasHeader, Holds, IsCut, IsBad}
 use Rattle.journal.proofs.Headers.{same_header}
@@ -28,7 +22,7 @@ bit_again false = refl
 
 -- the record that seven bytes are, if they are one
 abbrev pub said_at : List ℕ → Record
-said_at b = Said (statement_of (kind_of (get_or b 0 0)) (place_of (asked b) (get_or b 3 0) (get_or b 4 0) (get_or b 5 0)) (value_of (get_or b 6 0)))
+said_at b = Said (new_statement (kind_from (get_or b 0 0)) (new_place (asked b) (get_or b 3 0) (get_or b 4 0) (get_or b 5 0)) (value_from (get_or b 6 0)))
 
 abbrev pub decided_at : List ℕ → Record
 decided_at b = Decided (asked b) (get_or b 4 0) (bit_from (get_or b 6 0))
@@ -43,37 +37,37 @@ at_said b Echo e = ap (λ (n : ℕ). if nat_eq n 4 then decided_at b else said_a
 at_said b Ready e = ap (λ (n : ℕ). if nat_eq n 4 then decided_at b else said_at b) e
 
 -- the record with these bytes is the one that is read off them
-pub record_back : (b : List ℕ) (h : Header) (r : Record) → IsSize h.size → IsWellFormedFor h r → b ≡ record_text r → record_at b ≡ r
+pub record_back : (b : List ℕ) (h : Header) (r : Record) → IsSize h.size → IsWellFormedFor h r → b ≡ record_bytes r → record_at b ≡ r
 record_back b h (Said s) size is same =
     let has = said_back b h s size is same in
-    let kind : kind_of (get_or b 0 0) ≡ s.kind = ap (λ (n : ℕ). kind_of n) (sym has.kind_is) ∙ kind_again s.kind in
-    let value : value_of (get_or b 6 0) ≡ s.value = ap (λ (n : ℕ). value_of n) (sym has.value_is) ∙ value_again s.value in
-    at_said b s.kind (sym has.kind_is) ∙ (λ i. Said (statement_of (kind i) (sym has.place_is i) (value i)))
+    let kind : kind_from (get_or b 0 0) ≡ s.kind = ap (λ (n : ℕ). kind_from n) (sym has.kind_is) ∙ kind_again s.kind in
+    let value : value_from (get_or b 6 0) ≡ s.value = ap (λ (n : ℕ). value_from n) (sym has.value_is) ∙ value_again s.value in
+    at_said b s.kind (sym has.kind_is) ∙ (λ i. Said (new_statement (kind i) (sym has.place_is i) (value i)))
 record_back b h (Decided question round bit) size is same =
     let has = decided_back b h question round bit size is same in
     let value : bit_from (get_or b 6 0) ≡ bit = ap (λ (n : ℕ). bit_from n) has.bit_is ∙ bit_again bit in
     ap (λ (n : ℕ). if nat_eq n 4 then decided_at b else said_at b) has.kind_is ∙ (λ i. Decided (has.question_is i) (has.round_is i) (value i))
 
-same_record : (h : Header) (r q : Record) → IsSize h.size → IsWellFormedFor h r → IsWellFormedFor h q → record_text r ≡ record_text q → r ≡ q
+same_record : (h : Header) (r q : Record) → IsSize h.size → IsWellFormedFor h r → IsWellFormedFor h q → record_bytes r ≡ record_bytes q → r ≡ q
 same_record h r q size well well' same =
-    sym (record_back (record_text r) h r size well refl) ∙ record_back (record_text r) h q size well' same
+    sym (record_back (record_bytes r) h r size well refl) ∙ record_back (record_bytes r) h q size well' same
 
-same_records : (h : Header) (rs qs : List Record) → IsSize h.size → AreWellFormedFor h rs → AreWellFormedFor h qs → length rs ≡ length qs → flat_map record_text rs ≡ flat_map record_text qs → rs ≡ qs
+same_records : (h : Header) (rs qs : List Record) → IsSize h.size → AreWellFormedFor h rs → AreWellFormedFor h qs → length rs ≡ length qs → flat_map record_bytes rs ≡ flat_map record_bytes qs → rs ≡ qs
 same_records h [] [] lawful are are' size same = refl
 same_records h [] (q ∷ qs) lawful are are' size same = absurd (omega (arith, size))
 same_records h (r ∷ rs) [] lawful are are' size same = absurd (omega (arith, size))
 same_records h (r ∷ rs) (q ∷ qs) lawful are are' size same =
-    let parts = same_front (record_text r) (record_text q) (flat_map record_text rs) (flat_map record_text qs) (length-record_text r ∙ sym (length-record_text q)) same in
+    let parts = same_front (record_bytes r) (record_bytes q) (flat_map record_bytes rs) (flat_map record_bytes qs) (length-record_text r ∙ sym (length-record_text q)) same in
     (λ i. same_record h r q lawful are.0 are'.0 parts.0 i ∷ same_records h rs qs lawful are.1 are'.1 (omega (arith, size)) parts.1 i)
 
 -- one batch in front: its records, and what stands behind it
-same_batch : (h : Header) (b c : Batch) (x y : List ℕ) → IsSize h.size → IsBatch h b → IsBatch h c → batch_text b ++ x ≡ batch_text c ++ y → (b.records ≡ c.records) × (x ≡ y)
+same_batch : (h : Header) (b c : Batch) (x y : List ℕ) → IsSize h.size → IsBatch h b → IsBatch h c → batch_bytes b ++ x ≡ batch_bytes c ++ y → (b.records ≡ c.records) × (x ≡ y)
 same_batch h b c x y lawful is is' same =
     let high : length b.records / 256 % 256 ≡ length c.records / 256 % 256 = cc same in
     let low : length b.records % 256 ≡ length c.records % 256 = cc same in
     let size : length b.records ≡ length c.records = omega (arith, high, low, is.few, is'.few) in
-    let behind : flat_map record_text b.records ++ x ≡ flat_map record_text c.records ++ y = cc same in
-    let parts = same_front (flat_map record_text b.records) (flat_map record_text c.records) x y (omega (arith, length-records b.records, length-records c.records, size)) behind in
+    let behind : flat_map record_bytes b.records ++ x ≡ flat_map record_bytes c.records ++ y = cc same in
+    let parts = same_front (flat_map record_bytes b.records) (flat_map record_bytes c.records) x y (omega (arith, length-records b.records, length-records c.records, size)) behind in
     (same_records h b.records c.records lawful is.good is'.good size parts.0, parts.1)
 
 -- how bytes behind the last batch stand: a closed gate, cut short, or bad
@@ -92,44 +86,44 @@ alike : (x y z : List ℕ) → x ≡ y → x ≡ z → y ≡ z
 alike x y z a b = sym a ∙ b
 
 -- the k-th record's bytes
-record_of_batch : (h : Header) (rs : List Record) (k : ℕ) (z : List ℕ) → AreWellFormedFor h rs → k < length rs → (r : Record) × IsWellFormedFor h r × (take 7 (drop (7 * k) (flat_map record_text rs ++ z)) ≡ record_text r)
+record_of_batch : (h : Header) (rs : List Record) (k : ℕ) (z : List ℕ) → AreWellFormedFor h rs → k < length rs → (r : Record) × IsWellFormedFor h r × (take 7 (drop (7 * k) (flat_map record_bytes rs ++ z)) ≡ record_bytes r)
 record_of_batch h [] k z good below = absurd (omega (arith, below))
 record_of_batch h (r ∷ rs) zero z good below = (
   r,
   good.0,
-  ap (λ (l : List ℕ). take 7 l) (append_assoc (record_text r) (flat_map record_text rs) z) ∙ take_at (record_text r) (flat_map record_text rs ++ z) 7 (length-record_text r),
+  ap (λ (l : List ℕ). take 7 l) (append_assoc (record_bytes r) (flat_map record_bytes rs) z) ∙ take_at (record_bytes r) (flat_map record_bytes rs ++ z) 7 (length-record_text r),
 )
 record_of_batch h (r ∷ rs) (suc k) z good below =
     let next = record_of_batch h rs k z good.1 (omega (arith, below)) in
     let far : 7 * suc k ≡ 7 + 7 * k = omega arith in (
       next.0,
       next.1,
-      ap (λ (n : ℕ). take 7 (drop n ((record_text r ++ flat_map record_text rs) ++ z))) far
-          ∙ ap (λ (l : List ℕ). take 7 l) (sym (drop-drop (7 * k) 7 ((record_text r ++ flat_map record_text rs) ++ z))
-          ∙ ap (λ (l : List ℕ). drop (7 * k) l) (ap (λ (l : List ℕ). drop 7 l) (append_assoc (record_text r) (flat_map record_text rs) z) ∙ drop_at (record_text r) (flat_map record_text rs ++ z) 7 (length-record_text r)))
+      ap (λ (n : ℕ). take 7 (drop n ((record_bytes r ++ flat_map record_bytes rs) ++ z))) far
+          ∙ ap (λ (l : List ℕ). take 7 l) (sym (drop-drop (7 * k) 7 ((record_bytes r ++ flat_map record_bytes rs) ++ z))
+          ∙ ap (λ (l : List ℕ). drop (7 * k) l) (ap (λ (l : List ℕ). drop 7 l) (append_assoc (record_bytes r) (flat_map record_bytes rs) z) ∙ drop_at (record_bytes r) (flat_map record_bytes rs ++ z) 7 (length-record_text r)))
           ∙ next.2,
     )
 
 -- seven bytes that are a record are one that is not odd
-not_odd : (h : Header) (k : ℕ) (behind whole : List ℕ) → behind ≡ whole → ((r : Record) → IsWellFormedFor h r → take 7 (drop (7 * k) behind) ≢ record_text r) → (r : Record) × IsWellFormedFor h r × (take 7 (drop (7 * k) whole) ≡ record_text r) → ⊥
+not_odd : (h : Header) (k : ℕ) (behind whole : List ℕ) → behind ≡ whole → ((r : Record) → IsWellFormedFor h r → take 7 (drop (7 * k) behind) ≢ record_bytes r) → (r : Record) × IsWellFormedFor h r × (take 7 (drop (7 * k) whole) ≡ record_bytes r) → ⊥
 not_odd h k behind whole same odd is =
     odd is.0 is.1 (ap (λ (l : List ℕ). take 7 (drop (7 * k) l)) same ∙ is.2)
 
 -- where a batch stands in front of an ending, it is cut short right behind it
-batch_ends : (h : Header) (b : Batch) (z : List ℕ) (end : Ending) (x : List ℕ) → IsBatch h b → x ≡ batch_text b ++ z → EndsSo h end x → (end ≡ Cut) × (z ≡ [])
-batch_ends h b z Closed x is same ends = absurd (is.opened (let heads : 0 ∷ ends.0 ≡ batch_text b ++ z = sym ends.1 ∙ same in cc heads))
+batch_ends : (h : Header) (b : Batch) (z : List ℕ) (end : Ending) (x : List ℕ) → IsBatch h b → x ≡ batch_bytes b ++ z → EndsSo h end x → (end ≡ Cut) × (z ≡ [])
+batch_ends h b z Closed x is same ends = absurd (is.opened (let heads : 0 ∷ ends.0 ≡ batch_bytes b ++ z = sym ends.1 ∙ same in cc heads))
 batch_ends h b z Cut x is same ends =
-    let cut : IsCut (batch_text b ++ z) = subst (λ (l : List ℕ). IsCut l) same ends in
-    (refl, nil_from_length z (omega (arith, cut.1, length-append (flat_map record_text b.records) z, length-records b.records, is.few)))
+    let cut : IsCut (batch_bytes b ++ z) = subst (λ (l : List ℕ). IsCut l) same ends in
+    (refl, nil_from_length z (omega (arith, cut.1, length-append (flat_map record_bytes b.records) z, length-records b.records, is.few)))
 batch_ends h b z Bad x is same ends =
-    let heads : ends.gate ∷ ends.high ∷ ends.low ∷ ends.behind ≡ batch_text b ++ z = alike x (ends.gate ∷ ends.high ∷ ends.low ∷ ends.behind) (batch_text b ++ z) ends.is same in
+    let heads : ends.gate ∷ ends.high ∷ ends.low ∷ ends.behind ≡ batch_bytes b ++ z = alike x (ends.gate ∷ ends.high ∷ ends.low ∷ ends.behind) (batch_bytes b ++ z) ends.is same in
     let high : ends.high ≡ length b.records / 256 % 256 = cc heads in
     let low : ends.low ≡ length b.records % 256 = cc heads in
-    let behind : ends.behind ≡ flat_map record_text b.records ++ z = cc heads in
+    let behind : ends.behind ≡ flat_map record_bytes b.records ++ z = cc heads in
     let count : 256 * ends.high + ends.low ≡ length b.records = omega (arith, high, low, is.few) in
     elim ends.wrong [
       | inl none ↦ absurd (omega (arith, none, count, is.some))
-      | inr odd ↦ absurd (not_odd h odd.0 ends.behind (flat_map record_text b.records ++ z) behind odd.2 (record_of_batch h b.records odd.0 z is.good (omega (arith, odd.1, count))))
+      | inr odd ↦ absurd (not_odd h odd.0 ends.behind (flat_map record_bytes b.records ++ z) behind odd.2 (record_of_batch h b.records odd.0 z is.good (omega (arith, odd.1, count))))
     ]
 
 -- no bytes end in two ways
@@ -164,13 +158,13 @@ nothing_is_cut h Cut x ends none = refl
 nothing_is_cut h Bad x ends none = absurd (let two : ends.gate ∷ ends.high ∷ ends.low ∷ ends.behind ≡ [] = sym ends.is ∙ none in cc two)
 
 -- where a batch stands in front of an ending, the other way of reading ends cut short too
-one_more : (h : Header) (c : Batch) (cs : List Batch) (x y : List ℕ) (e f : Ending) → IsBatch h c → EndsSo h e x → EndsSo h f y → x ≡ (batch_text c ++ texts cs) ++ y → (e ≡ Cut) × (f ≡ Cut)
+one_more : (h : Header) (c : Batch) (cs : List Batch) (x y : List ℕ) (e f : Ending) → IsBatch h c → EndsSo h e x → EndsSo h f y → x ≡ (batch_bytes c ++ batches_bytes cs) ++ y → (e ≡ Cut) × (f ≡ Cut)
 one_more h c cs x y e f is ends ends' same =
-    let at = batch_ends h c (texts cs ++ y) e x is (same ∙ append_assoc (batch_text c) (texts cs) y) ends in
-    (at.0, nothing_is_cut h f y ends' (nil_from_length y (omega (arith, length-append (texts cs) y, ap (λ (l : List ℕ). length l) at.1))))
+    let at = batch_ends h c (batches_bytes cs ++ y) e x is (same ∙ append_assoc (batch_bytes c) (batches_bytes cs) y) ends in
+    (at.0, nothing_is_cut h f y ends' (nil_from_length y (omega (arith, length-append (batches_bytes cs) y, ap (λ (l : List ℕ). length l) at.1))))
 
 -- however batches are read, the bytes end in one way
-pub one_end : (h : Header) (bs cs : List Batch) (x y : List ℕ) (e f : Ending) → IsSize h.size → AreBatches h bs → AreBatches h cs → EndsSo h e x → EndsSo h f y → texts bs ++ x ≡ texts cs ++ y → e ≡ f
+pub one_end : (h : Header) (bs cs : List Batch) (x y : List ℕ) (e f : Ending) → IsSize h.size → AreBatches h bs → AreBatches h cs → EndsSo h e x → EndsSo h f y → batches_bytes bs ++ x ≡ batches_bytes cs ++ y → e ≡ f
 one_end h [] [] x y e f lawful good good' ends ends' same = same_end h e f x ends (subst (λ (l : List ℕ). EndsSo h f l) (sym same) ends')
 one_end h [] (c ∷ cs) x y e f lawful good good' ends ends' same =
     let at = one_more h c cs x y e f good'.0 ends ends' same in
@@ -179,16 +173,16 @@ one_end h (b ∷ bs) [] x y e f lawful good good' ends ends' same =
     let at = one_more h b bs y x f e good.0 ends' ends (sym same) in
     at.1 ∙ sym at.0
 one_end h (b ∷ bs) (c ∷ cs) x y e f lawful good good' ends ends' same =
-    let parts = same_batch h b c (texts bs ++ x) (texts cs ++ y) lawful good.0 good'.0 (sym (append_assoc (batch_text b) (texts bs) x) ∙ same ∙ append_assoc (batch_text c) (texts cs) y) in
+    let parts = same_batch h b c (batches_bytes bs ++ x) (batches_bytes cs ++ y) lawful good.0 good'.0 (sym (append_assoc (batch_bytes b) (batches_bytes bs) x) ∙ same ∙ append_assoc (batch_bytes c) (batches_bytes cs) y) in
     one_end h bs cs x y e f lawful good.1 good'.1 ends ends' parts.1
 
 -- and where they end by a closed gate, the records are the same
-one_text : (h : Header) (bs cs : List Batch) (x y : List ℕ) → IsSize h.size → AreBatches h bs → AreBatches h cs → texts bs ++ 0 ∷ x ≡ texts cs ++ 0 ∷ y → records_of bs ≡ records_of cs
+one_text : (h : Header) (bs cs : List Batch) (x y : List ℕ) → IsSize h.size → AreBatches h bs → AreBatches h cs → batches_bytes bs ++ 0 ∷ x ≡ batches_bytes cs ++ 0 ∷ y → batch_records bs ≡ batch_records cs
 one_text h [] [] x y lawful good good' same = refl
 one_text h [] (c ∷ cs) x y lawful good good' same = absurd (good'.0.opened (cc same))
 one_text h (b ∷ bs) [] x y lawful good good' same = absurd (good.0.opened (cc same))
 one_text h (b ∷ bs) (c ∷ cs) x y lawful good good' same =
-    let parts = same_batch h b c (texts bs ++ 0 ∷ x) (texts cs ++ 0 ∷ y) lawful good.0 good'.0 (sym (append_assoc (batch_text b) (texts bs) (0 ∷ x)) ∙ same ∙ append_assoc (batch_text c) (texts cs) (0 ∷ y)) in
+    let parts = same_batch h b c (batches_bytes bs ++ 0 ∷ x) (batches_bytes cs ++ 0 ∷ y) lawful good.0 good'.0 (sym (append_assoc (batch_bytes b) (batches_bytes bs) (0 ∷ x)) ∙ same ∙ append_assoc (batch_bytes c) (batches_bytes cs) (0 ∷ y)) in
     (λ i. parts.0 i ++ one_text h bs cs x y lawful good.1 good'.1 parts.1 i)
 
 -- one header in front
@@ -203,15 +197,15 @@ behind_header h x y same = (same_front (header_text h) (header_text h) x y refl 
 pub header_held : (h : Header) (records : List Record) (file : List ℕ) → Holds h records file → HasHeader h file
 header_held h records file holds = record {
   lawful = holds.lawful;
-  begins = (texts holds.batches ++ 0 ∷ holds.rest, holds.is ∙ append_assoc (header_text h) (texts holds.batches) (0 ∷ holds.rest));
+  begins = (batches_bytes holds.batches ++ 0 ∷ holds.rest, holds.is ∙ append_assoc (header_text h) (batches_bytes holds.batches) (0 ∷ holds.rest));
 }
 
 one_list : (h : Header) (records others : List Record) (file : List ℕ) → Holds h records file → Holds h others file → records ≡ others
 one_list h records others file holds holds' =
     holds.records_are
     ∙ one_text h holds.batches holds'.batches holds.rest holds'.rest holds.lawful.size holds.good holds'.good
-    (behind_header h (texts holds.batches ++ 0 ∷ holds.rest) (texts holds'.batches ++ 0 ∷ holds'.rest)
-    (sym (append_assoc (header_text h) (texts holds.batches) (0 ∷ holds.rest)) ∙ sym holds.is ∙ holds'.is ∙ append_assoc (header_text h) (texts holds'.batches) (0 ∷ holds'.rest)))
+    (behind_header h (batches_bytes holds.batches ++ 0 ∷ holds.rest) (batches_bytes holds'.batches ++ 0 ∷ holds'.rest)
+    (sym (append_assoc (header_text h) (batches_bytes holds.batches) (0 ∷ holds.rest)) ∙ sym holds.is ∙ holds'.is ∙ append_assoc (header_text h) (batches_bytes holds'.batches) (0 ∷ holds'.rest)))
     ∙ sym holds'.records_are
 
 pub holds_one : (h k : Header) (records others : List Record) (file : List ℕ) → Holds h records file → Holds k others file → (h ≡ k) × (records ≡ others)

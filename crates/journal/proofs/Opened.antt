@@ -1,16 +1,15 @@
 -- A file that is read, and one that is made.
-use Rattle.std.proofs.Common.{◌≡◌, ℕ, ◌+◌, ◌≤◌, List, [], ◌∷◌, ◌++◌, length, take, drop, refl, sym, ◌∙◌, ap, arith, append_assoc, length-append, take-append-drop}
-use Rattle.std.proofs.lemmas.List.{append-nil, drop_all, length-take-le, take_at}
-use Rattle.terms.specs.declared.Record.{Record}
-use Rattle.terms.specs.declared.Header.{Header}
+use Rattle.std.proofs.Common.{◌≡◌, ℕ, ◌+◌, ◌≤◌, List, [], ◌∷◌, ◌++◌, length, take, drop, refl, sym, ◌∙◌, ap, arith, append_assoc, length-append, take-append-drop, append-nil, length-take-le, take_at}
+use Rattle.std.proofs.lemmas.List.{drop_all}
+use Rattle.vocabulary.specs.Terms.{Record, Header}
 use Rattle.disk.specs.Model.{State, at_rest}
 use Rattle.journal.specs.declared.fault.JournalFault.{JournalFault}
 use Rattle.journal.specs.declared.fault.JournalFault.TheVariants.{NotEmpty, BadHeader, OtherHeader, BadRecord, CutShort, Device, Memory, Stopped, Full}
-use Rattle.journal.specs.Texts.{header_text, texts}
+use Rattle.journal.specs.Texts.{header_text, batches_bytes}
 use Rattle.journal.specs.WellFormed.{IsHeader}
-use Rattle.journal.specs.File.{HasHeader, GoesWrong, Refuses, IsHeld}
+use Rattle.journal.specs.File.{HasHeader, GoesWrong, RefusesFile, IsHeld}
 use Rattle.journal.specs.Faults.{IsOfFile}
-use Rattle.journal.specs.Reading.{Reads, Stumbles, Breaks}
+use Rattle.journal.specs.Reading.{ReadsBatches, Stumbles, BreaksBatches}
 use Rattle.journal.proofs.Texts.{length-header_text}
 
 -- a file that begins with a header has its bytes in front
@@ -31,15 +30,15 @@ begins_with h front file lawful text is = record {
 }
 
 -- what was read behind the header is held
-pub held_from : (file behind : List ℕ) (header : Header) (gate : ℕ) (records : List Record) → HasHeader header file → behind ≡ drop 24 file → Reads header behind gate records → IsHeld (at_rest file) header (24 + gate) records
+pub held_from : (file behind : List ℕ) (header : Header) (gate : ℕ) (records : List Record) → HasHeader header file → behind ≡ drop 24 file → ReadsBatches header behind gate records → IsHeld (at_rest file) header (24 + gate) records
 held_from file behind header gate records has is reads = record {
   lawful = has.lawful;
   batches = reads.batches;
   rest = reads.rest;
   good = reads.good;
   on_disk = refl;
-  is = sym (take-append-drop 24 file) ∙ (λ i. front_of header file has i ++ (sym is ∙ reads.is) i) ∙ sym (append_assoc (header_text header) (texts reads.batches) (0 ∷ reads.rest));
-  gate = omega (arith, length-header_text header, reads.gate_is, length-append (header_text header) (texts reads.batches));
+  is = sym (take-append-drop 24 file) ∙ (λ i. front_of header file has i ++ (sym is ∙ reads.is) i) ∙ sym (append_assoc (header_text header) (batches_bytes reads.batches) (0 ∷ reads.rest));
+  gate = omega (arith, length-header_text header, reads.gate_is, length-append (header_text header) (batches_bytes reads.batches));
   records_are = reads.records_are;
 }
 
@@ -50,11 +49,11 @@ wrong_from file behind header IsWrong has is stumbles = record {
   batches = stumbles.batches;
   rest = stumbles.rest;
   good = stumbles.good;
-  is = sym (take-append-drop 24 file) ∙ (λ i. front_of header file has i ++ (sym is ∙ stumbles.is) i) ∙ sym (append_assoc (header_text header) (texts stumbles.batches) stumbles.rest);
+  is = sym (take-append-drop 24 file) ∙ (λ i. front_of header file has i ++ (sym is ∙ stumbles.is) i) ∙ sym (append_assoc (header_text header) (batches_bytes stumbles.batches) stumbles.rest);
   wrong = stumbles.wrong;
 }
 
-pub refused_from : (file behind : List ℕ) (header : Header) (fault : JournalFault) → HasHeader header file → behind ≡ drop 24 file → Breaks header fault behind → IsOfFile fault → Refuses header fault file
+pub refused_from : (file behind : List ℕ) (header : Header) (fault : JournalFault) → HasHeader header file → behind ≡ drop 24 file → BreaksBatches header fault behind → IsOfFile fault → RefusesFile header fault file
 refused_from file behind header NotEmpty has is breaks of_file = absurd breaks
 refused_from file behind header BadHeader has is breaks of_file = absurd breaks
 refused_from file behind header OtherHeader has is breaks of_file = absurd breaks

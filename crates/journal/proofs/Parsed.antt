@@ -1,19 +1,16 @@
 -- Each file of bytes holds records, or is refused.
-use Rattle.std.proofs.Common.{◌≡◌, ◌≢◌, ◌⊎◌, inl, inr, ℕ, zero, suc, ◌+◌, ◌*◌, ◌<◌, ◌≤◌, Bool, true, false, List, [], ◌∷◌, ◌++◌, length, take, drop, refl, sym, ◌∙◌, ap, subst, arith, append_assoc, length-drop, take-append-drop}
+use Rattle.std.proofs.Common.{◌≡◌, ◌≢◌, ◌⊎◌, inl, inr, ℕ, zero, suc, ◌+◌, ◌*◌, ◌<◌, ◌≤◌, Bool, true, false, List, [], ◌∷◌, ◌++◌, length, take, drop, refl, sym, ◌∙◌, ap, subst, arith, append_assoc, length-drop, take-append-drop, drop-drop}
 use Rattle.std.proofs.lemmas.Bool.{cases_eq, cases_lt}
-use Rattle.std.proofs.lemmas.List.{drop-drop}
 use Rattle.std.proofs.Math.Seq.{take-add}
 use Rattle.std.proofs.lemmas.Nat.{be_bytes_2}
 use Rattle.std.specs.List.{flat_map}
 use Rattle.std.specs.Int.{w16, to_be_bytes}
-use Rattle.terms.specs.declared.Record.{Record}
-use Rattle.terms.specs.declared.Header.{Header}
-use Rattle.terms.specs.Bounds.{IsSize}
+use Rattle.vocabulary.specs.Terms.{Record, Header, IsSize}
 use Rattle.journal.specs.declared.fault.JournalFault.{JournalFault}
 use Rattle.journal.specs.declared.fault.JournalFault.TheVariants.{BadHeader, OtherHeader, BadRecord, CutShort}
-use Rattle.journal.specs.Texts.{record_text, header_text, Batch, body, texts, records_of}
+use Rattle.journal.specs.Texts.{record_bytes, header_text, Batch, batch_body, batches_bytes, batch_records}
 use Rattle.journal.specs.WellFormed.{IsHeader, IsWellFormedFor, AreWellFormedFor, AreBatches}
-use Rattle.journal.specs.File.{AreBytes, HasHeader, Holds, Refuses}
+use Rattle.journal.specs.File.{AreBytes, HasHeader, Holds, RefusesFile}
 use Rattle.journal.proofs.Headers.{two_fit, header_eq, same_by, by_same}
 use Rattle.journal.proofs.One.{Ending, Closed, Cut, Bad, EndsSo}
 use Rattle.journal.proofs.Telling.{is_record, has_header}
@@ -26,8 +23,8 @@ bytes_behind (x ∷ a) b are = bytes_behind a b are.1
 
 -- all of so many records, or the first that is none
 are_records : (h : Header) (count : ℕ) (bytes : List ℕ) → IsSize h.size → 7 * count ≤ length bytes
-    → ((rs : List Record) × AreWellFormedFor h rs × (length rs ≡ count) × (take (7 * count) bytes ≡ flat_map record_text rs))
-    ⊎ ((k : ℕ) × (k < count) × ((r : Record) → IsWellFormedFor h r → take 7 (drop (7 * k) bytes) ≢ record_text r))
+    → ((rs : List Record) × AreWellFormedFor h rs × (length rs ≡ count) × (take (7 * count) bytes ≡ flat_map record_bytes rs))
+    ⊎ ((k : ℕ) × (k < count) × ((r : Record) → IsWellFormedFor h r → take 7 (drop (7 * k) bytes) ≢ record_bytes r))
 are_records h zero bytes size long = inl ([], tt, refl, refl)
 are_records h (suc count) bytes size long =
     let far : 7 * suc count ≡ 7 + 7 * count = omega arith in
@@ -57,18 +54,18 @@ record Parsed (h : Header) (bytes : List ℕ) : Type 0 where
   rest : List ℕ
   end : Ending
   ends : EndsSo h end rest
-  is : bytes ≡ texts batches ++ rest
+  is : bytes ≡ batches_bytes batches ++ rest
 
 -- no batch
 at_end : (h : Header) (bytes : List ℕ) (e : Ending) → EndsSo h e bytes → Parsed h bytes
 at_end h bytes e ends = record { batches = []; good = tt; rest = bytes; end = e; ends = ends; is = refl }
 
 -- a batch's bytes, in front of others
-one_more : (gate high low : ℕ) (rs : List Record) (batches : List Batch) (behind left rest : List ℕ) → to_be_bytes w16 (length rs) ≡ high ∷ low ∷ [] → behind ≡ flat_map record_text rs ++ left → left ≡ texts batches ++ rest
-    → gate ∷ high ∷ low ∷ behind ≡ texts (batch_of gate rs ∷ batches) ++ rest
+one_more : (gate high low : ℕ) (rs : List Record) (batches : List Batch) (behind left rest : List ℕ) → to_be_bytes w16 (length rs) ≡ high ∷ low ∷ [] → behind ≡ flat_map record_bytes rs ++ left → left ≡ batches_bytes batches ++ rest
+    → gate ∷ high ∷ low ∷ behind ≡ batches_bytes (batch_of gate rs ∷ batches) ++ rest
 one_more gate high low rs batches behind left rest heads parts is =
-    (λ i. gate ∷ (sym heads i ++ parts i)) ∙ ap (λ (l : List ℕ). (gate ∷ body rs) ++ l) is
-    ∙ sym (append_assoc (gate ∷ body rs) (texts batches) rest)
+    (λ i. gate ∷ (sym heads i ++ parts i)) ∙ ap (λ (l : List ℕ). (gate ∷ batch_body rs) ++ l) is
+    ∙ sym (append_assoc (gate ∷ batch_body rs) (batches_bytes batches) rest)
 
 -- a batch behind an open gate
 behind_gate : (h : Header) (n gate high low : ℕ) (behind : List ℕ) → IsSize h.size → gate ≢ 0 → AreBytes (gate ∷ high ∷ low ∷ behind) → length behind ≤ n → ((rest : List ℕ) → AreBytes rest → length rest ≤ n → Parsed h rest) → Parsed h (gate ∷ high ∷ low ∷ behind)
@@ -83,8 +80,8 @@ behind_gate h n gate high low behind size opened are le next =
           | inr odd ↦ at_end h bytes Bad (record { gate = gate; high = high; low = low; behind = behind; is = refl; opened = opened; whole = whole; wrong = inr odd })
           | inl rs ↦
               let left : List ℕ = drop (7 * count) behind in
-              let parts : behind ≡ flat_map record_text rs.0 ++ left = sym (take-append-drop (7 * count) behind) ∙ ap (λ (l : List ℕ). l ++ left) rs.3 in
-              let after = next left (bytes_behind (flat_map record_text rs.0) left (subst (λ (l : List ℕ). AreBytes l) parts are.1.1.1)) (omega (arith, le, length-drop (7 * count) behind)) in
+              let parts : behind ≡ flat_map record_bytes rs.0 ++ left = sym (take-append-drop (7 * count) behind) ∙ ap (λ (l : List ℕ). l ++ left) rs.3 in
+              let after = next left (bytes_behind (flat_map record_bytes rs.0) left (subst (λ (l : List ℕ). AreBytes l) parts are.1.1.1)) (omega (arith, le, length-drop (7 * count) behind)) in
               let heads : to_be_bytes w16 (length rs.0) ≡ high ∷ low ∷ [] = be_bytes_2 (high ∷ low ∷ []) (length rs.0) refl (two_fit high low are.1.0 are.1.1.0) (omega (arith, rs.2)) in
               record {
                 batches = batch_of gate rs.0 ∷ after.batches;
@@ -116,18 +113,18 @@ parsed h (suc n) (gate ∷ after) size are le = elim (cases_eq gate 0) [
 
 -- it holds records, or is refused
 abbrev HoldsOrNot : Header → List ℕ → Type 0
-HoldsOrNot h file = ((records : List Record) × Holds h records file) ⊎ ((fault : JournalFault) × Refuses h fault file)
+HoldsOrNot h file = ((records : List Record) × Holds h records file) ⊎ ((fault : JournalFault) × RefusesFile h fault file)
 
 -- by how it ends
-by_end : (h : Header) (file : List ℕ) (batches : List Batch) (rest : List ℕ) (e : Ending) → IsHeader h → AreBatches h batches → EndsSo h e rest → file ≡ header_text h ++ texts batches ++ rest → HoldsOrNot h file
+by_end : (h : Header) (file : List ℕ) (batches : List Batch) (rest : List ℕ) (e : Ending) → IsHeader h → AreBatches h batches → EndsSo h e rest → file ≡ header_text h ++ batches_bytes batches ++ rest → HoldsOrNot h file
 by_end h file batches rest Closed lawful good ends is = inl (
-  records_of batches,
+  batch_records batches,
   record {
     lawful = lawful;
     batches = batches;
     rest = ends.0;
     good = good;
-    is = is ∙ ap (λ (l : List ℕ). header_text h ++ texts batches ++ l) ends.1;
+    is = is ∙ ap (λ (l : List ℕ). header_text h ++ batches_bytes batches ++ l) ends.1;
     records_are = refl;
   },
 )
@@ -143,11 +140,11 @@ by_header h k file lawful are has true test =
     let behind : List ℕ = begins.begins.0 in
     let p = parsed h (length behind) behind lawful.size (bytes_behind (header_text h) behind (subst (λ (l : List ℕ). AreBytes l) begins.begins.1 are)) (omega arith) in
     by_end h file p.batches p.rest p.end lawful p.good p.ends
-    (begins.begins.1 ∙ ap (λ (l : List ℕ). header_text h ++ l) p.is ∙ sym (append_assoc (header_text h) (texts p.batches) p.rest))
+    (begins.begins.1 ∙ ap (λ (l : List ℕ). header_text h ++ l) p.is ∙ sym (append_assoc (header_text h) (batches_bytes p.batches) p.rest))
 by_header h k file lawful are has false test =
     inr (OtherHeader, (k, has, λ same. cc (by_same k h same, test)))
 
-pub holds_or_refused : (h : Header) (file : List ℕ) → IsHeader h → AreBytes file → ((records : List Record) × Holds h records file) ⊎ ((fault : JournalFault) × Refuses h fault file)
+pub holds_or_refused : (h : Header) (file : List ℕ) → IsHeader h → AreBytes file → ((records : List Record) × Holds h records file) ⊎ ((fault : JournalFault) × RefusesFile h fault file)
 holds_or_refused h file lawful are = elim (has_header file) [
   | inl has ↦ by_header h has.0 file lawful are has.1 (header_eq has.0 h) refl
   | inr none ↦ inr (BadHeader, none)

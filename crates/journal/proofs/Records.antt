@@ -1,18 +1,9 @@
 -- The bytes of a record, there and back.
-use Rattle.std.proofs.Common.{◌≡◌, ◌≢◌, ℕ, ◌<◌, Bool, List, [], ◌∷◌, ◌++◌, length, get_or, Option, Some, None, refl, sym, ◌∙◌, ap, arith}
+use Rattle.std.proofs.Common.{◌≡◌, ◌≢◌, ℕ, ◌<◌, Bool, List, [], ◌∷◌, ◌++◌, length, get_or, Option, Some, None, refl, sym, ◌∙◌, ap, arith, IfSome}
 use Rattle.std.proofs.lemmas.Nat.{be_bytes_2, from_be_bytes-to_be_bytes_2}
-use Rattle.std.specs.Prelude.{IfSome}
 use Rattle.std.specs.Int.{w16, to_be_bytes, from_be_bytes}
-use Rattle.terms.specs.declared.Kind.{Kind}
-use Rattle.terms.specs.declared.Kind.TheVariants.{Initial, Echo, Ready}
-use Rattle.terms.specs.declared.Statement.{Statement}
-use Rattle.terms.specs.declared.Place.{Place}
-use Rattle.terms.specs.declared.Record.{Record}
-use Rattle.terms.specs.declared.Record.TheVariants.{Said, Decided}
-use Rattle.terms.specs.declared.Header.{Header}
-use Rattle.terms.specs.Bounds.{IsSize}
-use Rattle.terms.specs.Same.{place_of, value_code}
-use Rattle.journal.specs.Texts.{bit_byte, record_text}
+use Rattle.vocabulary.specs.Terms.{Kind, Initial, Echo, Ready, Statement, Place, Record, Said, Decided, Header, IsSize, new_place, value_code}
+use Rattle.journal.specs.Texts.{bit_byte, record_bytes}
 use Rattle.spelling.specs.Statements.{kind_byte}
 use Rattle.journal.specs.WellFormed.{IsStatementFor, IsDecisionFor, IsWellFormedFor}
 use Rattle.journal.specs.Reading.{HasBytes}
@@ -50,22 +41,22 @@ module _ (b : List ℕ) (long : length b ≡ 7) (fits : (i : ℕ) → get_or b i
   high_low = be_bytes_2 (get_or b 1 0 ∷ get_or b 2 0 ∷ []) (asked b) refl (two_fit _ _ (fits 1) (fits 2)) refl
 
   -- the statement that has these bytes
-  pub said_from : (s : Statement) → HasBytes s (get_or b 0 0) (asked b) (get_or b 3 0) (get_or b 4 0) (get_or b 5 0) (get_or b 6 0) → b ≡ record_text (Said s)
-  unfolding record_text
+  pub said_from : (s : Statement) → HasBytes s (get_or b 0 0) (asked b) (get_or b 3 0) (get_or b 4 0) (get_or b 5 0) (get_or b 6 0) → b ≡ record_bytes (Said s)
+  unfolding record_bytes
   said_from s has =
       seven b long
       ∙ (λ i. sym has.kind_is i ∷ (sym high_low i ++ get_or b 3 0 ∷ get_or b 4 0 ∷ get_or b 5 0 ∷ sym has.value_is i ∷ []))
       ∙ ap (λ (p : Place). kind_byte s.kind ∷ (to_be_bytes w16 p.question ++ p.origin ∷ p.round ∷ p.step ∷ value_code s.value ∷ [])) (sym has.place_is)
 
   -- the decision that has these bytes
-  pub decided_from : (bit : Bool) → get_or b 0 0 ≡ 4 → get_or b 3 0 ≡ 0 → get_or b 5 0 ≡ 0 → get_or b 6 0 ≡ bit_byte bit → b ≡ record_text (Decided (asked b) (get_or b 4 0) bit)
-  unfolding record_text
+  pub decided_from : (bit : Bool) → get_or b 0 0 ≡ 4 → get_or b 3 0 ≡ 0 → get_or b 5 0 ≡ 0 → get_or b 6 0 ≡ bit_byte bit → b ≡ record_bytes (Decided (asked b) (get_or b 4 0) bit)
+  unfolding record_bytes
   decided_from bit four zero_origin zero_step is =
       seven b long ∙ (λ i. four i ∷ (sym high_low i ++ zero_origin i ∷ get_or b 4 0 ∷ zero_step i ∷ is i ∷ []))
 
 -- the bytes that a statement has
-pub said_back : (b : List ℕ) (h : Header) (s : Statement) → IsSize h.size → IsStatementFor h s → b ≡ record_text (Said s) → HasBytes s (get_or b 0 0) (asked b) (get_or b 3 0) (get_or b 4 0) (get_or b 5 0) (get_or b 6 0)
-unfolding record_text
+pub said_back : (b : List ℕ) (h : Header) (s : Statement) → IsSize h.size → IsStatementFor h s → b ≡ record_bytes (Said s) → HasBytes s (get_or b 0 0) (asked b) (get_or b 3 0) (get_or b 4 0) (get_or b 5 0) (get_or b 6 0)
+unfolding record_bytes
 said_back b h s size is same =
     let two : get_or b 1 0 ∷ get_or b 2 0 ∷ [] ≡ to_be_bytes w16 s.place.question = ap (λ (l : List ℕ). get_or l 1 0 ∷ get_or l 2 0 ∷ []) same in
     let question : asked b ≡ s.place.question = ap (λ (l : List ℕ). from_be_bytes w16 l) two ∙ from_be_bytes-to_be_bytes_2 s.place.question (omega (arith, size.few, is.fits.question)) in
@@ -74,7 +65,7 @@ said_back b h s size is same =
     let step : get_or b 5 0 ≡ s.place.step = ap (λ (l : List ℕ). get_or l 5 0) same in
     record {
       kind_is = sym (ap (λ (l : List ℕ). get_or l 0 0) same);
-      place_is = λ i. place_of (sym question i) (sym origin i) (sym round i) (sym step i);
+      place_is = λ i. new_place (sym question i) (sym origin i) (sym round i) (sym step i);
       value_is = sym (ap (λ (l : List ℕ). get_or l 6 0) same);
     }
 
@@ -87,8 +78,8 @@ pub record DecidedBytes (b : List ℕ) (question round : ℕ) (bit : Bool) : Typ
   pub step_is : get_or b 5 0 ≡ 0
   pub bit_is : get_or b 6 0 ≡ bit_byte bit
 
-pub decided_back : (b : List ℕ) (h : Header) (question round : ℕ) (bit : Bool) → IsSize h.size → IsDecisionFor h question round → b ≡ record_text (Decided question round bit) → DecidedBytes b question round bit
-unfolding record_text
+pub decided_back : (b : List ℕ) (h : Header) (question round : ℕ) (bit : Bool) → IsSize h.size → IsDecisionFor h question round → b ≡ record_bytes (Decided question round bit) → DecidedBytes b question round bit
+unfolding record_bytes
 decided_back b h question round bit size is same =
     let two : get_or b 1 0 ∷ get_or b 2 0 ∷ [] ≡ to_be_bytes w16 question = ap (λ (l : List ℕ). get_or l 1 0 ∷ get_or l 2 0 ∷ []) same in
     record {
@@ -102,7 +93,7 @@ decided_back b h question round bit size is same =
 
 -- no record has these bytes where neither a statement nor a decision has
 pub no_record : (b : List ℕ) (h : Header) → IsSize h.size → ((s : Statement) → IsStatementFor h s → HasBytes s (get_or b 0 0) (asked b) (get_or b 3 0) (get_or b 4 0) (get_or b 5 0) (get_or b 6 0) → ⊥)
-    → ((question round : ℕ) (bit : Bool) → IsDecisionFor h question round → DecidedBytes b question round bit → ⊥) → (r : Record) → IsWellFormedFor h r → b ≢ record_text r
+    → ((question round : ℕ) (bit : Bool) → IsDecisionFor h question round → DecidedBytes b question round bit → ⊥) → (r : Record) → IsWellFormedFor h r → b ≢ record_bytes r
 no_record b h size no_said no_decided (Said s) is same = no_said s is (said_back b h s size is same)
 no_record b h size no_said no_decided (Decided question round bit) is same =
     no_decided question round bit is (decided_back b h question round bit size is same)

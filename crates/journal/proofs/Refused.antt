@@ -1,11 +1,10 @@
 -- A file is refused for one fault at most, and for none where it holds records.
 use Rattle.std.proofs.Common.{◌≡◌, ◌≢◌, ℕ, List, ◌∷◌, ◌++◌, refl, sym, ◌∙◌, ap, append_assoc}
-use Rattle.terms.specs.declared.Record.{Record}
-use Rattle.terms.specs.declared.Header.{Header}
+use Rattle.vocabulary.specs.Terms.{Record, Header}
 use Rattle.journal.specs.declared.fault.JournalFault.{JournalFault}
 use Rattle.journal.specs.declared.fault.JournalFault.TheVariants.{NotEmpty, BadHeader, OtherHeader, BadRecord, CutShort, Device, Memory, Stopped, Full}
-use Rattle.journal.specs.Texts.{header_text, texts}
-use Rattle.journal.specs.File.{HasHeader, Holds, GoesWrong, Refuses}
+use Rattle.journal.specs.Texts.{header_text, batches_bytes}
+use Rattle.journal.specs.File.{HasHeader, Holds, GoesWrong, RefusesFile}
 use Rattle.journal.proofs.One.{Ending, Closed, Cut, Bad, EndsSo, one_end, one_header, behind_header}
 
 -- the fault of an ending that isn't closed
@@ -21,15 +20,15 @@ FileEnds h e = GoesWrong h (EndsSo h e)
 header_gone : (h : Header) (e : Ending) (file : List ℕ) → FileEnds h e file → HasHeader h file
 header_gone h e file ends = record {
   lawful = ends.lawful;
-  begins = (texts ends.batches ++ ends.rest, ends.is ∙ append_assoc (header_text h) (texts ends.batches) ends.rest);
+  begins = (batches_bytes ends.batches ++ ends.rest, ends.is ∙ append_assoc (header_text h) (batches_bytes ends.batches) ends.rest);
 }
 
 -- in one way
 one_ending : (h : Header) (e f : Ending) (file : List ℕ) → FileEnds h e file → FileEnds h f file → e ≡ f
 one_ending h e f file a b =
     one_end h a.batches b.batches a.rest b.rest e f a.lawful.size a.good b.good a.wrong b.wrong
-    (behind_header h (texts a.batches ++ a.rest) (texts b.batches ++ b.rest)
-    (sym (append_assoc (header_text h) (texts a.batches) a.rest) ∙ sym a.is ∙ b.is ∙ append_assoc (header_text h) (texts b.batches) b.rest))
+    (behind_header h (batches_bytes a.batches ++ a.rest) (batches_bytes b.batches ++ b.rest)
+    (sym (append_assoc (header_text h) (batches_bytes a.batches) a.rest) ∙ sym a.is ∙ b.is ∙ append_assoc (header_text h) (batches_bytes b.batches) b.rest))
 
 closed : (h : Header) (records : List Record) (file : List ℕ) → Holds h records file → FileEnds h Closed file
 closed h records file holds =
@@ -41,7 +40,7 @@ data Why (h : Header) (file : List ℕ) (fault : JournalFault) : Type 0 where
   ForeignHeader : fault ≡ OtherHeader → (k : Header) → HasHeader k file → k ≢ h → Why h file fault
   WrongEnd : (e : Ending) → fault ≡ fault_of e → e ≢ Closed → FileEnds h e file → Why h file fault
 
-why : (h : Header) (fault : JournalFault) (file : List ℕ) → Refuses h fault file → Why h file fault
+why : (h : Header) (fault : JournalFault) (file : List ℕ) → RefusesFile h fault file → Why h file fault
 why h NotEmpty file refuses = absurd refuses
 why h BadHeader file refuses = NoHeader refl refuses
 why h OtherHeader file refuses = ForeignHeader refl refuses.0 refuses.1 refuses.2
@@ -52,7 +51,7 @@ why h Memory file refuses = absurd refuses
 why h Stopped file refuses = absurd refuses
 why h Full file refuses = absurd refuses
 
-pub not_refused : (h : Header) (records : List Record) (fault : JournalFault) (file : List ℕ) → Holds h records file → Refuses h fault file → ⊥
+pub not_refused : (h : Header) (records : List Record) (fault : JournalFault) (file : List ℕ) → Holds h records file → RefusesFile h fault file → ⊥
 not_refused h records fault file holds refuses =
     let ends = closed h records file holds in
     elim (why h fault file refuses) [
@@ -73,5 +72,5 @@ same_why h a b file (WrongEnd e is open_end wrong) (ForeignHeader is' k has othe
 same_why h a b file (WrongEnd e is open_end wrong) (WrongEnd f is' open_end' wrong') =
     is ∙ ap (λ (end : Ending). fault_of end) (one_ending h e f file wrong wrong') ∙ sym is'
 
-pub one_fault : (h : Header) (a b : JournalFault) (file : List ℕ) → Refuses h a file → Refuses h b file → a ≡ b
+pub one_fault : (h : Header) (a b : JournalFault) (file : List ℕ) → RefusesFile h a file → RefusesFile h b file → a ≡ b
 one_fault h a b file refuses refuses' = same_why h a b file (why h a file refuses) (why h b file refuses')

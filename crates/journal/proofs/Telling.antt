@@ -1,16 +1,8 @@
 -- What can be told of bytes, and records and headers: each test says yes or no.
 use Rattle.std.proofs.Common.{◌≡◌, ◌≢◌, ◌⊎◌, inl, inr, ℕ, zero, suc, ◌*◌, ◌<◌, ◌≤◌, ◌^◌, List, [], ◌∷◌, take, refl, sym, ◌∙◌, ap, subst, arith}
 use Rattle.std.proofs.lemmas.Bool.{cases_eq, cases_lt}
-use Rattle.terms.specs.declared.Kind.{Kind}
-use Rattle.terms.specs.declared.Kind.TheVariants.{Initial, Echo, Ready}
-use Rattle.terms.specs.declared.Value.{Value}
-use Rattle.terms.specs.declared.Value.TheVariants.{Zero, One, SureZero, SureOne, Unsure}
-use Rattle.terms.specs.declared.Size.{Size}
-use Rattle.terms.specs.declared.Record.{Record}
-use Rattle.terms.specs.declared.Record.TheVariants.{Said, Decided}
-use Rattle.terms.specs.declared.Header.{Header}
-use Rattle.terms.specs.Bounds.{IsSize, IsPlain, IsOfThird, FitsStep}
-use Rattle.journal.specs.Texts.{record_text, header_text}
+use Rattle.vocabulary.specs.Terms.{Kind, Initial, Echo, Ready, Value, Zero, One, SureZero, SureOne, Unsure, Size, Record, Said, Decided, Header, IsSize, IsPlain, IsOfThird, FitsStep}
+use Rattle.journal.specs.Texts.{record_bytes, header_text}
 use Rattle.journal.specs.WellFormed.{IsHeader, IsStatementFor, IsDecisionFor, IsWellFormedFor}
 use Rattle.journal.specs.File.{HasHeader}
 use Rattle.journal.proofs.Headers.{read_off, read_back}
@@ -105,14 +97,14 @@ header_is h =
     (both _ _ (both _ _ (below h.cluster (2 ^ 64)) (size_is h.size)) (below h.me h.size.n))
 
 -- some bytes are a record
-pub is_record : (h : Header) (b : List ℕ) → IsSize h.size → ((r : Record) × IsWellFormedFor h r × (b ≡ record_text r)) ⊎ ((r : Record) → IsWellFormedFor h r → b ≢ record_text r)
+pub is_record : (h : Header) (b : List ℕ) → IsSize h.size → ((r : Record) × IsWellFormedFor h r × (b ≡ record_bytes r)) ⊎ ((r : Record) → IsWellFormedFor h r → b ≢ record_bytes r)
 is_record h b size =
     let it = record_at b in
-    elim (both _ _ (well_formed h it) (same_bytes b (record_text it))) [
+    elim (both _ _ (well_formed h it) (same_bytes b (record_bytes it))) [
       | inl has_it ↦ inl (it, has_it.0, has_it.1)
       | inr never ↦ inr (λ r well same.
           let back : it ≡ r = record_back b h r size well same in
-          never (subst (λ (x : Record). IsWellFormedFor h x) (sym back) well, same ∙ ap (λ (x : Record). record_text x) (sym back)))
+          never (subst (λ (x : Record). IsWellFormedFor h x) (sym back) well, same ∙ ap (λ (x : Record). record_bytes x) (sym back)))
     ]
 
 -- a file begins with a header

@@ -1,12 +1,9 @@
 -- The bytes of batches, and of one batch more.
-use Rattle.std.proofs.Common.{◌≡◌, ℕ, ◌+◌, ◌*◌, List, [], ◌∷◌, ◌++◌, length, take, drop, refl, sym, ◌∙◌, ap, arith, length-append}
-use Rattle.std.proofs.lemmas.List.{append-nil, take_at, drop_at}
+use Rattle.std.proofs.Common.{◌≡◌, ℕ, ◌+◌, ◌*◌, List, [], ◌∷◌, ◌++◌, length, take, drop, refl, sym, ◌∙◌, ap, arith, length-append, append-nil, take_at, drop_at}
 use Rattle.std.proofs.lemmas.List.Concat.{flat_map-append}
 use Rattle.std.specs.List.{flat_map, AllByRecursion}
-use Rattle.terms.specs.declared.Record.{Record}
-use Rattle.terms.specs.declared.Record.TheVariants.{Said, Decided}
-use Rattle.terms.specs.declared.Header.{Header}
-use Rattle.journal.specs.Texts.{record_text, header_text, Batch, batch_text, body, texts, records_of}
+use Rattle.vocabulary.specs.Terms.{Record, Said, Decided, Header}
+use Rattle.journal.specs.Texts.{record_bytes, header_text, Batch, batch_bytes, batch_body, batches_bytes, batch_records}
 use Rattle.journal.specs.WellFormed.{AreBatches, IsBatch}
 
 -- a header has 24 bytes
@@ -15,31 +12,31 @@ unfolding header_text
 length-header_text h = refl
 
 -- a record has seven
-pub length-record_text : (r : Record) → length (record_text r) ≡ 7
-unfolding record_text
+pub length-record_text : (r : Record) → length (record_bytes r) ≡ 7
+unfolding record_bytes
 length-record_text (Said s) = refl
 length-record_text (Decided question round bit) = refl
 
 -- and so many records have seven times as many
-pub length-records : (records : List Record) → length (flat_map record_text records) ≡ 7 * length records
+pub length-records : (records : List Record) → length (flat_map record_bytes records) ≡ 7 * length records
 length-records [] = refl
 length-records (r ∷ rs) =
-    omega (arith, length-append (record_text r) (flat_map record_text rs), length-record_text r, length-records rs)
+    omega (arith, length-append (record_bytes r) (flat_map record_bytes rs), length-record_text r, length-records rs)
 
 -- with the count
-pub length-body : (records : List Record) → length (body records) ≡ 2 + 7 * length records
+pub length-body : (records : List Record) → length (batch_body records) ≡ 2 + 7 * length records
 length-body records = omega (arith, length-records records)
 
 abbrev pub batch_of : ℕ → List Record → Batch
 batch_of gate records = record { gate = gate; records = records }
 
 -- one batch more
-pub texts-push : (bs : List Batch) (b : Batch) → texts (bs ++ b ∷ []) ≡ texts bs ++ batch_text b
-texts-push bs b = flat_map-append batch_text bs (b ∷ []) ∙ ap (λ (l : List ℕ). texts bs ++ l) (append-nil (batch_text b))
+pub texts-push : (bs : List Batch) (b : Batch) → batches_bytes (bs ++ b ∷ []) ≡ batches_bytes bs ++ batch_bytes b
+texts-push bs b = flat_map-append batch_bytes bs (b ∷ []) ∙ ap (λ (l : List ℕ). batches_bytes bs ++ l) (append-nil (batch_bytes b))
 
-pub records-push : (bs : List Batch) (b : Batch) → records_of (bs ++ b ∷ []) ≡ records_of bs ++ b.records
+pub records-push : (bs : List Batch) (b : Batch) → batch_records (bs ++ b ∷ []) ≡ batch_records bs ++ b.records
 records-push bs b =
-    flat_map-append (λ (batch : Batch). batch.records) bs (b ∷ []) ∙ ap (λ (l : List Record). records_of bs ++ l) (append-nil b.records)
+    flat_map-append (λ (batch : Batch). batch.records) bs (b ∷ []) ∙ ap (λ (l : List Record). batch_records bs ++ l) (append-nil b.records)
 
 pub all-push : {X : Type 0} (P : X → Type 0) (xs : List X) (x : X) → AllByRecursion P xs → P x → AllByRecursion P (xs ++ x ∷ [])
 all-push P [] x all is = (is, tt)

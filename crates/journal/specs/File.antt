@@ -1,22 +1,22 @@
 -- What a file holds, and what is wrong with one that holds nothing.
 use Rattle.std.specs.Prelude.{ℕ, ◌≡◌, ◌≢◌, ◌⊎◌, ◌+◌, ◌*◌, ◌<◌, ◌≤◌, List, [], ◌∷◌, ◌++◌, length, take, drop}
 use Rattle.std.specs.List.{AllByRecursion}
-use Rattle.terms.specs.declared.Record.{Record}
-use Rattle.terms.specs.declared.Header.{Header}
+use Rattle.vocabulary.specs.Terms.{Record, Header}
 use Rattle.disk.specs.Model.{State, at_rest}
 use Rattle.journal.specs.declared.fault.JournalFault.{JournalFault}
 use Rattle.journal.specs.declared.fault.JournalFault.TheVariants.{NotEmpty, BadHeader, OtherHeader, BadRecord, CutShort, Device, Memory, Stopped, Full}
-use Rattle.journal.specs.Texts.{record_text, header_text, Batch, texts, records_of}
+use Rattle.journal.specs.Texts.{record_bytes, header_text, Batch, batches_bytes, batch_records}
 use Rattle.journal.specs.WellFormed.{IsHeader, IsWellFormedFor, AreBatches}
+pub use Rattle.spelling.specs.Bytes.{AreBytes}
 
 -- a file that begins so
-abbrev pub Begins : List ℕ → List ℕ → Type 0
-Begins front file = (rest : List ℕ) × (file ≡ front ++ rest)
+abbrev pub IsFrontOf : List ℕ → List ℕ → Type 0
+IsFrontOf front file = (rest : List ℕ) × (file ≡ front ++ rest)
 
 -- the file begins with this lawful header
 pub record HasHeader (header : Header) (file : List ℕ) : Type 0 where
   pub lawful : IsHeader header
-  pub begins : Begins (header_text header) file
+  pub begins : IsFrontOf (header_text header) file
 
 -- The file is the header's bytes, batches whose records in order are these, and then a closed gate and anything.
 pub record Holds (header : Header) (records : List Record) (file : List ℕ) : Type 0 where
@@ -24,8 +24,8 @@ pub record Holds (header : Header) (records : List Record) (file : List ℕ) : T
   pub batches : List Batch
   pub rest : List ℕ
   pub good : AreBatches header batches
-  pub is : file ≡ header_text header ++ texts batches ++ 0 ∷ rest
-  pub records_are : records ≡ records_of batches
+  pub is : file ≡ header_text header ++ batches_bytes batches ++ 0 ∷ rest
+  pub records_are : records ≡ batch_records batches
 
 -- behind the last batch: no gate, or an open one and too few bytes for its count, its records and the next gate
 abbrev pub IsCut : List ℕ → Type 0
@@ -45,7 +45,7 @@ pub record IsBad (header : Header) (bytes : List ℕ) : Type 0 where
   pub opened : gate ≢ 0
   pub whole : 7 * (256 * high + low) < length behind
   pub wrong : (256 * high + low ≡ 0) ⊎ ((k : ℕ) × (k < 256 * high + low)
-      × ((r : Record) → IsWellFormedFor header r → take 7 (drop (7 * k) behind) ≢ record_text r))
+      × ((r : Record) → IsWellFormedFor header r → take 7 (drop (7 * k) behind) ≢ record_bytes r))
 
 -- the file is the header's bytes, batches, and then this
 pub record GoesWrong (header : Header) (IsWrong : List ℕ → Type 0) (file : List ℕ) : Type 0 where
@@ -53,24 +53,20 @@ pub record GoesWrong (header : Header) (IsWrong : List ℕ → Type 0) (file : L
   pub batches : List Batch
   pub rest : List ℕ
   pub good : AreBatches header batches
-  pub is : file ≡ header_text header ++ texts batches ++ rest
+  pub is : file ≡ header_text header ++ batches_bytes batches ++ rest
   pub wrong : IsWrong rest
 
 -- who opens the file by this header finds this wrong
-abbrev pub Refuses : Header → JournalFault → List ℕ → Type 0
-Refuses header NotEmpty file = ⊥
-Refuses header BadHeader file = (other : Header) → HasHeader other file → ⊥
-Refuses header OtherHeader file = (other : Header) × HasHeader other file × (other ≢ header)
-Refuses header BadRecord file = GoesWrong header (IsBad header) file
-Refuses header CutShort file = GoesWrong header IsCut file
-Refuses header Device file = ⊥
-Refuses header Memory file = ⊥
-Refuses header Stopped file = ⊥
-Refuses header Full file = ⊥
-
--- each is a byte
-abbrev pub AreBytes : List ℕ → Type 0
-AreBytes = AllByRecursion (λ b. b < 256)
+abbrev pub RefusesFile : Header → JournalFault → List ℕ → Type 0
+RefusesFile header NotEmpty file = ⊥
+RefusesFile header BadHeader file = (other : Header) → HasHeader other file → ⊥
+RefusesFile header OtherHeader file = (other : Header) × HasHeader other file × (other ≢ header)
+RefusesFile header BadRecord file = GoesWrong header (IsBad header) file
+RefusesFile header CutShort file = GoesWrong header IsCut file
+RefusesFile header Device file = ⊥
+RefusesFile header Memory file = ⊥
+RefusesFile header Stopped file = ⊥
+RefusesFile header Full file = ⊥
 
 -- All is on the disk: the file holds the records, and the closed gate behind them stands at this place.
 pub record IsHeld (s : State) (header : Header) (place : ℕ) (records : List Record) : Type 0 where
@@ -79,6 +75,6 @@ pub record IsHeld (s : State) (header : Header) (place : ℕ) (records : List Re
   pub rest : List ℕ
   pub good : AreBatches header batches
   pub on_disk : s ≡ at_rest s.seen
-  pub is : s.seen ≡ header_text header ++ texts batches ++ 0 ∷ rest
-  pub gate : place ≡ length (header_text header ++ texts batches)
-  pub records_are : records ≡ records_of batches
+  pub is : s.seen ≡ header_text header ++ batches_bytes batches ++ 0 ∷ rest
+  pub gate : place ≡ length (header_text header ++ batches_bytes batches)
+  pub records_are : records ≡ batch_records batches

@@ -4,4 +4,4 @@ pub mod File
 pub mod Reading
 pub mod Texts
 pub mod WellFormed
-pub mod Words
+pub mod Readers

@@ -1,14 +1,13 @@
 //! Batches of records, each whole on the disk or not there.
 ghost use Rattle.std.specs.Prelude.{◌≡◌, ◌↔◌, ◌⊎◌, ℕ, ◌+◌, ◌*◌, ◌<◌, ◌≤◌, ◌^◌, List, [], ◌∷◌, ◌++◌, length, true, false, IsOk, IsErr, IsErrOf, IfOk, IfErr, OnOk};
-ghost use Rattle.terms.specs.declared.Record.{Record};
-ghost use Rattle.terms.specs.declared.Header.{Header};
+ghost use Rattle.vocabulary.specs.Terms.{Record, Header};
 ghost use Rattle.disk.specs.Model.{MayLeave, LeavesOnly, at_rest};
 ghost use Rattle.disk.specs.Memory.{memory_state, with_fuse};
-ghost use Rattle.journal.specs.Texts.{body};
+ghost use Rattle.journal.specs.Texts.{batch_body};
 ghost use Rattle.journal.specs.WellFormed.{AreWellFormedFor};
-ghost use Rattle.journal.specs.File.{Holds, Refuses};
+ghost use Rattle.journal.specs.File.{Holds, RefusesFile};
 ghost use Rattle.journal.specs.Faults.{IsFaultOfOpening, IsFaultOfAppend, IsOfFile};
-ghost use Rattle.journal.specs.Words.{disk_by, header_by, gate_by, is_stopped, IsSettled};
+ghost use Rattle.journal.specs.Readers.{journal_disk, journal_header, journal_gate, journal_is_stopped, IsAtRest};
 
 use crate::JournalFault;
 use crate::commit::commit;
@@ -45,44 +44,44 @@ impl<D: Disk> Journal<D> {
     /// - `Memory`: there was none for the bytes. Nothing was written, and the journal goes on.
     /// - `Device`: the disk failed. A crash may leave the records from before, or those and the whole batch. The journal
     ///   is stopped.
-    #[tactic(auto, unfolding(crate::specs::Words::disk_by, crate::specs::Words::header_by, crate::specs::Words::gate_by, crate::specs::Words::is_stopped))]
+    #[tactic(auto, unfolding(crate::specs::Readers::journal_disk, crate::specs::Readers::journal_header, crate::specs::Readers::journal_gate, crate::specs::Readers::journal_is_stopped))]
     pub fn append(&mut self, records: &[Record]) -> Result<(), JournalFault>
         requires count { length records.now ≤ 65535 }
-        requires well_formed { AreWellFormedFor (header_by self.old) records.now }
-        requires settled { D.keeps (disk_by self.old) → is_stopped self.old ≡ false →
-            (header : Header) × (all : List Record) × IsSettled D.state header all self.old }
+        requires well_formed { AreWellFormedFor (journal_header self.old) records.now }
+        requires settled { D.keeps (journal_disk self.old) → journal_is_stopped self.old ≡ false →
+            (header : Header) × (all : List Record) × IsAtRest D.state header all self.old }
 
-        ensures settled { D.keeps (disk_by self.old) → (header : Header) (all : List Record) →
-            IsSettled D.state header all self.old → OnOk result (IsSettled D.state header (all ++ records.now) self.new) }
-        ensures acknowledged { D.keeps (disk_by self.old) → (header : Header) (all : List Record) →
-            IsSettled D.state header all self.old → OnOk result ((file : List ℕ) →
-            MayLeave (D.state (disk_by self.new)) file → Holds header (all ++ records.now) file) }
+        ensures settled { D.keeps (journal_disk self.old) → (header : Header) (all : List Record) →
+            IsAtRest D.state header all self.old → OnOk result (IsAtRest D.state header (all ++ records.now) self.new) }
+        ensures acknowledged { D.keeps (journal_disk self.old) → (header : Header) (all : List Record) →
+            IsAtRest D.state header all self.old → OnOk result ((file : List ℕ) →
+            MayLeave (D.state (journal_disk self.new)) file → Holds header (all ++ records.now) file) }
 
         // A crash at any moment of the call leaves the records from before it, or those and the whole batch.
-        ensures any_moment { D.keeps (disk_by self.old) → (header : Header) (all : List Record) →
-            IsSettled D.state header all self.old → LeavesOnly D.moment D.since (disk_by self.old) (disk_by self.new)
+        ensures any_moment { D.keeps (journal_disk self.old) → (header : Header) (all : List Record) →
+            IsAtRest D.state header all self.old → LeavesOnly D.moment D.since (journal_disk self.old) (journal_disk self.new)
             (λ file. Holds header all file ⊎ Holds header (all ++ records.now) file) }
 
-        ensures four_calls { D.keeps (disk_by self.old) → 0 < length records.now →
-            OnOk result (D.moment (disk_by self.new) ≡ D.moment (disk_by self.old) + 4) }
+        ensures four_calls { D.keeps (journal_disk self.old) → 0 < length records.now →
+            OnOk result (D.moment (journal_disk self.new) ≡ D.moment (journal_disk self.old) + 4) }
         ensures gate { 0 < length records.now →
-            OnOk result (gate_by self.new ≡ gate_by self.old + 3 + 7 * length records.now) }
+            OnOk result (journal_gate self.new ≡ journal_gate self.old + 3 + 7 * length records.now) }
         ensures empty_is_no_call { length records.now ≡ 0 → self.new ≡ self.old }
-        ensures empty_is_ok { length records.now ≡ 0 → is_stopped self.old ≡ false → IsOk result }
+        ensures empty_is_ok { length records.now ≡ 0 → journal_is_stopped self.old ≡ false → IsOk result }
 
         // Each refusal has its cause, and all but `Device` leave the journal as it was.
-        ensures stopped { IsErrOf result JournalFault.Stopped ↔ (is_stopped self.old ≡ true) }
-        ensures full { is_stopped self.old ≡ false → 0 < length records.now →
-            (IsErrOf result JournalFault.Full ↔ (2 ^ 31 < gate_by self.old + 3 + 7 * length records.now)) }
+        ensures stopped { IsErrOf result JournalFault.Stopped ↔ (journal_is_stopped self.old ≡ true) }
+        ensures full { journal_is_stopped self.old ≡ false → 0 < length records.now →
+            (IsErrOf result JournalFault.Full ↔ (2 ^ 31 < journal_gate self.old + 3 + 7 * length records.now)) }
         ensures device { IsErrOf result JournalFault.Device →
-            D.failures (disk_by self.old) < D.failures (disk_by self.new) }
-        ensures stops { (is_stopped self.new ≡ true) ↔ ((is_stopped self.old ≡ true) ⊎ IsErrOf result JournalFault.Device) }
+            D.failures (journal_disk self.old) < D.failures (journal_disk self.new) }
+        ensures stops { (journal_is_stopped self.new ≡ true) ↔ ((journal_is_stopped self.old ≡ true) ⊎ IsErrOf result JournalFault.Device) }
         ensures only { IfErr result IsFaultOfAppend }
         ensures same { (IsErrOf result JournalFault.Device → ⊥) → IsErr result → self.new ≡ self.old }
 
-        ensures header { header_by self.new ≡ header_by self.old }
-        ensures later { D.failures (disk_by self.old) ≤ D.failures (disk_by self.new) }
-        ensures kept { D.keeps (disk_by self.old) ↔ D.keeps (disk_by self.new) }
+        ensures header { journal_header self.new ≡ journal_header self.old }
+        ensures later { D.failures (journal_disk self.old) ≤ D.failures (journal_disk self.new) }
+        ensures kept { D.keeps (journal_disk self.old) ↔ D.keeps (journal_disk self.new) }
     {
         if self.stopped {
             return Err(JournalFault::Stopped);
@@ -113,25 +112,25 @@ impl<D: Disk> Journal<D> {
     ) -> Result<(Journal<D>, Vec<Record>), JournalFault>
     where
         D: Drop,
-        ensures settled { D.keeps disk → IfOk result (λ opened. IsSettled D.state header.now opened.1.items opened.0) }
+        ensures settled { D.keeps disk → IfOk result (λ opened. IsAtRest D.state header.now opened.1.items opened.0) }
         ensures held { D.keeps disk → IfOk result (λ opened. Holds header.now opened.1.items (D.state disk).seen) }
         ensures durable { D.keeps disk → IfOk result (λ opened. (file : List ℕ) →
-            MayLeave (D.state (disk_by opened.0)) file → Holds header.now opened.1.items file) }
-        ensures on_disk { D.keeps disk → IfOk result (λ opened. D.state (disk_by opened.0) ≡ at_rest (D.state disk).seen) }
+            MayLeave (D.state (journal_disk opened.0)) file → Holds header.now opened.1.items file) }
+        ensures on_disk { D.keeps disk → IfOk result (λ opened. D.state (journal_disk opened.0) ≡ at_rest (D.state disk).seen) }
         ensures any_moment { D.keeps disk → IfOk result (λ opened.
-            LeavesOnly D.moment D.since disk (disk_by opened.0) (MayLeave (D.state disk))) }
-        ensures three_calls { D.keeps disk → IfOk result (λ opened. D.moment (disk_by opened.0) ≡ D.moment disk + 3) }
+            LeavesOnly D.moment D.since disk (journal_disk opened.0) (MayLeave (D.state disk))) }
+        ensures three_calls { D.keeps disk → IfOk result (λ opened. D.moment (journal_disk opened.0) ≡ D.moment disk + 3) }
 
-        ensures refused { D.keeps disk → IfErr result (λ fault. IsOfFile fault → Refuses header.now fault (D.state disk).seen) }
+        ensures refused { D.keeps disk → IfErr result (λ fault. IsOfFile fault → RefusesFile header.now fault (D.state disk).seen) }
         ensures only { IfErr result IsFaultOfOpening }
         // That some disk had failed more. The one handed in is gone: `adopt` says it of that one.
         ensures device { IsErrOf result JournalFault.Device → (after : D) × (D.failures disk < D.failures after) }
 
-        ensures running { IfOk result (λ opened. is_stopped opened.0 ≡ false) }
-        ensures header { IfOk result (λ opened. header_by opened.0 ≡ header.now) }
-        ensures quiet { IfOk result (λ opened. D.failures (disk_by opened.0) ≡ D.failures disk) }
-        ensures later { IfOk result (λ opened. D.failures disk ≤ D.failures (disk_by opened.0)) }
-        ensures kept { IfOk result (λ opened. D.keeps disk ↔ D.keeps (disk_by opened.0)) }
+        ensures running { IfOk result (λ opened. journal_is_stopped opened.0 ≡ false) }
+        ensures header { IfOk result (λ opened. journal_header opened.0 ≡ header.now) }
+        ensures quiet { IfOk result (λ opened. D.failures (journal_disk opened.0) ≡ D.failures disk) }
+        ensures later { IfOk result (λ opened. D.failures disk ≤ D.failures (journal_disk opened.0)) }
+        ensures kept { IfOk result (λ opened. D.keeps disk ↔ D.keeps (journal_disk opened.0)) }
     {
         match Journal::adopt(alloc, disk, header) {
             Ok(opened) => Ok(opened),
@@ -146,43 +145,43 @@ impl<D: Disk> Journal<D> {
     /// - `BadHeader`, `OtherHeader`, `CutShort` or `BadRecord`: the first thing that is wrong with the file.
     /// - `Memory`: there was none for the bytes or the records.
     /// - `Device`: the disk failed.
-    #[tactic(auto, unfolding(crate::specs::Words::disk_by, crate::specs::Words::header_by, crate::specs::Words::gate_by, crate::specs::Words::is_stopped))]
+    #[tactic(auto, unfolding(crate::specs::Readers::journal_disk, crate::specs::Readers::journal_header, crate::specs::Readers::journal_gate, crate::specs::Readers::journal_is_stopped))]
     pub fn adopt(
         alloc: Global,
         mut disk: D,
         header: &Header,
     ) -> Result<(Journal<D>, Vec<Record>), (JournalFault, D)>
-        ensures settled { D.keeps disk → IfOk result (λ opened. IsSettled D.state header.now opened.1.items opened.0) }
+        ensures settled { D.keeps disk → IfOk result (λ opened. IsAtRest D.state header.now opened.1.items opened.0) }
         // It gives the records that the file holds.
         ensures held { D.keeps disk → IfOk result (λ opened. Holds header.now opened.1.items (D.state disk).seen) }
         // From then on each file that a crash can leave holds exactly these.
         ensures durable { D.keeps disk → IfOk result (λ opened. (file : List ℕ) →
-            MayLeave (D.state (disk_by opened.0)) file → Holds header.now opened.1.items file) }
-        ensures on_disk { D.keeps disk → IfOk result (λ opened. D.state (disk_by opened.0) ≡ at_rest (D.state disk).seen) }
+            MayLeave (D.state (journal_disk opened.0)) file → Holds header.now opened.1.items file) }
+        ensures on_disk { D.keeps disk → IfOk result (λ opened. D.state (journal_disk opened.0) ≡ at_rest (D.state disk).seen) }
         // A crash at any moment leaves nothing but what it might have left before.
         ensures any_moment { D.keeps disk → IfOk result (λ opened.
-            LeavesOnly D.moment D.since disk (disk_by opened.0) (MayLeave (D.state disk))) }
+            LeavesOnly D.moment D.since disk (journal_disk opened.0) (MayLeave (D.state disk))) }
         ensures any_moment_err { D.keeps disk → IfErr result (λ refused.
             LeavesOnly D.moment D.since disk refused.1 (MayLeave (D.state disk))) }
-        ensures three_calls { D.keeps disk → IfOk result (λ opened. D.moment (disk_by opened.0) ≡ D.moment disk + 3) }
+        ensures three_calls { D.keeps disk → IfOk result (λ opened. D.moment (journal_disk opened.0) ≡ D.moment disk + 3) }
         ensures three_calls_err { D.keeps disk → IfErr result (λ refused.
             IsOfFile refused.0 → D.moment refused.1 ≡ D.moment disk + 3) }
 
         // A fault of the file is the one that it has, and no byte was changed.
         ensures refused { D.keeps disk → IfErr result (λ refused.
-            IsOfFile refused.0 → Refuses header.now refused.0 (D.state disk).seen) }
+            IsOfFile refused.0 → RefusesFile header.now refused.0 (D.state disk).seen) }
         ensures same_err { D.keeps disk → IfErr result (λ refused. (D.state refused.1).seen ≡ (D.state disk).seen) }
         ensures only { IfErr result (λ refused. IsFaultOfOpening refused.0) }
         ensures device { IfErr result (λ refused. refused.0 ≡ JournalFault.Device → D.failures disk < D.failures refused.1) }
         // With any other answer it had not failed.
-        ensures quiet { IfOk result (λ opened. D.failures (disk_by opened.0) ≡ D.failures disk) }
+        ensures quiet { IfOk result (λ opened. D.failures (journal_disk opened.0) ≡ D.failures disk) }
         ensures quiet_err { IfErr result (λ refused. (refused.0 ≡ JournalFault.Device → ⊥) → D.failures refused.1 ≡ D.failures disk) }
 
-        ensures running { IfOk result (λ opened. is_stopped opened.0 ≡ false) }
-        ensures header { IfOk result (λ opened. header_by opened.0 ≡ header.now) }
-        ensures later { IfOk result (λ opened. D.failures disk ≤ D.failures (disk_by opened.0)) }
+        ensures running { IfOk result (λ opened. journal_is_stopped opened.0 ≡ false) }
+        ensures header { IfOk result (λ opened. journal_header opened.0 ≡ header.now) }
+        ensures later { IfOk result (λ opened. D.failures disk ≤ D.failures (journal_disk opened.0)) }
         ensures later_err { IfErr result (λ refused. D.failures disk ≤ D.failures refused.1) }
-        ensures kept { IfOk result (λ opened. D.keeps disk ↔ D.keeps (disk_by opened.0)) }
+        ensures kept { IfOk result (λ opened. D.keeps disk ↔ D.keeps (journal_disk opened.0)) }
         ensures kept_err { IfErr result (λ refused. D.keeps disk ↔ D.keeps refused.1) }
     {
         match load(alloc, &mut disk, header) {
@@ -202,25 +201,25 @@ impl<D: Disk> Journal<D> {
     }
 
     /// Whose journal it is.
-    #[tactic(auto, unfolding(crate::specs::Words::header_by))]
+    #[tactic(auto, unfolding(crate::specs::Readers::journal_header))]
     pub fn header(&self) -> Header
-        ensures { result ≡ header_by self.now }
+        ensures { result ≡ journal_header self.now }
     {
         self.header
     }
 
     /// Whether a fault of the device stopped it: then each append answers `Stopped`.
-    #[tactic(auto, unfolding(crate::specs::Words::is_stopped))]
+    #[tactic(auto, unfolding(crate::specs::Readers::journal_is_stopped))]
     pub fn is_stopped(&self) -> bool
-        ensures { result ≡ is_stopped self.now }
+        ensures { result ≡ journal_is_stopped self.now }
     {
         self.stopped
     }
 
     /// The disk with its file, and the journal is closed. It takes no memory and makes no call of the device.
-    #[tactic(auto, unfolding(crate::specs::Words::disk_by))]
+    #[tactic(auto, unfolding(crate::specs::Readers::journal_disk))]
     pub fn into_disk(self) -> D
-        ensures { result ≡ disk_by self }
+        ensures { result ≡ journal_disk self }
     {
         let Journal {
             alloc: _,
@@ -238,7 +237,7 @@ impl<D: Disk> Journal<D> {
 fn encode(buffer: Vec<u8>, records: &[Record]) -> Result<Vec<u8>, AllocError>
     requires empty { buffer.items ≡ [] }
     requires few { length records.now ≤ 65535 }
-    ensures { IfOk result (λ bytes. bytes.items ≡ body records.now ++ 0 ∷ []) }
+    ensures { IfOk result (λ bytes. bytes.items ≡ batch_body records.now ++ 0 ∷ []) }
 {
     let count = records.len() as u16;
     let mut bytes = buffer;
@@ -253,14 +252,14 @@ fn encode(buffer: Vec<u8>, records: &[Record]) -> Result<Vec<u8>, AllocError>
 impl Journal<MemDisk> {
     /// Sets the fuse of its disk, and changes nothing else: the next calls of the device pass, as many as this, and all
     /// after them fail. None takes the fuse out. This is no call of the device, and takes no memory.
-    #[tactic(auto, unfolding(crate::specs::Words::disk_by, crate::specs::Words::header_by, crate::specs::Words::gate_by, crate::specs::Words::is_stopped))]
+    #[tactic(auto, unfolding(crate::specs::Readers::journal_disk, crate::specs::Readers::journal_header, crate::specs::Readers::journal_gate, crate::specs::Readers::journal_is_stopped))]
     pub fn fuse(&mut self, calls: Option<u64>)
-        ensures disk { disk_by self.new ≡ with_fuse (disk_by self.old) calls }
+        ensures disk { journal_disk self.new ≡ with_fuse (journal_disk self.old) calls }
         ensures settled { (header : Header) (all : List Record) →
-            IsSettled memory_state header all self.old → IsSettled memory_state header all self.new }
-        ensures header { header_by self.new ≡ header_by self.old }
-        ensures gate { gate_by self.new ≡ gate_by self.old }
-        ensures stopped { is_stopped self.new ≡ is_stopped self.old }
+            IsAtRest memory_state header all self.old → IsAtRest memory_state header all self.new }
+        ensures header { journal_header self.new ≡ journal_header self.old }
+        ensures gate { journal_gate self.new ≡ journal_gate self.old }
+        ensures stopped { journal_is_stopped self.new ≡ journal_is_stopped self.old }
     {
         self.disk.fuse(calls);
     }

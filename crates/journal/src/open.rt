@@ -1,9 +1,9 @@
 //! Making a journal's file, and reading it.
 ghost use Rattle.std.specs.Prelude.{◌≡◌, ◌≢◌, ◌↔◌, ◌⊎◌, ◌+◌, ◌<◌, ◌≤◌, ℕ, List, [], ◌∷◌, ◌++◌, length, IsErr, IsErrOf, IfOk, IfErr, OnOk, OnErr};
-ghost use Rattle.terms.specs.declared.Header.{Header};
+ghost use Rattle.vocabulary.specs.Terms.{Header};
 ghost use Rattle.disk.specs.Model.{State, MayLeave, LeavesOnly, at_rest, after_write};
 ghost use Rattle.journal.specs.Texts.{header_text};
-ghost use Rattle.journal.specs.File.{HasHeader, Holds, Refuses, IsHeld};
+ghost use Rattle.journal.specs.File.{HasHeader, Holds, RefusesFile, IsHeld};
 ghost use Rattle.journal.specs.Faults.{IsFaultOfCreate, IsFaultOfPeek, IsFaultOfOpening, IsOfFile};
 ghost use Rattle.journal.specs.declared.fault.JournalFault.TheVariants.{Device, Memory};
 
@@ -84,7 +84,7 @@ pub(crate) fn load<D: Disk>(
 ) -> Result<(usize, Vec<Record>), JournalFault>
     ensures held { D.keeps disk.old → IfOk result (λ held. IsHeld (D.state disk.new) header.now held.0 held.1.items) }
     ensures on_disk { D.keeps disk.old → OnOk result (D.state disk.new ≡ at_rest (D.state disk.old).seen) }
-    ensures refused { D.keeps disk.old → IfErr result (λ fault. IsOfFile fault → Refuses header.now fault (D.state disk.old).seen) }
+    ensures refused { D.keeps disk.old → IfErr result (λ fault. IsOfFile fault → RefusesFile header.now fault (D.state disk.old).seen) }
     ensures same { D.keeps disk.old → (D.state disk.new).seen ≡ (D.state disk.old).seen }
     ensures any_moment { D.keeps disk.old → LeavesOnly D.moment D.since disk.old disk.new (MayLeave (D.state disk.old)) }
     ensures three_calls { D.keeps disk.old → OnOk result (D.moment disk.new ≡ D.moment disk.old + 3) }
@@ -127,7 +127,7 @@ fn read_file(
     bytes: &[u8],
 ) -> Result<(usize, Vec<Record>), JournalFault>
     ensures held { IfOk result (λ held. IsHeld (at_rest bytes.now) header.now held.0 held.1.items) }
-    ensures refused { IfErr result (λ fault. IsOfFile fault → Refuses header.now fault bytes.now) }
+    ensures refused { IfErr result (λ fault. IsOfFile fault → RefusesFile header.now fault bytes.now) }
     ensures only { IfErr result (λ fault. IsOfFile fault ⊎ (fault ≡ Memory)) }
 {
     let Some((front, behind)) = bytes.split_first_chunk::<HEADER>() else {

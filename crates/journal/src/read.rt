@@ -1,8 +1,8 @@
 //! Reading the batches behind a header.
 ghost use Rattle.std.specs.Prelude.{◌≡◌, ◌⊎◌, ◌<◌, ◌*◌, ◌++◌, ℕ, List, length, IfOk, IfErr, OnOk, MatchResult};
-ghost use Rattle.terms.specs.declared.Record.{Record};
+ghost use Rattle.vocabulary.specs.Terms.{Record};
 ghost use Rattle.journal.specs.declared.fault.JournalFault.TheVariants.{BadRecord, Memory};
-ghost use Rattle.journal.specs.Reading.{Reads, Breaks, AreText, HasOddRecord};
+ghost use Rattle.journal.specs.Reading.{ReadsBatches, BreaksBatches, AreText, HasOddRecord};
 
 use crate::JournalFault;
 use crate::record::{RECORD, record_of};
@@ -15,9 +15,9 @@ pub(crate) fn read(
     header: &Header,
     bytes: &[u8],
 ) -> Result<(usize, Vec<Record>), JournalFault>
-    ensures held { IfOk result (λ held. Reads header.now bytes.now held.0 held.1.items) }
+    ensures held { IfOk result (λ held. ReadsBatches header.now bytes.now held.0 held.1.items) }
     ensures within { IfOk result (λ held. held.0 < length bytes.now) }
-    ensures refused { IfErr result (λ fault. Breaks header.now fault bytes.now) }
+    ensures refused { IfErr result (λ fault. BreaksBatches header.now fault bytes.now) }
 {
     let mut records = Vec::new(alloc);
     let mut rest = bytes;

@@ -1,9 +1,7 @@
 //! A record in bytes.
 ghost use Rattle.std.specs.Prelude.{◌≡◌, ◌≢◌, ◌↔◌, Bool, IsTrue, IfSome, IsNone, MatchOption};
-ghost use Rattle.terms.specs.declared.Statement.{Statement};
-ghost use Rattle.terms.specs.declared.Record.{Record};
-ghost use Rattle.terms.specs.declared.Record.TheVariants.{Said, Decided};
-ghost use Rattle.journal.specs.Texts.{bit_byte, record_text};
+ghost use Rattle.vocabulary.specs.Terms.{Statement, Record, Said, Decided};
+ghost use Rattle.journal.specs.Texts.{bit_byte, record_bytes};
 ghost use Rattle.journal.specs.WellFormed.{IsStatementFor, IsDecisionFor, IsWellFormedFor};
 ghost use Rattle.journal.specs.Reading.{HasBytes};
 
@@ -17,9 +15,9 @@ pub(crate) const RECORD: usize = 7;
 const DECIDED: u8 = 4;
 
 /// The bytes of a record.
-#[tactic(auto, unfolding(crate::specs::Texts::record_text))]
+#[tactic(auto, unfolding(crate::specs::Texts::record_bytes))]
 pub(crate) fn record_bytes(entry: &Record) -> [u8; 7]
-    ensures { result ≡ record_text entry.now }
+    ensures { result ≡ record_bytes entry.now }
 {
     match *entry {
         Record::Said(s) => statement_bytes(&s),
@@ -36,8 +34,8 @@ pub(crate) fn record_bytes(entry: &Record) -> [u8; 7]
 
 /// The record of these bytes, if they are one that is well formed for the header.
 pub(crate) fn record_of(header: &Header, bytes: &[u8; 7]) -> Option<Record>
-    ensures some { IfSome result (λ r. IsWellFormedFor header.now r × (bytes.now ≡ record_text r)) }
-    ensures none { IsNone result → (r : Record) → IsWellFormedFor header.now r → bytes.now ≢ record_text r }
+    ensures some { IfSome result (λ r. IsWellFormedFor header.now r × (bytes.now ≡ record_bytes r)) }
+    ensures none { IsNone result → (r : Record) → IsWellFormedFor header.now r → bytes.now ≢ record_bytes r }
 {
     // The bounds of a size are known where it is read.
     let _members = header.size().n();

@@ -1,7 +1,7 @@
 -- The messages so far were in their place, and their statements were handed in.
 use Rattle.std.proofs.Common.{◌≡◌, ℕ, ◌+◌, List, [], ◌∷◌, ◌++◌, length, take, refl, sym, ap, ◌∙◌, subst, arith, true, length-append}
 use Rattle.std.proofs.Math.Seq.{take-append-add}
-use Rattle.terms.specs.declared.Statement.{Statement}
+use Rattle.vocabulary.specs.Terms.{Statement}
 use Rattle.wire.specs.declared.message.Message.{Message}
 use Rattle.wire.specs.declared.message.Message.TheVariants.{Idle, Hello, Welcome, Statement as Says}
 use Rattle.node.specs.Firsts.{SeatView, HandsIn}

@@ -1,9 +1,9 @@
 -- Statements that are handed in in parts.
 use Rattle.std.proofs.Common.{◌≡◌, ℕ, ◌+◌, List, [], ◌++◌, refl, sym, ap, ◌∙◌, subst, append_assoc, length-append}
 use Rattle.std.proofs.lemmas.List.{map-append}
-use Rattle.terms.specs.declared.Statement.{Statement}
+use Rattle.vocabulary.specs.Terms.{Statement}
 use Rattle.rounds.specs.declared.tosses.Toss.{Toss}
-use Rattle.node.specs.Firsts.{SeatView, HandsIn, IsSeat}
+use Rattle.node.specs.Firsts.{SeatView, HandsIn, IsLawfulSeat}
 use Rattle.node.specs.Groups.{said_in}
 use Rattle.node.proofs.Handing.{hands_on, hands_nothing}
 use Rattle.links.specs.Handing.{HandsInAll}
@@ -17,7 +17,7 @@ pub record HandsPart (old now : SeatView) (all rest : List (Statement × Toss)) 
 said-append : (xs ys : List (Statement × Toss)) → said_in (xs ++ ys) ≡ said_in xs ++ said_in ys
 said-append xs ys = map-append (λ (e : Statement × Toss). e.0) xs ys
 
-pub no_part : (seat : SeatView) (all : List (Statement × Toss)) → IsSeat seat → HandsPart seat seat all all
+pub no_part : (seat : SeatView) (all : List (Statement × Toss)) → IsLawfulSeat seat → HandsPart seat seat all all
 no_part seat all is = record { part = []; handed = hands_nothing seat is; whole = refl }
 
 -- a group more

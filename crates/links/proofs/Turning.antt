@@ -1,25 +1,22 @@
 -- One turn of a reader, and the turns before it.
-use Rattle.std.proofs.Common.{◌≡◌, ℕ, ◌+◌, ◌<◌, ◌≤◌, List, [], ◌∷◌, ◌++◌, length, take, drop, get_or, refl, sym, ap, ◌∙◌, subst, arith, Bool, true, false, append_assoc, append-nil, ◌⊎◌, inl, inr}
+use Rattle.std.proofs.Common.{◌≡◌, ℕ, ◌+◌, ◌<◌, ◌≤◌, List, [], ◌∷◌, ◌++◌, length, take, drop, get_or, refl, sym, ap, ◌∙◌, subst, arith, Bool, true, false, append_assoc, append-nil, ◌⊎◌, inl, inr, take-append-drop}
 use Rattle.std.specs.List.{flat_map}
-use Rattle.std.proofs.lemmas.List.{take-append-drop}
-use Rattle.terms.specs.declared.Size.{Size}
-use Rattle.terms.specs.declared.Statement.{Statement}
-use Rattle.terms.specs.Bounds.{IsSize}
+use Rattle.vocabulary.specs.Terms.{Size, Statement, IsSize}
 use Rattle.wire.specs.declared.message.Message.{Message}
 use Rattle.wire.specs.declared.message.WireFault.{WireFault}
 use Rattle.wire.specs.declared.feeder.Fed.{Fed}
 use Rattle.wire.specs.declared.feeder.Fed.TheVariants as fed
-use Rattle.wire.specs.Texts.{text}
-use Rattle.wire.specs.Reading.{AreBytes, IsPartial, End, Rest, Broken, Reads}
+use Rattle.wire.specs.Texts.{frame_bytes}
+use Rattle.wire.specs.Reading.{AreBytes, IsPartial, End, Rest, Broken, ReadsMessages}
 use Rattle.wire.specs.Feeding.{Feeds, FeederFields, answer_of, Took}
 use Rattle.wire.proofs.Telling.{from_places, bytes_front, bytes_back}
 use Rattle.wire.proofs.Whole.{HasReading, each_reads, joins}
-use Rattle.node.specs.Firsts.{SeatView, HandsIn, IsSeat}
+use Rattle.node.specs.Firsts.{SeatView, HandsIn, IsLawfulSeat}
 use Rattle.node.proofs.Handing.{hands_nothing}
 use Rattle.links.specs.Told.{Told, has_read, has_failed, has_ended}
 use Rattle.links.specs.declared.ends.LinkEnd.{LinkEnd}
 use Rattle.links.specs.declared.ends.LinkEnd.TheVariants as end
-use Rattle.links.specs.Handing.{in_order, all_in_place, HandsInSome, HandsInFewer, HandsInAll, ends_whole, told_at, IsOpen, HasCause, ReadsUntil}
+use Rattle.links.specs.Handing.{in_order, all_in_place, HandsInSome, HandsInFewer, HandsInAll, ends_whole, told_at, IsOpenEnd, HasCause, ReadsUntil}
 use Rattle.links.specs.Turns.{Waits, ReadsOn, ReadsOff}
 use Rattle.links.proofs.Orders.{HandsSoFar, hands_all, hands_more, hands_part, hands_fewer_of, all_in_place-append}
 
@@ -42,15 +39,15 @@ pub bytes_taken : (n : ℕ) (buf : List ℕ) → ((i : ℕ) → get_or buf i 0 <
 bytes_taken n buf h = bytes_front (take n buf) (drop n buf) (subst AreBytes (sym (take-append-drop n buf)) (from_places buf h))
 
 -- a rest with nothing behind it
-nothing_more : (feeder : FeederFields) (rest : List ℕ) → Waits feeder rest → Reads feeder.size (rest ++ []) [] (Rest rest)
+nothing_more : (feeder : FeederFields) (rest : List ℕ) → Waits feeder rest → ReadsMessages feeder.size (rest ++ []) [] (Rest rest)
 nothing_more feeder rest w = record { each = tt; others = rest; whole = append-nil rest; ends = (refl, w.partial) }
 
 -- nothing of nothing was handed in
-none_of_none : (seat : SeatView) → IsSeat seat → HandsInSome seat seat []
+none_of_none : (seat : SeatView) → IsLawfulSeat seat → HandsInSome seat seat []
 none_of_none seat is = record { k = 0; within = omega arith; handed = hands_nothing seat is }
 
 -- the input ended
-pub off_ended : (feeder : FeederFields) (rest : List ℕ) (old new : Told) (seat : SeatView) → Waits feeder rest → IsSeat seat
+pub off_ended : (feeder : FeederFields) (rest : List ℕ) (old new : Told) (seat : SeatView) → Waits feeder rest → IsLawfulSeat seat
     → new ≡ has_ended old → ReadsOff old new feeder.size rest seat seat end.Ended
 off_ended feeder rest old new seat w is told = record {
   piece = [];
@@ -66,7 +63,7 @@ off_ended feeder rest old new seat w is told = record {
 }
 
 -- a read failed
-pub off_lost : (feeder : FeederFields) (rest : List ℕ) (old new : Told) (seat : SeatView) → Waits feeder rest → IsSeat seat
+pub off_lost : (feeder : FeederFields) (rest : List ℕ) (old new : Told) (seat : SeatView) → Waits feeder rest → IsLawfulSeat seat
     → new ≡ has_failed old → ReadsOff old new feeder.size rest seat seat end.Lost
 off_lost feeder rest old new seat w is told = record {
   piece = [];
@@ -82,7 +79,7 @@ off_lost feeder rest old new seat w is told = record {
 }
 
 -- the feeder got no memory
-pub off_refused : (feeder : FeederFields) (rest piece : List ℕ) (old new : Told) (seat : SeatView) → Waits feeder rest → IsSeat seat
+pub off_refused : (feeder : FeederFields) (rest piece : List ℕ) (old new : Told) (seat : SeatView) → Waits feeder rest → IsLawfulSeat seat
     → AreBytes piece → new ≡ has_read old piece → ReadsOff old new feeder.size rest seat seat end.Memory
 off_refused feeder rest piece old new seat w is bytes told =
     let r : HasReading feeder.size (rest ++ piece) = each_reads feeder.size (rest ++ piece) w.lawful (bytes_both rest piece w.bytes bytes) in
@@ -101,15 +98,15 @@ off_refused feeder rest piece old new seat w is bytes told =
 
 -- what the feeder made of a piece
 pub read_of : (feeder after : FeederFields) (rest piece : List ℕ) (before messages : List Message) → Waits feeder rest → before ≡ []
-    → Feeds feeder.size feeder.end piece before messages after.end → Reads feeder.size (rest ++ piece) messages after.end
+    → Feeds feeder.size feeder.end piece before messages after.end → ReadsMessages feeder.size (rest ++ piece) messages after.end
 read_of feeder after rest piece before messages w none feeds =
     let Q : End → Type 0 = λ e. Feeds feeder.size e piece before messages after.end in
     let R : List Message → Type 0 = λ l. Feeds feeder.size (Rest rest) piece l messages after.end in
     let t : Took feeder.size (rest ++ piece) [] messages after.end = subst R none (subst Q w.end_is feeds) in
-    subst (λ (l : List Message). Reads feeder.size (rest ++ piece) l after.end) (sym t.2) t.1
+    subst (λ (l : List Message). ReadsMessages feeder.size (rest ++ piece) l after.end) (sym t.2) t.1
 
 on_by : (old new : Told) (size : Size) (rest piece : List ℕ) (after : FeederFields) (messages : List Message) (before now : SeatView) (last : End)
-    → after.end ≡ last → after.size ≡ size → new ≡ has_read old piece → AreBytes piece → Reads size (rest ++ piece) messages last
+    → after.end ≡ last → after.size ≡ size → new ≡ has_read old piece → AreBytes piece → ReadsMessages size (rest ++ piece) messages last
     → fed.More ≡ answer_of last → HandsInAll before now (in_order messages) → all_in_place messages ≡ true
     → ReadsOn old new size rest after before now
 on_by old new size rest piece after messages before now (Rest left) end_is size_is told bytes reads more handed in_place = record {
@@ -128,7 +125,7 @@ on_by old new size rest piece after messages before now (Broken fault) end_is si
 
 -- a piece, all of whose statements were handed in
 pub turned_on : (old new : Told) (feeder after : FeederFields) (rest piece : List ℕ) (messages : List Message) (before now : SeatView)
-    → after.size ≡ feeder.size → new ≡ has_read old piece → AreBytes piece → Reads feeder.size (rest ++ piece) messages after.end
+    → after.size ≡ feeder.size → new ≡ has_read old piece → AreBytes piece → ReadsMessages feeder.size (rest ++ piece) messages after.end
     → fed.More ≡ answer_of after.end → HandsInAll before now (in_order messages) → all_in_place messages ≡ true
     → ReadsOn old new feeder.size rest after before now
 turned_on old new feeder after rest piece messages before now size_is told bytes reads more handed in_place =
@@ -144,7 +141,7 @@ fault_of (Broken other) fault is = let same : other ≡ fault = cc in ap Broken 
 
 -- a piece that breaks, all of whose statements were handed in
 pub off_broken : (old new : Told) (size : Size) (rest piece : List ℕ) (messages : List Message) (last : End) (fault : WireFault) (before now : SeatView)
-    → new ≡ has_read old piece → AreBytes piece → Reads size (rest ++ piece) messages last → fed.Broken fault ≡ answer_of last
+    → new ≡ has_read old piece → AreBytes piece → ReadsMessages size (rest ++ piece) messages last → fed.Broken fault ≡ answer_of last
     → HandsInAll before now (in_order messages) → all_in_place messages ≡ true → ReadsOff old new size rest before now (end.Broken fault)
 off_broken old new size rest piece messages last fault before now told bytes reads broken handed in_place = record {
   piece = piece;
@@ -160,7 +157,7 @@ off_broken old new size rest piece messages last fault before now told bytes rea
 }
 
 off_by : (old new : Told) (size : Size) (rest piece : List ℕ) (messages : List Message) (last : End) (why : LinkEnd) (before now : SeatView)
-    → new ≡ has_read old piece → AreBytes piece → Reads size (rest ++ piece) messages last
+    → new ≡ has_read old piece → AreBytes piece → ReadsMessages size (rest ++ piece) messages last
     → HandsInSome before now (in_order messages)
     → (why ≡ end.OutOfOrder → HandsInAll before now (in_order messages)) → (why ≡ end.OutOfOrder → all_in_place messages ≡ false)
     → (why ≡ end.Stopped → HandsInFewer before now (in_order messages))
@@ -178,7 +175,7 @@ off_by old new size rest piece messages last why before now told bytes reads som
 
 -- a piece of which some statement wasn't handed in
 pub turned_off : (old new : Told) (size : Size) (rest piece : List ℕ) (messages : List Message) (last : End) (why : LinkEnd) (before now : SeatView)
-    → new ≡ has_read old piece → AreBytes piece → Reads size (rest ++ piece) messages last
+    → new ≡ has_read old piece → AreBytes piece → ReadsMessages size (rest ++ piece) messages last
     → HandsInSome before now (in_order messages)
     → (why ≡ end.OutOfOrder → HandsInAll before now (in_order messages)) → (why ≡ end.OutOfOrder → all_in_place messages ≡ false)
     → (why ≡ end.Stopped → HandsInFewer before now (in_order messages))
@@ -194,14 +191,14 @@ pub record SoFar (size : Size) (old now : Told) (feeder : FeederFields) (before 
   pub rest : List ℕ
   pub told : now ≡ has_read old bytes
   pub are : AreBytes bytes
-  pub reads : Reads size bytes messages (Rest rest)
+  pub reads : ReadsMessages size bytes messages (Rest rest)
   pub end_is : feeder.end ≡ Rest rest
   pub size_is : feeder.size ≡ size
   pub lawful : IsSize size
   pub handed : HandsSoFar before after messages
 
 -- nothing yet
-pub nothing_read : (size : Size) (old : Told) (feeder : FeederFields) (seat : SeatView) → IsPartial size [] → IsSize size → IsSeat seat
+pub nothing_read : (size : Size) (old : Told) (feeder : FeederFields) (seat : SeatView) → IsPartial size [] → IsSize size → IsLawfulSeat seat
     → feeder.size ≡ size → feeder.end ≡ Rest [] → SoFar size old old feeder seat seat
 nothing_read size old feeder seat partial lawful is size_is end_is = record {
   bytes = [];
@@ -221,7 +218,7 @@ pub waits : (size : Size) (old now : Told) (feeder : FeederFields) (before after
 waits size old now feeder before after s = record {
   end_is = s.end_is;
   partial = subst (λ (z : Size). IsPartial z s.rest) (sym s.size_is) s.reads.ends.1;
-  bytes = bytes_back (flat_map text s.messages) s.rest (subst AreBytes (s.reads.whole ∙ ap (λ (l : List ℕ). flat_map text s.messages ++ l) s.reads.ends.0) s.are);
+  bytes = bytes_back (flat_map frame_bytes s.messages) s.rest (subst AreBytes (s.reads.whole ∙ ap (λ (l : List ℕ). flat_map frame_bytes s.messages ++ l) s.reads.ends.0) s.are);
   lawful = subst IsSize (sym s.size_is) s.lawful;
 }
 
@@ -229,7 +226,7 @@ waits size old now feeder before after s = record {
 pub so_far_on : (size : Size) (old now new : Told) (feeder next : FeederFields) (before mid after : SeatView) → (s : SoFar size old now feeder before mid)
     → ReadsOn now new feeder.size s.rest next mid after → SoFar size old new next before after
 so_far_on size old now new feeder next before mid after s r =
-    let both : Reads size (s.rest ++ r.piece) r.messages (Rest r.left) = subst (λ (z : Size). Reads z (s.rest ++ r.piece) r.messages (Rest r.left)) s.size_is r.reads in
+    let both : ReadsMessages size (s.rest ++ r.piece) r.messages (Rest r.left) = subst (λ (z : Size). ReadsMessages z (s.rest ++ r.piece) r.messages (Rest r.left)) s.size_is r.reads in
     record {
       bytes = s.bytes ++ r.piece;
       messages = s.messages ++ r.messages;
@@ -267,7 +264,7 @@ caused end.Busy xs ys last p c = absurd c
 pub so_far_off : (size : Size) (old now new : Told) (feeder : FeederFields) (before mid after : SeatView) (why : LinkEnd) → (s : SoFar size old now feeder before mid)
     → ReadsOff now new feeder.size s.rest mid after why → ReadsUntil size old new before after why
 so_far_off size old now new feeder before mid after why s r =
-    let both : Reads size (s.rest ++ r.piece) r.messages r.last = subst (λ (z : Size). Reads z (s.rest ++ r.piece) r.messages r.last) s.size_is r.reads in
+    let both : ReadsMessages size (s.rest ++ r.piece) r.messages r.last = subst (λ (z : Size). ReadsMessages z (s.rest ++ r.piece) r.messages r.last) s.size_is r.reads in
     record {
       bytes = s.bytes ++ r.piece;
       messages = s.messages ++ r.messages;

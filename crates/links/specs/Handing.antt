@@ -1,12 +1,10 @@
 -- What a reader of a link hands in.
 use Rattle.std.specs.Prelude.{ℕ, ◌≡◌, ◌⊎◌, ◌<◌, ◌≤◌, List, [], ◌∷◌, ◌++◌, length, take, Bool, true, false}
-use Rattle.terms.specs.declared.Size.{Size}
-use Rattle.terms.specs.declared.Header.{Header}
-use Rattle.terms.specs.declared.Statement.{Statement}
+use Rattle.vocabulary.specs.Terms.{Size, Header, Statement}
 use Rattle.wire.specs.declared.message.Message.{Message}
 use Rattle.wire.specs.declared.message.Message.TheVariants as message
-use Rattle.wire.specs.Texts.{text}
-use Rattle.wire.specs.Reading.{End, Rest, Broken, Reads}
+use Rattle.wire.specs.Texts.{frame_bytes}
+use Rattle.wire.specs.Reading.{End, Rest, Broken, ReadsMessages}
 use Rattle.node.specs.Firsts.{SeatView, HandsIn}
 use Rattle.links.specs.Told.{Told, has_read, has_written, has_failed, has_ended, BreaksOff}
 use Rattle.links.specs.Sending.{FailsToWrite}
@@ -68,14 +66,14 @@ told_at end.Stopped old bytes = has_read old bytes
 told_at end.Memory old bytes = has_read old bytes
 
 -- the bytes read so far break off in a frame, or at the end of one
-abbrev pub IsOpen : End → Type 0
-IsOpen (Rest rest) = Unit {0}
-IsOpen (Broken fault) = ⊥
+abbrev pub IsOpenEnd : End → Type 0
+IsOpenEnd (Rest rest) = Unit {0}
+IsOpenEnd (Broken fault) = ⊥
 
 -- what was read gives cause for the end
 abbrev pub HasCause : LinkEnd → List Message → End → Type 0
-HasCause end.Ended messages last = (all_in_place messages ≡ true) × IsOpen last
-HasCause end.Lost messages last = (all_in_place messages ≡ true) × IsOpen last
+HasCause end.Ended messages last = (all_in_place messages ≡ true) × IsOpenEnd last
+HasCause end.Lost messages last = (all_in_place messages ≡ true) × IsOpenEnd last
 HasCause (end.Broken fault) messages last = (all_in_place messages ≡ true) × (last ≡ Broken fault)
 HasCause end.OutOfOrder messages last = all_in_place messages ≡ false
 HasCause end.Stopped messages last = Unit {0}
@@ -89,7 +87,7 @@ pub record ReadsUntil (size : Size) (old new : Told) (before after : SeatView) (
   pub bytes : List ℕ
   pub messages : List Message
   pub last : End
-  pub reads : Reads size bytes messages last
+  pub reads : ReadsMessages size bytes messages last
   pub told : new ≡ told_at why old bytes
   pub some : HandsInSome before after (in_order messages)
   pub whole : ends_whole why ≡ true → HandsInAll before after (in_order messages)
@@ -99,5 +97,5 @@ pub record ReadsUntil (size : Size) (old new : Told) (before after : SeatView) (
 -- A session of a reader: the Welcome with the seat's next didn't go out whole; or it did, and then bytes were read.
 abbrev pub ReadsLink : Size → Told → Told → SeatView → SeatView → LinkEnd → Type 0
 ReadsLink size old new before after why =
-    ((after ≡ before) × FailsToWrite old new (text (message.Welcome before.next)) why)
-    ⊎ ReadsUntil size (has_written old (text (message.Welcome before.next))) new before after why
+    ((after ≡ before) × FailsToWrite old new (frame_bytes (message.Welcome before.next)) why)
+    ⊎ ReadsUntil size (has_written old (frame_bytes (message.Welcome before.next))) new before after why

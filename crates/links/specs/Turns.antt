@@ -1,9 +1,8 @@
 -- One turn of a reader.
 use Rattle.std.specs.Prelude.{ℕ, ◌≡◌, List, [], ◌++◌, Bool, true}
-use Rattle.terms.specs.declared.Size.{Size}
-use Rattle.terms.specs.Bounds.{IsSize}
+use Rattle.vocabulary.specs.Terms.{Size, IsSize}
 use Rattle.wire.specs.declared.message.Message.{Message}
-use Rattle.wire.specs.Reading.{AreBytes, IsPartial, End, Rest, Reads}
+use Rattle.wire.specs.Reading.{AreBytes, IsPartial, End, Rest, ReadsMessages}
 use Rattle.wire.specs.Feeding.{FeederFields}
 use Rattle.node.specs.Firsts.{SeatView}
 use Rattle.links.specs.Told.{Told, has_read}
@@ -25,7 +24,7 @@ pub record ReadsOn (old new : Told) (size : Size) (rest : List ℕ) (feeder : Fe
   pub left : List ℕ
   pub told : new ≡ has_read old piece
   pub bytes : AreBytes piece
-  pub reads : Reads size (rest ++ piece) messages (Rest left)
+  pub reads : ReadsMessages size (rest ++ piece) messages (Rest left)
   pub end_is : feeder.end ≡ Rest left
   pub size_is : feeder.size ≡ size
   pub handed : HandsInAll before after (in_order messages)
@@ -38,7 +37,7 @@ pub record ReadsOff (old new : Told) (size : Size) (rest : List ℕ) (before aft
   pub last : End
   pub told : new ≡ told_at why old piece
   pub bytes : AreBytes piece
-  pub reads : Reads size (rest ++ piece) messages last
+  pub reads : ReadsMessages size (rest ++ piece) messages last
   pub some : HandsInSome before after (in_order messages)
   pub whole : ends_whole why ≡ true → HandsInAll before after (in_order messages)
   pub refused : why ≡ end.Stopped → HandsInFewer before after (in_order messages)

@@ -1,6 +1,6 @@
 //! Greetings.
 ghost use Rattle.std.specs.Prelude.{◌≡◌, ◌≢◌, ◌⊎◌, ◌<◌, true, false, IfOk, IfErr, OnErr};
-ghost use Rattle.wire.specs.Texts.{text};
+ghost use Rattle.wire.specs.Texts.{frame_bytes};
 ghost use Rattle.links.specs.Told.{has_read};
 ghost use Rattle.links.specs.Greeting.{hello_from, Rebuffs};
 
@@ -22,7 +22,7 @@ fn is_meant(header: &Header, cluster: u64, to: u8) -> bool
 // Reads the Hello of a member to the header's, at most 18 bytes in all, and answers whose it is.
 fn read_hello<S: Stream>(alloc: Global, stream: &mut S, header: &Header) -> Result<u8, LinkEnd>
     ensures ok { IfOk result (λ from.
-        S.told stream.new ≡ has_read (S.told stream.old) (text (hello_from header.now from))) }
+        S.told stream.new ≡ has_read (S.told stream.old) (frame_bytes (hello_from header.now from))) }
     ensures below { IfOk result (λ from. from < header.now.size.n) }
     ensures err { IfErr result (λ why. Rebuffs header.now (S.told stream.old) (S.told stream.new) why) }
 {
@@ -62,7 +62,7 @@ fn read_hello<S: Stream>(alloc: Global, stream: &mut S, header: &Header) -> Resu
 pub fn greet<S: Stream>(alloc: Global, stream: &mut S, header: &Header) -> Result<u8, LinkEnd>
     // All that was read is that Hello.
     ensures ok { IfOk result (λ from.
-        S.told stream.new ≡ has_read (S.told stream.old) (text (hello_from header.now from))) }
+        S.told stream.new ≡ has_read (S.told stream.old) (frame_bytes (hello_from header.now from))) }
     ensures below { IfOk result (λ from. from < header.now.size.n) }
     // Each end has its cause in what was read, which is all that happened.
     ensures err { IfErr result (λ why. Rebuffs header.now (S.told stream.old) (S.told stream.new) why) }

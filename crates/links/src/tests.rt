@@ -3,7 +3,7 @@ ghost use Rattle.std.specs.Prelude.{◌≡◌, length, IfOk, []};
 ghost use Rattle.std.specs.Arc.{arc_value};
 ghost use Rattle.member.specs.Memory.{memory_disk};
 ghost use Rattle.member.specs.Sound.{IsSound};
-ghost use Rattle.member.specs.Words.{header_of, saved_of, is_stopped_of, StandsFor};
+ghost use Rattle.member.specs.Readers.{member_header, member_saved, member_is_stopped, MemberStandsFor};
 ghost use Rattle.links.specs.Mem.{told_by, is_closed_mem};
 
 mod groups;
@@ -182,8 +182,8 @@ fn a_greeting_is_lost_where_the_stream_fails(rt: HostRuntime) -> Result<(), Fail
 /// A member on a new disk.
 fn start(rt: &impl AllocGlobal, header: &Header) -> Result<Member<MemDisk>, Fail>
     ensures sound { IfOk result (λ m. IsSound memory_disk m) }
-    ensures fresh { IfOk result (λ m. StandsFor m (saved_of m) []) }
-    ensures header { IfOk result (λ m. header_of m ≡ header.now) }
+    ensures fresh { IfOk result (λ m. MemberStandsFor m (member_saved m) []) }
+    ensures header { IfOk result (λ m. member_header m ≡ header.now) }
 {
     let mut disk = MemDisk::new(rt.alloc());
     journal::create(&mut disk, header)?;
@@ -199,8 +199,8 @@ const DECIDED: [u8; 35] = [
 /// Member 0, opened from that journal.
 fn start_decided(rt: &impl AllocGlobal, header: &Header) -> Result<Member<MemDisk>, Fail>
     ensures sound { IfOk result (λ m. IsSound memory_disk m) }
-    ensures fresh { IfOk result (λ m. StandsFor m (saved_of m) []) }
-    ensures header { IfOk result (λ m. header_of m ≡ header.now) }
+    ensures fresh { IfOk result (λ m. MemberStandsFor m (member_saved m) []) }
+    ensures header { IfOk result (λ m. member_header m ≡ header.now) }
 {
     let mut disk = MemDisk::new(rt.alloc());
     disk.write_at(0, DECIDED.as_slice())?;

@@ -1,6 +1,6 @@
 //! The writer of a link.
 ghost use Rattle.std.specs.Prelude.{◌≡◌, ◌+◌, ◌<◌, ◌^◌, true, length, vec_len, IfOk, IfErr};
-ghost use Rattle.wire.specs.Texts.{text};
+ghost use Rattle.wire.specs.Texts.{frame_bytes};
 ghost use Rattle.wire.specs.declared.message.Message.TheVariants as message;
 ghost use Rattle.node.specs.Books.{is_numbered};
 ghost use Rattle.links.specs.Told.{has_read};
@@ -28,7 +28,7 @@ const WELCOME: usize = 11;
 
 // The next of the Welcome that the stream gives.
 fn read_welcome<S: Stream>(alloc: Global, stream: &mut S, size: Size) -> Result<u64, LinkEnd>
-    ensures ok { IfOk result (λ next. S.told stream.new ≡ has_read (S.told stream.old) (text (message.Welcome next))) }
+    ensures ok { IfOk result (λ next. S.told stream.new ≡ has_read (S.told stream.old) (frame_bytes (message.Welcome next))) }
     ensures err { IfErr result (λ why. Unwelcomed size (S.told stream.old) (S.told stream.new) why) }
 {
     match read_first(alloc, stream, size, WELCOME) {

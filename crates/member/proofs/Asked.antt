@@ -1,17 +1,11 @@
 -- Records of questions and members that there are.
-use Rattle.std.proofs.Common.{◌≡◌, ◌==◌, ◌<◌, ◌≤◌, ℕ, false, Option, Some, None, List, [], ◌∷◌, ◌++◌, refl, arith}
-use Rattle.std.specs.Prelude.{nat_le}
+use Rattle.std.proofs.Common.{◌≡◌, ◌==◌, ◌<◌, ◌≤◌, ℕ, false, Option, Some, None, List, [], ◌∷◌, ◌++◌, refl, arith, nat_le}
 use Rattle.std.proofs.lemmas.Bool.Decides.{nat_tests}
-use Rattle.terms.specs.declared.Size.{Size}
-use Rattle.terms.specs.declared.Header.{Header}
-use Rattle.terms.specs.declared.Record.{Record}
-use Rattle.terms.specs.declared.Record.TheVariants.{Said, Decided}
-use Rattle.terms.specs.Journal.{decided}
-use Rattle.terms.specs.Keep.{keep_or}
+use Rattle.vocabulary.specs.Terms.{Size, Header, Record, Said, Decided, decided, keep_or}
 use Rattle.questions.specs.declared.answer.CoreFault.{CoreFault}
 use Rattle.questions.specs.Faults.{record_fault, records_fault}
 use Rattle.journal.specs.File.{Holds}
-use Rattle.journal.specs.Texts.{Batch, records_of}
+use Rattle.journal.specs.Texts.{Batch, batch_records}
 use Rattle.journal.specs.WellFormed.{IsWellFormedFor, AreWellFormedFor, AreBatches}
 use Rattle.member.proofs.Formed.{there_is}
 
@@ -61,6 +55,6 @@ asked_decided size (Decided k r b ∷ xs) q h le =
 pub held_asked : (header : Header) (records : List Record) (file : List ℕ) → Holds header records file → records_fault header.size records ≡ None
 held_asked header records file held = rw held.records_are (all held.batches held.good)
   where
-    all : (batches : List Batch) → AreBatches header batches → records_fault header.size (records_of batches) ≡ None
+    all : (batches : List Batch) → AreBatches header batches → records_fault header.size (batch_records batches) ≡ None
     all [] good = refl
-    all (b ∷ bs) good = asked_append header.size b.records (records_of bs) (asked_formed header b.records good.0.good) (all bs good.1)
+    all (b ∷ bs) good = asked_append header.size b.records (batch_records bs) (asked_formed header b.records good.0.good) (all bs good.1)

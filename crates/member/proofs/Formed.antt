@@ -1,40 +1,23 @@
 -- What a member answers is well formed, and so is all that it heard.
-use Rattle.std.proofs.Common.{◌≡◌, ◌<◌, ◌⊎◌, inl, inr, ℕ, Bool, true, false, Some, None, List, [], ◌∷◌, ◌++◌, refl, subst, arith}
-use Rattle.std.specs.Prelude.{nat_le, if◌then◌else◌, ◌||◌}
+use Rattle.std.proofs.Common.{◌≡◌, ◌<◌, ◌⊎◌, inl, inr, ℕ, Bool, true, false, Some, None, List, [], ◌∷◌, ◌++◌, refl, subst, arith, nat_le, if◌then◌else◌, ◌||◌}
 use Rattle.std.specs.List.{list_any}
 use Rattle.std.proofs.lemmas.Bool.Decides.{nat_tests}
 use Rattle.questions.specs.declared.answer.CoreFault.TheVariants as cores
 use Rattle.questions.specs.Faults.{number_fault}
-use Rattle.terms.specs.declared.Kind.TheVariants.{Initial}
-use Rattle.terms.specs.declared.Place.{Place}
-use Rattle.terms.specs.declared.Size.{Size}
-use Rattle.terms.specs.declared.Header.{Header}
-use Rattle.terms.specs.declared.Statement.{Statement}
-use Rattle.terms.specs.declared.Record.{Record}
-use Rattle.terms.specs.declared.Record.TheVariants.{Said, Decided}
-use Rattle.terms.specs.Answer.{AreProposed}
-use Rattle.terms.specs.Bounds.{IsSize, IsPlace, FitsStep}
-use Rattle.terms.specs.Heard.{got, hear}
-use Rattle.terms.specs.Lawful.{IsLawful, IsLawfulBatch}
-use Rattle.terms.specs.Past.{Past, past_of}
-use Rattle.terms.specs.Reply.{Event, Reply, IsReply, on, records_of}
-use Rattle.terms.specs.Reply.Event.{Hearing, Proposal}
-use Rattle.terms.specs.Reply.Reply.{Foreign, Repeat, Have, Taken}
-use Rattle.terms.specs.Same.{statement_of, place_of, plain}
-use Rattle.terms.specs.WellFormed.{IsWellFormed}
+use Rattle.vocabulary.specs.Terms.{Initial, Place, Size, Header, Statement, Record, Said, Decided, AreProposed, IsSize, IsPlace, FitsStep, got, hear, IsLawful, IsLawfulBatch, Past, past_of, Event, Reply, IsReply, on, records_of, Hearing, Proposal, Foreign, Repeat, Have, Taken, new_statement, new_place, plain, IsWellFormed}
 use Rattle.terms.proofs.Answer.{hearing_step, proposed_lawful}
 use Rattle.terms.proofs.Heard.{got-hear}
 use Rattle.terms.proofs.Stands.{lawful_stands}
 use Rattle.world.proofs.Formed.{lawful_formed}
 use Rattle.journal.specs.WellFormed.{IsWellFormedFor, AreWellFormedFor}
-use Rattle.member.specs.Answers.{question_of, heard_after}
+use Rattle.member.specs.Answers.{event_question, heard_after}
 use Rattle.member.specs.Sound.{AreHeard}
 
 -- one more statement that is well formed
 pub heard_more : (size : Size) (heard : List (ℕ × Statement)) (a : ℕ) (s : Statement) → AreHeard size heard → IsWellFormed size s → AreHeard size (hear heard (a, s))
 heard_more size heard a s f g b kind place m h = step (got-hear heard (a, s) b kind place m h)
   where
-    step : (got heard b kind place ≡ Some m) ⊎ ((a ≡ b) × (s ≡ statement_of kind place m)) → IsWellFormed size (statement_of kind place m)
+    step : (got heard b kind place ≡ Some m) ⊎ ((a ≡ b) × (s ≡ new_statement kind place m)) → IsWellFormed size (new_statement kind place m)
     step (inl e) = f b kind place m e
     step (inr e) = let x = e.1 in rw x at g
 
@@ -74,7 +57,7 @@ proposal_for header records heard toss question bit (Have first) ok member f ask
 proposal_for header records heard toss question bit (Taken due) ok member f asked h =
     let past : Past = past_of header.size header.me question records heard in
     let a : AreProposed (on past question) (plain bit) toss due = h.1 in
-    let first : Statement = statement_of Initial (place_of question header.me 1 1) (plain bit) in
+    let first : Statement = new_statement Initial (new_place question header.me 1 1) (plain bit) in
     let rest = batch_for header (records ++ Said first ∷ []) heard a.initials ok member f (proposed_lawful (on past question) (plain bit) toss due a) in
     let is = a.records_are in
     rw is (
@@ -91,7 +74,7 @@ proposal_for header records heard toss question bit (Taken due) ok member f aske
 
 -- the records of a reply are well formed
 pub reply_for : (header : Header) (records : List Record) (heard : List (ℕ × Statement)) (toss : ℕ) (event : Event) (r : Reply) → IsSize header.size → header.me < header.size.n
-    → AreHeard header.size heard → IsFormed header.size event → IsReply (past_of header.size header.me (question_of event) records heard) toss event r
+    → AreHeard header.size heard → IsFormed header.size event → IsReply (past_of header.size header.me (event_question event) records heard) toss event r
     → AreWellFormedFor header (records_of r)
 reply_for header records heard toss (Hearing a s) r ok member f g h =
     batch_for header records (hear heard (a, s)) (records_of r) ok member (heard_more header.size heard a s f g)

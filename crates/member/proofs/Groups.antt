@@ -1,19 +1,9 @@
 -- The hearing of a group: what it comes to, as a step of the world, and what stands over it.
-use Rattle.std.proofs.Common.{◌≡◌, ◌⊎◌, inl, inr, ◌<◌, ◌≤◌, ℕ, ◌*◌, ◌^◌, ◌↔◌, Option, None, length, Bool, true, false, Some, None, Result, Ok, Err, IfOk, IfErr, OnOk, OnErr, IsErrOf, List, [], ◌∷◌, ◌++◌, refl, sym, ap, subst, ◌∙◌, arith, append-nil, ⊎_elim}
-use Rattle.std.specs.Prelude.{nat_le, IsOk, if◌then◌else◌}
+use Rattle.std.proofs.Common.{◌≡◌, ◌⊎◌, inl, inr, ◌<◌, ◌≤◌, ℕ, ◌*◌, ◌^◌, ◌↔◌, Option, None, length, Bool, true, false, Some, None, Result, Ok, Err, IfOk, IfErr, OnOk, OnErr, IsErrOf, List, [], ◌∷◌, ◌++◌, refl, sym, ap, subst, ◌∙◌, arith, append-nil, ⊎_elim, nat_le, IsOk, if◌then◌else◌}
 use Rattle.std.specs.Global.{Vec}
 use Rattle.std.specs.List.{list_any}
-use Rattle.terms.specs.declared.Header.{Header}
+use Rattle.vocabulary.specs.Terms.{Header, Record, Size, Statement, IsSize, hear, hear_all, keep_or, past_of, AreReplies, records_of_all, without_tosses, Hearing}
 use Rattle.terms.specs.declared.Memory.{Memory as NoMemory}
-use Rattle.terms.specs.declared.Record.{Record}
-use Rattle.terms.specs.declared.Size.{Size}
-use Rattle.terms.specs.declared.Statement.{Statement}
-use Rattle.terms.specs.Bounds.{IsSize}
-use Rattle.terms.specs.Heard.{hear, hear_all}
-use Rattle.terms.specs.Keep.{keep_or}
-use Rattle.terms.specs.Past.{past_of}
-use Rattle.terms.specs.Reply.{AreReplies, records_of_all, without_tosses}
-use Rattle.terms.specs.Reply.Event.{Hearing}
 use Rattle.terms.proofs.Answer.{group_step}
 use Rattle.world.specs.World.{World, IsCorrect, IsAllowed, after}
 use Rattle.world.specs.World.Step.{Hears}
@@ -25,19 +15,19 @@ use Rattle.journal.specs.WellFormed.{AreWellFormedFor}
 use Rattle.questions.specs.declared.Core.{Core}
 use Rattle.questions.specs.declared.answer.Answer.{Answer}
 use Rattle.questions.specs.declared.answer.CoreFault.TheVariants as cores
-use Rattle.questions.specs.Cores.{Knows, size_of, me_of}
+use Rattle.questions.specs.Readers.{CoreStandsFor, core_size, core_me}
 use Rattle.member.specs.declared.fault.MemberFault.{MemberFault}
 use Rattle.member.specs.declared.fault.MemberFault.TheVariants.{Stopped, Device, Memory, JournalFull, NoSuchQuestion, NoSuchMember}
 use Rattle.member.specs.declared.group.Group.{Group}
 use Rattle.member.specs.declared.member.Member.{Member}
-use Rattle.member.specs.Answers.{question_of, members_of, gate_after}
+use Rattle.member.specs.Answers.{event_question, event_members, gate_after}
 use Rattle.member.specs.Faults.{fault_of, IsFaultOf, Stops}
-use Rattle.member.specs.Groups.{replies_of, AreAnswers, AnswersAll, AreOneEvent, AreWellFormed, IsFullOfAll, bad_number, refusal_of_all, AllReply, AllCome, LivesAll, MayAllBeCutOff, HeardInTurn}
-use Rattle.member.specs.Life.{IsAt, Goes}
+use Rattle.member.specs.Groups.{replies_of, AreAnswers, AnswersAll, AreOneEvent, AreWellFormedInGroup, IsFullOfAll, bad_number, refusal_of_all, AllReply, AllCome, LivesAll, MayAllBeCutOff, HeardInTurn}
+use Rattle.member.specs.Life.{MemberIsAt, DoesStep}
 use Rattle.member.specs.Outcomes.{HasSaved, HasFailed, StaysOn}
 use Rattle.member.specs.Sound.{IsFiled, IsSound, AreHeard}
-use Rattle.member.specs.Stands.{Stands}
-use Rattle.member.specs.Words.{disk_of, header_of, gate_of, saved_of, is_stopped_of, StandsFor}
+use Rattle.member.specs.Stands.{Endures}
+use Rattle.member.specs.Readers.{member_disk, member_header, member_gate, member_saved, member_is_stopped, MemberStandsFor}
 use Rattle.member.proofs.Formed.{heard_more, batch_for}
 use Rattle.member.proofs.Standing.{settled_holds, begins, stands_on}
 
@@ -45,7 +35,7 @@ use Rattle.member.proofs.Standing.{settled_holds, begins, stands_on}
 pub by_number : (P : MemberFault → Type 0) → P NoSuchQuestion → P NoSuchMember → (size : Size) (es : List (ℕ × Statement × ℕ)) (f : MemberFault) → bad_number size es ≡ Some f → P f
 by_number P q m size [] f h = cc
 by_number P q m size (e ∷ es) f h =
-    go (nat_le size.questions (question_of (Hearing e.0 e.1))) (list_any (λ a. nat_le size.n a) (members_of (Hearing e.0 e.1))) h (by_number P q m size es f)
+    go (nat_le size.questions (event_question (Hearing e.0 e.1))) (list_any (λ a. nat_le size.n a) (event_members (Hearing e.0 e.1))) h (by_number P q m size es f)
   where
     go : (a b : Bool) → keep_or (fault_of (if a then Some cores.NoSuchQuestion else (if b then Some cores.NoSuchMember else None))) (bad_number size es) ≡ Some f
         → (bad_number size es ≡ Some f → P f) → P f
@@ -62,127 +52,127 @@ pub no_fault_stops : (size : Size) (es : List (ℕ × Statement × ℕ)) (f g : 
 no_fault_stops size es f g h s o e is = let two : Err f ≡ Err g = sym e ∙ is in let same : f ≡ g = cc in no_stop size es f h (subst Stops (sym same) s)
 
 -- all that was heard after them is well formed
-all_heard : (size : Size) (heard : List (ℕ × Statement)) (es : List (ℕ × Statement × ℕ)) → AreHeard size heard → AreWellFormed size es → AreHeard size (hear_all heard (without_tosses es))
+all_heard : (size : Size) (heard : List (ℕ × Statement)) (es : List (ℕ × Statement × ℕ)) → AreHeard size heard → AreWellFormedInGroup size es → AreHeard size (hear_all heard (without_tosses es))
 all_heard size heard [] f g = f
 all_heard size heard (e ∷ es) f g = all_heard size (hear heard (e.0, e.1)) es (heard_more size heard e.0 e.1 f g.0) g.1
 
 -- what the core says
 pub record CalledAll {D : Type 0} (old : Member D) (es : List (ℕ × Statement × ℕ)) (core : Core) (heard : Result Group NoMemory) : Type 0 where
   pub in_turn : IfOk heard (λ group. HeardInTurn old.core es group.answers.items group.records.items core)
-  pub size : size_of core ≡ size_of old.core
-  pub me : me_of core ≡ me_of old.core
+  pub size : core_size core ≡ core_size old.core
+  pub me : core_me core ≡ core_me old.core
 
 -- what was kept of it
 pub record KeptAll {D : Type 0} (disk : DiskGhosts D) (old : Member D) (core : Core) (heard : Result Group NoMemory) (result : Result (Vec Answer) MemberFault) (new : Member D) : Type 0 where
   pub filed : IsFiled disk new
   pub answers_are : IfOk result (λ answers. IfOk heard (λ group. answers ≡ group.answers))
   pub heard_is : OnOk result (IsOk heard)
-  pub saved : OnOk result (IfOk heard (λ group. saved_of new ≡ saved_of old ++ group.records.items))
-  pub same : OnErr result (saved_of new ≡ saved_of old)
+  pub saved : OnOk result (IfOk heard (λ group. member_saved new ≡ member_saved old ++ group.records.items))
+  pub same : OnErr result (member_saved new ≡ member_saved old)
   pub core_is : new.core ≡ core
-  pub header : header_of new ≡ header_of old
-  pub going : OnOk result (is_stopped_of new ≡ false)
-  pub any_moment : disk.keeps (disk_of old) → IfOk heard (λ group. LeavesOnly disk.moment disk.since (disk_of old) (disk_of new)
-      (λ file. Holds (header_of old) (saved_of old) file ⊎ Holds (header_of old) (saved_of old ++ group.records.items) file))
-  pub refused : IfErr heard (λ _. disk_of new ≡ disk_of old)
+  pub header : member_header new ≡ member_header old
+  pub going : OnOk result (member_is_stopped new ≡ false)
+  pub any_moment : disk.keeps (member_disk old) → IfOk heard (λ group. LeavesOnly disk.moment disk.since (member_disk old) (member_disk new)
+      (λ file. Holds (member_header old) (member_saved old) file ⊎ Holds (member_header old) (member_saved old ++ group.records.items) file))
+  pub refused : IfErr heard (λ _. member_disk new ≡ member_disk old)
   pub told_is : IfErr heard (λ _. IsErrOf result Memory)
   pub stopping : IfErr result Stops
-  pub stops : OnErr result (is_stopped_of new ≡ true)
-  pub same_disk : IsErrOf result Memory ⊎ IsErrOf result JournalFull → disk_of new ≡ disk_of old
-  pub no_call : OnOk result (IfOk heard (λ group. length group.records.items ≡ 0 → disk_of new ≡ disk_of old))
+  pub stops : OnErr result (member_is_stopped new ≡ true)
+  pub same_disk : IsErrOf result Memory ⊎ IsErrOf result JournalFull → member_disk new ≡ member_disk old
+  pub no_call : OnOk result (IfOk heard (λ group. length group.records.items ≡ 0 → member_disk new ≡ member_disk old))
   pub full : IsErrOf result JournalFull → IsOk heard × IfOk heard (λ group. 2 ^ 31 < gate_after old (length group.records.items))
-  pub room : OnOk result (IfOk heard (λ group. 0 < length group.records.items → gate_of new ≡ gate_after old (length group.records.items)))
-  pub within : OnOk result (IfOk heard (λ group. 0 < length group.records.items → gate_of new ≤ 2 ^ 31))
-  pub device : IsErrOf result Device → disk.failures (disk_of old) < disk.failures (disk_of new)
-  pub failures : disk.failures (disk_of old) ≤ disk.failures (disk_of new)
-  pub kept : disk.keeps (disk_of old) ↔ disk.keeps (disk_of new)
+  pub room : OnOk result (IfOk heard (λ group. 0 < length group.records.items → member_gate new ≡ gate_after old (length group.records.items)))
+  pub within : OnOk result (IfOk heard (λ group. 0 < length group.records.items → member_gate new ≤ 2 ^ 31))
+  pub device : IsErrOf result Device → disk.failures (member_disk old) < disk.failures (member_disk new)
+  pub failures : disk.failures (member_disk old) ≤ disk.failures (member_disk new)
+  pub kept : disk.keeps (member_disk old) ↔ disk.keeps (member_disk new)
 
 module _ {D : Type 0} (disk : DiskGhosts D) (es : List (ℕ × Statement × ℕ)) (old : Member D) (core : Core)
-    (sound : IsSound disk old) (going : is_stopped_of old ≡ false) (formed : AreWellFormed (header_of old).size es) where
+    (sound : IsSound disk old) (going : member_is_stopped old ≡ false) (formed : AreWellFormedInGroup (member_header old).size es) where
   abbrev Turned : Group → Type 0
   Turned group = HeardInTurn old.core es group.answers.items group.records.items core
 
-  member : (header_of old).me < (header_of old).size.n
-  unfolding StandsFor
+  member : (member_header old).me < (member_header old).size.n
+  unfolding MemberStandsFor
   member = let m = (sound.stands_for going).1.member in let e = sound.me in let s = ap (λ (z : Size). z.n) sound.size in omega (arith, m, e, s)
 
   -- the answers are the replies of the definitions
   answers_for : (group : Group) → Turned group → AreAnswers old es (replies_of group.answers.items)
-  unfolding StandsFor
+  unfolding MemberStandsFor
   answers_for group t question records heard k =
-      subst (λ (z : Size). AreReplies (past_of z (header_of old).me question records heard) es (replies_of group.answers.items)) sound.size
-      (subst (λ (z : ℕ). AreReplies (past_of (size_of old.core) z question records heard) es (replies_of group.answers.items)) sound.me (t.replies question records heard k))
+      subst (λ (z : Size). AreReplies (past_of z (member_header old).me question records heard) es (replies_of group.answers.items)) sound.size
+      (subst (λ (z : ℕ). AreReplies (past_of (core_size old.core) z question records heard) es (replies_of group.answers.items)) sound.me (t.replies question records heard k))
 
   -- their records are well formed
-  pub well_formed_all : (heard : Result Group NoMemory) → CalledAll old es core heard → IfOk heard (λ group. AreWellFormedFor (header_of old) group.records.items)
-  unfolding StandsFor
+  pub well_formed_all : (heard : Result Group NoMemory) → CalledAll old es core heard → IfOk heard (λ group. AreWellFormedFor (member_header old) group.records.items)
+  unfolding MemberStandsFor
   well_formed_all (Err e) called = tt
   well_formed_all (Ok group) called =
       let h = sound.stands_for going in
-      let replies : AreReplies (past_of (header_of old).size (header_of old).me 0 (saved_of old) h.0) es (replies_of group.answers.items) =
-      answers_for group called.in_turn 0 (saved_of old) h.0 h.1 in
-      let step = group_step (past_of (header_of old).size (header_of old).me 0 (saved_of old) h.0) es (replies_of group.answers.items) replies in
-      let good : AreWellFormedFor (header_of old) (records_of_all (replies_of group.answers.items)) =
-      batch_for (header_of old) (saved_of old) (hear_all h.0 (without_tosses es)) _ sound.lawful member (all_heard (header_of old).size h.0 es h.2 formed) step.lawful in
-      subst (λ (l : List Record). AreWellFormedFor (header_of old) l) (sym called.in_turn.batch) good
+      let replies : AreReplies (past_of (member_header old).size (member_header old).me 0 (member_saved old) h.0) es (replies_of group.answers.items) =
+      answers_for group called.in_turn 0 (member_saved old) h.0 h.1 in
+      let step = group_step (past_of (member_header old).size (member_header old).me 0 (member_saved old) h.0) es (replies_of group.answers.items) replies in
+      let good : AreWellFormedFor (member_header old) (records_of_all (replies_of group.answers.items)) =
+      batch_for (member_header old) (member_saved old) (hear_all h.0 (without_tosses es)) _ sound.lawful member (all_heard (member_header old).size h.0 es h.2 formed) step.lawful in
+      subst (λ (l : List Record). AreWellFormedFor (member_header old) l) (sym called.in_turn.batch) good
 
   module _ (new : Member D) where
     -- afterwards it stands for more
     stands_after : (group : Group) (answers : Vec Answer) → Turned group → KeptAll disk old core (Ok group) (Ok answers) new
-        → (records : List Record) (heard : List (ℕ × Statement)) → StandsFor old records heard → StandsFor new (records ++ group.records.items) (hear_all heard (without_tosses es))
-    unfolding StandsFor
+        → (records : List Record) (heard : List (ℕ × Statement)) → MemberStandsFor old records heard → MemberStandsFor new (records ++ group.records.items) (hear_all heard (without_tosses es))
+    unfolding MemberStandsFor
     stands_after group answers t kept records heard k =
-        subst (λ (z : Core). Knows z (records ++ group.records.items) (hear_all heard (without_tosses es))) (sym kept.core_is) (t.knows records heard k)
+        subst (λ (z : Core). CoreStandsFor z (records ++ group.records.items) (hear_all heard (without_tosses es))) (sym kept.core_is) (t.knows records heard k)
 
     pub sounds_all : (heard : Result Group NoMemory) → CalledAll old es core heard → (result : Result (Vec Answer) MemberFault) → KeptAll disk old core heard result new → IsSound disk new
     sounds_all heard called result kept = record {
       filed = kept.filed;
       lawful = subst (λ (h : Header). IsSize h.size) (sym kept.header) sound.lawful;
-      size = ap size_of kept.core_is ∙ called.size ∙ sound.size ∙ ap (λ (h : Header). h.size) (sym kept.header);
-      me = ap me_of kept.core_is ∙ called.me ∙ sound.me ∙ ap (λ (h : Header). h.me) (sym kept.header);
+      size = ap core_size kept.core_is ∙ called.size ∙ sound.size ∙ ap (λ (h : Header). h.size) (sym kept.header);
+      me = ap core_me kept.core_is ∙ called.me ∙ sound.me ∙ ap (λ (h : Header). h.me) (sym kept.header);
       stands_for = λ up. go heard called result kept up;
     }
       where
-        go : (heard : Result Group NoMemory) → CalledAll old es core heard → (result : Result (Vec Answer) MemberFault) → KeptAll disk old core heard result new → is_stopped_of new ≡ false
-            → (all : List (ℕ × Statement)) × StandsFor new (saved_of new) all × AreHeard (header_of new).size all
+        go : (heard : Result Group NoMemory) → CalledAll old es core heard → (result : Result (Vec Answer) MemberFault) → KeptAll disk old core heard result new → member_is_stopped new ≡ false
+            → (all : List (ℕ × Statement)) × MemberStandsFor new (member_saved new) all × AreHeard (member_header new).size all
         go heard called (Err f) kept up = let e : true ≡ false = sym kept.stops ∙ up in cc
         go (Err e) called (Ok answers) kept up = let no : false ≡ true = kept.heard_is in cc
         go (Ok group) called (Ok answers) kept up =
             let h = sound.stands_for going in
             let all = hear_all h.0 (without_tosses es) in (
               all,
-              subst (λ (l : List Record). StandsFor new l all) (sym kept.saved) (stands_after group answers called.in_turn kept (saved_of old) h.0 h.1),
-              subst (λ (z : Header). AreHeard z.size all) (sym kept.header) (all_heard (header_of old).size h.0 es h.2 formed),
+              subst (λ (l : List Record). MemberStandsFor new l all) (sym kept.saved) (stands_after group answers called.in_turn kept (member_saved old) h.0 h.1),
+              subst (λ (z : Header). AreHeard z.size all) (sym kept.header) (all_heard (member_header old).size h.0 es h.2 formed),
             )
 
     module _ (counts_now : (d : D) (t : ℕ) (file : List ℕ) → disk.keeps d → t ≤ disk.moment d → MayLeave (disk.state d) file → disk.since d t file)
         (only_now : (d : D) (file : List ℕ) → disk.keeps d → disk.since d (disk.moment d) file → MayLeave (disk.state d) file)
         (may_leave_seen : (d : D) → disk.keeps d → MayLeave (disk.state d) (disk.state d).seen) where
       -- all that was saved is what each file holds that a crash leaves before the call
-      old_holds : disk.keeps (disk_of old) → (file : List ℕ) → MayLeave (disk.state (disk_of old)) file → Holds (header_of old) (saved_of old) file
-      unfolding disk_of
-      old_holds keeps file may = settled_holds disk (header_of old) (saved_of old) old.journal file (sound.filed.settled keeps going) may
+      old_holds : disk.keeps (member_disk old) → (file : List ℕ) → MayLeave (disk.state (member_disk old)) file → Holds (member_header old) (member_saved old) file
+      unfolding member_disk
+      old_holds keeps file may = settled_holds disk (member_header old) (member_saved old) old.journal file (sound.filed.settled keeps going) may
 
       pub standing_all : (heard : Result Group NoMemory) (result : Result (Vec Answer) MemberFault) → KeptAll disk old core heard result new
-          → disk.keeps (disk_of old) → (t : ℕ) (front : List Record) → t ≤ disk.moment (disk_of old)
-          → Stands (disk.since (disk_of old)) (header_of old) t front → Stands (disk.since (disk_of new)) (header_of old) t front
-      standing_all (Err e) result kept keeps t front le stands = subst (λ (d : D). Stands (disk.since d) (header_of old) t front) (sym kept.refused) stands
+          → disk.keeps (member_disk old) → (t : ℕ) (front : List Record) → t ≤ disk.moment (member_disk old)
+          → Endures (disk.since (member_disk old)) (member_header old) t front → Endures (disk.since (member_disk new)) (member_header old) t front
+      standing_all (Err e) result kept keeps t front le stands = subst (λ (d : D). Endures (disk.since d) (member_header old) t front) (sym kept.refused) stands
       standing_all (Ok group) result kept keeps t front le stands =
-          let b = begins disk counts_now may_leave_seen (header_of old) (disk_of old) (saved_of old) t front keeps
-          (old_holds keeps (disk.state (disk_of old)).seen (may_leave_seen (disk_of old) keeps)) le stands in
-          stands_on disk (header_of old) (disk_of old) (disk_of new) (saved_of old) group.records.items t front b le (kept.any_moment keeps) stands
+          let b = begins disk counts_now may_leave_seen (member_header old) (member_disk old) (member_saved old) t front keeps
+          (old_holds keeps (disk.state (member_disk old)).seen (may_leave_seen (member_disk old) keeps)) le stands in
+          stands_on disk (member_header old) (member_disk old) (member_disk new) (member_saved old) group.records.items t front b le (kept.any_moment keeps) stands
 
       pub acknowledged_all : (heard : Result Group NoMemory) (result : Result (Vec Answer) MemberFault) → KeptAll disk old core heard result new
-          → disk.keeps (disk_of old) → OnOk result (Stands (disk.since (disk_of new)) (header_of old) (disk.moment (disk_of new)) (saved_of new))
-      unfolding disk_of
+          → disk.keeps (member_disk old) → OnOk result (Endures (disk.since (member_disk new)) (member_header old) (disk.moment (member_disk new)) (member_saved new))
+      unfolding member_disk
       acknowledged_all heard (Err f) kept keeps = tt
-      acknowledged_all heard (Ok answers) kept keeps = λ file left. ([], now file (only_now (disk_of new) file (kept.kept.0 keeps) left))
+      acknowledged_all heard (Ok answers) kept keeps = λ file left. ([], now file (only_now (member_disk new) file (kept.kept.0 keeps) left))
         where
-          now : (file : List ℕ) → MayLeave (disk.state (disk_of new)) file → Holds (header_of old) (saved_of new ++ []) file
+          now : (file : List ℕ) → MayLeave (disk.state (member_disk new)) file → Holds (member_header old) (member_saved new ++ []) file
           now file may =
-              subst (λ (l : List Record). Holds (header_of old) l file) (sym (append-nil (saved_of new)))
-              (subst (λ (h : Header). Holds h (saved_of new) file) kept.header
-              (settled_holds disk (header_of new) (saved_of new) new.journal file (kept.filed.settled (kept.kept.0 keeps) kept.going) may))
+              subst (λ (l : List Record). Holds (member_header old) l file) (sym (append-nil (member_saved new)))
+              (subst (λ (h : Header). Holds h (member_saved new) file) kept.header
+              (settled_holds disk (member_header new) (member_saved new) new.journal file (kept.filed.settled (kept.kept.0 keeps) kept.going) may))
 
       pub answers_all : (heard : Result Group NoMemory) → CalledAll old es core heard → (result : Result (Vec Answer) MemberFault) → KeptAll disk old core heard result new
           → IfOk result (λ answers. AnswersAll old es answers.items new)
@@ -192,7 +182,7 @@ module _ {D : Type 0} (disk : DiskGhosts D) (es : List (ℕ × Statement × ℕ)
         replies = answers_for group called.in_turn;
         count = called.in_turn.count;
         stands_for = λ records before k.
-            subst (λ (l : List Record). StandsFor new (records ++ l) (hear_all before (without_tosses es))) called.in_turn.batch (stands_after group answers called.in_turn kept records before k);
+            subst (λ (l : List Record). MemberStandsFor new (records ++ l) (hear_all before (without_tosses es))) called.in_turn.batch (stands_after group answers called.in_turn kept records before k);
         few = subst (λ (l : List Record). length l ≤ 99 * length es) called.in_turn.batch called.in_turn.few;
       })
 
@@ -248,14 +238,14 @@ module _ {D : Type 0} (disk : DiskGhosts D) (es : List (ℕ × Statement × ℕ)
         stands = standing_all heard result kept;
       }
         where
-          later_at : (o : Result Group NoMemory) → IfErr o (λ _. disk_of new ≡ disk_of old)
-              → IfOk o (λ group. LeavesOnly disk.moment disk.since (disk_of old) (disk_of new)
-              (λ file. Holds (header_of old) (saved_of old) file ⊎ Holds (header_of old) (saved_of old ++ group.records.items) file))
-              → disk.moment (disk_of old) ≤ disk.moment (disk_of new)
+          later_at : (o : Result Group NoMemory) → IfErr o (λ _. member_disk new ≡ member_disk old)
+              → IfOk o (λ group. LeavesOnly disk.moment disk.since (member_disk old) (member_disk new)
+              (λ file. Holds (member_header old) (member_saved old) file ⊎ Holds (member_header old) (member_saved old ++ group.records.items) file))
+              → disk.moment (member_disk old) ≤ disk.moment (member_disk new)
           later_at (Err e) same leaves = let one = ap disk.moment same in omega (arith, one)
           later_at (Ok group) same leaves = leaves.later
 
-      module _ (header : Header) (liars : ℕ → Bool) (w : World) (correct : IsCorrect header.size liars header.me) (at : IsAt disk header w old) (comes : AllCome w es) where
+      module _ (header : Header) (liars : ℕ → Bool) (w : World) (correct : IsCorrect header.size liars header.me) (at : MemberIsAt disk header w old) (comes : AllCome w es) where
         -- the replies are those of the world's member
         replied : (group : Group) → Turned group → AllReply header w es (replies_of group.answers.items)
         replied group t question =
@@ -265,20 +255,20 @@ module _ {D : Type 0} (disk : DiskGhosts D) (es : List (ℕ × Statement × ℕ)
         allowed : (group : Group) → Turned group → (kept : Bool) → IsAllowed header.size liars w (Hears header.me (without_tosses es) (records_of_all (replies_of group.answers.items)) kept)
         allowed group t kept = hears_allowed header.size liars w header.me 0 es (replies_of group.answers.items) kept correct (at.up going).0 comes (replied group t 0)
 
-        named : (all saved : List Record) → all ≡ saved → (file : List ℕ) → Holds (header_of old) all file → Holds header saved file
+        named : (all saved : List Record) → all ≡ saved → (file : List ℕ) → Holds (member_header old) all file → Holds header saved file
         named all saved e file holds =
-            subst (λ (z : Header). Holds z saved file) at.header_is (subst (λ (l : List Record). Holds (header_of old) l file) e holds)
+            subst (λ (z : Header). Holds z saved file) at.header_is (subst (λ (l : List Record). Holds (member_header old) l file) e holds)
 
         -- what is left, in the world's words
-        either : (group : Group) → Turned group → (file : List ℕ) → Holds (header_of old) (saved_of old) file ⊎ Holds (header_of old) (saved_of old ++ group.records.items) file
+        either : (group : Group) → Turned group → (file : List ℕ) → Holds (member_header old) (member_saved old) file ⊎ Holds (member_header old) (member_saved old ++ group.records.items) file
             → Holds header (w.journal header.me) file ⊎ Holds header (w.journal header.me ++ records_of_all (replies_of group.answers.items)) file
-        either group t file (inl x) = inl (named (saved_of old) (w.journal header.me) at.records file x)
-        either group t file (inr x) = inr (named (saved_of old ++ group.records.items) (w.journal header.me ++ records_of_all (replies_of group.answers.items)) (λ i. at.records i ++ t.batch i) file x)
+        either group t file (inl x) = inl (named (member_saved old) (w.journal header.me) at.records file x)
+        either group t file (inr x) = inr (named (member_saved old ++ group.records.items) (w.journal header.me ++ records_of_all (replies_of group.answers.items)) (λ i. at.records i ++ t.batch i) file x)
 
         -- the member is down, with that batch in doubt
-        down : (batch : List Record) → disk.keeps (disk_of new) → header_of new ≡ header_of old → saved_of new ≡ saved_of old → is_stopped_of new ≡ true
-            → ((file : List ℕ) → MayLeave (disk.state (disk_of new)) file → Holds header (w.journal header.me) file ⊎ Holds header (w.journal header.me ++ batch) file)
-            → IsAt disk header (after w (Hears header.me (without_tosses es) batch false)) new
+        down : (batch : List Record) → disk.keeps (member_disk new) → member_header new ≡ member_header old → member_saved new ≡ member_saved old → member_is_stopped new ≡ true
+            → ((file : List ℕ) → MayLeave (disk.state (member_disk new)) file → Holds header (w.journal header.me) file ⊎ Holds header (w.journal header.me ++ batch) file)
+            → MemberIsAt disk header (after w (Hears header.me (without_tosses es) batch false)) new
         down batch keeps same saved stopped left =
             let d : (after w (Hears header.me (without_tosses es) batch false)).doubt header.me ≡ Some batch = put-here w.doubt header.me (Some batch) in
             record {
@@ -292,11 +282,11 @@ module _ {D : Type 0} (disk : DiskGhosts D) (es : List (ℕ × Statement × ℕ)
         of_ok : (group : Group) (answers : Vec Answer) → Turned group → KeptAll disk old core (Ok group) (Ok answers) new → LivesAll disk header liars w es (Ok answers) old new
         of_ok group answers t k =
             let batch : List Record = records_of_all (replies_of group.answers.items) in
-            let saved : saved_of new ≡ w.journal header.me ++ batch = k.saved ∙ (λ i. at.records i ++ t.batch i) in
+            let saved : member_saved new ≡ w.journal header.me ++ batch = k.saved ∙ (λ i. at.records i ++ t.batch i) in
             let j : (after w (Hears header.me (without_tosses es) batch true)).journal header.me ≡ w.journal header.me ++ batch = put-here w.journal header.me (w.journal header.me ++ batch) in
             let h : (after w (Hears header.me (without_tosses es) batch true)).heard header.me ≡ hear_all (w.heard header.me) (without_tosses es) = put-here w.heard header.me (hear_all (w.heard header.me) (without_tosses es)) in
-            let stands : StandsFor new (w.journal header.me ++ batch) (hear_all (w.heard header.me) (without_tosses es)) =
-            subst (λ (l : List Record). StandsFor new (w.journal header.me ++ l) (hear_all (w.heard header.me) (without_tosses es))) t.batch
+            let stands : MemberStandsFor new (w.journal header.me ++ batch) (hear_all (w.heard header.me) (without_tosses es)) =
+            subst (λ (l : List Record). MemberStandsFor new (w.journal header.me ++ l) (hear_all (w.heard header.me) (without_tosses es))) t.batch
             (stands_after group answers t k (w.journal header.me) (w.heard header.me) (at.up going).1) in
             subst (λ (v : Vec Answer). LivesAll disk header liars w es (Ok v) old new) (sym k.answers_are) (
               replied group t,
@@ -321,15 +311,15 @@ module _ {D : Type 0} (disk : DiskGhosts D) (es : List (ℕ × Statement × ℕ)
               (
                 allowed group t false,
                 down (records_of_all (replies_of group.answers.items)) keeps k.header k.same k.stops (λ file may.
-                    either group t file (leaves.each file (counts_now (disk_of new) (disk.moment (disk_of old)) file keeps leaves.later may))),
+                    either group t file (leaves.each file (counts_now (member_disk new) (disk.moment (member_disk old)) file keeps leaves.later may))),
               ),
             )
 
-        of_none : (f : MemberFault) (heard : Result Group NoMemory) → KeptAll disk old core heard (Err f) new → disk_of new ≡ disk_of old → Goes disk header liars w (Hears header.me (without_tosses es) [] false) new
+        of_none : (f : MemberFault) (heard : Result Group NoMemory) → KeptAll disk old core heard (Err f) new → member_disk new ≡ member_disk old → DoesStep disk header liars w (Hears header.me (without_tosses es) [] false) new
         of_none f heard k same = (
           (correct, (at.up going).0, comes, tt),
           down [] (k.kept.0 at.keeps) k.header k.same k.stops (λ file may.
-              inl (named (saved_of old) (w.journal header.me) at.records file (old_holds at.keeps file (subst (λ (d : D). MayLeave (disk.state d) file) same may)))),
+              inl (named (member_saved old) (w.journal header.me) at.records file (old_holds at.keeps file (subst (λ (d : D). MayLeave (disk.state d) file) same may)))),
         )
 
         pub lives_all : (heard : Result Group NoMemory) → CalledAll old es core heard → (result : Result (Vec Answer) MemberFault) → KeptAll disk old core heard result new
@@ -361,21 +351,21 @@ module _ {D : Type 0} (disk : DiskGhosts D) (es : List (ℕ × Statement × ℕ)
             })
 
 -- a bad number is refused, and nothing happens
-module _ {D : Type 0} (disk : DiskGhosts D) (old : Member D) (es : List (ℕ × Statement × ℕ)) (going : is_stopped_of old ≡ false) (f : MemberFault)
-    (bad : bad_number (header_of old).size es ≡ Some f) where
+module _ {D : Type 0} (disk : DiskGhosts D) (old : Member D) (es : List (ℕ × Statement × ℕ)) (going : member_is_stopped old ≡ false) (f : MemberFault)
+    (bad : bad_number (member_header old).size es ≡ Some f) where
   pub number_fails : HasFailed disk old (refusal_of_all old es) (IsFullOfAll old es) f old
   number_fails = record {
     cause = let first : refusal_of_all old es ≡ Some f = rw going bad in subst (λ (o : Option MemberFault). IsFaultOf o f) (sym first) refl;
     refused = λ goes_on. refl;
-    stops = λ stops. absurd (no_stop (header_of old).size es f bad stops);
+    stops = λ stops. absurd (no_stop (member_header old).size es f bad stops);
     same = refl;
     same_disk = λ which. refl;
-    device = λ is. absurd (no_stop (header_of old).size es f bad (subst Stops (sym is) tt));
-    full = λ is. absurd (no_stop (header_of old).size es f bad (subst Stops (sym is) tt));
+    device = λ is. absurd (no_stop (member_header old).size es f bad (subst Stops (sym is) tt));
+    full = λ is. absurd (no_stop (member_header old).size es f bad (subst Stops (sym is) tt));
   }
 
   pub number_no_event : AreOneEvent disk es old (Err f) old
   number_no_event = record {
-    life = λ header liars w correct at comes. by_number (λ g. LivesAll disk header liars w es (Err g) old old) refl refl (header_of old).size es f bad;
+    life = λ header liars w correct at comes. by_number (λ g. LivesAll disk header liars w es (Err g) old old) refl refl (member_header old).size es f bad;
     cut = λ header liars w correct at comes. inl refl;
   }

@@ -1,6 +1,6 @@
 -- What a call of a member comes to, as its contract says it.
 use Rattle.std.proofs.Common.{◌≡◌, ◌⊎◌, inl, inr, ◌≤◌, ℕ, true, false, Option, None, Result, Ok, Err, IfOk, IfErr, IsErrOf, List, length, refl, ap, subst, arith}
-use Rattle.terms.specs.Reply.{Event, records_of}
+use Rattle.vocabulary.specs.Terms.{Event, records_of}
 use Rattle.disk.specs.Model.{MayLeave}
 use Rattle.disk.specs.declared.device.Disk.{Ghosts as DiskGhosts}
 use Rattle.questions.specs.declared.Core.{Core}
@@ -11,11 +11,11 @@ use Rattle.questions.specs.Replies.{reply_of}
 use Rattle.member.specs.declared.fault.MemberFault.{MemberFault}
 use Rattle.member.specs.declared.fault.MemberFault.TheVariants.{Stopped, Memory, JournalFull}
 use Rattle.member.specs.declared.member.Member.{Member}
-use Rattle.member.specs.Answers.{question_of, members_of, IsFull}
+use Rattle.member.specs.Answers.{event_question, event_members, IsFull}
 use Rattle.member.specs.Faults.{refusal}
 use Rattle.member.specs.Outcomes.{AnswersTo, HasSaved, HasFailed, StaysOn, IsOneEvent}
 use Rattle.member.specs.Sound.{IsSound}
-use Rattle.member.specs.Words.{header_of, is_stopped_of}
+use Rattle.member.specs.Readers.{member_header, member_is_stopped}
 use Rattle.member.proofs.Calls.{Called, Kept, replies, stands_for, errs, unmoved, fulls}
 use Rattle.member.proofs.Formed.{IsFormed}
 use Rattle.member.proofs.Lives.{standing, later, acknowledged, lives, cut}
@@ -35,7 +35,7 @@ module _ {D : Type 0} (disk : DiskGhosts D) (old : Member D) where
   no_event toss event = record { life = λ header liars w correct at comes. refl; cut = λ header liars w correct at comes. inl refl }
 
   -- a stopped member refuses everything
-  pub stopped_fails : (toss : ℕ) (event : Event) → is_stopped_of old ≡ true → HasFailed disk old (refusal old event) (IsFull old toss event) Stopped old
+  pub stopped_fails : (toss : ℕ) (event : Event) → member_is_stopped old ≡ true → HasFailed disk old (refusal old event) (IsFull old toss event) Stopped old
   stopped_fails toss event stopped = record {
     cause = rw stopped refl;
     refused = λ goes_on. refl;
@@ -51,8 +51,8 @@ module _ {D : Type 0} (disk : DiskGhosts D)
     (only_now : (d : D) (file : List ℕ) → disk.keeps d → disk.since d (disk.moment d) file → MayLeave (disk.state d) file)
     (may_leave_seen : (d : D) → disk.keeps d → MayLeave (disk.state d) (disk.state d).seen)
     (toss : ℕ) (event : Event) (old : Member D) (core : Core) (answer : Result Answer CoreFault)
-    (sound : IsSound disk old) (going : is_stopped_of old ≡ false) (called : Called old toss event core answer)
-    (formed : number_fault (header_of old).size (question_of event) (members_of event) ≡ None → IsFormed (header_of old).size event) (new : Member D) where
+    (sound : IsSound disk old) (going : member_is_stopped old ≡ false) (called : Called old toss event core answer)
+    (formed : number_fault (member_header old).size (event_question event) (event_members event) ≡ None → IsFormed (member_header old).size event) (new : Member D) where
   pub answers_to : (result : Result Answer MemberFault) → Kept disk old core answer result new → IfOk result (λ a. AnswersTo old toss event (reply_of a) new)
   answers_to (Err f) kept = tt
   answers_to (Ok a) kept = record {

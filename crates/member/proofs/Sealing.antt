@@ -1,8 +1,6 @@
 -- Numbers of statements.
-use Rattle.std.proofs.Common.{◌≡◌, ℕ, ◌+◌, List, [], ◌∷◌, ◌++◌, length, ap, sym, arith, ◌∙◌, Some, None, zero, suc}
-use Rattle.std.specs.Prelude.{slice_get}
-use Rattle.terms.specs.declared.Record.{Record}
-use Rattle.terms.specs.declared.Record.TheVariants.{Said, Decided}
+use Rattle.std.proofs.Common.{◌≡◌, ℕ, ◌+◌, List, [], ◌∷◌, ◌++◌, length, ap, sym, arith, ◌∙◌, Some, None, zero, suc, slice_get}
+use Rattle.vocabulary.specs.Terms.{Record, Said, Decided}
 use Rattle.member.specs.declared.sealed.Sealed.{Sealed}
 use Rattle.member.specs.Sealed.{seal_of, sealed_from, IsAmong}
 

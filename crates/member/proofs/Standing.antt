@@ -1,35 +1,32 @@
 -- What stands over a call.
 use Rattle.std.proofs.Common.{◌≡◌, ◌⊎◌, inl, ⊎_elim, ◌≤◌, ℕ, Result, Ok, Err, IfOk, List, [], ◌∷◌, ◌++◌, append-nil, sym, ap, ◌∙◌, subst, arith, append_assoc}
-use Rattle.terms.specs.declared.Record.{Record}
-use Rattle.terms.specs.declared.Header.{Header}
-use Rattle.terms.specs.declared.Memory.{Memory}
-use Rattle.terms.specs.Reply.{records_of}
+use Rattle.vocabulary.specs.Terms.{Record, Header, Memory, records_of}
 use Rattle.questions.specs.declared.answer.Answer.{Answer}
 use Rattle.questions.specs.declared.answer.CoreFault.{CoreFault}
 use Rattle.questions.specs.Replies.{reply_of}
 use Rattle.disk.specs.Model.{MayLeave, LeavesOnly, at_rest}
 use Rattle.disk.specs.declared.device.Disk.{Ghosts as DiskGhosts}
 use Rattle.journal.specs.declared.journal.Journal.{Journal}
-use Rattle.journal.specs.File.{Begins, Holds}
-use Rattle.journal.specs.Texts.{header_text, texts}
-use Rattle.journal.specs.Words.{disk_by, gate_by, IsSettled}
+use Rattle.journal.specs.File.{IsFrontOf, Holds}
+use Rattle.journal.specs.Texts.{header_text, batches_bytes}
+use Rattle.journal.specs.Readers.{journal_disk, journal_gate, IsAtRest}
 use Rattle.journal.proofs.Crash.{begins_kept}
 use Rattle.journal.proofs.Held.{left_holds}
 use Rattle.journal.proofs.One.{holds_one}
 use Rattle.member.specs.declared.group.Group.{Group}
-use Rattle.member.specs.Stands.{Stands}
+use Rattle.member.specs.Stands.{Endures}
 
 -- what each file holds that a crash leaves of an open journal
 pub settled_holds : {D : Type 0} (disk : DiskGhosts D) (header : Header) (all : List Record) (journal : Journal D) (file : List ℕ)
-    → IsSettled disk.state header all journal → MayLeave (disk.state (disk_by journal)) file → Holds header all file
+    → IsAtRest disk.state header all journal → MayLeave (disk.state (journal_disk journal)) file → Holds header all file
 settled_holds disk header all journal file settled may =
-    left_holds (disk.state (disk_by journal)) header (gate_by journal) all settled.held file may
+    left_holds (disk.state (journal_disk journal)) header (journal_gate journal) all settled.held file may
 
 -- what a file holds that is all on the disk is what each file holds that a crash may leave of it
 pub rest_holds : (header : Header) (all : List Record) (seen file : List ℕ) → Holds header all seen → MayLeave (at_rest seen) file → Holds header all file
 rest_holds header all seen file held may =
-    let front = header_text header ++ texts held.batches in
-    let begins : Begins (front ++ 0 ∷ []) file =
+    let front = header_text header ++ batches_bytes held.batches in
+    let begins : IsFrontOf (front ++ 0 ∷ []) file =
     begins_kept (front ++ 0 ∷ []) seen file (held.rest, held.is ∙ sym (append_assoc front (0 ∷ []) held.rest)) may in
     record {
       lawful = held.lawful;
@@ -42,18 +39,18 @@ rest_holds header all seen file held may =
 
 -- all that an open journal holds stands from now on
 pub stands_settled : {D : Type 0} (disk : DiskGhosts D) (only_now : (d : D) (file : List ℕ) → disk.keeps d → disk.since d (disk.moment d) file → MayLeave (disk.state d) file)
-    (header : Header) (all : List Record) (journal : Journal D) → disk.keeps (disk_by journal) → IsSettled disk.state header all journal
-    → Stands (disk.since (disk_by journal)) header (disk.moment (disk_by journal)) all
+    (header : Header) (all : List Record) (journal : Journal D) → disk.keeps (journal_disk journal) → IsAtRest disk.state header all journal
+    → Endures (disk.since (journal_disk journal)) header (disk.moment (journal_disk journal)) all
 stands_settled disk only_now header all journal keeps settled file left =
-    ([], subst (λ (l : List Record). Holds header l file) (sym (append-nil all)) (settled_holds disk header all journal file settled (only_now (disk_by journal) file keeps left)))
+    ([], subst (λ (l : List Record). Holds header l file) (sym (append-nil all)) (settled_holds disk header all journal file settled (only_now (journal_disk journal) file keeps left)))
 
 -- a call that leaves the disk leaves what was held
 pub still : {D : Type 0} (disk : DiskGhosts D) (only_now : (d : D) (file : List ℕ) → disk.keeps d → disk.since d (disk.moment d) file → MayLeave (disk.state d) file)
-    (header : Header) (all batch : List Record) (journal : Journal D) → disk.keeps (disk_by journal) → IsSettled disk.state header all journal
-    → LeavesOnly disk.moment disk.since (disk_by journal) (disk_by journal) (λ file. Holds header all file ⊎ Holds header (all ++ batch) file)
+    (header : Header) (all batch : List Record) (journal : Journal D) → disk.keeps (journal_disk journal) → IsAtRest disk.state header all journal
+    → LeavesOnly disk.moment disk.since (journal_disk journal) (journal_disk journal) (λ file. Holds header all file ⊎ Holds header (all ++ batch) file)
 still disk only_now header all batch journal keeps settled = record {
   later = omega arith;
-  each = λ file left. inl (settled_holds disk header all journal file settled (only_now (disk_by journal) file keeps left));
+  each = λ file left. inl (settled_holds disk header all journal file settled (only_now (journal_disk journal) file keeps left));
   before = λ t file le left. inl left;
 }
 
@@ -62,7 +59,7 @@ pub begins : {D : Type 0} (disk : DiskGhosts D)
     (counts_now : (d : D) (t : ℕ) (file : List ℕ) → disk.keeps d → t ≤ disk.moment d → MayLeave (disk.state d) file → disk.since d t file)
     (may_leave_seen : (d : D) → disk.keeps d → MayLeave (disk.state d) (disk.state d).seen)
     (header : Header) (d : D) (all : List Record) (t : ℕ) (front : List Record) → disk.keeps d → Holds header all (disk.state d).seen → t ≤ disk.moment d
-    → Stands (disk.since d) header t front → (others : List Record) × (front ++ others ≡ all)
+    → Endures (disk.since d) header t front → (others : List Record) × (front ++ others ≡ all)
 begins disk counts_now may_leave_seen header d all t front keeps held le stands =
     let here = stands (disk.state d).seen (counts_now d t (disk.state d).seen keeps le (may_leave_seen d keeps)) in
     (here.0, (holds_one header header (front ++ here.0) all (disk.state d).seen here.1 held).1)
@@ -71,7 +68,7 @@ begins disk counts_now may_leave_seen header d all t front keeps held le stands 
 pub stands_on : {D : Type 0} (disk : DiskGhosts D) (header : Header) (old new : D) (all batch : List Record) (t : ℕ) (front : List Record)
     → (others : List Record) × (front ++ others ≡ all) → t ≤ disk.moment old
     → LeavesOnly disk.moment disk.since old new (λ file. Holds header all file ⊎ Holds header (all ++ batch) file)
-    → Stands (disk.since old) header t front → Stands (disk.since new) header t front
+    → Endures (disk.since old) header t front → Endures (disk.since new) header t front
 stands_on disk header old new all batch t front b le leaves stands file left =
     ⊎_elim (λ was. stands file was) (⊎_elim
     (λ one. (b.0, subst (λ (l : List Record). Holds header l file) (sym b.1) one))
@@ -83,13 +80,13 @@ pub stands_opened : {D : Type 0} (disk : DiskGhosts D)
     (counts_now : (d : D) (t : ℕ) (file : List ℕ) → disk.keeps d → t ≤ disk.moment d → MayLeave (disk.state d) file → disk.since d t file)
     (header : Header) (old new : D) (t : ℕ) (front : List Record) → disk.keeps old → t ≤ disk.moment old
     → LeavesOnly disk.moment disk.since old new (MayLeave (disk.state old))
-    → Stands (disk.since old) header t front → Stands (disk.since new) header t front
+    → Endures (disk.since old) header t front → Endures (disk.since new) header t front
 stands_opened disk counts_now header old new t front keeps le leaves stands file left =
     ⊎_elim (λ was. stands file was) (λ may. stands file (counts_now old t file keeps le may)) (leaves.before t file le left)
 
 -- what is settled, by equal names
 pub settled_as : {D : Type 0} (disk : DiskGhosts D) (header other : Header) (all longer : List Record) (journal : Journal D) → other ≡ header → longer ≡ all
-    → IsSettled disk.state header all journal → IsSettled disk.state other longer journal
+    → IsAtRest disk.state header all journal → IsAtRest disk.state other longer journal
 settled_as disk header other all longer journal e l settled = rw (e, l) settled
 
 -- what a call leaves of the records of an answer, as the result says it that has the answer

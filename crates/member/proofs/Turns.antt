@@ -1,20 +1,13 @@
 -- A core that hears statements one after another.
-use Rattle.std.proofs.Common.{◌≡◌, ◌+◌, ◌<◌, ◌≤◌, ℕ, suc, List, [], ◌∷◌, ◌++◌, take, get_or, length, refl, sym, ap, subst, ◌∙◌, arith, append-nil, append_assoc}
+use Rattle.std.proofs.Common.{◌≡◌, ◌+◌, ◌<◌, ◌≤◌, ℕ, suc, List, [], ◌∷◌, ◌++◌, take, get_or, length, refl, sym, ap, subst, ◌∙◌, arith, append-nil, append_assoc, length-append}
 use Rattle.std.proofs.Math.Seq.{take-suc}
-use Rattle.std.proofs.lemmas.List.{map-append, length-append}
-use Rattle.terms.specs.declared.Record.{Record}
-use Rattle.terms.specs.declared.Size.{Size}
-use Rattle.terms.specs.declared.Statement.{Statement}
-use Rattle.terms.specs.Heard.{hear, hear_all}
-use Rattle.terms.specs.Past.{Past, past_of, after_hearing}
-use Rattle.terms.specs.Reply.{Reply, IsReply, AreReplies, after_reply, records_of, records_of_all, without_tosses}
-use Rattle.terms.specs.Reply.Event.{Hearing}
-use Rattle.terms.specs.Reply.Reply.{Foreign, Repeat, Have, Taken}
+use Rattle.std.proofs.lemmas.List.{map-append}
+use Rattle.vocabulary.specs.Terms.{Record, Size, Statement, hear, hear_all, Past, past_of, after_hearing, Reply, IsReply, AreReplies, after_reply, records_of, records_of_all, without_tosses, Hearing, Foreign, Repeat, Have, Taken}
 use Rattle.terms.proofs.Answer.{after_records_is}
 use Rattle.rounds.specs.declared.tosses.Toss.{Toss}
 use Rattle.questions.specs.declared.Core.{Core}
 use Rattle.questions.specs.declared.answer.Answer.{Answer}
-use Rattle.questions.specs.Cores.{Knows, size_of, me_of}
+use Rattle.questions.specs.Readers.{CoreStandsFor, core_size, core_me}
 use Rattle.questions.specs.Replies.{reply_of}
 use Rattle.member.specs.Groups.{hearing_of, hearings, replies_of, HeardInTurn}
 
@@ -66,26 +59,26 @@ hearings_more events i d l =
 -- one turn: the core answers one more
 pub turn : (old mid new : Core) (es : List (ℕ × Statement × ℕ)) (answers : List Answer) (records : List Record) (a toss : ℕ) (s : Statement) (answer : Answer)
     → HeardInTurn old es answers records mid
-    → ((saved : List Record) (heard : List (ℕ × Statement)) → Knows mid saved heard → IsReply (past_of (size_of mid) (me_of mid) s.place.question saved heard) toss (Hearing a s) (reply_of answer))
-    → ((saved : List Record) (heard : List (ℕ × Statement)) → Knows mid saved heard → Knows new (saved ++ records_of (reply_of answer)) (hear heard (a, s)))
-    → length (records_of (reply_of answer)) ≤ 99 → size_of new ≡ size_of mid → me_of new ≡ me_of mid
+    → ((saved : List Record) (heard : List (ℕ × Statement)) → CoreStandsFor mid saved heard → IsReply (past_of (core_size mid) (core_me mid) s.place.question saved heard) toss (Hearing a s) (reply_of answer))
+    → ((saved : List Record) (heard : List (ℕ × Statement)) → CoreStandsFor mid saved heard → CoreStandsFor new (saved ++ records_of (reply_of answer)) (hear heard (a, s)))
+    → length (records_of (reply_of answer)) ≤ 99 → core_size new ≡ core_size mid → core_me new ≡ core_me mid
     → HeardInTurn old (es ++ (a, s, toss) ∷ []) (answers ++ answer ∷ []) (records ++ records_of (reply_of answer)) new
 turn old mid new es answers records a toss s answer h reply knows few size me =
     let replies_are : replies_of (answers ++ answer ∷ []) ≡ replies_of answers ++ reply_of answer ∷ [] = map-append reply_of answers (answer ∷ []) in
     record {
       replies = λ q saved heard k.
-          let now : Knows mid (saved ++ records) (hear_all heard (without_tosses es)) = h.knows saved heard k in
-          let said : IsReply (past_of (size_of mid) (me_of mid) s.place.question (saved ++ records) (hear_all heard (without_tosses es))) toss (Hearing a s) (reply_of answer) = reply _ _ now in
-          let same : IsReply (past_of (size_of old) (me_of old) s.place.question (saved ++ records_of_all (replies_of answers)) (hear_all heard (without_tosses es))) toss (Hearing a s) (reply_of answer) =
-          subst (λ (l : List Record). IsReply (past_of (size_of old) (me_of old) s.place.question (saved ++ l) (hear_all heard (without_tosses es))) toss (Hearing a s) (reply_of answer)) h.batch
-          (subst (λ (z : Size). IsReply (past_of z (me_of old) s.place.question (saved ++ records) (hear_all heard (without_tosses es))) toss (Hearing a s) (reply_of answer)) h.size
-          (subst (λ (z : ℕ). IsReply (past_of (size_of mid) z s.place.question (saved ++ records) (hear_all heard (without_tosses es))) toss (Hearing a s) (reply_of answer)) h.me said)) in
-          subst (λ (l : List Reply). AreReplies (past_of (size_of old) (me_of old) q saved heard) (es ++ (a, s, toss) ∷ []) l) (sym replies_are)
-          (one_more (past_of (size_of old) (me_of old) q saved heard) es (replies_of answers) toss a s (reply_of answer) (h.replies q saved heard k)
-          (any_question (size_of old) (me_of old) s.place.question q _ _ toss a s (reply_of answer) same));
+          let now : CoreStandsFor mid (saved ++ records) (hear_all heard (without_tosses es)) = h.knows saved heard k in
+          let said : IsReply (past_of (core_size mid) (core_me mid) s.place.question (saved ++ records) (hear_all heard (without_tosses es))) toss (Hearing a s) (reply_of answer) = reply _ _ now in
+          let same : IsReply (past_of (core_size old) (core_me old) s.place.question (saved ++ records_of_all (replies_of answers)) (hear_all heard (without_tosses es))) toss (Hearing a s) (reply_of answer) =
+          subst (λ (l : List Record). IsReply (past_of (core_size old) (core_me old) s.place.question (saved ++ l) (hear_all heard (without_tosses es))) toss (Hearing a s) (reply_of answer)) h.batch
+          (subst (λ (z : Size). IsReply (past_of z (core_me old) s.place.question (saved ++ records) (hear_all heard (without_tosses es))) toss (Hearing a s) (reply_of answer)) h.size
+          (subst (λ (z : ℕ). IsReply (past_of (core_size mid) z s.place.question (saved ++ records) (hear_all heard (without_tosses es))) toss (Hearing a s) (reply_of answer)) h.me said)) in
+          subst (λ (l : List Reply). AreReplies (past_of (core_size old) (core_me old) q saved heard) (es ++ (a, s, toss) ∷ []) l) (sym replies_are)
+          (one_more (past_of (core_size old) (core_me old) q saved heard) es (replies_of answers) toss a s (reply_of answer) (h.replies q saved heard k)
+          (any_question (core_size old) (core_me old) s.place.question q _ _ toss a s (reply_of answer) same));
       knows = λ saved heard k.
-          subst (λ (l : List Record). Knows new l (hear_all heard (without_tosses (es ++ (a, s, toss) ∷ [])))) (append_assoc saved records (records_of (reply_of answer)))
-          (subst (λ (l : List (ℕ × Statement)). Knows new ((saved ++ records) ++ records_of (reply_of answer)) l) (sym (heard_more heard es a toss s))
+          subst (λ (l : List Record). CoreStandsFor new l (hear_all heard (without_tosses (es ++ (a, s, toss) ∷ [])))) (append_assoc saved records (records_of (reply_of answer)))
+          (subst (λ (l : List (ℕ × Statement)). CoreStandsFor new ((saved ++ records) ++ records_of (reply_of answer)) l) (sym (heard_more heard es a toss s))
           (knows (saved ++ records) (hear_all heard (without_tosses es)) (h.knows saved heard k)));
       batch = ap (λ (l : List Record). l ++ records_of (reply_of answer)) h.batch ∙ sym (records_more (replies_of answers) (reply_of answer)) ∙ ap records_of_all (sym replies_are);
       count = let c = h.count in let x = length-append answers (answer ∷ []) in let y = length-append es ((a, s, toss) ∷ []) in omega (arith, c, x, y);
@@ -97,11 +90,11 @@ turn old mid new es answers records a toss s answer h reply knows few size me =
 -- the same, where the lists go by other names
 pub turn_as : (old mid new : Core) (events : List (ℕ × Statement × Toss)) (i : ℕ) (item : ℕ × Statement × Toss) (answers longer : List Answer) (records batch : List Record) (answer : Answer)
     → i < length events → item ≡ get_or events i item → HeardInTurn old (hearings (take i events)) answers records mid
-    → ((saved : List Record) (heard : List (ℕ × Statement)) → Knows mid saved heard
-    → IsReply (past_of (size_of mid) (me_of mid) item.1.place.question saved heard) item.2.0 (Hearing item.0 item.1) (reply_of answer))
-    → ((saved : List Record) (heard : List (ℕ × Statement)) → Knows mid saved heard
-    → Knows new (saved ++ records_of (reply_of answer)) (hear heard (item.0, item.1)))
-    → length (records_of (reply_of answer)) ≤ 99 → size_of new ≡ size_of mid → me_of new ≡ me_of mid
+    → ((saved : List Record) (heard : List (ℕ × Statement)) → CoreStandsFor mid saved heard
+    → IsReply (past_of (core_size mid) (core_me mid) item.1.place.question saved heard) item.2.0 (Hearing item.0 item.1) (reply_of answer))
+    → ((saved : List Record) (heard : List (ℕ × Statement)) → CoreStandsFor mid saved heard
+    → CoreStandsFor new (saved ++ records_of (reply_of answer)) (hear heard (item.0, item.1)))
+    → length (records_of (reply_of answer)) ≤ 99 → core_size new ≡ core_size mid → core_me new ≡ core_me mid
     → longer ≡ answers ++ answer ∷ [] → batch ≡ records ++ records_of (reply_of answer)
     → HeardInTurn old (hearings (take (i + 1) events)) longer batch new
 turn_as old mid new events i item answers longer records batch answer l is h reply knows few size me more others =

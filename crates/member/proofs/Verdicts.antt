@@ -1,8 +1,6 @@
 -- What a verdict is in the world.
 use Rattle.std.proofs.Common.{◌≡◌, ℕ, Bool, true, ◌||◌, Option, Some, None, List, ◌++◌, refl, sym, ap, subst, ◌∙◌}
-use Rattle.terms.specs.declared.Record.{Record}
-use Rattle.terms.specs.declared.Header.{Header}
-use Rattle.terms.specs.Journal.{decided, has_decided}
+use Rattle.vocabulary.specs.Terms.{Record, Header, decided, has_decided}
 use Rattle.terms.proofs.Journal.{decided-has, has_decided-append}
 use Rattle.disk.specs.declared.device.Disk.{Ghosts as DiskGhosts}
 use Rattle.world.specs.World.{World, Step, EveryRun, start, after_all}
@@ -11,8 +9,8 @@ use Rattle.world.proofs.Runs.{journals_grow, after_all-append}
 use Rattle.member.specs.declared.member.Member.{Member}
 use Rattle.member.specs.Answers.{bit_of, verdict_of}
 use Rattle.member.specs.Laws.{VerdictsAgree, VerdictsAreProposed}
-use Rattle.member.specs.Life.{IsAt}
-use Rattle.member.specs.Words.{header_of, saved_of}
+use Rattle.member.specs.Life.{MemberIsAt}
+use Rattle.member.specs.Readers.{member_header, member_saved}
 
 -- its bit is that of a decision among the records
 decision_of : (records : List Record) (question : ℕ) (bit : Bool) → verdict_of records question ≡ Some bit
@@ -26,8 +24,8 @@ decision_of records question bit h = go (decided records question) refl h
         (round, decided-has records question round bit (e ∙ ap (λ (b : Bool). Some (round, b)) same))
 
 -- and so of one that the world has of the member
-pub world_decides : {D : Type 0} (disk : DiskGhosts D) (m : Member D) (header : Header) (w : World) → IsAt disk header w m
-    → (question : ℕ) (bit : Bool) → verdict_of (saved_of m) question ≡ Some bit
+pub world_decides : {D : Type 0} (disk : DiskGhosts D) (m : Member D) (header : Header) (w : World) → MemberIsAt disk header w m
+    → (question : ℕ) (bit : Bool) → verdict_of (member_saved m) question ≡ Some bit
     → (round : ℕ) × (has_decided (w.journal header.me) question round bit ≡ true)
 world_decides disk m header w at question bit h =
     decision_of (w.journal header.me) question bit (subst (λ (l : List Record). verdict_of l question ≡ Some bit) at.records h)
@@ -45,13 +43,13 @@ decided_later w steps p question round bit h =
 
 pub verdicts_agree : {D E : Type 0} (disk : DiskGhosts D) (other : DiskGhosts E) → EveryRun Agree → VerdictsAgree disk other
 verdicts_agree disk other agree size liars steps more reached m k one two question bit another said says =
-    let mine = world_decides disk m (header_of m) (after_all start steps) one.at question bit said in
-    let its = world_decides other k (header_of k) (after_all start (steps ++ more)) two.at question another says in
-    let later = subst (λ (w : World). has_decided (w.journal (header_of m).me) question mine.0 bit ≡ true) (sym (after_all-append start steps more))
-    (decided_later (after_all start steps) more (header_of m).me question mine.0 bit mine.1) in
-    agree size liars reached.lawful reached.few (steps ++ more) reached.is_run (header_of m).me (header_of k).me question mine.0 its.0 bit another one.correct two.correct later its.1
+    let mine = world_decides disk m (member_header m) (after_all start steps) one.at question bit said in
+    let its = world_decides other k (member_header k) (after_all start (steps ++ more)) two.at question another says in
+    let later = subst (λ (w : World). has_decided (w.journal (member_header m).me) question mine.0 bit ≡ true) (sym (after_all-append start steps more))
+    (decided_later (after_all start steps) more (member_header m).me question mine.0 bit mine.1) in
+    agree size liars reached.lawful reached.few (steps ++ more) reached.is_run (member_header m).me (member_header k).me question mine.0 its.0 bit another one.correct two.correct later its.1
 
 pub verdicts_unanimous : {D : Type 0} (disk : DiskGhosts D) → EveryRun Unanimous → VerdictsAreProposed disk
 verdicts_unanimous disk unanimous size liars steps reached m one question v bit all said =
-    let mine = world_decides disk m (header_of m) (after_all start steps) one.at question bit said in
-    unanimous size liars reached.lawful reached.few steps reached.is_run question v all (header_of m).me mine.0 bit one.correct mine.1
+    let mine = world_decides disk m (member_header m) (after_all start steps) one.at question bit said in
+    unanimous size liars reached.lawful reached.few steps reached.is_run question v all (member_header m).me mine.0 bit one.correct mine.1

@@ -1,24 +1,18 @@
 -- The answer of a member to an event.
 use Rattle.std.specs.Prelude.{ℕ, ◌+◌, ◌*◌, ◌<◌, ◌^◌, Bool, Option, Some, None, List, [], ◌∷◌, ◌++◌, length}
-use Rattle.terms.specs.declared.Statement.{Statement}
-use Rattle.terms.specs.declared.Record.{Record}
-use Rattle.terms.specs.Heard.{hear}
-use Rattle.terms.specs.Journal.{decided}
-use Rattle.terms.specs.Past.{past_of}
-use Rattle.terms.specs.Reply.{Event, Reply, IsReply, records_of}
-use Rattle.terms.specs.Reply.Event.{Hearing, Proposal}
+use Rattle.vocabulary.specs.Terms.{Statement, Record, hear, decided, past_of, Event, Reply, IsReply, records_of, Hearing, Proposal}
 use Rattle.member.specs.declared.member.Member.{Member}
-use Rattle.member.specs.Words.{header_of, gate_of, StandsFor}
+use Rattle.member.specs.Readers.{member_header, member_gate, MemberStandsFor}
 
 -- the question that the event is on
-abbrev pub question_of : Event → ℕ
-question_of (Hearing from s) = s.place.question
-question_of (Proposal question bit) = question
+abbrev pub event_question : Event → ℕ
+event_question (Hearing from s) = s.place.question
+event_question (Proposal question bit) = question
 
 -- the members that it names: the sender, and the origin of the statement
-abbrev pub members_of : Event → List ℕ
-members_of (Hearing from s) = from ∷ s.place.origin ∷ []
-members_of (Proposal question bit) = []
+abbrev pub event_members : Event → List ℕ
+event_members (Hearing from s) = from ∷ s.place.origin ∷ []
+event_members (Proposal question bit) = []
 
 -- what was heard after the event
 abbrev pub heard_after : List (ℕ × Statement) → Event → List (ℕ × Statement)
@@ -28,18 +22,18 @@ heard_after heard (Proposal question bit) = heard
 -- by the definitions it is the reply to the event, for whatever records and hearing the member stands for
 abbrev pub IsAnswer : {D : Type 0} → Member D → ℕ → Event → Reply → Type 0
 IsAnswer m toss event reply =
-    (records : List Record) (heard : List (ℕ × Statement)) → StandsFor m records heard
-    → IsReply (past_of (header_of m).size (header_of m).me (question_of event) records heard) toss event reply
+    (records : List Record) (heard : List (ℕ × Statement)) → MemberStandsFor m records heard
+    → IsReply (past_of (member_header m).size (member_header m).me (event_question event) records heard) toss event reply
 
 -- afterwards it stands for the records with those of the reply, and for the longer hearing
 abbrev pub StandsAfter : {D : Type 0} → Member D → Event → Reply → Member D → Type 0
 StandsAfter old event reply new =
-    (records : List Record) (heard : List (ℕ × Statement)) → StandsFor old records heard
-    → StandsFor new (records ++ records_of reply) (heard_after heard event)
+    (records : List Record) (heard : List (ℕ × Statement)) → MemberStandsFor old records heard
+    → MemberStandsFor new (records ++ records_of reply) (heard_after heard event)
 
 -- how many bytes its journal has before the closed gate, once it has one more batch of so many records
 abbrev pub gate_after : {D : Type 0} → Member D → ℕ → ℕ
-gate_after m count = gate_of m + 3 + 7 * count
+gate_after m count = member_gate m + 3 + 7 * count
 
 -- the closed gate behind the records of the reply would stand past byte 2^31
 abbrev pub IsFull : {D : Type 0} → Member D → ℕ → Event → Type 0

@@ -1,6 +1,6 @@
 pub mod Fields
 pub mod Sealed
-pub mod Words
+pub mod Readers
 pub mod Answers
 pub mod Faults
 pub mod Stands

@@ -1,20 +1,17 @@
 //! Hearing several statements as one group.
 ghost use Rattle.std.specs.Prelude.{◌≡◌, ◌≢◌, ◌⊎◌, ◌↔◌, ◌+◌, ◌*◌, ◌^◌, ◌<◌, ◌≤◌, ℕ, Bool, false, true, Ok, Some, None, List, ◌++◌, length, IsErr, IsErrOf, IfOk, IfErr, IsOk, OnOk, OnErr};
-ghost use Rattle.terms.specs.declared.Record.{Record};
-ghost use Rattle.terms.specs.Reply.{records_of_all};
-ghost use Rattle.terms.specs.Reply.Event.{Hearing};
-ghost use Rattle.terms.specs.WellFormed.{IsWellFormed};
+ghost use Rattle.vocabulary.specs.Terms.{Record, records_of_all, Hearing, IsWellFormed};
 ghost use Rattle.disk.specs.Model.{LeavesOnly};
 ghost use Rattle.journal.specs.File.{Holds};
 ghost use Rattle.journal.specs.WellFormed.{AreWellFormedFor};
-ghost use Rattle.questions.specs.Cores.{size_of, me_of};
+ghost use Rattle.questions.specs.Readers.{core_size, core_me};
 ghost use Rattle.questions.specs.Faults.{number_fault};
-ghost use Rattle.member.specs.Answers.{question_of, members_of, gate_after};
+ghost use Rattle.member.specs.Answers.{event_question, event_members, gate_after};
 ghost use Rattle.member.specs.Faults.{fault_of, Stops};
-ghost use Rattle.member.specs.Groups.{hearings, replies_of, AnswersAll, AreOneEvent, IsFullOfAll, bad_number, refusal_of_all, HeardInTurn, AreWellFormed};
+ghost use Rattle.member.specs.Groups.{hearings, replies_of, AnswersAll, AreOneEvent, IsFullOfAll, bad_number, refusal_of_all, HeardInTurn, AreWellFormedInGroup};
 ghost use Rattle.member.specs.Outcomes.{HasSaved, HasFailed, StaysOn};
 ghost use Rattle.member.specs.Sound.{IsSound, IsFiled};
-ghost use Rattle.member.specs.Words.{disk_of, header_of, gate_of, saved_of, is_stopped_of};
+ghost use Rattle.member.specs.Readers.{member_disk, member_header, member_gate, member_saved, member_is_stopped};
 
 use crate::fault::MemberFault;
 use crate::member::{Member, records_in};
@@ -33,7 +30,7 @@ pub(crate) struct Group {
     records: Vec<Record>,
 }
 
-#[tactic(auto, unfolding(crate::specs::Words::disk_of, crate::specs::Words::header_of, crate::specs::Words::gate_of, crate::specs::Words::saved_of, crate::specs::Words::outbox_of, crate::specs::Words::is_stopped_of, crate::specs::Words::StandsFor))]
+#[tactic(auto, unfolding(crate::specs::Readers::member_disk, crate::specs::Readers::member_header, crate::specs::Readers::member_gate, crate::specs::Readers::member_saved, crate::specs::Readers::member_outbox, crate::specs::Readers::member_is_stopped, crate::specs::Readers::MemberStandsFor))]
 impl<D: Disk> Member<D> {
     /// Answers to statements, each with its sender and its toss, as hearing one after another answers: at most 256, and
     /// perhaps none. The records of all answers are saved as one batch, by four calls of the device, and then their
@@ -54,9 +51,9 @@ impl<D: Disk> Member<D> {
         ensures answers { IfOk result (λ answers. AnswersAll self.old (hearings events.now) answers.items self.new) }
         ensures saved { IfOk result (λ answers.
             HasSaved D.Disk self.old (records_of_all (replies_of answers.items)) self.new) }
-        ensures four_calls { D.keeps (disk_of self.old) → IfOk result (λ answers.
+        ensures four_calls { D.keeps (member_disk self.old) → IfOk result (λ answers.
             0 < length (records_of_all (replies_of answers.items)) →
-            D.moment (disk_of self.new) ≡ D.moment (disk_of self.old) + 4) }
+            D.moment (member_disk self.new) ≡ D.moment (member_disk self.old) + 4) }
         ensures event { AreOneEvent D.Disk (hearings events.now) self.old result self.new }
 
         // Each refusal has its cause, and leaves what was saved and handed out.
@@ -79,43 +76,43 @@ impl<D: Disk> Member<D> {
     /// Saves what the core answered to a group, or stops.
     fn keep_all(&mut self, heard: Result<Group, Memory>) -> Result<Vec<Answer>, MemberFault>
         requires few { IfOk heard (λ group. length group.records.items ≤ 65535) }
-        requires well_formed { IfOk heard (λ group. AreWellFormedFor (header_of self.old) group.records.items) }
-        requires going { is_stopped_of self.old ≡ false }
+        requires well_formed { IfOk heard (λ group. AreWellFormedFor (member_header self.old) group.records.items) }
+        requires going { member_is_stopped self.old ≡ false }
         requires filed { IsFiled D.Disk self.old }
         ensures filed { IsFiled D.Disk self.new }
         ensures answers { IfOk result (λ answers. IfOk heard (λ group. answers ≡ group.answers)) }
         ensures heard { OnOk result (IsOk heard) }
-        ensures saved { OnOk result (IfOk heard (λ group. saved_of self.new ≡ saved_of self.old ++ group.records.items)) }
-        ensures same { OnErr result (saved_of self.new ≡ saved_of self.old) }
+        ensures saved { OnOk result (IfOk heard (λ group. member_saved self.new ≡ member_saved self.old ++ group.records.items)) }
+        ensures same { OnErr result (member_saved self.new ≡ member_saved self.old) }
         ensures core { self.new.core ≡ self.old.core }
-        ensures header { header_of self.new ≡ header_of self.old }
-        ensures going { OnOk result (is_stopped_of self.new ≡ false) }
-        ensures any_moment { D.keeps (disk_of self.old) → IfOk heard (λ group.
-            LeavesOnly D.moment D.since (disk_of self.old) (disk_of self.new)
-            (λ file. Holds (header_of self.old) (saved_of self.old) file
-            ⊎ Holds (header_of self.old) (saved_of self.old ++ group.records.items) file)) }
-        ensures refused { IfErr heard (λ _. disk_of self.new ≡ disk_of self.old) }
+        ensures header { member_header self.new ≡ member_header self.old }
+        ensures going { OnOk result (member_is_stopped self.new ≡ false) }
+        ensures any_moment { D.keeps (member_disk self.old) → IfOk heard (λ group.
+            LeavesOnly D.moment D.since (member_disk self.old) (member_disk self.new)
+            (λ file. Holds (member_header self.old) (member_saved self.old) file
+            ⊎ Holds (member_header self.old) (member_saved self.old ++ group.records.items) file)) }
+        ensures refused { IfErr heard (λ _. member_disk self.new ≡ member_disk self.old) }
         ensures no_call { OnOk result (IfOk heard (λ group.
-            length group.records.items ≡ 0 → disk_of self.new ≡ disk_of self.old)) }
-        ensures four_calls { D.keeps (disk_of self.old) → OnOk result (IfOk heard (λ group.
-            0 < length group.records.items → D.moment (disk_of self.new) ≡ D.moment (disk_of self.old) + 4)) }
+            length group.records.items ≡ 0 → member_disk self.new ≡ member_disk self.old)) }
+        ensures four_calls { D.keeps (member_disk self.old) → OnOk result (IfOk heard (λ group.
+            0 < length group.records.items → D.moment (member_disk self.new) ≡ D.moment (member_disk self.old) + 4)) }
 
         ensures told { IfErr heard (λ _. IsErrOf result MemberFault.Memory) }
         ensures stopping { IfErr result Stops }
-        ensures stops { OnErr result (is_stopped_of self.new ≡ true) }
+        ensures stops { OnErr result (member_is_stopped self.new ≡ true) }
         ensures same_disk { IsErrOf result MemberFault.Memory ⊎ IsErrOf result MemberFault.JournalFull →
-            disk_of self.new ≡ disk_of self.old }
+            member_disk self.new ≡ member_disk self.old }
         ensures memory { IsErrOf result MemberFault.Memory → IfOk heard (λ group. 0 < length group.records.items) }
         ensures full { IsErrOf result MemberFault.JournalFull → IsOk heard × IfOk heard (λ group.
             2 ^ 31 < gate_after self.old (length group.records.items)) }
         ensures room { OnOk result (IfOk heard (λ group. 0 < length group.records.items →
-            gate_of self.new ≡ gate_after self.old (length group.records.items))) }
-        ensures within { OnOk result (IfOk heard (λ group. 0 < length group.records.items → gate_of self.new ≤ 2 ^ 31)) }
+            member_gate self.new ≡ gate_after self.old (length group.records.items))) }
+        ensures within { OnOk result (IfOk heard (λ group. 0 < length group.records.items → member_gate self.new ≤ 2 ^ 31)) }
 
         ensures device { IsErrOf result MemberFault.Device →
-            D.failures (disk_of self.old) < D.failures (disk_of self.new) }
-        ensures failures { D.failures (disk_of self.old) ≤ D.failures (disk_of self.new) }
-        ensures kept { D.keeps (disk_of self.old) ↔ D.keeps (disk_of self.new) }
+            D.failures (member_disk self.old) < D.failures (member_disk self.new) }
+        ensures failures { D.failures (member_disk self.old) ≤ D.failures (member_disk self.new) }
+        ensures kept { D.keeps (member_disk self.old) ↔ D.keeps (member_disk self.new) }
     {
         let fault = match heard {
             Ok(Group { records, answers }) => {
@@ -146,8 +143,8 @@ fn hear_in_turn(
 ) -> Result<Group, Memory>
     ensures heard { IfOk result (λ group.
         HeardInTurn core.old (hearings events.now) group.answers.items group.records.items core.new) }
-    ensures size { size_of core.new ≡ size_of core.old }
-    ensures me { me_of core.new ≡ me_of core.old }
+    ensures size { core_size core.new ≡ core_size core.old }
+    ensures me { core_me core.new ≡ core_me core.old }
     ensures some { IsErr result → 0 < length events.now }
 {
     let mut answers = Vec::new(alloc);
@@ -165,7 +162,7 @@ fn hear_in_turn(
 /// The first bad number of the statements and their senders.
 fn bad_number(size: Size, events: &[(u8, Statement, Toss)]) -> Option<MemberFault>
     ensures first { result ≡ bad_number size (hearings events.now) }
-    ensures well_formed { result ≡ None → AreWellFormed size (hearings events.now) }
+    ensures well_formed { result ≡ None → AreWellFormedInGroup size (hearings events.now) }
 {
     for (from, s, _) in events {
         if let Some(fault) = number_fault(size, *from, s) {
@@ -177,7 +174,7 @@ fn bad_number(size: Size, events: &[(u8, Statement, Toss)]) -> Option<MemberFaul
 
 /// There is no such question, or no member of the sender's number or of the origin's.
 fn number_fault(size: Size, from: u8, s: &Statement) -> Option<MemberFault>
-    ensures fault { result ≡ fault_of (number_fault size (question_of (Hearing from s.now)) (members_of (Hearing from s.now))) }
+    ensures fault { result ≡ fault_of (number_fault size (event_question (Hearing from s.now)) (event_members (Hearing from s.now))) }
     ensures well_formed { result ≡ None → IsWellFormed size s.now }
 {
     let place = s.place();

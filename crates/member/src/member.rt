@@ -1,27 +1,19 @@
 //! A member over its journal.
 ghost use Rattle.std.specs.Prelude.{◌≡◌, ◌⊎◌, ◌↔◌, ◌+◌, ◌^◌, ◌<◌, ◌≤◌, ℕ, Bool, true, false, Option, None, List, [], ◌++◌, length, Ok, IsErrOf, IfOk, IfErr, OnOk, OnErr};
-ghost use Rattle.terms.specs.declared.Record.{Record};
-ghost use Rattle.terms.specs.declared.Statement.{Statement};
-ghost use Rattle.terms.specs.Heard.{got, is_foreign};
-ghost use Rattle.terms.specs.Journal.{said};
-ghost use Rattle.terms.specs.Reply.{records_of};
-ghost use Rattle.terms.specs.Reply.Event.{Hearing, Proposal};
-ghost use Rattle.terms.specs.Same.{place_of};
-ghost use Rattle.terms.specs.declared.Kind.TheVariants.{Initial};
+ghost use Rattle.vocabulary.specs.Terms.{Record, Statement, got, is_foreign, said, records_of, Hearing, Proposal, new_place, Initial, IsSize};
 ghost use Rattle.disk.specs.Model.{LeavesOnly};
 ghost use Rattle.journal.specs.File.{Holds};
 ghost use Rattle.journal.specs.WellFormed.{AreWellFormedFor};
-ghost use Rattle.questions.specs.Cores.{Knows, size_of, me_of};
+ghost use Rattle.questions.specs.Readers.{CoreStandsFor, core_size, core_me};
 ghost use Rattle.questions.specs.Faults.{records_fault};
-ghost use Rattle.terms.specs.Bounds.{IsSize};
 ghost use Rattle.questions.specs.Replies.{reply_of};
 ghost use Rattle.questions.specs.declared.answer.Answer.{Answer};
 ghost use Rattle.member.specs.Answers.{IsFull, gate_after};
-ghost use Rattle.member.specs.Faults.{refusal, told, Stops};
+ghost use Rattle.member.specs.Faults.{refusal, member_fault, Stops};
 ghost use Rattle.member.specs.Sealed.{sealed_from};
 ghost use Rattle.member.specs.Outcomes.{AnswersTo, HasSaved, HasFailed, StaysOn, IsOneEvent, IsOpened, IsARestart, IsNotOpened};
 ghost use Rattle.member.specs.Sound.{IsSound, IsFiled};
-ghost use Rattle.member.specs.Words.{disk_of, header_of, gate_of, saved_of, outbox_of, is_stopped_of, StandsFor};
+ghost use Rattle.member.specs.Readers.{member_disk, member_header, member_gate, member_saved, member_outbox, member_is_stopped, MemberStandsFor};
 
 use crate::fault::MemberFault;
 use crate::save::save;
@@ -46,7 +38,7 @@ pub struct Member<D: Disk> {
     pub(crate) stopped: bool,
 }
 
-#[tactic(auto, unfolding(crate::specs::Words::disk_of, crate::specs::Words::header_of, crate::specs::Words::gate_of, crate::specs::Words::saved_of, crate::specs::Words::outbox_of, crate::specs::Words::is_stopped_of, crate::specs::Words::StandsFor))]
+#[tactic(auto, unfolding(crate::specs::Readers::member_disk, crate::specs::Readers::member_header, crate::specs::Readers::member_gate, crate::specs::Readers::member_saved, crate::specs::Readers::member_outbox, crate::specs::Readers::member_is_stopped, crate::specs::Readers::MemberStandsFor))]
 impl<D: Disk> Member<D> {
     /// Opens a member's journal, which a crash may have left: [`adopt`](Member::adopt) where the disk isn't wanted back
     /// after a fault. The disk is gone then, so what a fault left of it is said there alone.
@@ -111,7 +103,7 @@ impl<D: Disk> Member<D> {
         ensures fault { IfErr result (λ fault.
             HasFailed D.Disk self.old (refusal self.old (Hearing from s.now)) (IsFull self.old toss.0 (Hearing from s.now)) fault self.new) }
         ensures memory_only_at_news { IsErrOf result MemberFault.Memory →
-            (records : List Record) (heard : List (ℕ × Statement)) → StandsFor self.old records heard →
+            (records : List Record) (heard : List (ℕ × Statement)) → MemberStandsFor self.old records heard →
             (is_foreign from s.now ≡ false) × (got heard from s.now.kind s.now.place ≡ None) }
         ensures stays { StaysOn D.Disk self.old self.new }
     {
@@ -144,8 +136,8 @@ impl<D: Disk> Member<D> {
         ensures fault { IfErr result (λ fault.
             HasFailed D.Disk self.old (refusal self.old (Proposal question bit)) (IsFull self.old toss.0 (Proposal question bit)) fault self.new) }
         ensures memory_only_at_first { IsErrOf result MemberFault.Memory →
-            (records : List Record) (heard : List (ℕ × Statement)) → StandsFor self.old records heard →
-            said records Initial (place_of question (header_of self.old).me 1 1) ≡ None }
+            (records : List Record) (heard : List (ℕ × Statement)) → MemberStandsFor self.old records heard →
+            said records Initial (new_place question (member_header self.old).me 1 1) ≡ None }
         ensures stays { StaysOn D.Disk self.old self.new }
     {
         if self.is_stopped() {
@@ -158,40 +150,40 @@ impl<D: Disk> Member<D> {
     /// Saves what the core answered, or stops.
     fn keep(&mut self, answer: Result<Answer, CoreFault>) -> Result<Answer, MemberFault>
         requires few { IfOk answer (λ a. length (records_of (reply_of a)) ≤ 99) }
-        requires well_formed { IfOk answer (λ a. AreWellFormedFor (header_of self.old) (records_of (reply_of a))) }
-        requires going { is_stopped_of self.old ≡ false }
+        requires well_formed { IfOk answer (λ a. AreWellFormedFor (member_header self.old) (records_of (reply_of a))) }
+        requires going { member_is_stopped self.old ≡ false }
         requires filed { IsFiled D.Disk self.old }
         ensures filed { IsFiled D.Disk self.new }
         ensures answer { IfOk result (λ a. answer ≡ Ok a) }
-        ensures saved { IfOk result (λ a. saved_of self.new ≡ saved_of self.old ++ records_of (reply_of a)) }
-        ensures same { OnErr result (saved_of self.new ≡ saved_of self.old) }
+        ensures saved { IfOk result (λ a. member_saved self.new ≡ member_saved self.old ++ records_of (reply_of a)) }
+        ensures same { OnErr result (member_saved self.new ≡ member_saved self.old) }
         ensures core { self.new.core ≡ self.old.core }
-        ensures header { header_of self.new ≡ header_of self.old }
-        ensures going { OnOk result (is_stopped_of self.new ≡ false) }
-        ensures any_moment { D.keeps (disk_of self.old) → IfOk answer (λ a.
-            LeavesOnly D.moment D.since (disk_of self.old) (disk_of self.new)
-            (λ file. Holds (header_of self.old) (saved_of self.old) file
-            ⊎ Holds (header_of self.old) (saved_of self.old ++ records_of (reply_of a)) file)) }
-        ensures refused { IfErr answer (λ _. disk_of self.new ≡ disk_of self.old) }
-        ensures no_call { IfOk result (λ a. length (records_of (reply_of a)) ≡ 0 → disk_of self.new ≡ disk_of self.old) }
+        ensures header { member_header self.new ≡ member_header self.old }
+        ensures going { OnOk result (member_is_stopped self.new ≡ false) }
+        ensures any_moment { D.keeps (member_disk self.old) → IfOk answer (λ a.
+            LeavesOnly D.moment D.since (member_disk self.old) (member_disk self.new)
+            (λ file. Holds (member_header self.old) (member_saved self.old) file
+            ⊎ Holds (member_header self.old) (member_saved self.old ++ records_of (reply_of a)) file)) }
+        ensures refused { IfErr answer (λ _. member_disk self.new ≡ member_disk self.old) }
+        ensures no_call { IfOk result (λ a. length (records_of (reply_of a)) ≡ 0 → member_disk self.new ≡ member_disk self.old) }
 
-        ensures told { IfErr answer (λ fault. IsErrOf result (told fault)) }
+        ensures told { IfErr answer (λ fault. IsErrOf result (member_fault fault)) }
         ensures stopping { IfOk answer (λ _. IfErr result Stops) }
         ensures unchanged { IfErr result (λ fault. (Stops fault → ⊥) → self.new ≡ self.old) }
-        ensures stops { IfErr result (λ fault. Stops fault → is_stopped_of self.new ≡ true) }
+        ensures stops { IfErr result (λ fault. Stops fault → member_is_stopped self.new ≡ true) }
         ensures same_disk { IsErrOf result MemberFault.Memory ⊎ IsErrOf result MemberFault.JournalFull →
-            disk_of self.new ≡ disk_of self.old }
+            member_disk self.new ≡ member_disk self.old }
         ensures memory { IsErrOf result MemberFault.Memory → IfOk answer (λ a. 0 < length (records_of (reply_of a))) }
         ensures full { IsErrOf result MemberFault.JournalFull →
             (a : Answer) × (answer ≡ Ok a) × (2 ^ 31 < gate_after self.old (length (records_of (reply_of a)))) }
         ensures room { IfOk result (λ a. 0 < length (records_of (reply_of a)) →
-            gate_of self.new ≡ gate_after self.old (length (records_of (reply_of a)))) }
-        ensures within { IfOk result (λ a. 0 < length (records_of (reply_of a)) → gate_of self.new ≤ 2 ^ 31) }
+            member_gate self.new ≡ gate_after self.old (length (records_of (reply_of a)))) }
+        ensures within { IfOk result (λ a. 0 < length (records_of (reply_of a)) → member_gate self.new ≤ 2 ^ 31) }
 
         ensures device { IsErrOf result MemberFault.Device →
-            D.failures (disk_of self.old) < D.failures (disk_of self.new) }
-        ensures failures { D.failures (disk_of self.old) ≤ D.failures (disk_of self.new) }
-        ensures kept { D.keeps (disk_of self.old) ↔ D.keeps (disk_of self.new) }
+            D.failures (member_disk self.old) < D.failures (member_disk self.new) }
+        ensures failures { D.failures (member_disk self.old) ≤ D.failures (member_disk self.new) }
+        ensures kept { D.keeps (member_disk self.old) ↔ D.keeps (member_disk self.new) }
     {
         let fault = match answer {
             Ok(answer) => {
@@ -232,9 +224,9 @@ fn begin(
     header: &Header,
     records: &[Record],
 ) -> Result<(Core, Vec<Sealed>), JournalFault>
-    ensures knows { IfOk result (λ begun. Knows begun.0 records.now []) }
-    ensures size { IfOk result (λ begun. size_of begun.0 ≡ header.now.size) }
-    ensures me { IfOk result (λ begun. me_of begun.0 ≡ header.now.me) }
+    ensures knows { IfOk result (λ begun. CoreStandsFor begun.0 records.now []) }
+    ensures size { IfOk result (λ begun. core_size begun.0 ≡ header.now.size) }
+    ensures me { IfOk result (λ begun. core_me begun.0 ≡ header.now.me) }
     ensures outbox { IfOk result (λ begun. begun.1.items ≡ sealed_from 0 records.now) }
     ensures lawful { OnOk result (IsSize header.now.size) }
     ensures asked { OnOk result (records_fault header.now.size records.now ≡ None) }

@@ -2,11 +2,11 @@
 ghost use Rattle.std.specs.Prelude.{◌≡◌, ◌⊎◌, ◌↔◌, ℕ, ◌+◌, ◌*◌, ◌^◌, ◌<◌, ◌≤◌, false, List, ◌++◌, length, IsErr, IsErrOf, IfErr, OnOk, OnErr};
 ghost use Rattle.std.specs.Vec.{vec_capacity};
 ghost use Rattle.disk.specs.Model.{LeavesOnly};
-ghost use Rattle.terms.specs.declared.Header.{Header};
+ghost use Rattle.vocabulary.specs.Terms.{Header};
 ghost use Rattle.journal.specs.File.{Holds};
 ghost use Rattle.journal.specs.Faults.{IsFaultOfAppend};
 ghost use Rattle.journal.specs.WellFormed.{AreWellFormedFor};
-ghost use Rattle.journal.specs.Words.{disk_by, header_by, gate_by, is_stopped, IsSettled};
+ghost use Rattle.journal.specs.Readers.{journal_disk, journal_header, journal_gate, journal_is_stopped, IsAtRest};
 ghost use Rattle.member.specs.Sealed.{sealed_from};
 
 use crate::Sealed;
@@ -25,37 +25,37 @@ pub(crate) fn save<D: Disk>(
     batch: &[Record],
 ) -> Result<(), JournalFault>
     requires few { length batch.now ≤ 65535 }
-    requires running { is_stopped journal.old ≡ false }
-    requires well_formed { AreWellFormedFor (header_by journal.old) batch.now }
-    requires settled { D.keeps (disk_by journal.old) → IsSettled D.state (header_by journal.old) records.old.items journal.old }
+    requires running { journal_is_stopped journal.old ≡ false }
+    requires well_formed { AreWellFormedFor (journal_header journal.old) batch.now }
+    requires settled { D.keeps (journal_disk journal.old) → IsAtRest D.state (journal_header journal.old) records.old.items journal.old }
     requires sealed { outbox.old.items ≡ sealed_from 0 records.old.items }
 
     ensures records { OnOk result (records.new.items ≡ records.old.items ++ batch.now) }
     ensures same { OnErr result (records.new.items ≡ records.old.items) }
     ensures sealed { outbox.new.items ≡ sealed_from 0 records.new.items }
     ensures same_outbox { OnErr result (outbox.new.items ≡ outbox.old.items) }
-    ensures running { OnOk result (is_stopped journal.new ≡ false) }
-    ensures settled { D.keeps (disk_by journal.old) →
-        OnOk result (IsSettled D.state (header_by journal.old) (records.old.items ++ batch.now) journal.new) }
-    ensures any_moment { D.keeps (disk_by journal.old) → LeavesOnly D.moment D.since (disk_by journal.old) (disk_by journal.new)
-        (λ file. Holds (header_by journal.old) records.old.items file
-        ⊎ Holds (header_by journal.old) (records.old.items ++ batch.now) file) }
-    ensures four_calls { D.keeps (disk_by journal.old) → 0 < length batch.now →
-        OnOk result (D.moment (disk_by journal.new) ≡ D.moment (disk_by journal.old) + 4) }
-    ensures gate { 0 < length batch.now → OnOk result (gate_by journal.new ≡ gate_by journal.old + 3 + 7 * length batch.now) }
+    ensures running { OnOk result (journal_is_stopped journal.new ≡ false) }
+    ensures settled { D.keeps (journal_disk journal.old) →
+        OnOk result (IsAtRest D.state (journal_header journal.old) (records.old.items ++ batch.now) journal.new) }
+    ensures any_moment { D.keeps (journal_disk journal.old) → LeavesOnly D.moment D.since (journal_disk journal.old) (journal_disk journal.new)
+        (λ file. Holds (journal_header journal.old) records.old.items file
+        ⊎ Holds (journal_header journal.old) (records.old.items ++ batch.now) file) }
+    ensures four_calls { D.keeps (journal_disk journal.old) → 0 < length batch.now →
+        OnOk result (D.moment (journal_disk journal.new) ≡ D.moment (journal_disk journal.old) + 4) }
+    ensures gate { 0 < length batch.now → OnOk result (journal_gate journal.new ≡ journal_gate journal.old + 3 + 7 * length batch.now) }
 
     ensures nothing { length batch.now ≡ 0 → OnOk result (journal.new ≡ journal.old) }
     ensures some { IfErr result (λ _. 0 < length batch.now) }
-    ensures full { IsErrOf result JournalFault.Full → 2 ^ 31 < gate_by journal.old + 3 + 7 * length batch.now }
-    ensures room { 0 < length batch.now → OnOk result (gate_by journal.old + 3 + 7 * length batch.now ≤ 2 ^ 31) }
-    ensures device { IsErrOf result JournalFault.Device → D.failures (disk_by journal.old) < D.failures (disk_by journal.new) }
+    ensures full { IsErrOf result JournalFault.Full → 2 ^ 31 < journal_gate journal.old + 3 + 7 * length batch.now }
+    ensures room { 0 < length batch.now → OnOk result (journal_gate journal.old + 3 + 7 * length batch.now ≤ 2 ^ 31) }
+    ensures device { IsErrOf result JournalFault.Device → D.failures (journal_disk journal.old) < D.failures (journal_disk journal.new) }
     ensures not_stopped { IsErrOf result JournalFault.Stopped → ⊥ }
     ensures only { IfErr result IsFaultOfAppend }
     ensures same_journal { (IsErrOf result JournalFault.Device → ⊥) → IsErr result → journal.new ≡ journal.old }
 
-    ensures header { header_by journal.new ≡ header_by journal.old }
-    ensures later { D.failures (disk_by journal.old) ≤ D.failures (disk_by journal.new) }
-    ensures kept { D.keeps (disk_by journal.old) ↔ D.keeps (disk_by journal.new) }
+    ensures header { journal_header journal.new ≡ journal_header journal.old }
+    ensures later { D.failures (journal_disk journal.old) ≤ D.failures (journal_disk journal.new) }
+    ensures kept { D.keeps (journal_disk journal.old) ↔ D.keeps (journal_disk journal.new) }
 {
     if batch.is_empty() {
         return Ok(());

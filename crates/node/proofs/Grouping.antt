@@ -1,16 +1,8 @@
 -- A group of statements more in a history, and a call for a group as its member's.
-use Rattle.std.proofs.Common.{ℕ, ◌≡◌, ◌≤◌, inl, refl, sym, ap, subst, ◌∙◌, Bool, false, Option, List, [], ◌∷◌, ◌++◌, length, take, drop, min, arith, append-nil, append_assoc}
-use Rattle.std.specs.Prelude.{Result}
+use Rattle.std.proofs.Common.{ℕ, ◌≡◌, ◌≤◌, inl, refl, sym, ap, subst, ◌∙◌, Bool, false, Option, List, [], ◌∷◌, ◌++◌, length, take, drop, min, arith, append-nil, append_assoc, Result, length-drop}
 use Rattle.std.specs.Global.{Vec}
-use Rattle.std.proofs.lemmas.List.{length-map, length-drop}
-use Rattle.terms.specs.declared.Record.{Record}
-use Rattle.terms.specs.declared.Size.{Size}
-use Rattle.terms.specs.declared.Statement.{Statement}
-use Rattle.terms.specs.declared.Header.{Header}
-use Rattle.terms.specs.Heard.{hear_all}
-use Rattle.terms.specs.Past.{Past, past_of}
-use Rattle.terms.specs.Reply.{Reply, IsReply, AreReplies, after_reply, records_of, records_of_all, without_tosses}
-use Rattle.terms.specs.Reply.Event.{Hearing}
+use Rattle.std.proofs.lemmas.List.{length-map}
+use Rattle.vocabulary.specs.Terms.{Record, Size, Statement, Header, hear_all, Past, past_of, Reply, IsReply, AreReplies, after_reply, records_of, records_of_all, without_tosses, Hearing}
 use Rattle.rounds.specs.declared.tosses.Toss.{Toss}
 use Rattle.questions.specs.declared.answer.Answer.{Answer}
 use Rattle.questions.specs.Replies.{reply_of}
@@ -22,9 +14,9 @@ use Rattle.world.specs.World.{World, IsCorrect}
 use Rattle.member.specs.declared.fault.MemberFault.{MemberFault}
 use Rattle.member.specs.declared.member.Member.{Member}
 use Rattle.member.specs.Groups.{hearing_of, hearings, replies_of, AreAnswers, StandsAfterAll, AllCome, LivesAll}
-use Rattle.member.specs.Life.{IsAt}
+use Rattle.member.specs.Life.{MemberIsAt}
 use Rattle.member.specs.Sound.{IsSound}
-use Rattle.member.specs.Words.{header_of, saved_of, is_stopped_of, StandsFor}
+use Rattle.member.specs.Readers.{member_header, member_saved, member_is_stopped, MemberStandsFor}
 use Rattle.node.specs.Books.{heard_in, lengthened, IsReplayed}
 use Rattle.node.specs.Groups.{heard_from, lengthened_all, AppliesAll, LivesOnAll}
 use Rattle.node.specs.Keeps.{AreDecided, IsKept}
@@ -75,17 +67,17 @@ heard_lengthened_all size me records history (e ∷ es) (r ∷ rs) are =
 
 -- what a group that was answered leaves
 pub record WentAll {D : Type 0} (old : Member D) (es : List (ℕ × Statement × ℕ)) (rs : List Reply) (new : Member D) : Type 0 where
-  pub up : is_stopped_of old ≡ false
+  pub up : member_is_stopped old ≡ false
   pub answers : AreAnswers old es rs
   pub stands : StandsAfterAll old es rs new
-  pub saved : saved_of new ≡ saved_of old ++ records_of_all rs
-  pub header : header_of new ≡ header_of old
+  pub saved : member_saved new ≡ member_saved old ++ records_of_all rs
+  pub header : member_header new ≡ member_header old
 
 -- the member's answers are the replies to the replay
 replies_are : {D : Type 0} (old new : Member D) (es : List (ℕ × Statement × ℕ)) (rs : List Reply) (opening : List Record) (history : List Entry)
     → WentAll old es rs new → IsReplayed old opening history
-    → AreReplies (past_of (header_of old).size (header_of old).me 0 (saved_of old) (heard_in history)) es rs
-replies_are old new es rs opening history went was = went.answers 0 (saved_of old) (heard_in history) (was.heard went.up)
+    → AreReplies (past_of (member_header old).size (member_header old).me 0 (member_saved old) (heard_in history)) es rs
+replies_are old new es rs opening history went was = went.answers 0 (member_saved old) (heard_in history) (was.heard went.up)
 
 -- the member is the replay of the history that is then
 all_replayed : {D : Type 0} (old new : Member D) (es : List (ℕ × Statement × ℕ)) (rs : List Reply) (opening : List Record) (history : List Entry)
@@ -94,42 +86,42 @@ all_replayed old new es rs opening history went was =
     let are = replies_are old new es rs opening history went was in
     let longer : List Entry = lengthened_all history es rs in
     record {
-      records = subst (λ (h : Header). IsReplay h.size h.me opening longer (saved_of new) (heard_in longer)) (sym went.header)
-          (subst (λ (l : List Record). IsReplay (header_of old).size (header_of old).me opening longer l (heard_in longer)) (sym went.saved)
-          (replay_lengthened_all (header_of old).size (header_of old).me opening (saved_of old) history es rs was.records are));
-      heard = λ up. subst (λ (l : List Record). StandsFor new l (heard_in longer)) (sym went.saved)
-          (subst (λ (l : List (ℕ × Statement)). StandsFor new (saved_of old ++ records_of_all rs) l)
-          (heard_lengthened_all (header_of old).size (header_of old).me (saved_of old) history es rs are)
-          (went.stands (saved_of old) (heard_in history) (was.heard went.up)));
+      records = subst (λ (h : Header). IsReplay h.size h.me opening longer (member_saved new) (heard_in longer)) (sym went.header)
+          (subst (λ (l : List Record). IsReplay (member_header old).size (member_header old).me opening longer l (heard_in longer)) (sym went.saved)
+          (replay_lengthened_all (member_header old).size (member_header old).me opening (member_saved old) history es rs was.records are));
+      heard = λ up. subst (λ (l : List Record). MemberStandsFor new l (heard_in longer)) (sym went.saved)
+          (subst (λ (l : List (ℕ × Statement)). MemberStandsFor new (member_saved old ++ records_of_all rs) l)
+          (heard_lengthened_all (member_header old).size (member_header old).me (member_saved old) history es rs are)
+          (went.stands (member_saved old) (heard_in history) (was.heard went.up)));
     }
 
 -- what a book keeps, after a group that was answered
 pub all_kept : {D : Type 0} (disk : DiskGhosts D) (names cells more_cells : List ℕ) (old new : Member D) (es : List (ℕ × Statement × ℕ)) (rs : List Reply) (opened : ℕ)
     (history after : List Entry) (known more : List (Option Bool))
-    → WentAll old es rs new → IsSound disk new → after ≡ lengthened_all history es rs → more_cells ≡ cells → AreDecided (saved_of new) more
+    → WentAll old es rs new → IsSound disk new → after ≡ lengthened_all history es rs → more_cells ≡ cells → AreDecided (member_saved new) more
     → IsKept disk names cells old opened history known → IsKept disk names more_cells new opened after more
 all_kept disk names cells more_cells old new es rs opened history after known more went sound after_is same decided kept = record {
   sound = sound;
-  within = longer_within opened (saved_of old) (saved_of new) (records_of_all rs) kept.within went.saved;
-  replayed = subst (λ (l : List Entry). IsReplayed new (take opened (saved_of new)) l) (sym after_is)
-      (subst (λ (l : List Record). IsReplayed new l (lengthened_all history es rs)) (sym (front_stays opened (saved_of old) (saved_of new) (records_of_all rs) kept.within went.saved))
-      (all_replayed old new es rs (take opened (saved_of old)) history went kept.replayed));
+  within = longer_within opened (member_saved old) (member_saved new) (records_of_all rs) kept.within went.saved;
+  replayed = subst (λ (l : List Entry). IsReplayed new (take opened (member_saved new)) l) (sym after_is)
+      (subst (λ (l : List Record). IsReplayed new l (lengthened_all history es rs)) (sym (front_stays opened (member_saved old) (member_saved new) (records_of_all rs) kept.within went.saved))
+      (all_replayed old new es rs (take opened (member_saved old)) history went kept.replayed));
   cells_are = same ∙ kept.cells_are;
   decided = decided;
 }
 
 -- what contracts see of the group
 pub all_applies : {D : Type 0} (old new : Member D) (es : List (ℕ × Statement × ℕ)) (answers : List Answer) (opened : ℕ) (history after : List Entry) (known more : List (Option Bool))
-    → WentAll old es (replies_of answers) new → is_stopped_of new ≡ false → after ≡ lengthened_all history es (replies_of answers) → opened ≤ length (saved_of old)
-    → IsReplayed old (take opened (saved_of old)) history → KnowsMore known more
+    → WentAll old es (replies_of answers) new → member_is_stopped new ≡ false → after ≡ lengthened_all history es (replies_of answers) → opened ≤ length (member_saved old)
+    → IsReplayed old (take opened (member_saved old)) history → KnowsMore known more
     → AppliesAll (shown old opened history known) es answers (shown new opened after more)
 all_applies old new es answers opened history after known more went up after_is within replayed knows = record {
   was_up = went.up;
   is_up = up;
-  replies = replies_are old new es (replies_of answers) (take opened (saved_of old)) history went replayed;
+  replies = replies_are old new es (replies_of answers) (take opened (member_saved old)) history went replayed;
   saved = went.saved;
   history = after_is;
-  opening = front_stays opened (saved_of old) (saved_of new) (records_of_all (replies_of answers)) within went.saved;
+  opening = front_stays opened (member_saved old) (member_saved new) (records_of_all (replies_of answers)) within went.saved;
   header = went.header;
   known = knows;
 }
@@ -137,14 +129,14 @@ all_applies old new es answers opened history after known more went up after_is 
 -- said of the member and the statements by other names
 pub all_lives_by : {D : Type 0} (disk : DiskGhosts D) (old now new : Member D) (es here : List (ℕ × Statement × ℕ)) (result : Result (Vec Answer) MemberFault)
     → old ≡ now → es ≡ here
-    → ((header : Header) (liars : ℕ → Bool) (w : World) → IsCorrect header.size liars header.me → IsAt disk header w old → AllCome w es
+    → ((header : Header) (liars : ℕ → Bool) (w : World) → IsCorrect header.size liars header.me → MemberIsAt disk header w old → AllCome w es
     → LivesAll disk header liars w es result old new)
-    → (header : Header) (liars : ℕ → Bool) (w : World) → IsCorrect header.size liars header.me → IsAt disk header w now → AllCome w here
+    → (header : Header) (liars : ℕ → Bool) (w : World) → IsCorrect header.size liars header.me → MemberIsAt disk header w now → AllCome w here
     → LivesOnAll disk header liars w here result now new
 all_lives_by {D} disk old now new es here result m e lives header liars w correct at comes =
     subst (λ (n : Member D). LivesOnAll disk header liars w here result n new) m
     (subst (λ (l : List (ℕ × Statement × ℕ)). LivesOnAll disk header liars w l result old new) e
-    (inl (lives header liars w correct (subst (λ (n : Member D). IsAt disk header w n) (sym m) at) (subst (λ (l : List (ℕ × Statement × ℕ)). AllCome w l) (sym e) comes))))
+    (inl (lives header liars w correct (subst (λ (n : Member D). MemberIsAt disk header w n) (sym m) at) (subst (λ (l : List (ℕ × Statement × ℕ)). AllCome w l) (sym e) comes))))
 
 nothing_more : (history : List Entry) (es : List (ℕ × Statement × ℕ)) (rs : List Reply) → min (length es) (length rs) ≡ 0 → lengthened_all history es rs ≡ history
 nothing_more history [] rs none = refl

@@ -1,17 +1,10 @@
 -- A first is marked.
-use Rattle.std.proofs.Common.{ℕ, zero, suc, ◌≡◌, ◌<◌, ◌+◌, ◌/◌, ◌%◌, refl, sym, ap, subst, arith, ◌∙◌, eqb, Bool, true, false, List, [], ◌∷◌, ◌++◌, length, replicate, get_or, set}
-use Rattle.std.specs.Prelude.{◌&&◌, ◌||◌, ◌==◌, nat_lt, if◌then◌else◌}
+use Rattle.std.proofs.Common.{ℕ, zero, suc, ◌≡◌, ◌<◌, ◌+◌, ◌/◌, ◌%◌, refl, sym, ap, subst, arith, ◌∙◌, eqb, Bool, true, false, List, [], ◌∷◌, ◌++◌, length, replicate, get_or, set, ◌&&◌, ◌||◌, ◌==◌, nat_lt, if◌then◌else◌, eqb-true, eq-eqb, get_or-set_same, get_or-set_other, length-set}
 use Rattle.std.specs.List.{list_any}
-use Rattle.std.proofs.lemmas.Bool.{eqb-true, eqb-false, eq-eqb}
+use Rattle.std.proofs.lemmas.Bool.{eqb-false}
 use Rattle.std.proofs.lemmas.Bool.Decides.{nat_tests}
-use Rattle.std.proofs.lemmas.List.{get_or-set_same, get_or-set_other, length-set}
 use Rattle.std.proofs.lemmas.List.Folds.{list_any-append}
-use Rattle.terms.specs.Bounds.{IsPlace}
-use Rattle.terms.specs.Same.{is_about, kind_eq, place_eq}
-use Rattle.terms.specs.declared.Kind.{Kind}
-use Rattle.terms.specs.declared.Kind.TheVariants.{Initial, Echo, Ready}
-use Rattle.terms.specs.declared.Place.{Place}
-use Rattle.terms.specs.declared.Statement.{Statement}
+use Rattle.vocabulary.specs.Terms.{IsPlace, is_about, kind_eq, place_eq, Kind, Initial, Echo, Ready, Place, Statement}
 use Rattle.terms.proofs.Same.{is_about-true, place_eq-same}
 use Rattle.node.specs.Marks.{mark_index, has_kind, with_kind, HasMark, mark_at, marked, AreMarked}
 

@@ -33,9 +33,9 @@ pub struct Pass {
 
 impl Model for Pass {
     ghost use Rattle.std.specs.Prelude.{map};
-    ghost use Rattle.node.specs.Verdicts.{Knows};
+    ghost use Rattle.node.specs.Verdicts.{KnownCells};
 
-    ghost Value = { Knows };
+    ghost Value = { KnownCells };
 
     ghost view = { λ p. record { cells = map (λ n. n.cell) p.notes.items; known = map (λ n. n.known) p.notes.items } };
 }

@@ -1,20 +1,18 @@
 //! The book: a member, what happened since its opening, and what it published.
 ghost use Rattle.std.specs.Prelude.{◌≡◌, ◌⊎◌, ◌↔◌, ◌+◌, ◌<◌, ◌≤◌, ◌^◌, ℕ, List, [], ◌∷◌, ◌++◌, length, take, drop, map, Bool, true, false, IfOk, IfErr, IfSome, OnOk, OnErr, Some, None, IsErrOf, IsSome, IfNone, slice_get, vec_len, vec_capacity};
 ghost use Rattle.std.specs.Arc.{arc_value};
-ghost use Rattle.terms.specs.Reply.Event.{Hearing, Proposal};
-ghost use Rattle.terms.specs.Reply.{records_of, records_of_all};
+ghost use Rattle.vocabulary.specs.Terms.{Hearing, Proposal, records_of, records_of_all, Header};
 ghost use Rattle.questions.specs.Replay.Entry.{Heard, Proposed};
 ghost use Rattle.questions.specs.Replies.{reply_of};
-ghost use Rattle.terms.specs.declared.Header.{Header};
 ghost use Rattle.world.specs.World.{World, IsCorrect};
 ghost use Rattle.member.specs.Answers.{verdict_of, IsFull};
 ghost use Rattle.member.specs.Groups.{replies_of, AllCome, IsFullOfAll};
-ghost use Rattle.member.specs.Life.{IsAt, Comes};
+ghost use Rattle.member.specs.Life.{MemberIsAt, Comes};
 ghost use Rattle.member.specs.Outcomes.{HasSaved, StaysOn};
 ghost use Rattle.member.specs.Sealed.{sealed_from};
 ghost use Rattle.member.specs.Sound.{IsSound};
-ghost use Rattle.member.specs.Words.{disk_of, header_of, saved_of, is_stopped_of, StandsFor};
-ghost use Rattle.node.specs.Books.{Applies, Refuses, Opens, IsReplayed, lengthened, is_numbered, decided_below};
+ghost use Rattle.member.specs.Readers.{member_disk, member_header, member_saved, member_is_stopped, MemberStandsFor};
+ghost use Rattle.node.specs.Books.{Applies, RefusesEvent, IsJustOpened, IsReplayed, lengthened, is_numbered, decided_below};
 ghost use Rattle.node.specs.Entries.{noted};
 ghost use Rattle.node.specs.Firsts.{HandsIn};
 ghost use Rattle.node.specs.Groups.{heard_from, said_in, AppliesAll, RefusesAll, LivesOnAll};
@@ -69,7 +67,7 @@ pub struct Book<D: Disk, J: Naming> {
 
 impl<D: Disk, J: Naming> Model for Book<D, J> {
     ghost use Rattle.std.specs.Prelude.{map, take};
-    ghost use Rattle.member.specs.Words.{saved_of};
+    ghost use Rattle.member.specs.Readers.{member_saved};
     ghost use Rattle.node.specs.Views.{BookView};
 
     ghost Value = { BookView D };
@@ -77,7 +75,7 @@ impl<D: Disk, J: Naming> Model for Book<D, J> {
     ghost use Rattle.node.specs.Entries.{noted};
     ghost use Rattle.node.specs.Keeps.{IsKept};
 
-    ghost view = { λ b. record { member = b.member; opening = take b.opened (saved_of b.member); history = map noted b.history.items; known = b.notes.known } };
+    ghost view = { λ b. record { member = b.member; opening = take b.opened (member_saved b.member); history = map noted b.history.items; known = b.notes.known } };
 
     ghost invariant = { λ b. IsKept D.Disk J.names b.notes.cells b.member b.opened (map noted b.history.items) b.notes.known };
 }
@@ -93,9 +91,9 @@ impl<D: Disk, J: Naming> Book<D, J> {
     where
         D: Drop,
         requires sound { IsSound D.Disk member }
-        requires fresh { is_stopped_of member ≡ false → StandsFor member (saved_of member) [] }
+        requires fresh { member_is_stopped member ≡ false → MemberStandsFor member (member_saved member) [] }
         requires board { arc_value board ≡ J.names }
-        ensures { IfOk result (λ book. Opens member book) }
+        ensures { IfOk result (λ book. IsJustOpened member book) }
     {
         let opened = member.records().len();
         let mut notes = Notes::new(alloc, board)?;
@@ -127,10 +125,10 @@ impl<D: Disk, J: Naming> Book<D, J> {
         ensures seat { OnOk result (HandsIn seat.old seat.new (statement.now ∷ []) 1) }
         // In the world it is the member's event, or the member hears nothing and goes down.
         ensures life { (header : Header) (liars : ℕ → Bool) (w : World) → IsCorrect header.size liars header.me →
-            IsAt D.Disk header w self.old.member → Comes w (Hearing seat.old.peer statement.now) →
+            MemberIsAt D.Disk header w self.old.member → Comes w (Hearing seat.old.peer statement.now) →
             LivesOn D.Disk header liars w toss.0 (Hearing seat.old.peer statement.now) result self.old.member self.new.member }
 
-        ensures fault { IfErr result (λ f. Refuses self.old (Hearing seat.old.peer statement.now) f self.new) }
+        ensures fault { IfErr result (λ f. RefusesEvent self.old (Hearing seat.old.peer statement.now) f self.new) }
         ensures kept { OnErr result (seat.new ≡ seat.old) }
         ensures disk { IfErr result (λ f. Spares D.Disk
             (IsFull self.old.member toss.0 (Hearing seat.old.peer statement.now)) f self.old.member self.new.member) }
@@ -183,13 +181,13 @@ impl<D: Disk, J: Naming> Book<D, J> {
         ensures length { IfOk result (λ answers. length answers.items ≡ length events.now) }
         ensures saved { IfOk result (λ answers.
             HasSaved D.Disk self.old.member (records_of_all (replies_of answers.items)) self.new.member) }
-        ensures four_calls { D.keeps (disk_of self.old.member) → IfOk result (λ answers.
+        ensures four_calls { D.keeps (member_disk self.old.member) → IfOk result (λ answers.
             0 < length (records_of_all (replies_of answers.items)) →
-            D.moment (disk_of self.new.member) ≡ D.moment (disk_of self.old.member) + 4) }
+            D.moment (member_disk self.new.member) ≡ D.moment (member_disk self.old.member) + 4) }
         ensures seat { OnOk result (HandsIn seat.old seat.new (said_in events.now) (length events.now)) }
         // In the world it is the member's event, or the member hears nothing and goes down.
         ensures life { (header : Header) (liars : ℕ → Bool) (w : World) → IsCorrect header.size liars header.me →
-            IsAt D.Disk header w self.old.member → AllCome w (heard_from seat.old.peer events.now) →
+            MemberIsAt D.Disk header w self.old.member → AllCome w (heard_from seat.old.peer events.now) →
             LivesOnAll D.Disk header liars w (heard_from seat.old.peer events.now) result self.old.member self.new.member }
 
         ensures fault { IfErr result (λ f. RefusesAll self.old (heard_from seat.old.peer events.now) f self.new) }
@@ -235,10 +233,10 @@ impl<D: Disk, J: Naming> Book<D, J> {
         ensures saved { IfOk result (λ a. HasSaved D.Disk self.old.member (records_of (reply_of a)) self.new.member) }
         // In the world it is the member's event, or the member hears nothing and goes down.
         ensures life { (header : Header) (liars : ℕ → Bool) (w : World) → IsCorrect header.size liars header.me →
-            IsAt D.Disk header w self.old.member → Comes w (Proposal question bit) →
+            MemberIsAt D.Disk header w self.old.member → Comes w (Proposal question bit) →
             LivesOn D.Disk header liars w toss.0 (Proposal question bit) result self.old.member self.new.member }
 
-        ensures fault { IfErr result (λ f. Refuses self.old (Proposal question bit) f self.new) }
+        ensures fault { IfErr result (λ f. RefusesEvent self.old (Proposal question bit) f self.new) }
         ensures disk { IfErr result (λ f. Spares D.Disk
             (IsFull self.old.member toss.0 (Proposal question bit)) f self.old.member self.new.member) }
         ensures stays { StaysOn D.Disk self.old.member self.new.member }
@@ -270,7 +268,7 @@ impl<D: Disk, J: Naming> Book<D, J> {
 
     /// The saved records, in order. They are those of the replay of the history over the opening records.
     pub fn records(&self) -> &[Record]
-        ensures saved { result.now ≡ saved_of self.now.member }
+        ensures saved { result.now ≡ member_saved self.now.member }
         ensures replay { IsReplayed self.now.member self.now.opening self.now.history }
         ensures sound { IsSound D.Disk self.now.member }
     {
@@ -279,7 +277,7 @@ impl<D: Disk, J: Naming> Book<D, J> {
 
     /// The statements of the saved records, numbered from 0 without a gap.
     pub fn outbox(&self) -> &[Sealed]
-        ensures statements { result.now ≡ sealed_from 0 (saved_of self.now.member) }
+        ensures statements { result.now ≡ sealed_from 0 (member_saved self.now.member) }
         ensures numbered { is_numbered 0 result.now ≡ true }
         ensures replay { IsReplayed self.now.member self.now.opening self.now.history }
     {
@@ -289,7 +287,7 @@ impl<D: Disk, J: Naming> Book<D, J> {
     /// The statements of the outbox from that number on, at most so many: none where it is past the end. Where there is no
     /// memory for them nothing changes.
     pub fn pull(&self, from: u64, max: usize) -> Result<Vec<Sealed>, Memory>
-        ensures items { IfOk result (λ v. v.items ≡ take max (drop from (sealed_from 0 (saved_of self.now.member)))) }
+        ensures items { IfOk result (λ v. v.items ≡ take max (drop from (sealed_from 0 (member_saved self.now.member)))) }
         ensures numbered { IfOk result (λ v. is_numbered from v.items ≡ true) }
         ensures fits { IfOk result (λ v. 0 < vec_len v → from + vec_len v < 2 ^ 64) }
     {
@@ -298,22 +296,22 @@ impl<D: Disk, J: Naming> Book<D, J> {
 
     /// The bit that the question was decided for, in this life or an earlier one; none where there is no such question.
     pub fn verdict(&self, question: u16) -> Option<bool>
-        ensures decided { result ≡ verdict_of (saved_of self.now.member) question }
-        ensures asked { (header_of self.now.member).size.questions ≤ question → result ≡ None }
+        ensures decided { result ≡ verdict_of (member_saved self.now.member) question }
+        ensures asked { (member_header self.now.member).size.questions ≤ question → result ≡ None }
     {
         self.member.verdict(question)
     }
 
     /// Whether its member is stopped: then it takes no event.
     pub fn is_stopped(&self) -> bool
-        ensures { result ≡ is_stopped_of self.now.member }
+        ensures { result ≡ member_is_stopped self.now.member }
     {
         self.member.is_stopped()
     }
 
     /// Whose journal it is.
     pub fn header(&self) -> Header
-        ensures { result ≡ header_of self.now.member }
+        ensures { result ≡ member_header self.now.member }
     {
         self.member.header()
     }
@@ -321,10 +319,10 @@ impl<D: Disk, J: Naming> Book<D, J> {
     /// How many statements are in the outbox, and how many questions are decided; none where the member is stopped. It
     /// asks once for each question, and goes through no records.
     pub fn status(&self) -> Option<(u64, u16)>
-        ensures outbox { IfSome result (λ status. status.0 ≡ length (sealed_from 0 (saved_of self.now.member))) }
+        ensures outbox { IfSome result (λ status. status.0 ≡ length (sealed_from 0 (member_saved self.now.member))) }
         ensures decided { IfSome result (λ status.
-            status.1 ≡ decided_below (header_of self.now.member).size.questions (saved_of self.now.member)) }
-        ensures up { IsSome result ↔ (is_stopped_of self.now.member ≡ false) }
+            status.1 ≡ decided_below (member_header self.now.member).size.questions (member_saved self.now.member)) }
+        ensures up { IsSome result ↔ (member_is_stopped self.now.member ≡ false) }
     {
         if self.member.is_stopped() {
             return None;
@@ -349,7 +347,7 @@ impl<D: Disk, J: Naming> Book<D, J> {
 
     /// Whether the seats are those of all members, each with the link part of its peer.
     pub(crate) fn is_settled(&self, seats: &[Seat]) -> bool
-        ensures { result ≡ is_settled (header_of self.now.member).size.n self.now.history seats.now }
+        ensures { result ≡ is_settled (member_header self.now.member).size.n self.now.history seats.now }
     {
         is_settled(
             self.member.header().size().n(),
@@ -364,7 +362,7 @@ impl<D: Disk, J: Naming> Book<D, J> {
         requires { pass.old.cells ≡ J.names }
         ensures same { (self.new ≡ self.old) × (pass.new ≡ pass.old) }
         ensures decision { IfSome (known_at self.old.known question) (λ b.
-            verdict_of (saved_of self.old.member) question ≡ Some b) }
+            verdict_of (member_saved self.old.member) question ≡ Some b) }
         ensures agree { IfSome (known_at pass.old.known question) (λ b.
             IfSome (known_at self.old.known question) (λ c. c ≡ b)) }
     {
@@ -414,9 +412,9 @@ fn records_in(answer: &Answer) -> &[Record]
 // Publishes the decisions of the questions that these records decide.
 fn publish<D: Disk>(member: &Member<D>, notes: &mut Notes, records: &[Record])
     requires sound { IsSound D.Disk member.now }
-    requires decided { AreDecided (saved_of member.now) notes.old.known }
+    requires decided { AreDecided (member_saved member.now) notes.old.known }
     ensures cells { notes.new.cells ≡ notes.old.cells }
-    ensures decided { AreDecided (saved_of member.now) notes.new.known }
+    ensures decided { AreDecided (member_saved member.now) notes.new.known }
     ensures more { KnowsMore notes.old.known notes.new.known }
 {
     for one in records {
@@ -429,9 +427,9 @@ fn publish<D: Disk>(member: &Member<D>, notes: &mut Notes, records: &[Record])
 // Publishes the decisions of the questions that the records of these answers decide.
 fn publish_all<D: Disk>(member: &Member<D>, notes: &mut Notes, answers: &[Answer])
     requires sound { IsSound D.Disk member.now }
-    requires decided { AreDecided (saved_of member.now) notes.old.known }
+    requires decided { AreDecided (member_saved member.now) notes.old.known }
     ensures cells { notes.new.cells ≡ notes.old.cells }
-    ensures decided { AreDecided (saved_of member.now) notes.new.known }
+    ensures decided { AreDecided (member_saved member.now) notes.new.known }
     ensures more { KnowsMore notes.old.known notes.new.known }
 {
     for answer in answers {
@@ -442,9 +440,9 @@ fn publish_all<D: Disk>(member: &Member<D>, notes: &mut Notes, answers: &[Answer
 // Publishes the decision of the question, if there is one.
 fn publish_one<D: Disk>(member: &Member<D>, notes: &mut Notes, question: u16)
     requires sound { IsSound D.Disk member.now }
-    requires decided { AreDecided (saved_of member.now) notes.old.known }
+    requires decided { AreDecided (member_saved member.now) notes.old.known }
     ensures cells { notes.new.cells ≡ notes.old.cells }
-    ensures decided { AreDecided (saved_of member.now) notes.new.known }
+    ensures decided { AreDecided (member_saved member.now) notes.new.known }
     ensures more { KnowsMore notes.old.known notes.new.known }
 {
     if let Some(bit) = member.verdict(question) {
@@ -455,7 +453,7 @@ fn publish_one<D: Disk>(member: &Member<D>, notes: &mut Notes, question: u16)
 // How many questions the member has decided.
 fn decided<D: Disk>(member: &Member<D>) -> u16
     requires { IsSound D.Disk member.now }
-    ensures { result ≡ decided_below (header_of member.now).size.questions (saved_of member.now) }
+    ensures { result ≡ decided_below (member_header member.now).size.questions (member_saved member.now) }
 {
     let mut count = 0;
     for question in 0..member.header().size().questions() {

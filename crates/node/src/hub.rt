@@ -2,7 +2,7 @@
 ghost use Rattle.std.specs.Prelude.{◌≡◌, [], false, length, IfOk};
 ghost use Rattle.std.specs.Arc.{arc_value};
 ghost use Rattle.member.specs.Sound.{IsSound};
-ghost use Rattle.member.specs.Words.{header_of, saved_of, is_stopped_of, StandsFor};
+ghost use Rattle.member.specs.Readers.{member_header, member_saved, member_is_stopped, MemberStandsFor};
 ghost use Rattle.node.specs.Firsts.{new_seats};
 
 use crate::board::Board;
@@ -29,7 +29,7 @@ pub struct Hub<D: Disk, J: Naming> {
 impl<D: Disk, J: Naming> Model for Hub<D, J> {
     ghost use Rattle.std.specs.Prelude.{◌≡◌};
     ghost use Rattle.std.specs.Arc.{arc_value};
-    ghost use Rattle.terms.specs.declared.Header.{Header};
+    ghost use Rattle.vocabulary.specs.Terms.{Header};
 
     ghost Value = { Header };
 
@@ -50,11 +50,11 @@ impl<D: Disk, J: Naming> Hub<D, J> {
     where
         D: Drop,
         requires sound { IsSound D.Disk member }
-        requires fresh { is_stopped_of member ≡ false → StandsFor member (saved_of member) [] }
+        requires fresh { member_is_stopped member ≡ false → MemberStandsFor member (member_saved member) [] }
         requires board { arc_value board ≡ J.names }
-        requires cells { length (arc_value board) ≡ (header_of member).size.questions }
-        ensures header { IfOk result (λ opened. opened.0 ≡ header_of member) }
-        ensures seats { IfOk result (λ opened. opened.1.items ≡ new_seats (header_of member).size.n) }
+        requires cells { length (arc_value board) ≡ (member_header member).size.questions }
+        ensures header { IfOk result (λ opened. opened.0 ≡ member_header member) }
+        ensures seats { IfOk result (λ opened. opened.1.items ≡ new_seats (member_header member).size.n) }
     {
         let header = member.header();
         let seats = seats_of(alloc, header.size())?;

@@ -1,6 +1,6 @@
 //! Marks: which kinds and places the firsts of a seat have, found without a walk over them.
 ghost use Rattle.std.specs.Prelude.{◌≡◌, ◌<◌, ◌*◌, false, replicate, IfOk, IfSome, IfNone};
-ghost use Rattle.terms.specs.Bounds.{IsPlace};
+ghost use Rattle.vocabulary.specs.Terms.{IsPlace};
 ghost use Rattle.node.specs.Marks.{has_kind, marked, mark_at, mark_index, with_kind, HasMark};
 
 use std::alloc::Global;

@@ -1,6 +1,6 @@
 //! Seats between the sessions of their links.
 ghost use Rattle.std.specs.Prelude.{◌≡◌, IfSome};
-ghost use Rattle.node.specs.Firsts.{IsSeat};
+ghost use Rattle.node.specs.Firsts.{IsLawfulSeat};
 
 use crate::seat::Seat;
 use std::sync::{Mutex, Wait};

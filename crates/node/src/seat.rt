@@ -1,10 +1,8 @@
 //! Seats: one for each link, which counts what was handed in and keeps its firsts.
 ghost use Rattle.std.specs.Prelude.{◌≡◌, ◌+◌, ◌<◌, ◌≤◌, length, IfOk, vec_len, vec_capacity};
 ghost use Rattle.std.specs.List.{list_any};
-ghost use Rattle.terms.specs.Bounds.{IsPlace};
-ghost use Rattle.terms.specs.Heard.{is_foreign};
-ghost use Rattle.terms.specs.Same.{is_about};
-ghost use Rattle.node.specs.Firsts.{grow, grown, new_seat, IsSeat};
+ghost use Rattle.vocabulary.specs.Terms.{IsPlace, is_foreign, is_about};
+ghost use Rattle.node.specs.Firsts.{grow, grown, new_seat, IsLawfulSeat};
 ghost use Rattle.node.specs.Groups.{said_in};
 ghost use Rattle.node.specs.Marks.{AreMarked};
 
@@ -55,7 +53,7 @@ impl Seat {
     /// Whose link it is.
     pub fn peer(&self) -> u8
         ensures peer { result ≡ self.now.peer }
-        ensures form { IsSeat self.now }
+        ensures form { IsLawfulSeat self.now }
     {
         let _next = self.next;
         self.peer

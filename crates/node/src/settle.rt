@@ -1,10 +1,10 @@
 //! The end of a hub: what each link handed in stands in the history.
 ghost use Rattle.std.specs.Prelude.{◌≡◌, ◌==◌, ◌&&◌, ℕ, true, map, IfOk, IfErr, MatchResult};
-ghost use Rattle.terms.specs.Same.{statement_eq};
+ghost use Rattle.vocabulary.specs.Terms.{statement_eq};
 ghost use Rattle.questions.specs.Replay.{link_part};
-ghost use Rattle.member.specs.Words.{header_of};
+ghost use Rattle.member.specs.Readers.{member_header};
 ghost use Rattle.node.specs.Entries.{noted};
-ghost use Rattle.node.specs.Settled.{IsSettled, same_statements, is_seated, all_below, is_settled};
+ghost use Rattle.node.specs.Settled.{AreSeated, same_statements, is_seated, all_below, is_settled};
 
 use crate::book::{Book, Naming};
 use crate::entry::Entry;
@@ -29,8 +29,8 @@ pub fn close<D: Disk, J: Naming>(
     hub: Hub<D, J>,
     seats: Vec<Seat>,
 ) -> Result<Closing<D, J>, Closing<D, J>>
-    ensures ok { IfOk result (λ c. IsSettled (header_of c.book.member).size.n c.book.history c.seats.items) }
-    ensures err { IfErr result (λ c. IsSettled (header_of c.book.member).size.n c.book.history c.seats.items → ⊥) }
+    ensures ok { IfOk result (λ c. AreSeated (member_header c.book.member).size.n c.book.history c.seats.items) }
+    ensures err { IfErr result (λ c. AreSeated (member_header c.book.member).size.n c.book.history c.seats.items → ⊥) }
     ensures seats { MatchResult result (λ c. c.seats.items ≡ seats.items) (λ c. c.seats.items ≡ seats.items) }
 {
     let book = hub.into_book();

@@ -2,7 +2,7 @@
 ghost use Rattle.std.specs.Prelude.{◌≡◌, ◌<◌, length, IfOk, []};
 ghost use Rattle.std.specs.Arc.{arc_value};
 ghost use Rattle.member.specs.Sound.{IsSound};
-ghost use Rattle.member.specs.Words.{header_of, saved_of, is_stopped_of, StandsFor};
+ghost use Rattle.member.specs.Readers.{member_header, member_saved, member_is_stopped, MemberStandsFor};
 
 mod groups;
 
@@ -47,8 +47,8 @@ fn start<D: Disk + Drop>(
 ) -> Result<Member<D>, Fail>
     requires { 0 < header.now.size.questions }
     ensures sound { IfOk result (λ m. IsSound D.Disk m) }
-    ensures fresh { IfOk result (λ m. StandsFor m (saved_of m) []) }
-    ensures header { IfOk result (λ m. header_of m ≡ header.now) }
+    ensures fresh { IfOk result (λ m. MemberStandsFor m (member_saved m) []) }
+    ensures header { IfOk result (λ m. member_header m ≡ header.now) }
 {
     let mut disk = disk;
     journal::create(&mut disk, header)?;

@@ -1,21 +1,6 @@
 -- What one more own Initial does to an instance, and to what may be begun.
 use Rattle.std.proofs.Common.{ℕ, zero, suc, ◌≡◌, ◌+◌, ◌*◌, ◌<◌, ◌≤◌, Bool, true, false, ◌&&◌, ◌⊎◌, inl, inr, refl, sym, ap, subst, ◌∙◌, arith, Option, Some, None, IsSome, List, [], ◌∷◌, ◌++◌, length, length-append}
-use Rattle.terms.specs.declared.Kind.{Kind}
-use Rattle.terms.specs.declared.Kind.TheVariants.{Initial}
-use Rattle.terms.specs.declared.Value.{Value}
-use Rattle.terms.specs.declared.Place.{Place}
-use Rattle.terms.specs.declared.Statement.{Statement}
-use Rattle.terms.specs.declared.Record.{Record}
-use Rattle.terms.specs.declared.Record.TheVariants.{Said, Decided}
-use Rattle.terms.specs.declared.Size.{Size}
-use Rattle.terms.specs.Same.{place_eq, is_about, kind_eq}
-use Rattle.terms.specs.Heard.{Accepted}
-use Rattle.terms.specs.Valid.{IsGiven}
-use Rattle.terms.specs.Journal.{said, decided}
-use Rattle.terms.specs.Keep.{keep_or, given}
-use Rattle.terms.specs.Lawful.{IsLawfulStatement, before, round_before, step_before}
-use Rattle.terms.specs.Past.{Past, after_record}
-use Rattle.terms.specs.Answer.{after_records, place_code, IsChosen, AreInitials, MayBegin, IsNextInitial}
+use Rattle.vocabulary.specs.Terms.{Kind, Initial, Value, Place, Statement, Record, Said, Decided, Size, place_eq, is_about, kind_eq, Accepted, IsGiven, said, decided, keep_or, given, IsLawfulStatement, before, round_before, step_before, Past, after_record, after_records, place_code, IsChosen, AreInitials, MayBegin, IsNextInitial}
 use Rattle.terms.proofs.Same.{is_about-true, place_eq-same}
 use Rattle.terms.proofs.Journal.{said-append_one, decided-append_said}
 use Rattle.questions.specs.declared.instance.Instance.{Instance}

@@ -1,28 +1,15 @@
 -- What one more record does to what an instance has.
 use Rattle.std.proofs.Common.{ℕ, ◌≡◌, Bool, cond, refl, sym, ap, subst, ◌∙◌, Option, Some, None, List, [], ◌∷◌, ◌++◌}
 use Rattle.std.specs.Option.{option_or}
-use Rattle.terms.specs.declared.Kind.{Kind}
-use Rattle.terms.specs.declared.Kind.TheVariants.{Initial, Echo, Ready}
-use Rattle.terms.specs.declared.Value.{Value}
-use Rattle.terms.specs.declared.Place.{Place}
-use Rattle.terms.specs.declared.Statement.{Statement}
-use Rattle.terms.specs.declared.Record.{Record}
-use Rattle.terms.specs.declared.Record.TheVariants.{Said, Decided}
-use Rattle.terms.specs.Bounds.{IsSize}
-use Rattle.terms.specs.Heard.{got}
-use Rattle.terms.specs.Journal.{said}
-use Rattle.terms.specs.Keep.{keep_or}
-use Rattle.terms.specs.Past.{Past, after_record}
-use Rattle.terms.specs.Answer.{after_records}
-use Rattle.terms.specs.Same.{is_about, place_of, statement_of}
+use Rattle.vocabulary.specs.Terms.{Kind, Initial, Echo, Ready, Value, Place, Statement, Record, Said, Decided, IsSize, got, said, keep_or, Past, after_record, after_records, is_about, new_place, new_statement}
 use Rattle.terms.proofs.Due.{nothing_lawful}
 use Rattle.terms.proofs.Journal.{said-append, said-append_one, said-append_decided}
 use Rattle.rbc.specs.declared.Broadcasts.{Broadcasts}
-use Rattle.rbc.specs.Stands.{Stands as HasBroadcasts}
-use Rattle.rounds.specs.Stands.{Stands as HasRounds}
+use Rattle.rbc.specs.Stands.{BroadcastsStandFor as HasBroadcasts}
+use Rattle.rounds.specs.Stands.{QuestionStandsFor as HasRounds}
 use Rattle.questions.specs.declared.instance.Instance.{Instance}
 use Rattle.questions.specs.Parts.{plain_if, initial_in}
-use Rattle.questions.specs.Instances.{HasOwn, Has, StandsFor}
+use Rattle.questions.specs.Instances.{HasOwn, Has, InstanceStandsFor}
 use Rattle.questions.proofs.Rows.{keep_nothing, rows-is}
 
 -- the Initial among records and one more
@@ -38,7 +25,7 @@ plain_if-or (Some x) b = refl
 -- what is known of its own after one more record
 pub own-more : (old new : Instance) (past : Past) (x : Record) → HasOwn old past → new.me ≡ old.me → new.question ≡ old.question
     → HasRounds new.rounds (after_record past x)
-    → plain_if new.proposed ≡ keep_or (plain_if old.proposed) (initial_in x (place_of old.question old.me 1 1))
+    → plain_if new.proposed ≡ keep_or (plain_if old.proposed) (initial_in x (new_place old.question old.me 1 1))
     → HasOwn new (after_record past x)
 own-more old new past x h m q rounds proposed =
     record {
@@ -47,10 +34,10 @@ own-more old new past x h m q rounds proposed =
       rounds = rounds;
       proposed =
           proposed
-          ∙ ap (λ (o : Option Value). keep_or o (initial_in x (place_of old.question old.me 1 1))) h.proposed
-          ∙ ap (λ k. keep_or (said past.records Initial (place_of past.question past.me 1 1)) (initial_in x (place_of k old.me 1 1))) h.question
-          ∙ ap (λ k. keep_or (said past.records Initial (place_of past.question past.me 1 1)) (initial_in x (place_of past.question k 1 1))) h.me
-          ∙ sym (initial-more past.records x (place_of past.question past.me 1 1));
+          ∙ ap (λ (o : Option Value). keep_or o (initial_in x (new_place old.question old.me 1 1))) h.proposed
+          ∙ ap (λ k. keep_or (said past.records Initial (new_place past.question past.me 1 1)) (initial_in x (new_place k old.me 1 1))) h.question
+          ∙ ap (λ k. keep_or (said past.records Initial (new_place past.question past.me 1 1)) (initial_in x (new_place past.question k 1 1))) h.me
+          ∙ sym (initial-more past.records x (new_place past.question past.me 1 1));
     }
 
 -- broadcasts don't look at records that are no Echo and no Ready
@@ -74,15 +61,15 @@ pub broadcasts-initial : (b : Broadcasts) (past : Past) (s : Statement) → s.ki
 broadcasts-initial b past s k h =
     broadcasts-more b past (Said s ∷ []) h
     (λ p. (
-      ap (λ (x : Kind). cond (is_about (statement_of x s.place s.value) Echo p) (Some s.value) None) k,
-      ap (λ (x : Kind). cond (is_about (statement_of x s.place s.value) Ready p) (Some s.value) None) k,
+      ap (λ (x : Kind). cond (is_about (new_statement x s.place s.value) Echo p) (Some s.value) None) k,
+      ap (λ (x : Kind). cond (is_about (new_statement x s.place s.value) Ready p) (Some s.value) None) k,
     ))
 
 pub broadcasts-decision : (b : Broadcasts) (past : Past) (q r : ℕ) (bit : Bool) → HasBroadcasts b past → HasBroadcasts b (after_record past (Decided q r bit))
 broadcasts-decision b past q r bit h = broadcasts-more b past (Decided q r bit ∷ []) h (λ p. (refl, refl))
 
 -- before anything was heard nothing is lawful, and all fits
-pub fresh : (one : Instance) (past : Past) → IsSize past.size → past.heard ≡ [] → Has one past → StandsFor one past
+pub fresh : (one : Instance) (past : Past) → IsSize past.size → past.heard ≡ [] → Has one past → InstanceStandsFor one past
 fresh one past ok none has =
     record {
       has = has;
@@ -92,5 +79,5 @@ fresh one past ok none has =
     }
 
 -- with one more record it stands still, before anything was heard
-pub recalled : (old new : Instance) (past : Past) (x : Record) → past.heard ≡ [] → StandsFor old past → Has new (after_record past x) → StandsFor new (after_record past x)
+pub recalled : (old new : Instance) (past : Past) (x : Record) → past.heard ≡ [] → InstanceStandsFor old past → Has new (after_record past x) → InstanceStandsFor new (after_record past x)
 recalled old new past x none h has = fresh new (after_record past x) h.size none has

@@ -1,25 +1,16 @@
 -- What a core knows after an event, and after a record of an earlier life.
-use Rattle.std.proofs.Common.{ℕ, ◌≡◌, ◌+◌, ◌<◌, Bool, true, false, refl, sym, ap, subst, ◌∙◌, arith, Option, Some, None, List, [], ◌∷◌, ◌++◌, length, take, drop, suc}
-use Rattle.std.specs.Prelude.{slice_get, slice_set, nat_le, if◌then◌else◌}
+use Rattle.std.proofs.Common.{ℕ, ◌≡◌, ◌+◌, ◌<◌, Bool, true, false, refl, sym, ap, subst, ◌∙◌, arith, Option, Some, None, List, [], ◌∷◌, ◌++◌, length, take, drop, suc, slice_get, slice_set, nat_le, if◌then◌else◌, leb-false}
 use Rattle.std.proofs.Math.ListN.{get_or}
 use Rattle.std.proofs.Math.Seq.{take-suc, drop-cons}
 use Rattle.std.specs.List.{list_any}
-use Rattle.std.proofs.lemmas.Bool.{leb-false}
-use Rattle.terms.specs.declared.Statement.{Statement}
-use Rattle.terms.specs.declared.Record.{Record}
-use Rattle.terms.specs.declared.Record.TheVariants.{Said, Decided}
-use Rattle.terms.specs.declared.Size.{Size}
-use Rattle.terms.specs.Keep.{keep_or}
-use Rattle.terms.specs.Answer.{question_of}
-use Rattle.terms.specs.Past.{Past, past_of, after_record}
-use Rattle.terms.specs.Reply.{Event, Reply, IsReply, after_reply, after_event, records_of}
+use Rattle.vocabulary.specs.Terms.{Statement, Record, Said, Decided, Size, keep_or, question_of, Past, past_of, after_record, Event, Reply, IsReply, after_reply, after_event, records_of}
 use Rattle.questions.specs.declared.answer.CoreFault.{CoreFault}
 use Rattle.questions.specs.declared.answer.CoreFault.TheVariants.{NoSuchQuestion, NoSuchMember, Failed}
 use Rattle.questions.specs.declared.instance.Instance.{Instance}
-use Rattle.questions.specs.Instances.{StandsFor}
+use Rattle.questions.specs.Instances.{InstanceStandsFor}
 use Rattle.questions.specs.Fields.{CoreFields, AreInstances}
 use Rattle.questions.specs.Faults.{number_fault, record_fault, records_fault}
-use Rattle.questions.specs.Cores.{size_of, me_of, failed_of, AreStanding, Knows, refusal}
+use Rattle.questions.specs.Readers.{core_size, core_me, core_failed, AreStanding, CoreStandsFor, core_refuses}
 use Rattle.questions.proofs.Replies.{asked_of}
 use Rattle.questions.proofs.Slots.{each_after, others_stand, read_at}
 use Rattle.questions.proofs.Others.{same_after_records}
@@ -52,9 +43,9 @@ found_below size me xs failed core i question one view are l e at =
 
 -- that of an event that is not refused
 pub found_at : (size : Size) (me : ℕ) (xs : List Instance) (failed : Bool) (core : CoreFields) (i question : ℕ) (members : List ℕ) (one : Instance)
-    → core_of size me xs failed ≡ core → AreInstances size me xs → None ≡ refusal core question members → i ≡ question → one ≡ get_or xs i one
+    → core_of size me xs failed ≡ core → AreInstances size me xs → None ≡ core_refuses core question members → i ≡ question → one ≡ get_or xs i one
     → slice_get xs i ≡ Some one
-unfolding failed_of size_of
+unfolding core_failed core_size
 found_at size me xs failed core i question members one view are none e at =
     found_below size me xs failed core i question one view are (there_is core.size question members (step core.failed (sym none))) e at
   where
@@ -64,15 +55,15 @@ found_at size me xs failed core i question members one view are none e at =
 
 -- that of a record with which nothing is wrong
 pub found_of : (size : Size) (me : ℕ) (xs : List Instance) (failed : Bool) (core : CoreFields) (i : ℕ) (x : Record) (one : Instance)
-    → core_of size me xs failed ≡ core → AreInstances size me xs → record_fault (size_of core) x ≡ None → i ≡ question_of x → one ≡ get_or xs i one
+    → core_of size me xs failed ≡ core → AreInstances size me xs → record_fault (core_size core) x ≡ None → i ≡ question_of x → one ≡ get_or xs i one
     → slice_get xs i ≡ Some one
-unfolding size_of
+unfolding core_size
 found_of size me xs failed core i x one view are none e at = found_below size me xs failed core i (question_of x) one view are (record_there core.size x none) e at
 
 -- what an instance that was found stands for
 pub stood : (core : CoreFields) (size : Size) (me : ℕ) (xs : List Instance) (failed : Bool) (i question : ℕ) (one : Instance) (J : List Record) (H : List (ℕ × Statement))
-    → core_of size me xs failed ≡ core → slice_get xs i ≡ Some one → i ≡ question → Knows core J H
-    → StandsFor one (past_of (size_of core) (me_of core) question J H)
+    → core_of size me xs failed ≡ core → slice_get xs i ≡ Some one → i ≡ question → CoreStandsFor core J H
+    → InstanceStandsFor one (past_of (core_size core) (core_me core) question J H)
 unfolding AreStanding
 stood core size me xs failed i question one J H view there e knows =
     knows.standing question one
@@ -82,13 +73,13 @@ stood core size me xs failed i question one J H view there e knows =
 pub event_known : (core : CoreFields) (size : Size) (me : ℕ) (xs : List Instance) (failed : Bool) (i : ℕ) (one new : Instance)
     (J : List Record) (H : List (ℕ × Statement)) (toss : ℕ) (event : Event) (r : Reply)
     → core_of size me xs failed ≡ core → slice_get xs i ≡ Some one → i ≡ asked_of event
-    → ((past : Past) → StandsFor one past → IsReply past toss event r) → ((past : Past) → StandsFor one past → StandsFor new (after_reply past event r))
-    → Knows core J H
-    → Knows (core_of size me (slice_set xs i new) failed) (J ++ records_of r) (after_event (past_of size me (asked_of event) J H) event).heard
-unfolding failed_of size_of me_of AreStanding
+    → ((past : Past) → InstanceStandsFor one past → IsReply past toss event r) → ((past : Past) → InstanceStandsFor one past → InstanceStandsFor new (after_reply past event r))
+    → CoreStandsFor core J H
+    → CoreStandsFor (core_of size me (slice_set xs i new) failed) (J ++ records_of r) (after_event (past_of size me (asked_of event) J H) event).heard
+unfolding core_failed core_size core_me AreStanding
 event_known core size me xs failed i one new J H toss event r view there e reply stands knows =
-    let k : Knows (core_of size me xs failed) J H = subst (λ (c : CoreFields). Knows c J H) (sym view) knows in
-    let st : StandsFor one (past_of size me (asked_of event) J H) = k.standing (asked_of event) one (subst (λ (j : ℕ). slice_get xs j ≡ Some one) e there) in
+    let k : CoreStandsFor (core_of size me xs failed) J H = subst (λ (c : CoreFields). CoreStandsFor c J H) (sym view) knows in
+    let st : InstanceStandsFor one (past_of size me (asked_of event) J H) = k.standing (asked_of event) one (subst (λ (j : ℕ). slice_get xs j ≡ Some one) e there) in
     record {
       up = k.up;
       member = k.member;
@@ -98,11 +89,11 @@ event_known core size me xs failed i one new J H toss event r view there e reply
 -- the record was taken by the instance of its question
 pub record_known : (core : CoreFields) (size : Size) (me : ℕ) (xs : List Instance) (failed : Bool) (i : ℕ) (one new : Instance) (J : List Record) (x : Record)
     → core_of size me xs failed ≡ core → slice_get xs i ≡ Some one → i ≡ question_of x
-    → ((past : Past) → past.heard ≡ [] → StandsFor one past → StandsFor new (after_record past x))
-    → Knows core J [] → Knows (core_of size me (slice_set xs i new) failed) (J ++ x ∷ []) []
-unfolding failed_of size_of me_of AreStanding
+    → ((past : Past) → past.heard ≡ [] → InstanceStandsFor one past → InstanceStandsFor new (after_record past x))
+    → CoreStandsFor core J [] → CoreStandsFor (core_of size me (slice_set xs i new) failed) (J ++ x ∷ []) []
+unfolding core_failed core_size core_me AreStanding
 record_known core size me xs failed i one new J x view there e stands knows =
-    let k : Knows (core_of size me xs failed) J [] = subst (λ (c : CoreFields). Knows c J []) (sym view) knows in
+    let k : CoreStandsFor (core_of size me xs failed) J [] = subst (λ (c : CoreFields). CoreStandsFor c J []) (sym view) knows in
     record {
       up = k.up;
       member = k.member;

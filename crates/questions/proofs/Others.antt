@@ -1,24 +1,7 @@
 -- What an event of one question leaves of the others: an instance stands for longer lists that say and show the same of
 -- its own question.
-use Rattle.std.proofs.Common.{ℕ, ◌≡◌, Bool, true, false, cond, not, ◌&&◌, ◌==◌, ◌⊎◌, inl, inr, refl, sym, ap, subst, ◌∙◌, arith, Option, Some, None, IsSome, is_some, List, [], ◌∷◌, ◌++◌}
-use Rattle.terms.specs.declared.Kind.{Kind}
-use Rattle.terms.specs.declared.Kind.TheVariants.{Initial, Echo, Ready}
-use Rattle.terms.specs.declared.Value.{Value}
-use Rattle.terms.specs.declared.Place.{Place}
-use Rattle.terms.specs.declared.Statement.{Statement}
-use Rattle.terms.specs.declared.Record.{Record}
-use Rattle.terms.specs.declared.Record.TheVariants.{Said, Decided}
-use Rattle.terms.specs.declared.Size.{Size}
-use Rattle.terms.specs.Count.{count_below, IsEchoQuorum, IsHelpSet, IsAcceptSet}
-use Rattle.terms.specs.Fit.{AllFit}
-use Rattle.terms.specs.Heard.{got, backs, Accepted, hear, is_foreign, is_none}
-use Rattle.terms.specs.Journal.{said, decided}
-use Rattle.terms.specs.Keep.{keep_or}
-use Rattle.terms.specs.Lawful.{IsLawful, IsLawfulStatement, before}
-use Rattle.terms.specs.Past.{past_of}
-use Rattle.terms.specs.Answer.{question_of}
-use Rattle.terms.specs.Same.{is_about, place_eq, place_of, sure, value_is}
-use Rattle.std.proofs.lemmas.Bool.{eqb-true}
+use Rattle.std.proofs.Common.{ℕ, ◌≡◌, Bool, true, false, cond, not, ◌&&◌, ◌==◌, ◌⊎◌, inl, inr, refl, sym, ap, subst, ◌∙◌, arith, Option, Some, None, IsSome, is_some, List, [], ◌∷◌, ◌++◌, eqb-true}
+use Rattle.vocabulary.specs.Terms.{Kind, Initial, Echo, Ready, Value, Place, Statement, Record, Said, Decided, Size, count_below, IsEchoQuorum, IsHelpSet, IsAcceptSet, AllFit, got, backs, Accepted, hear, is_foreign, is_none, said, decided, keep_or, IsLawful, IsLawfulStatement, before, past_of, question_of, is_about, place_eq, new_place, sure, value_is}
 use Rattle.terms.proofs.Count.{count-ext}
 use Rattle.terms.proofs.Heard.{some_accepted, Accepted-one, accepted_in}
 use Rattle.terms.proofs.Journal.{said-append}
@@ -27,7 +10,7 @@ use Rattle.terms.proofs.Same.{is_about-true, place_eq-true}
 use Rattle.terms.proofs.Valid.{IsValid-mono, IsGiven-mono}
 use Rattle.terms.proofs.Due.{got-elsewhere}
 use Rattle.questions.specs.declared.instance.Instance.{Instance}
-use Rattle.questions.specs.Instances.{StandsFor}
+use Rattle.questions.specs.Instances.{InstanceStandsFor}
 
 -- on the question, the one records and hearing say and show what the others do
 pub record IsSameOn (size : Size) (q : ℕ) (J K : List Record) (H G : List (ℕ × Statement)) : Type 0 where
@@ -81,7 +64,7 @@ lawful_before size me q J K H G same (Decided k r b) e h = (
 
 -- so an instance of that question stands for them too
 pub stands_same : (one : Instance) (size : Size) (me q : ℕ) (J K : List Record) (H G : List (ℕ × Statement)) → IsSameOn size q J K H G
-    → AllFit (past_of size me q K G) → StandsFor one (past_of size me q J H) → StandsFor one (past_of size me q K G)
+    → AllFit (past_of size me q K G) → InstanceStandsFor one (past_of size me q J H) → InstanceStandsFor one (past_of size me q K G)
 stands_same one size me q J K H G same fits st =
     let b = st.has.broadcasts in
     let o = st.has.own in
@@ -113,7 +96,7 @@ stands_same one size me q J K H G same fits st =
               decision = r.rounds.decision ∙ sym same.decided_is;
             };
           };
-          proposed = o.proposed ∙ sym (same.said_is Initial (place_of q me 1 1) refl);
+          proposed = o.proposed ∙ sym (same.said_is Initial (new_place q me 1 1) refl);
         };
       };
       size = st.size;

@@ -1,19 +1,6 @@
 -- What a reply is of: the question of its event, and no other thing of the past but what that shows.
 use Rattle.std.proofs.Common.{ℕ, ◌≡◌, Bool, refl, sym, ap, subst, Option, Some, None, List, [], ◌∷◌, ◌++◌}
-use Rattle.terms.specs.declared.Kind.{Kind}
-use Rattle.terms.specs.declared.Kind.TheVariants.{Initial, Echo, Ready}
-use Rattle.terms.specs.declared.Value.{Value}
-use Rattle.terms.specs.declared.Place.{Place}
-use Rattle.terms.specs.declared.Statement.{Statement}
-use Rattle.terms.specs.declared.Record.{Record}
-use Rattle.terms.specs.declared.Record.TheVariants.{Said, Decided}
-use Rattle.terms.specs.declared.Size.{Size}
-use Rattle.terms.specs.Same.{place_of, statement_of, plain}
-use Rattle.terms.specs.Past.{Past, past_of, after_record, after_hearing}
-use Rattle.terms.specs.Answer.{after_records, AreInitials, AreDue, AreProposed, said_if, decided_if}
-use Rattle.terms.specs.Reply.{Event, Reply, IsReply, after_reply, after_event, records_of, on}
-use Rattle.terms.specs.Reply.Reply.{Foreign, Repeat, Have, Taken}
-use Rattle.terms.specs.Reply.Event.{Hearing, Proposal}
+use Rattle.vocabulary.specs.Terms.{Kind, Initial, Echo, Ready, Value, Place, Statement, Record, Said, Decided, Size, new_place, new_statement, plain, Past, past_of, after_record, after_hearing, after_records, AreInitials, AreDue, AreProposed, said_if, decided_if, Event, Reply, IsReply, after_reply, after_event, records_of, on, Foreign, Repeat, Have, Taken, Hearing, Proposal}
 use Rattle.terms.proofs.Answer.{after_records_is}
 use Rattle.questions.proofs.Others.{AreOn}
 
@@ -66,7 +53,7 @@ reply_on past toss (Proposal question bit) (Have first) h = tt
 reply_on past toss (Proposal question bit) (Taken records) h = proposed_on h.1
   where
     proposed_on : AreProposed (on past question) (plain bit) toss records → AreOn question records
-    proposed_on d = subst (λ (ys : List Record). AreOn question ys) (sym d.records_are) (refl, initials_on (after_record (on past question) (Said (statement_of Initial (place_of question past.me 1 1) (plain bit)))) toss 4 d.initials d.initials_are)
+    proposed_on d = subst (λ (ys : List Record). AreOn question ys) (sym d.records_are) (refl, initials_on (after_record (on past question) (Said (new_statement Initial (new_place question past.me 1 1) (plain bit)))) toss 4 d.initials d.initials_are)
 
 -- a reply may be read from the past of any question
 pub IsReply-of_all : (size : Size) (me q k : ℕ) (records : List Record) (heard : List (ℕ × Statement)) (toss : ℕ) (event : Event) (r : Reply)

@@ -1,25 +1,12 @@
 -- The answer to an event, by what the calls within it promise.
 use Rattle.std.proofs.Common.{ℕ, ◌≡◌, Bool, refl, sym, ap, subst, ◌∙◌, Option, Some, None, List, [], ◌∷◌, ◌++◌}
-use Rattle.terms.specs.declared.Kind.{Kind}
-use Rattle.terms.specs.declared.Kind.TheVariants.{Initial, Echo, Ready}
-use Rattle.terms.specs.declared.Value.{Value}
-use Rattle.terms.specs.declared.Place.{Place}
-use Rattle.terms.specs.declared.Statement.{Statement}
-use Rattle.terms.specs.declared.Record.{Record}
-use Rattle.terms.specs.declared.Record.TheVariants.{Said, Decided}
-use Rattle.terms.specs.Bounds.{IsSize}
-use Rattle.terms.specs.Fit.{AllFit}
-use Rattle.terms.specs.Lawful.{IsLawfulStatement}
-use Rattle.terms.specs.Same.{statement_of, place_of, plain}
-use Rattle.terms.specs.Journal.{said, decided}
-use Rattle.terms.specs.Past.{Past, after_record, after_hearing}
-use Rattle.terms.specs.Answer.{MaySay, IsLeast, IsQuiet, after_records, said_if, decided_if, IsFirstDecision, AreInitials, MayBegin, AreDue, AreProposed}
+use Rattle.vocabulary.specs.Terms.{Kind, Initial, Echo, Ready, Value, Place, Statement, Record, Said, Decided, IsSize, AllFit, IsLawfulStatement, new_statement, new_place, plain, said, decided, Past, after_record, after_hearing, MaySay, IsLeast, IsQuiet, after_records, said_if, decided_if, IsFirstDecision, AreInitials, MayBegin, AreDue, AreProposed}
 use Rattle.terms.proofs.Journal.{said-append, said-append_one}
 use Rattle.rbc.specs.Answers.{heard_as}
 use Rattle.rbc.specs.declared.Heard.TheVariants.{News}
 use Rattle.questions.specs.declared.instance.Instance.{Instance}
-use Rattle.questions.specs.Instances.{Has, StandsFor}
-use Rattle.questions.specs.Parts.{IsQuietElsewhere, Begins}
+use Rattle.questions.specs.Instances.{Has, InstanceStandsFor}
+use Rattle.questions.specs.Parts.{IsQuietElsewhere, SaysInitials}
 use Rattle.questions.proofs.Beginning.{begin-later}
 use Rattle.questions.proofs.Rows.{with_records, rows-is, rows-append, decided-append, keep_none, keep_nothing}
 use Rattle.questions.proofs.Taking.{heard-same}
@@ -28,7 +15,7 @@ use Rattle.questions.proofs.Quiet.{quiet_after}
 -- an Echo said doesn't change what may be said as a Ready
 said_other : (J : List Record) (place : Place) (o : Option Value) (p : Place) → said (J ++ said_if Echo place o) Ready p ≡ said J Ready p
 said_other J place None p = said-append J [] Ready p ∙ keep_nothing (said J Ready p)
-said_other J place (Some m) p = said-append_one J (statement_of Echo place m) Ready p ∙ keep_nothing (said J Ready p)
+said_other J place (Some m) p = said-append_one J (new_statement Echo place m) Ready p ∙ keep_nothing (said J Ready p)
 
 pub ready_after : (past : Past) (place : Place) (echo : Option Value) (o : Option Value) → IsLeast (MaySay past Ready place) o → IsLeast (MaySay (after_records past (said_if Echo place echo)) Ready place) o
 ready_after past place echo o h = subst (λ (x : Past). IsLeast (MaySay x Ready place) o) (sym (rows-is past (said_if Echo place echo))) (step o h)
@@ -45,7 +32,7 @@ pub due : (past : Past) (place : Place) (toss : ℕ) (echo ready : Option Value)
     → IsQuietElsewhere past place
     → IsLeast (MaySay past Echo place) echo → IsLeast (MaySay past Ready place) ready
     → IsFirstDecision (after_records past (said_if Echo place echo ++ said_if Ready place ready)) decision
-    → Begins (after_records past (said_if Echo place echo ++ said_if Ready place ready ++ decided_if past.question decision)) toss initials
+    → SaysInitials (after_records past (said_if Echo place echo ++ said_if Ready place ready ++ decided_if past.question decision)) toss initials
     → (records : List Record) → records ≡ said_if Echo place echo ++ said_if Ready place ready ++ decided_if past.question decision ++ initials
     → AreDue past place toss records
 due past place toss echo ready decision initials elsewhere echo_is ready_is decision_is begins records are =
@@ -73,7 +60,7 @@ due past place toss echo ready decision initials elsewhere echo_is ready_is deci
 
 -- with these records added it stands, where they leave nothing
 pub stands_after : (one : Instance) (past : Past) (xs : List Record) → IsSize past.size → AllFit past → Has one (after_records past xs) → IsQuiet (after_records past xs)
-    → StandsFor one (after_records past xs)
+    → InstanceStandsFor one (after_records past xs)
 stands_after one past xs ok fits has quiet =
     record {
       has = has;
@@ -83,8 +70,8 @@ stands_after one past xs ok fits has quiet =
     }
 
 -- what isn't news leaves it standing
-pub stands_known : (old new : Instance) (past : Past) (from : ℕ) (s : Statement) → (heard_as past from s ≡ News → ⊥) → StandsFor old past → Has new (after_hearing past from s)
-    → StandsFor new (after_hearing past from s)
+pub stands_known : (old new : Instance) (past : Past) (from : ℕ) (s : Statement) → (heard_as past from s ≡ News → ⊥) → InstanceStandsFor old past → Has new (after_hearing past from s)
+    → InstanceStandsFor new (after_hearing past from s)
 stands_known old new past from s known stands has =
     record {
       has = has;
@@ -107,8 +94,8 @@ quiet_begun past xs quiet rest (Said t) e may = step t.kind refl
 
     step : (k : Kind) → t.kind ≡ k → ⊥
     step Initial h = rest t (h, e, may)
-    step Echo h = let m = as_kind Echo h in quiet (Said (statement_of Echo t.place t.value)) e (before Echo m.0, m.1)
-    step Ready h = let m = as_kind Ready h in quiet (Said (statement_of Ready t.place t.value)) e (before Ready m.0, m.1)
+    step Echo h = let m = as_kind Echo h in quiet (Said (new_statement Echo t.place t.value)) e (before Echo m.0, m.1)
+    step Ready h = let m = as_kind Ready h in quiet (Said (new_statement Ready t.place t.value)) e (before Ready m.0, m.1)
 
 -- own Initials stand above round 1 step 1
 above_first : (past : Past) (toss : ℕ) (xs : List Record) → AreInitials past toss 3 xs → AreInitials past toss 4 xs
@@ -118,10 +105,10 @@ above_first past toss (Decided q r b ∷ xs) h = absurd h
 
 -- the own Initial of round 1 step 1 of that bit
 abbrev pub first_of : Past → Bool → Record
-first_of past bit = Said (statement_of Initial (place_of past.question past.me 1 1) (plain bit))
+first_of past bit = Said (new_statement Initial (new_place past.question past.me 1 1) (plain bit))
 
 -- all that is said on a first proposal
-pub proposed : (past : Past) (toss : ℕ) (bit : Bool) (initials : List Record) → IsQuiet past → Begins (after_record past (first_of past bit)) toss initials
+pub proposed : (past : Past) (toss : ℕ) (bit : Bool) (initials : List Record) → IsQuiet past → SaysInitials (after_record past (first_of past bit)) toss initials
     → (records : List Record) → records ≡ first_of past bit ∷ initials → AreProposed past (plain bit) toss records
 proposed past toss bit initials quiet begins records are =
     record {

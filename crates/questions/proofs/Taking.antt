@@ -3,17 +3,7 @@ use Rattle.std.proofs.Common.{ℕ, ◌≡◌, ◌<◌, ◌≤◌, Bool, true, fa
 use Rattle.std.proofs.lemmas.Bool.{cases_Bool, cases_lt}
 use Rattle.std.proofs.lemmas.List.{take-append-le}
 use Rattle.std.proofs.Math.Seq.{take-length}
-use Rattle.terms.specs.declared.Kind.{Kind}
-use Rattle.terms.specs.declared.Kind.TheVariants.{Ready}
-use Rattle.terms.specs.declared.Value.{Value}
-use Rattle.terms.specs.declared.Place.{Place}
-use Rattle.terms.specs.declared.Statement.{Statement}
-use Rattle.terms.specs.declared.Size.{Size}
-use Rattle.terms.specs.Count.{count_below, IsAcceptSet}
-use Rattle.terms.specs.Same.{place_eq}
-use Rattle.terms.specs.Keep.{keep_or, given}
-use Rattle.terms.specs.Heard.{Accepted, got, backs, is_foreign, is_none, hear}
-use Rattle.terms.specs.Past.{Past, after_hearing}
+use Rattle.vocabulary.specs.Terms.{Kind, Ready, Value, Place, Statement, Size, count_below, IsAcceptSet, place_eq, keep_or, given, Accepted, got, backs, is_foreign, is_none, hear, Past, after_hearing}
 use Rattle.terms.proofs.Count.{count-ext}
 use Rattle.terms.proofs.Due.{got-elsewhere}
 use Rattle.terms.proofs.Heard.{Accepted-one}
@@ -24,10 +14,10 @@ use Rattle.rbc.specs.declared.Brought.{Brought}
 use Rattle.rbc.specs.declared.Taken.{Taken}
 use Rattle.rbc.specs.declared.Taken.TheVariants.{News as TakenNews}
 use Rattle.rbc.specs.Answers.{IfNews, IsAccepted, IsNewlyAccepted, heard_as}
-use Rattle.rbc.specs.Stands.{Stands as HasBroadcasts}
+use Rattle.rbc.specs.Stands.{BroadcastsStandFor as HasBroadcasts}
 use Rattle.rounds.specs.declared.questions.Question.{Question}
-use Rattle.rounds.specs.Stands.{Stands as HasRounds, IsSameElse}
-use Rattle.rounds.specs.Words.{taken_for}
+use Rattle.rounds.specs.Stands.{QuestionStandsFor as HasRounds, IsSameElse}
+use Rattle.rounds.specs.Readers.{question_taken}
 use Rattle.questions.specs.declared.instance.Instance.{Instance}
 use Rattle.questions.specs.Instances.{Has}
 use Rattle.questions.specs.Parts.{plain_if}
@@ -109,7 +99,7 @@ given_at place p (Some m) = given (place_eq place p) m
 -- the rounds, once the value that is accepted at the place was taken
 module _ (past : Past) (from : ℕ) (s : Statement) (news : IsNews past from s) (old new : Question) (stands : HasRounds old past)
     (value : Option Value) (is : IsAccepted (after_hearing past from s) s.place value)
-    (taken : (p : Place) → taken_for new p ≡ keep_or (taken_for old p) (given_at s.place p value)) (rest : IsSameElse old new) where
+    (taken : (p : Place) → question_taken new p ≡ keep_or (question_taken old p) (given_at s.place p value)) (rest : IsSameElse old new) where
   grown : hear past.heard (from, s) ≡ past.heard ++ (from, s) ∷ []
   grown = heard-news past from s news
 
@@ -131,7 +121,7 @@ module _ (past : Past) (from : ℕ) (s : Statement) (news : IsNews past from s) 
           (subst (λ (u : Value). Accepted past.size (hear past.heard (from, s)) s.place u) j a)
       step false e g = cc
 
-  into : (p : Place) (m : Value) → p.question ≡ past.question → (taken_for old p ≡ Some m) ⊎ ((taken_for old p ≡ None) × (given_at s.place p value ≡ Some m)) → Accepted past.size (hear past.heard (from, s)) p m
+  into : (p : Place) (m : Value) → p.question ≡ past.question → (question_taken old p ≡ Some m) ⊎ ((question_taken old p ≡ None) × (given_at s.place p value ≡ Some m)) → Accepted past.size (hear past.heard (from, s)) p m
   into p m q (inl h) = more p m (stands.rounds.taken p m q h)
   into p m q (inr h) = given_is value p m is h.1
 
@@ -139,7 +129,7 @@ module _ (past : Past) (from : ℕ) (s : Statement) (news : IsNews past from s) 
   keep_first None y m h = cc
   keep_first (Some x) y m h = h
 
-  at_place : (x : Option Value) (m : Value) (p : Place) → taken_for old p ≡ x → p.question ≡ past.question → place_eq s.place p ≡ true → Accepted past.size (hear past.heard (from, s)) p m
+  at_place : (x : Option Value) (m : Value) (p : Place) → question_taken old p ≡ x → p.question ≡ past.question → place_eq s.place p ≡ true → Accepted past.size (hear past.heard (from, s)) p m
       → (v : Option Value) → IsAccepted (after_hearing past from s) s.place v → keep_or x (given_at s.place p v) ≡ Some m
   at_place (Some y) m p e q t h v a = ap Some (Accepted-one past.size (hear past.heard (from, s)) p y m (more p y (stands.rounds.taken p y q e)) h)
   at_place None m p e q t h None a = absurd (a m (subst (λ (z : Place). Accepted past.size (hear past.heard (from, s)) z m) (sym (place_eq-true s.place p t)) h))
@@ -148,11 +138,11 @@ module _ (past : Past) (from : ℕ) (s : Statement) (news : IsNews past from s) 
       let u : v ≡ m = Accepted-one past.size (hear past.heard (from, s)) s.place v m a (subst (λ (z : Place). Accepted past.size (hear past.heard (from, s)) z m) (sym k) h) in
       ap (λ b. given b v) t ∙ ap Some u
 
-  back : (p : Place) (m : Value) → p.question ≡ past.question → Accepted past.size (hear past.heard (from, s)) p m → (place_eq s.place p ≡ true) ⊎ (place_eq s.place p ≡ false) → taken_for new p ≡ Some m
-  back p m q h (inl t) = taken p ∙ at_place (taken_for old p) m p refl q t h value is
+  back : (p : Place) (m : Value) → p.question ≡ past.question → Accepted past.size (hear past.heard (from, s)) p m → (place_eq s.place p ≡ true) ⊎ (place_eq s.place p ≡ false) → question_taken new p ≡ Some m
+  back p m q h (inl t) = taken p ∙ at_place (question_taken old p) m p refl q t h value is
   back p m q h (inr f) =
       let before : Accepted past.size past.heard p m = Accepted-elsewhere past.size past.heard from s p m f (subst (λ (x : List (ℕ × Statement)). Accepted past.size x p m) grown h) in
-      taken p ∙ keep_first (taken_for old p) (given_at s.place p value) m (stands.rounds.all p m q before)
+      taken p ∙ keep_first (question_taken old p) (given_at s.place p value) m (stands.rounds.all p m q before)
 
   pub rounds_heard : HasRounds new (after_hearing past from s)
   rounds_heard =
@@ -161,7 +151,7 @@ module _ (past : Past) (from : ℕ) (s : Statement) (news : IsNews past from s) 
         me = rest.me ∙ stands.me;
         question = rest.question ∙ stands.question;
         rounds = record {
-          taken = λ p m q h. into p m q (keep_cases (taken_for old p) (given_at s.place p value) m (sym (taken p) ∙ h));
+          taken = λ p m q h. into p m q (keep_cases (question_taken old p) (given_at s.place p value) m (sym (taken p) ∙ h));
           all = λ p m q h. back p m q h (cases_Bool (place_eq s.place p));
           own = λ p i q o. rest.own p ∙ stands.rounds.own p i q o;
           decision = rest.decision ∙ stands.rounds.decision;
@@ -172,7 +162,7 @@ module _ (past : Past) (from : ℕ) (s : Statement) (news : IsNews past from s) 
 pub has_heard : (old new : Instance) (past : Past) (from : ℕ) (s : Statement) → Has old past → heard_as past from s ≡ News
     → new.me ≡ old.me → new.question ≡ old.question → new.proposed ≡ old.proposed → HasBroadcasts new.broadcasts (after_hearing past from s)
     → (place : Place) → place ≡ s.place → (value : Option Value) → IsAccepted (after_hearing past from s) place value
-    → ((p : Place) → taken_for new.rounds p ≡ keep_or (taken_for old.rounds p) (given_at place p value)) → IsSameElse old.rounds new.rounds
+    → ((p : Place) → question_taken new.rounds p ≡ keep_or (question_taken old.rounds p) (given_at place p value)) → IsSameElse old.rounds new.rounds
     → Has new (after_hearing past from s)
 has_heard old new past from s has news me question proposed broadcasts place e value is taken rest =
     record {
@@ -183,34 +173,34 @@ has_heard old new past from s has news me question proposed broadcasts place e v
         rounds =
             rounds_heard past from s (news_parts past from s news) old.rounds new.rounds has.own.rounds value
             (subst (λ (z : Place). IsAccepted (after_hearing past from s) z value) e is)
-            (λ p. taken p ∙ ap (λ (z : Place). keep_or (taken_for old.rounds p) (given_at z p value)) e) rest;
+            (λ p. taken p ∙ ap (λ (z : Place). keep_or (question_taken old.rounds p) (given_at z p value)) e) rest;
         proposed = ap plain_if proposed ∙ has.own.proposed;
       };
     }
 
 -- nothing was taken
-pub taken_none : (q : Question) (place p : Place) → taken_for q p ≡ keep_or (taken_for q p) (given_at place p None)
-taken_none q place p = sym (keep_nothing (taken_for q p))
+pub taken_none : (q : Question) (place p : Place) → question_taken q p ≡ keep_or (question_taken q p) (given_at place p None)
+taken_none q place p = sym (keep_nothing (question_taken q p))
 
 pub same_rest : (q : Question) → IsSameElse q q
 same_rest q = record { size = refl; me = refl; question = refl; own = λ p. refl; decision = refl }
 
 -- a value that is kept is kept over itself
-kept_itself : (q : Question) (place p : Place) (m : Value) → taken_for q place ≡ Some m → taken_for q p ≡ keep_or (taken_for q p) (given_at place p (Some m))
+kept_itself : (q : Question) (place p : Place) (m : Value) → question_taken q place ≡ Some m → question_taken q p ≡ keep_or (question_taken q p) (given_at place p (Some m))
 kept_itself q place p m e = step (cases_Bool (place_eq place p))
   where
-    step : (place_eq place p ≡ true) ⊎ (place_eq place p ≡ false) → taken_for q p ≡ keep_or (taken_for q p) (given (place_eq place p) m)
+    step : (place_eq place p ≡ true) ⊎ (place_eq place p ≡ false) → question_taken q p ≡ keep_or (question_taken q p) (given (place_eq place p) m)
     step (inl h) =
-        let there : taken_for q p ≡ Some m = subst (λ (x : Place). taken_for q x ≡ Some m) (place_eq-true place p h) e in
+        let there : question_taken q p ≡ Some m = subst (λ (x : Place). question_taken q x ≡ Some m) (place_eq-true place p h) e in
         there ∙ sym (ap (λ o. keep_or o (given (place_eq place p) m)) there)
-    step (inr h) = sym (ap (λ b. keep_or (taken_for q p) (given b m)) h ∙ keep_nothing (taken_for q p))
+    step (inr h) = sym (ap (λ b. keep_or (question_taken q p) (given b m)) h ∙ keep_nothing (question_taken q p))
 
 -- and the instance, where nothing is newly accepted, and nothing was taken
 pub has_heard_nothing : (old new : Instance) (past : Past) (from : ℕ) (s : Statement) → Has old past → heard_as past from s ≡ News
     → new.me ≡ old.me → new.question ≡ old.question → new.proposed ≡ old.proposed → HasBroadcasts new.broadcasts (after_hearing past from s)
     → new.rounds ≡ old.rounds → s.place.question ≡ past.question → IsNewlyAccepted past from s None
     → Has new (after_hearing past from s)
-has_heard_nothing old new past from s has news me question proposed broadcasts rounds asked nothing = step (taken_for old.rounds s.place) refl
+has_heard_nothing old new past from s has news me question proposed broadcasts rounds asked nothing = step (question_taken old.rounds s.place) refl
   where
     rest : IsSameElse old.rounds new.rounds
     rest = subst (λ (q : Question). IsSameElse old.rounds q) (sym rounds) (same_rest old.rounds)
@@ -220,12 +210,12 @@ has_heard_nothing old new past from s has news me question proposed broadcasts r
         subst (λ (x : List (ℕ × Statement)). Accepted past.size x s.place m) (sym (heard-news past from s (news_parts past from s news)))
         (Accepted-more past.size past.heard ((from, s) ∷ []) s.place m a)
 
-    step : (o : Option Value) → taken_for old.rounds s.place ≡ o → Has new (after_hearing past from s)
+    step : (o : Option Value) → question_taken old.rounds s.place ≡ o → Has new (after_hearing past from s)
     step None e =
         has_heard old new past from s has news me question proposed broadcasts s.place refl None
-        (λ m a. let there : taken_for old.rounds s.place ≡ Some m = has.own.rounds.rounds.all s.place m asked (nothing m a) in cc)
-        (λ p. ap (λ (q : Question). taken_for q p) rounds ∙ taken_none old.rounds s.place p) rest
+        (λ m a. let there : question_taken old.rounds s.place ≡ Some m = has.own.rounds.rounds.all s.place m asked (nothing m a) in cc)
+        (λ p. ap (λ (q : Question). question_taken q p) rounds ∙ taken_none old.rounds s.place p) rest
     step (Some m) e =
         has_heard old new past from s has news me question proposed broadcasts s.place refl (Some m)
         (longer m (has.own.rounds.rounds.taken s.place m asked e))
-        (λ p. ap (λ (q : Question). taken_for q p) rounds ∙ kept_itself old.rounds s.place p m e) rest
+        (λ p. ap (λ (q : Question). question_taken q p) rounds ∙ kept_itself old.rounds s.place p m e) rest

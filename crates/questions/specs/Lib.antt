@@ -3,6 +3,6 @@ pub mod Parts
 pub mod Instances
 pub mod Fields
 pub mod Faults
-pub mod Cores
+pub mod Readers
 pub mod Replay
 pub mod Laws

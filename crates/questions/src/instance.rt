@@ -1,13 +1,10 @@
 //! One question at one member: an instance of the agreement.
 ghost use Rattle.std.specs.Prelude.{◌≡◌, ◌↔◌, IsTrue, ◌<◌, ◌≤◌, ◌++◌, ℕ, Bool, false, List, [], None, Some, IfOk, IfSome, OnOk, OnErr, length};
-ghost use Rattle.terms.specs.declared.Kind.TheVariants.{Initial};
-ghost use Rattle.terms.specs.Past.{Past, after_record};
-ghost use Rattle.terms.specs.Answer.{question_of};
-ghost use Rattle.terms.specs.Same.{place_of, statement_of, plain, is_about};
-ghost use Rattle.rbc.specs.Words.{size_by};
-ghost use Rattle.rbc.specs.Stands.{Stands as HasBroadcasts};
-ghost use Rattle.rounds.specs.Words.{size_for, question_for};
-ghost use Rattle.questions.specs.Parts.{IsFrom, if_there, plain_if, initial_in, IsNothing, IsQuietElsewhere, IsWaiting, Decides, Begins};
+ghost use Rattle.vocabulary.specs.Terms.{Initial, Past, after_record, question_of, new_place, new_statement, plain, is_about};
+ghost use Rattle.rbc.specs.Readers.{broadcasts_size};
+ghost use Rattle.rbc.specs.Stands.{BroadcastsStandFor as HasBroadcasts};
+ghost use Rattle.rounds.specs.Readers.{question_size, question_number};
+ghost use Rattle.questions.specs.Parts.{IsFrom, if_there, plain_if, initial_in, IsNothing, IsQuietElsewhere, IsWaiting, Decides, SaysInitials};
 
 use crate::answer::Answer;
 use rbc::{Broadcasts, Brought, Taken};
@@ -28,39 +25,31 @@ pub(crate) struct Instance {
     proposed: Option<bool>,
     broadcasts: Broadcasts,
     rounds: Question,
-    ghost sizes: { size_for rounds ≡ size_by broadcasts },
-    ghost asked: { question_for rounds ≡ question },
+    ghost sizes: { question_size rounds ≡ broadcasts_size broadcasts },
+    ghost asked: { question_number rounds ≡ question },
 }
 
 impl Instance {
-    ghost use Rattle.terms.specs.declared.Kind.{Kind};
-    ghost use Rattle.terms.specs.declared.Kind.TheVariants.{Initial, Echo, Ready};
-    ghost use Rattle.terms.specs.Answer.{AreDue, IsLeast, MaySay, after_records, said_if};
-    ghost use Rattle.terms.specs.Fit.{AllFit, FitsIf};
-    ghost use Rattle.terms.specs.Heard.{got, is_foreign};
-    ghost use Rattle.terms.specs.Journal.{said, decided};
-    ghost use Rattle.terms.specs.Past.{no_past, after_hearing};
-    ghost use Rattle.terms.specs.Reply.{IsReply, after_reply, records_of};
-    ghost use Rattle.terms.specs.Reply.Event.{Hearing, Proposal};
+    ghost use Rattle.vocabulary.specs.Terms.{Kind, Initial, Echo, Ready, AreDue, IsLeast, MaySay, after_records, said_if, AllFit, FitsIf, got, is_foreign, said, decided, no_past, after_hearing, IsReply, after_reply, records_of, Hearing, Proposal};
     ghost use Rattle.rbc.specs.Answers.{heard_as, heard_of, IfNews, IsNewlyAccepted, IsQuietAt};
     ghost use Rattle.rbc.specs.declared.Heard.TheVariants.{News};
     ghost use Rattle.questions.specs.Replies.{reply_of};
     ghost use Rattle.questions.specs.Instances.{
-      size_at,
-      me_at,
-      question_at,
+      instance_size,
+      instance_me,
+      instance_question,
       Has,
       HasOwn,
-      StandsFor,
+      InstanceStandsFor,
     };
 
     /// That question at the member `me`, of which it heard and said nothing yet. It takes no memory: `alloc` is kept
     /// for what comes.
     pub(crate) fn new(alloc: Global, size: Size, me: u8, question: u16) -> Instance
-        ensures stands { StandsFor result (no_past size me question) }
-        ensures size { size_at result ≡ size }
-        ensures me { me_at result ≡ me }
-        ensures question { question_at result ≡ question }
+        ensures stands { InstanceStandsFor result (no_past size me question) }
+        ensures size { instance_size result ≡ size }
+        ensures me { instance_me result ≡ me }
+        ensures question { instance_question result ≡ question }
     {
         let _members = size.n();
         Instance {
@@ -77,15 +66,15 @@ impl Instance {
     ///
     /// [`Memory`]: there was no memory. The instance is of no use from then on.
     pub(crate) fn recall(&mut self, noted: &Record) -> Result<(), Memory>
-        requires origin { IsFrom (size_at self.old) noted.now }
-        requires question { question_of noted.now ≡ question_at self.old }
+        requires origin { IsFrom (instance_size self.old) noted.now }
+        requires question { question_of noted.now ≡ instance_question self.old }
 
         ensures stands { OnOk result (
-            (past : Past) → past.heard ≡ [] → StandsFor self.old past → StandsFor self.new (after_record past noted.now)) }
+            (past : Past) → past.heard ≡ [] → InstanceStandsFor self.old past → InstanceStandsFor self.new (after_record past noted.now)) }
 
-        ensures size { size_at self.new ≡ size_at self.old }
-        ensures me { me_at self.new ≡ me_at self.old }
-        ensures question { question_at self.new ≡ question_at self.old }
+        ensures size { instance_size self.new ≡ instance_size self.old }
+        ensures me { instance_me self.new ≡ instance_me self.old }
+        ensures question { instance_question self.new ≡ instance_question self.old }
     {
         self.note(noted)
     }
@@ -94,23 +83,23 @@ impl Instance {
     ///
     /// [`Memory`]: the statement is news, and there was no memory. The instance is of no use from then on.
     pub(crate) fn hear(&mut self, from: u8, s: &Statement, toss: Toss) -> Result<Answer, Memory>
-        requires from { from < (size_at self.old).n }
-        requires origin { s.now.place.origin < (size_at self.old).n }
-        requires question { s.now.place.question ≡ question_at self.old }
+        requires from { from < (instance_size self.old).n }
+        requires origin { s.now.place.origin < (instance_size self.old).n }
+        requires question { s.now.place.question ≡ instance_question self.old }
 
         ensures reply { IfOk result (λ answer.
-            (past : Past) → StandsFor self.old past → IsReply past toss.0 (Hearing from s.now) (reply_of answer)) }
+            (past : Past) → InstanceStandsFor self.old past → IsReply past toss.0 (Hearing from s.now) (reply_of answer)) }
         ensures stands { IfOk result (λ answer.
-            (past : Past) → StandsFor self.old past →
-            StandsFor self.new (after_reply past (Hearing from s.now) (reply_of answer))) }
+            (past : Past) → InstanceStandsFor self.old past →
+            InstanceStandsFor self.new (after_reply past (Hearing from s.now) (reply_of answer))) }
         ensures few { IfOk result (λ answer. length (records_of (reply_of answer)) ≤ 99) }
 
         ensures err_only_at_news { OnErr result (
-            (past : Past) → StandsFor self.old past →
+            (past : Past) → InstanceStandsFor self.old past →
             (is_foreign from s.now ≡ false) × (got past.heard from s.now.kind s.now.place ≡ None)) }
-        ensures size { size_at self.new ≡ size_at self.old }
-        ensures me { me_at self.new ≡ me_at self.old }
-        ensures question { question_at self.new ≡ question_at self.old }
+        ensures size { instance_size self.new ≡ instance_size self.old }
+        ensures me { instance_me self.new ≡ instance_me self.old }
+        ensures question { instance_question self.new ≡ instance_question self.old }
     {
         let _value = s.value();
         match self.take(from, s)? {
@@ -128,19 +117,19 @@ impl Instance {
     /// [`Memory`]: it is the first, and there was no memory. The instance is of no use from then on.
     pub(crate) fn propose(&mut self, bit: bool, toss: Toss) -> Result<Answer, Memory>
         ensures reply { IfOk result (λ answer.
-            (past : Past) → StandsFor self.old past →
-            IsReply past toss.0 (Proposal (question_at self.old) bit) (reply_of answer)) }
+            (past : Past) → InstanceStandsFor self.old past →
+            IsReply past toss.0 (Proposal (instance_question self.old) bit) (reply_of answer)) }
         ensures stands { IfOk result (λ answer.
-            (past : Past) → StandsFor self.old past →
-            StandsFor self.new (after_reply past (Proposal (question_at self.old) bit) (reply_of answer))) }
+            (past : Past) → InstanceStandsFor self.old past →
+            InstanceStandsFor self.new (after_reply past (Proposal (instance_question self.old) bit) (reply_of answer))) }
         ensures few { IfOk result (λ answer. length (records_of (reply_of answer)) ≤ 99) }
 
         ensures err_only_at_first { OnErr result (
-            (past : Past) → StandsFor self.old past →
-            said past.records Initial (place_of (question_at self.old) past.me 1 1) ≡ None) }
-        ensures size { size_at self.new ≡ size_at self.old }
-        ensures me { me_at self.new ≡ me_at self.old }
-        ensures question { question_at self.new ≡ question_at self.old }
+            (past : Past) → InstanceStandsFor self.old past →
+            said past.records Initial (new_place (instance_question self.old) past.me 1 1) ≡ None) }
+        ensures size { instance_size self.new ≡ instance_size self.old }
+        ensures me { instance_me self.new ≡ instance_me self.old }
+        ensures question { instance_question self.new ≡ instance_question self.old }
     {
         if let Some(first) = self.proposed {
             return Ok(Answer::Have(first));
@@ -154,16 +143,16 @@ impl Instance {
 
     /// The first decision, its round and bit. None where there is none yet.
     pub(crate) fn verdict(&self) -> Option<(u8, bool)>
-        ensures { (past : Past) → StandsFor self.now past → result ≡ decided past.records past.question }
+        ensures { (past : Past) → InstanceStandsFor self.now past → result ≡ decided past.records past.question }
     {
         self.rounds.verdict()
     }
 
     /// Hears the statement, and takes the value that is accepted for it at its place.
     fn take(&mut self, from: u8, s: &Statement) -> Result<Taken, Memory>
-        requires from { from < (size_at self.old).n }
-        requires origin { s.now.place.origin < (size_at self.old).n }
-        requires question { s.now.place.question ≡ question_at self.old }
+        requires from { from < (instance_size self.old).n }
+        requires origin { s.now.place.origin < (instance_size self.old).n }
+        requires question { s.now.place.question ≡ instance_question self.old }
 
         ensures heard { IfOk result (λ taken.
             (past : Past) → Has self.old past → heard_of taken ≡ heard_as past from s.now) }
@@ -179,9 +168,9 @@ impl Instance {
             (past : Past) → Has self.old past → IsNewlyAccepted past from s.now brought.accepted)) }
 
         ensures err { OnErr result ((past : Past) → Has self.old past → heard_as past from s.now ≡ News) }
-        ensures size { size_at self.new ≡ size_at self.old }
-        ensures me { me_at self.new ≡ me_at self.old }
-        ensures question { question_at self.new ≡ question_at self.old }
+        ensures size { instance_size self.new ≡ instance_size self.old }
+        ensures me { instance_me self.new ≡ instance_me self.old }
+        ensures question { instance_question self.new ≡ instance_question self.old }
     {
         match self.broadcasts.take(from, s)? {
             Taken::News(brought) => {
@@ -197,8 +186,8 @@ impl Instance {
     /// Says all that is due, once a statement of that place was heard and brought this. A decision and own Initials are
     /// due only where a value is newly accepted.
     fn say_all(&mut self, place: Place, brought: Brought, toss: Toss) -> Result<Vec<Record>, Memory>
-        requires origin { place.origin < (size_at self.old).n }
-        requires question { place.question ≡ question_at self.old }
+        requires origin { place.origin < (instance_size self.old).n }
+        requires question { place.question ≡ instance_question self.old }
 
         ensures due { IfOk result (λ records.
             (past : Past) → Has self.old past → AllFit past → IsQuietElsewhere past place →
@@ -209,9 +198,9 @@ impl Instance {
             (past : Past) → Has self.old past → Has self.new (after_records past records.items)) }
         ensures few { IfOk result (λ records. length records.items ≤ 99) }
 
-        ensures size { size_at self.new ≡ size_at self.old }
-        ensures me { me_at self.new ≡ me_at self.old }
-        ensures question { question_at self.new ≡ question_at self.old }
+        ensures size { instance_size self.new ≡ instance_size self.old }
+        ensures me { instance_me self.new ≡ instance_me self.old }
+        ensures question { instance_question self.new ≡ instance_question self.old }
     {
         if is_nothing(brought) {
             return Ok(Vec::new(self.alloc));
@@ -235,16 +224,16 @@ impl Instance {
         place: Place,
         due: Option<Value>,
     ) -> Result<Option<Record>, Memory>
-        requires origin { place.origin < (size_at self.old).n }
-        requires question { place.question ≡ question_at self.old }
+        requires origin { place.origin < (instance_size self.old).n }
+        requires question { place.question ≡ instance_question self.old }
 
         ensures said { IfOk result (λ said. FitsIf place due → if_there said ≡ said_if kind place due) }
         ensures has { IfOk result (λ said.
             (past : Past) → Has self.old past → Has self.new (after_records past (if_there said))) }
 
-        ensures size { size_at self.new ≡ size_at self.old }
-        ensures me { me_at self.new ≡ me_at self.old }
-        ensures question { question_at self.new ≡ question_at self.old }
+        ensures size { instance_size self.new ≡ instance_size self.old }
+        ensures me { instance_me self.new ≡ instance_me self.old }
+        ensures question { instance_question self.new ≡ instance_question self.old }
     {
         let Some(value) = due else { return Ok(None) };
         let Some(statement) = Statement::new(kind, place, value) else {
@@ -260,9 +249,9 @@ impl Instance {
         ensures decides { (past : Past) → Has self.old past → Decides past (if_there result) }
         ensures has { (past : Past) → Has self.old past → Has self.new (after_records past (if_there result)) }
 
-        ensures size { size_at self.new ≡ size_at self.old }
-        ensures me { me_at self.new ≡ me_at self.old }
-        ensures question { question_at self.new ≡ question_at self.old }
+        ensures size { instance_size self.new ≡ instance_size self.old }
+        ensures me { instance_me self.new ≡ instance_me self.old }
+        ensures question { instance_question self.new ≡ instance_question self.old }
     {
         let (round, bit) = self.rounds.decision_due()?;
         let decided = Record::Decided {
@@ -276,14 +265,14 @@ impl Instance {
 
     /// Notes its own Initials that are due, upwards, and gives their records.
     fn begin(&mut self, toss: Toss) -> Result<Vec<Record>, Memory>
-        ensures begins { IfOk result (λ records. (past : Past) → Has self.old past → Begins past toss.0 records.items) }
+        ensures begins { IfOk result (λ records. (past : Past) → Has self.old past → SaysInitials past toss.0 records.items) }
         ensures has { IfOk result (λ records.
             (past : Past) → Has self.old past → Has self.new (after_records past records.items)) }
         ensures few { IfOk result (λ records. length records.items ≤ 96) }
 
-        ensures size { size_at self.new ≡ size_at self.old }
-        ensures me { me_at self.new ≡ me_at self.old }
-        ensures question { question_at self.new ≡ question_at self.old }
+        ensures size { instance_size self.new ≡ instance_size self.old }
+        ensures me { instance_me self.new ≡ instance_me self.old }
+        ensures question { instance_question self.new ≡ instance_question self.old }
     {
         let mut records = Vec::new(self.alloc);
         for turn in 0..PLACES {
@@ -299,15 +288,15 @@ impl Instance {
 
     /// Notes a record of the member's own.
     fn note(&mut self, noted: &Record) -> Result<(), Memory>
-        requires origin { IsFrom (size_at self.old) noted.now }
-        requires question { question_of noted.now ≡ question_at self.old }
+        requires origin { IsFrom (instance_size self.old) noted.now }
+        requires question { question_of noted.now ≡ instance_question self.old }
 
         ensures has { OnOk result (
             (past : Past) → Has self.old past → Has self.new (after_record past noted.now)) }
 
-        ensures size { size_at self.new ≡ size_at self.old }
-        ensures me { me_at self.new ≡ me_at self.old }
-        ensures question { question_at self.new ≡ question_at self.old }
+        ensures size { instance_size self.new ≡ instance_size self.old }
+        ensures me { instance_me self.new ≡ instance_me self.old }
+        ensures question { instance_question self.new ≡ instance_question self.old }
     {
         note_relay(&mut self.broadcasts, noted)?;
         self.note_own(noted);
@@ -318,8 +307,8 @@ impl Instance {
     fn note_own(&mut self, noted: &Record)
         ensures own { (past : Past) → HasOwn self.old past → HasOwn self.new (after_record past noted.now) }
         ensures broadcasts { self.new.broadcasts ≡ self.old.broadcasts }
-        ensures me { me_at self.new ≡ me_at self.old }
-        ensures question { question_at self.new ≡ question_at self.old }
+        ensures me { instance_me self.new ≡ instance_me self.old }
+        ensures question { instance_question self.new ≡ instance_question self.old }
     {
         self.rounds.note(noted);
         self.proposed = self.proposed.or(proposed_by(self.question, self.me, noted));
@@ -335,11 +324,11 @@ fn is_nothing(brought: Brought) -> bool
 
 /// Notes a record in the broadcasts, which look at Echos and Readys.
 fn note_relay(broadcasts: &mut Broadcasts, noted: &Record) -> Result<(), Memory>
-    requires { IsFrom (size_by broadcasts.old) noted.now }
+    requires { IsFrom (broadcasts_size broadcasts.old) noted.now }
     ensures stands { OnOk result (
         (past : Past) → HasBroadcasts broadcasts.old past → question_of noted.now ≡ past.question →
         HasBroadcasts broadcasts.new (after_record past noted.now)) }
-    ensures size { size_by broadcasts.new ≡ size_by broadcasts.old }
+    ensures size { broadcasts_size broadcasts.new ≡ broadcasts_size broadcasts.old }
 {
     match noted {
         Record::Said(statement) => broadcasts.say(statement),
@@ -349,7 +338,7 @@ fn note_relay(broadcasts: &mut Broadcasts, noted: &Record) -> Result<(), Memory>
 
 /// The bit of the record, if it is the member's own Initial of round 1 step 1.
 fn proposed_by(question: u16, me: u8, noted: &Record) -> Option<bool>
-    ensures { plain_if result ≡ initial_in noted.now (place_of question me 1 1) }
+    ensures { plain_if result ≡ initial_in noted.now (new_place question me 1 1) }
 {
     match noted {
         Record::Said(statement) if is_first_initial(question, me, statement) => {
@@ -361,7 +350,7 @@ fn proposed_by(question: u16, me: u8, noted: &Record) -> Option<bool>
 
 /// Whether the statement is the member's own Initial of round 1 step 1.
 fn is_first_initial(question: u16, me: u8, statement: &Statement) -> bool
-    ensures { result ≡ is_about statement.now Initial (place_of question me 1 1) }
+    ensures { result ≡ is_about statement.now Initial (new_place question me 1 1) }
 {
     let place = statement.place();
     statement.kind() == Kind::Initial
@@ -373,7 +362,7 @@ fn is_first_initial(question: u16, me: u8, statement: &Statement) -> bool
 
 /// The member's own Initial of round 1 step 1.
 fn first_initial(question: u16, me: u8, bit: bool) -> Statement
-    ensures { result ≡ statement_of Initial (place_of question me 1 1) (plain bit) }
+    ensures { result ≡ new_statement Initial (new_place question me 1 1) (plain bit) }
 {
     let place = Place::new(question, me, 1, 1).unwrap();
     let value = if bit { Value::One } else { Value::Zero };

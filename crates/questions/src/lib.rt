@@ -71,18 +71,11 @@ impl Model for Core {
     ghost invariant = { λ a. AreInstances a.size a.me a.instances.items };
 }
 
-#[tactic(auto, unfolding(crate::specs::Cores::size_of, crate::specs::Cores::me_of, crate::specs::Cores::failed_of, crate::specs::Cores::AreStanding))]
+#[tactic(auto, unfolding(crate::specs::Readers::core_size, crate::specs::Readers::core_me, crate::specs::Readers::core_failed, crate::specs::Readers::AreStanding))]
 impl Core {
-    ghost use Rattle.terms.specs.declared.Kind.TheVariants.{Initial};
-    ghost use Rattle.terms.specs.declared.Record.{Record};
-    ghost use Rattle.terms.specs.declared.Statement.{Statement};
-    ghost use Rattle.terms.specs.Heard.{got, is_foreign, hear as heard_with};
-    ghost use Rattle.terms.specs.Journal.{said, decided};
-    ghost use Rattle.terms.specs.Past.{past_of};
-    ghost use Rattle.terms.specs.Reply.{IsReply, records_of};
-    ghost use Rattle.terms.specs.Reply.Event.{Hearing, Proposal};
-    ghost use Rattle.terms.specs.Same.{place_of};
-    ghost use Rattle.questions.specs.Cores.{size_of, me_of, failed_of, Knows, refusal};
+    ghost use Rattle.vocabulary.specs.Terms.{Initial, Record, Statement, got, is_foreign, said, decided, past_of, IsReply, records_of, Hearing, Proposal, new_place};
+    ghost use Rattle.terms.specs.Heard.{hear as heard_with};
+    ghost use Rattle.questions.specs.Readers.{core_size, core_me, core_failed, CoreStandsFor, core_refuses};
     ghost use Rattle.questions.specs.Faults.{opening_fault, record_fault};
     ghost use Rattle.questions.specs.Replies.{reply_of};
 
@@ -97,9 +90,9 @@ impl Core {
     /// order, its question before its origin. [`CoreFault::Memory`]: nothing is wrong with the numbers, and there was
     /// no memory.
     pub fn new(alloc: Global, size: Size, me: u8, records: &[Record]) -> Result<Core, CoreFault>
-        ensures knows { IfOk result (λ core. Knows core records.now []) }
-        ensures size { IfOk result (λ core. size_of core ≡ size) }
-        ensures me { IfOk result (λ core. me_of core ≡ me) }
+        ensures knows { IfOk result (λ core. CoreStandsFor core records.now []) }
+        ensures size { IfOk result (λ core. core_size core ≡ size) }
+        ensures me { IfOk result (λ core. core_me core ≡ me) }
 
         ensures ok { OnOk result (opening_fault size me records.now ≡ None) }
         ensures err { IfErr result (λ fault. fault ≡ unwrap_or (opening_fault size me records.now) CoreFault.Memory) }
@@ -129,26 +122,26 @@ impl Core {
     /// The core has failed.
     pub fn hear(&mut self, from: u8, s: &Statement, toss: Toss) -> Result<Answer, CoreFault>
         ensures reply { IfOk result (λ answer.
-            (records : List Record) (heard : List (ℕ × Statement)) → Knows self.old records heard →
-            IsReply (past_of (size_of self.old) (me_of self.old) s.now.place.question records heard) toss.0
+            (records : List Record) (heard : List (ℕ × Statement)) → CoreStandsFor self.old records heard →
+            IsReply (past_of (core_size self.old) (core_me self.old) s.now.place.question records heard) toss.0
             (Hearing from s.now) (reply_of answer)) }
         ensures knows { IfOk result (λ answer.
-            (records : List Record) (heard : List (ℕ × Statement)) → Knows self.old records heard →
-            Knows self.new (records ++ records_of (reply_of answer)) (heard_with heard (from, s.now))) }
+            (records : List Record) (heard : List (ℕ × Statement)) → CoreStandsFor self.old records heard →
+            CoreStandsFor self.new (records ++ records_of (reply_of answer)) (heard_with heard (from, s.now))) }
         ensures few { IfOk result (λ answer. length (records_of (reply_of answer)) ≤ 99) }
 
         ensures ok { OnOk result (
-            refusal self.old s.now.place.question (from ∷ s.now.place.origin ∷ []) ≡ None) }
-        ensures up { OnOk result (failed_of self.new ≡ false) }
+            core_refuses self.old s.now.place.question (from ∷ s.now.place.origin ∷ []) ≡ None) }
+        ensures up { OnOk result (core_failed self.new ≡ false) }
         ensures err { IfErr result (λ fault.
-            fault ≡ unwrap_or (refusal self.old s.now.place.question (from ∷ s.now.place.origin ∷ [])) CoreFault.Memory) }
+            fault ≡ unwrap_or (core_refuses self.old s.now.place.question (from ∷ s.now.place.origin ∷ [])) CoreFault.Memory) }
         ensures refused { IfErr result (λ fault. fault ≢ CoreFault.Memory → self.new ≡ self.old) }
-        ensures failed { IfErr result (λ fault. fault ≡ CoreFault.Memory → failed_of self.new ≡ true) }
+        ensures failed { IfErr result (λ fault. fault ≡ CoreFault.Memory → core_failed self.new ≡ true) }
         ensures memory_only_at_news { IfErr result (λ fault. fault ≡ CoreFault.Memory →
-            (records : List Record) (heard : List (ℕ × Statement)) → Knows self.old records heard →
+            (records : List Record) (heard : List (ℕ × Statement)) → CoreStandsFor self.old records heard →
             (is_foreign from s.now ≡ false) × (got heard from s.now.kind s.now.place ≡ None)) }
-        ensures size { size_of self.new ≡ size_of self.old }
-        ensures me { me_of self.new ≡ me_of self.old }
+        ensures size { core_size self.new ≡ core_size self.old }
+        ensures me { core_me self.new ≡ core_me self.old }
     {
         let question = s.place().question();
         if let Some(fault) = self.refusal(question, &[from, s.place().origin()]) {
@@ -171,24 +164,24 @@ impl Core {
     /// nothing. [`CoreFault::Memory`]: it is the first proposal, and there was no memory. The core has failed.
     pub fn propose(&mut self, question: u16, bit: bool, toss: Toss) -> Result<Answer, CoreFault>
         ensures reply { IfOk result (λ answer.
-            (records : List Record) (heard : List (ℕ × Statement)) → Knows self.old records heard →
-            IsReply (past_of (size_of self.old) (me_of self.old) question records heard) toss.0
+            (records : List Record) (heard : List (ℕ × Statement)) → CoreStandsFor self.old records heard →
+            IsReply (past_of (core_size self.old) (core_me self.old) question records heard) toss.0
             (Proposal question bit) (reply_of answer)) }
         ensures knows { IfOk result (λ answer.
-            (records : List Record) (heard : List (ℕ × Statement)) → Knows self.old records heard →
-            Knows self.new (records ++ records_of (reply_of answer)) heard) }
+            (records : List Record) (heard : List (ℕ × Statement)) → CoreStandsFor self.old records heard →
+            CoreStandsFor self.new (records ++ records_of (reply_of answer)) heard) }
         ensures few { IfOk result (λ answer. length (records_of (reply_of answer)) ≤ 99) }
 
-        ensures ok { OnOk result (refusal self.old question [] ≡ None) }
-        ensures up { OnOk result (failed_of self.new ≡ false) }
-        ensures err { IfErr result (λ fault. fault ≡ unwrap_or (refusal self.old question []) CoreFault.Memory) }
+        ensures ok { OnOk result (core_refuses self.old question [] ≡ None) }
+        ensures up { OnOk result (core_failed self.new ≡ false) }
+        ensures err { IfErr result (λ fault. fault ≡ unwrap_or (core_refuses self.old question []) CoreFault.Memory) }
         ensures refused { IfErr result (λ fault. fault ≢ CoreFault.Memory → self.new ≡ self.old) }
-        ensures failed { IfErr result (λ fault. fault ≡ CoreFault.Memory → failed_of self.new ≡ true) }
+        ensures failed { IfErr result (λ fault. fault ≡ CoreFault.Memory → core_failed self.new ≡ true) }
         ensures memory_only_at_first { IfErr result (λ fault. fault ≡ CoreFault.Memory →
-            (records : List Record) (heard : List (ℕ × Statement)) → Knows self.old records heard →
-            said records Initial (place_of question (me_of self.old) 1 1) ≡ None) }
-        ensures size { size_of self.new ≡ size_of self.old }
-        ensures me { me_of self.new ≡ me_of self.old }
+            (records : List Record) (heard : List (ℕ × Statement)) → CoreStandsFor self.old records heard →
+            said records Initial (new_place question (core_me self.old) 1 1) ≡ None) }
+        ensures size { core_size self.new ≡ core_size self.old }
+        ensures me { core_me self.new ≡ core_me self.old }
     {
         if let Some(fault) = self.refusal(question, &[]) {
             return Err(fault);
@@ -205,10 +198,10 @@ impl Core {
     /// The first decision of the question, its round (1 to 32) and bit. None where there is none yet, where there is
     /// no such question, and once the core has failed. It takes no memory.
     pub fn verdict(&self, question: u16) -> Option<(u8, bool)>
-        ensures known { (records : List Record) (heard : List (ℕ × Statement)) → Knows self.now records heard →
-            question < (size_of self.now).questions → result ≡ decided records question }
-        ensures unknown { (size_of self.now).questions ≤ question → result ≡ None }
-        ensures failed { failed_of self.now ≡ true → result ≡ None }
+        ensures known { (records : List Record) (heard : List (ℕ × Statement)) → CoreStandsFor self.now records heard →
+            question < (core_size self.now).questions → result ≡ decided records question }
+        ensures unknown { (core_size self.now).questions ≤ question → result ≡ None }
+        ensures failed { core_failed self.now ≡ true → result ≡ None }
     {
         if self.failed {
             return None;
@@ -218,7 +211,7 @@ impl Core {
 
     /// Why an event that names the question and these members is refused.
     fn refusal(&self, question: u16, members: &[u8]) -> Option<CoreFault>
-        ensures { result ≡ refusal self.now question members.now }
+        ensures { result ≡ core_refuses self.now question members.now }
     {
         if self.failed {
             Some(CoreFault::Failed)
@@ -229,11 +222,11 @@ impl Core {
 
     /// Takes a record of an earlier life, before anything is heard.
     fn recall(&mut self, noted: &Record) -> Result<(), Memory>
-        requires { record_fault (size_of self.old) noted.now ≡ None }
-        ensures knows { OnOk result ((records : List Record) → Knows self.old records [] →
-            Knows self.new (records ++ noted.now ∷ []) []) }
-        ensures size { size_of self.new ≡ size_of self.old }
-        ensures me { me_of self.new ≡ me_of self.old }
+        requires { record_fault (core_size self.old) noted.now ≡ None }
+        ensures knows { OnOk result ((records : List Record) → CoreStandsFor self.old records [] →
+            CoreStandsFor self.new (records ++ noted.now ∷ []) []) }
+        ensures size { core_size self.new ≡ core_size self.old }
+        ensures me { core_me self.new ≡ core_me self.old }
     {
         self.instances[usize::from(question_of(noted))].recall(noted)?;
         Ok(())

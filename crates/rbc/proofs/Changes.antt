@@ -1,65 +1,56 @@
 -- What changes of its lists do to the words of a `Broadcasts`.
 use Rattle.std.proofs.Common.{ℕ, ◌≡◌, ◌+◌, ◌*◌, ◌<◌, ◌≤◌, Bool, true, false, cond, ◌&&◌, eqb, leb, refl, sym, ap, ◌∙◌, Option, Some, None, is_some, List, length, get_or}
 use Rattle.std.proofs.Math.ListN.{get_or-eq_default}
-use Rattle.terms.specs.declared.Kind.{Kind}
-use Rattle.terms.specs.declared.Kind.TheVariants.{Initial, Echo, Ready}
-use Rattle.terms.specs.declared.Place.{Place}
-use Rattle.terms.specs.declared.Size.{Size}
-use Rattle.terms.specs.declared.Value.{Value}
-use Rattle.terms.specs.declared.Statement.{Statement}
-use Rattle.terms.specs.Count.{count_below}
-use Rattle.terms.specs.Keep.{keep_or, given}
-use Rattle.terms.specs.Bounds.{FitsStep}
-use Rattle.terms.specs.Same.{value_is, kind_eq, place_of}
+use Rattle.vocabulary.specs.Terms.{Kind, Initial, Echo, Ready, Place, Size, Value, Statement, count_below, keep_or, given, FitsStep, value_is, kind_eq, new_place}
 use Rattle.terms.proofs.Same.{kind_eq-true}
 use Rattle.rbc.specs.declared.known.Known.{Known}
 use Rattle.rbc.specs.declared.Broadcasts.{Broadcasts}
 use Rattle.rbc.specs.Spots.{same_spot, is_at}
 use Rattle.rbc.specs.Known.{is_third, fits, no_known, value_known, voted_known, is_reached, heard_known, said_known, say_known, accepted_known}
-use Rattle.rbc.specs.Table.{is_here, spot_of, known_in}
-use Rattle.rbc.specs.Words.{size_by, me_by, got_by, accepted_by, said_by}
+use Rattle.rbc.specs.Table.{has_spot, spot_of, known_in}
+use Rattle.rbc.specs.Readers.{broadcasts_size, broadcasts_me, broadcasts_got, broadcasts_accepted, broadcasts_said}
 use Rattle.rbc.proofs.Cells.{step_same, known_in-spot}
 use Rattle.terms.proofs.Votes.{keep_None}
 use Rattle.rbc.proofs.Votes.{and_true, and_false, fits_step, voted_value, heard_value, heard_said, fitting_given, said_value, said_accepted, said_echo, said_ready, no_value, no_said}
 
 -- all words are the same
 pub record IsSame (b b' : Broadcasts) : Type 0 where
-  pub size : size_by b' ≡ size_by b
-  pub me : me_by b' ≡ me_by b
-  pub got : (a : ℕ) (kind : Kind) (place : Place) → got_by b' a kind place ≡ got_by b a kind place
-  pub accepted : (place : Place) → accepted_by b' place ≡ accepted_by b place
-  pub said : (kind : Kind) (place : Place) → said_by b' kind place ≡ said_by b kind place
+  pub size : broadcasts_size b' ≡ broadcasts_size b
+  pub me : broadcasts_me b' ≡ broadcasts_me b
+  pub got : (a : ℕ) (kind : Kind) (place : Place) → broadcasts_got b' a kind place ≡ broadcasts_got b a kind place
+  pub accepted : (place : Place) → broadcasts_accepted b' place ≡ broadcasts_accepted b place
+  pub said : (kind : Kind) (place : Place) → broadcasts_said b' kind place ≡ broadcasts_said b kind place
 
 -- how many members sent that value as a Ready
 abbrev pub readies : Broadcasts → Place → Value → ℕ
-readies b place m = count_below (size_by b).n (λ a. value_is (got_by b a Ready place) m)
+readies b place m = count_below (broadcasts_size b).n (λ a. value_is (broadcasts_got b a Ready place) m)
 
 -- the value of the statement, if it is a Ready at that spot and an accept set sent it
 abbrev pub reached_by : Broadcasts → Statement → Place → Option Value
 reached_by b s place =
-    given (is_at s Ready place && leb (2 * (size_by b).t + 1) (readies b place s.value)) s.value
+    given (is_at s Ready place && leb (2 * (broadcasts_size b).t + 1) (readies b place s.value)) s.value
 
 -- the words after one more statement from that sender, which is news
 pub record HearsOne (b b' : Broadcasts) (from : ℕ) (s : Statement) : Type 0 where
-  pub size : size_by b' ≡ size_by b
-  pub me : me_by b' ≡ me_by b
+  pub size : broadcasts_size b' ≡ broadcasts_size b
+  pub me : broadcasts_me b' ≡ broadcasts_me b
   pub got : (a : ℕ) (kind : Kind) (place : Place)
-      → got_by b' a kind place ≡ keep_or (got_by b a kind place) (given (eqb from a && is_at s kind place) s.value)
-  pub accepted : (place : Place) → accepted_by b' place ≡ keep_or (accepted_by b place) (reached_by b' s place)
-  pub said : (kind : Kind) (place : Place) → said_by b' kind place ≡ said_by b kind place
+      → broadcasts_got b' a kind place ≡ keep_or (broadcasts_got b a kind place) (given (eqb from a && is_at s kind place) s.value)
+  pub accepted : (place : Place) → broadcasts_accepted b' place ≡ keep_or (broadcasts_accepted b place) (reached_by b' s place)
+  pub said : (kind : Kind) (place : Place) → broadcasts_said b' kind place ≡ broadcasts_said b kind place
 
 -- what is said as that kind after the statement
 abbrev pub said_with : Broadcasts → Statement → Kind → Place → Option Value
-said_with b s kind place = keep_or (said_by b kind place) (given (is_at s kind place) s.value)
+said_with b s kind place = keep_or (broadcasts_said b kind place) (given (is_at s kind place) s.value)
 
 -- the words after one more statement of its own
 pub record SaysOne (b b' : Broadcasts) (s : Statement) : Type 0 where
-  pub size : size_by b' ≡ size_by b
-  pub me : me_by b' ≡ me_by b
-  pub got : (a : ℕ) (kind : Kind) (place : Place) → got_by b' a kind place ≡ got_by b a kind place
-  pub accepted : (place : Place) → accepted_by b' place ≡ accepted_by b place
-  pub echoed : (place : Place) → said_by b' Echo place ≡ said_with b s Echo place
-  pub readied : (place : Place) → said_by b' Ready place ≡ said_with b s Ready place
+  pub size : broadcasts_size b' ≡ broadcasts_size b
+  pub me : broadcasts_me b' ≡ broadcasts_me b
+  pub got : (a : ℕ) (kind : Kind) (place : Place) → broadcasts_got b' a kind place ≡ broadcasts_got b a kind place
+  pub accepted : (place : Place) → broadcasts_accepted b' place ≡ broadcasts_accepted b place
+  pub echoed : (place : Place) → broadcasts_said b' Echo place ≡ said_with b s Echo place
+  pub readied : (place : Place) → broadcasts_said b' Ready place ≡ said_with b s Ready place
 
 -- no value is there
 pub is_None : {A : Type 0} (o : Option A) → is_some o ≡ false → o ≡ None
@@ -71,14 +62,14 @@ value_spot : (p q : Place) → same_spot p q ≡ true → (known : Known) (a : �
     → value_known p known a kind ≡ value_known q known a kind
 unfolding value_known
 value_spot p q h known a kind =
-    ap (λ n. value_known (place_of q.question q.origin q.round n) known a kind) (step_same p q h)
+    ap (λ n. value_known (new_place q.question q.origin q.round n) known a kind) (step_same p q h)
 
 -- and change alike
 heard_spot : (p q : Place) → same_spot p q ≡ true → (known : Known) (size : Size) (a : ℕ) (kind : Kind) (m : Value)
     → heard_known p known size a kind m ≡ heard_known q known size a kind m
 unfolding value_known
 heard_spot p q h known size a kind m =
-    ap (λ n. heard_known (place_of q.question q.origin q.round n) known size a kind m) (step_same p q h)
+    ap (λ n. heard_known (new_place q.question q.origin q.round n) known size a kind m) (step_same p q h)
 
 -- what is known at a place after one more vote at that or another
 module _ (q : Place) (old new : Known) (size : Size) (from : ℕ) (kind : Kind) (m : Value) (within : from < 32) where
@@ -127,7 +118,7 @@ module _ (b b' : Broadcasts) (same_size : b'.size ≡ b.size) (same_me : b'.me �
 
   -- the tables are the same
   pub nothing_more : b'.cells.items ≡ b.cells.items → IsSame b b'
-  unfolding size_by me_by got_by accepted_by said_by
+  unfolding broadcasts_size broadcasts_me broadcasts_got broadcasts_accepted broadcasts_said
   nothing_more h =
       let e : (q : Place) → known_in b'.cells.items b'.size.n q ≡ old q =
       λ q. in_new q ∙ ap (λ (x : List Known). known_in x b.size.n q) h in
@@ -141,10 +132,10 @@ module _ (b b' : Broadcasts) (same_size : b'.size ≡ b.size) (same_me : b'.me �
 
   -- one more statement heard
   pub one_heard : (from : ℕ) (s : Statement) → from < 32 → FitsStep s.place.step s.value
-      → is_some (got_by b from s.kind s.place) ≡ false
+      → is_some (broadcasts_got b from s.kind s.place) ≡ false
       → ((q : Place) → new q ≡ cond (same_spot s.place q) (heard_known s.place (old s.place) b.size from s.kind s.value) (old q))
       → HearsOne b b' from s
-  unfolding size_by me_by got_by accepted_by said_by
+  unfolding broadcasts_size broadcasts_me broadcasts_got broadcasts_accepted broadcasts_said
   one_heard from s within fit fresh h =
       record {
         size = same_size;
@@ -182,7 +173,7 @@ module _ (b b' : Broadcasts) (same_size : b'.size ≡ b.size) (same_me : b'.me �
   pub one_said : (s : Statement)
       → ((q : Place) → new q ≡ cond (same_spot s.place q) (say_known (old s.place) s.kind s.value) (old q))
       → SaysOne b b' s
-  unfolding size_by me_by got_by accepted_by said_by
+  unfolding broadcasts_size broadcasts_me broadcasts_got broadcasts_accepted broadcasts_said
   one_said s h =
       record {
         size = same_size;
@@ -238,29 +229,29 @@ initial_said b s h =
       me = refl;
       got = λ a kind place. refl;
       accepted = λ place. refl;
-      echoed = λ place. sym (ap (λ (k : Kind). keep_or (said_by b Echo place) (given (kind_eq k Echo && same_spot s.place place) s.value)) e
-          ∙ keep_None (said_by b Echo place));
-      readied = λ place. sym (ap (λ (k : Kind). keep_or (said_by b Ready place) (given (kind_eq k Ready && same_spot s.place place) s.value)) e
-          ∙ keep_None (said_by b Ready place));
+      echoed = λ place. sym (ap (λ (k : Kind). keep_or (broadcasts_said b Echo place) (given (kind_eq k Echo && same_spot s.place place) s.value)) e
+          ∙ keep_None (broadcasts_said b Echo place));
+      readied = λ place. sym (ap (λ (k : Kind). keep_or (broadcasts_said b Ready place) (given (kind_eq k Ready && same_spot s.place place) s.value)) e
+          ∙ keep_None (broadcasts_said b Ready place));
     }
 
 -- beyond the table nothing is known
 module _ (b : Broadcasts) (place : Place) (past : length b.cells.items ≤ spot_of b.size.n place) where
   nothing_there : known_in b.cells.items b.size.n place ≡ no_known
-  nothing_there = step (is_here b.size.n place)
+  nothing_there = step (has_spot b.size.n place)
     where
       step : (t : Bool) → cond t (get_or b.cells.items (spot_of b.size.n place) no_known) no_known ≡ no_known
       step true = get_or-eq_default b.cells.items no_known past
       step false = refl
 
-  pub none_got : (a : ℕ) (kind : Kind) → got_by b a kind place ≡ None
-  unfolding got_by
+  pub none_got : (a : ℕ) (kind : Kind) → broadcasts_got b a kind place ≡ None
+  unfolding broadcasts_got
   none_got a kind = ap (λ (x : Known). value_known place x a kind) nothing_there ∙ no_value place a kind
 
-  pub none_said : (kind : Kind) → said_by b kind place ≡ None
-  unfolding said_by
+  pub none_said : (kind : Kind) → broadcasts_said b kind place ≡ None
+  unfolding broadcasts_said
   none_said kind = ap (λ (x : Known). said_known x kind) nothing_there ∙ no_said kind
 
-  pub none_accepted : accepted_by b place ≡ None
-  unfolding accepted_by
+  pub none_accepted : broadcasts_accepted b place ≡ None
+  unfolding broadcasts_accepted
   none_accepted = ap (λ (x : Known). accepted_known place x) nothing_there

@@ -1,11 +1,7 @@
 -- How many members sent a value, by the bits of masks.
-use Rattle.std.proofs.Common.{ℕ, ◌≡◌, ◌-◌, ◌^◌, Bool, true, false, eqb, refl, ap, ◌∙◌, bit_and, count_ones}
+use Rattle.std.proofs.Common.{ℕ, ◌≡◌, ◌-◌, ◌^◌, Bool, true, false, eqb, refl, ap, ◌∙◌, bit_and, count_ones, true≢false}
 use Rattle.std.proofs.lemmas.Nat.Bits.{bit_at-zero}
-use Rattle.std.proofs.lemmas.Bool.{true≢false}
-use Rattle.terms.specs.declared.Value.{Value}
-use Rattle.terms.specs.declared.Value.TheVariants.{Zero, One, SureZero, SureOne, Unsure}
-use Rattle.terms.specs.Count.{count_below}
-use Rattle.terms.specs.Same.{value_is}
+use Rattle.vocabulary.specs.Terms.{Value, Zero, One, SureZero, SureOne, Unsure, count_below, value_is}
 use Rattle.terms.proofs.Count.{count-ext}
 use Rattle.terms.proofs.Votes.{ones_among, zero_bit, one_bit_of, unsure_bit}
 use Rattle.rbc.specs.declared.known.Votes.{Votes}

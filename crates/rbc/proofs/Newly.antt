@@ -1,18 +1,7 @@
 -- What one more statement, which is news, brings at its place.
-use Rattle.std.proofs.Common.{ℕ, ◌≡◌, ◌≤◌, Bool, true, false, cond, not, ◌&&◌, ◌||◌, ◌⊎◌, inl, inr, eqb, eq-eqb, refl, sym, ap, subst, ◌∙◌, arith, Option, Some, None, is_some, List, [], ◌∷◌, ◌++◌}
-use Rattle.std.proofs.lemmas.Bool.{cases_Bool, and_from, or_cases, or_left, or_right, leb-true, le-leb, ltb-true, lt-ltb, eqb-true}
-use Rattle.terms.specs.declared.Kind.{Kind}
-use Rattle.terms.specs.declared.Kind.TheVariants.{Initial, Echo, Ready}
-use Rattle.terms.specs.declared.Value.{Value}
-use Rattle.terms.specs.declared.Place.{Place}
-use Rattle.terms.specs.declared.Size.{Size}
-use Rattle.terms.specs.declared.Statement.{Statement}
-use Rattle.terms.specs.Answer.{MaySay, IsLeast}
-use Rattle.terms.specs.Count.{count_below, IsEchoQuorum, IsHelpSet}
-use Rattle.terms.specs.Heard.{got, backs, is_entry, is_foreign, hear, Accepted}
-use Rattle.terms.specs.Keep.{keep_or, given}
-use Rattle.terms.specs.Past.{Past, after_hearing}
-use Rattle.terms.specs.Same.{kind_eq, value_code, value_is, is_about, statement_of}
+use Rattle.std.proofs.Common.{ℕ, ◌≡◌, ◌≤◌, Bool, true, false, cond, not, ◌&&◌, ◌||◌, ◌⊎◌, inl, inr, eqb, eq-eqb, refl, sym, ap, subst, ◌∙◌, arith, Option, Some, None, is_some, List, [], ◌∷◌, ◌++◌, leb-true, le-leb, ltb-true, lt-ltb, eqb-true}
+use Rattle.std.proofs.lemmas.Bool.{cases_Bool, and_from, or_cases, or_left, or_right}
+use Rattle.vocabulary.specs.Terms.{Kind, Initial, Echo, Ready, Value, Place, Size, Statement, MaySay, IsLeast, count_below, IsEchoQuorum, IsHelpSet, got, backs, is_entry, is_foreign, hear, Accepted, keep_or, given, Past, after_hearing, kind_eq, value_code, value_is, is_about, new_statement}
 use Rattle.terms.proofs.Count.{count-mono}
 use Rattle.terms.proofs.Heard.{got-hear, got-append_one, accepted_in, Accepted-one}
 use Rattle.terms.proofs.Lawful.{Accepted-more}
@@ -24,8 +13,8 @@ use Rattle.rbc.specs.Due.{is_backed_as, unless_said, echo_for, ready_for}
 use Rattle.rbc.specs.Known.{got_known, said_known, accepted_known}
 use Rattle.rbc.specs.Table.{known_in}
 use Rattle.rbc.specs.Spots.{same_spot}
-use Rattle.rbc.specs.Stands.{Stands}
-use Rattle.rbc.specs.Words.{size_by, got_by, accepted_by, said_by}
+use Rattle.rbc.specs.Stands.{BroadcastsStandFor}
+use Rattle.rbc.specs.Readers.{broadcasts_size, broadcasts_got, broadcasts_accepted, broadcasts_said}
 use Rattle.rbc.proofs.Asking.{senders}
 
 -- a statement that counts
@@ -51,13 +40,13 @@ module _ (past : Past) (from : ℕ) (s : Statement) (news : IsFirst past from s)
   longer = rw (news.own, news.first) refl
 
   -- another value's backers are no more than before
-  fewer : (kind : Kind) (m : Value) → (s ≡ statement_of kind s.place m → ⊥)
+  fewer : (kind : Kind) (m : Value) → (s ≡ new_statement kind s.place m → ⊥)
       → count_below past.size.n (backs now kind s.place m) ≤ count_below past.size.n (backs past.heard kind s.place m)
   fewer kind m other =
       count-mono past.size.n (backs now kind s.place m) (backs past.heard kind s.place m)
       (λ a l t. at a (got-hear past.heard (from, s) a kind s.place m (value_is-true _ m t)))
     where
-      at : (a : ℕ) → (got past.heard a kind s.place ≡ Some m) ⊎ ((from ≡ a) × (s ≡ statement_of kind s.place m))
+      at : (a : ℕ) → (got past.heard a kind s.place ≡ Some m) ⊎ ((from ≡ a) × (s ≡ new_statement kind s.place m))
           → backs past.heard kind s.place m a ≡ true
       at a (inl g) = value_is-from _ m g
       at a (inr g) = absurd (other g.1)
@@ -73,12 +62,12 @@ module _ (past : Past) (from : ℕ) (s : Statement) (news : IsFirst past from s)
     value : m ≡ s.value
     reason : IsReason s.kind m
 
-  same : (kind : Kind) (m : Value) → (s ≡ statement_of kind s.place m) ⊎ (s ≡ statement_of kind s.place m → ⊥)
+  same : (kind : Kind) (m : Value) → (s ≡ new_statement kind s.place m) ⊎ (s ≡ new_statement kind s.place m → ⊥)
   same kind m = step (cases_Bool (kind_eq s.kind kind)) (cases_Bool (value_is (Some s.value) m))
     where
       step : (kind_eq s.kind kind ≡ true) ⊎ (kind_eq s.kind kind ≡ false)
           → (value_is (Some s.value) m ≡ true) ⊎ (value_is (Some s.value) m ≡ false)
-          → (s ≡ statement_of kind s.place m) ⊎ (s ≡ statement_of kind s.place m → ⊥)
+          → (s ≡ new_statement kind s.place m) ⊎ (s ≡ new_statement kind s.place m → ⊥)
       step (inl h) (inl g) =
           let k : s.kind ≡ kind = kind_eq-true s.kind kind h in
           let some : Some s.value ≡ Some m = value_is-true (Some s.value) m g in
@@ -101,7 +90,7 @@ module _ (past : Past) (from : ℕ) (s : Statement) (news : IsFirst past from s)
       → (IsEchoQuorum past.size (backs past.heard Echo s.place m) ⊎ IsHelpSet past.size (backs past.heard Ready s.place m)) ⊎ IsOwn m
   backing m (inl q) = step (same Echo m)
     where
-      step : (s ≡ statement_of Echo s.place m) ⊎ (s ≡ statement_of Echo s.place m → ⊥)
+      step : (s ≡ new_statement Echo s.place m) ⊎ (s ≡ new_statement Echo s.place m → ⊥)
           → (IsEchoQuorum past.size (backs past.heard Echo s.place m) ⊎ IsHelpSet past.size (backs past.heard Ready s.place m)) ⊎ IsOwn m
       step (inl e) =
           inr (record {
@@ -111,7 +100,7 @@ module _ (past : Past) (from : ℕ) (s : Statement) (news : IsFirst past from s)
       step (inr n) = let f = fewer Echo m n in inl (inl (omega (arith, q, f)))
   backing m (inr h) = step (same Ready m)
     where
-      step : (s ≡ statement_of Ready s.place m) ⊎ (s ≡ statement_of Ready s.place m → ⊥)
+      step : (s ≡ new_statement Ready s.place m) ⊎ (s ≡ new_statement Ready s.place m → ⊥)
           → (IsEchoQuorum past.size (backs past.heard Echo s.place m) ⊎ IsHelpSet past.size (backs past.heard Ready s.place m)) ⊎ IsOwn m
       step (inl e) =
           inr (record {
@@ -161,7 +150,7 @@ module _ (past : Past) (from : ℕ) (s : Statement) (news : IsFirst past from s)
     echo_only : (m : Value) → MaySay (after_hearing past from s) Echo s.place m → (m ≡ s.value) × ((s.kind ≡ Initial) ⊎ IsReason s.kind m)
     echo_only m may = step may.1
       where
-        first : (got past.heard s.place.origin Initial s.place ≡ Some m) ⊎ ((from ≡ s.place.origin) × (s ≡ statement_of Initial s.place m))
+        first : (got past.heard s.place.origin Initial s.place ≡ Some m) ⊎ ((from ≡ s.place.origin) × (s ≡ new_statement Initial s.place m))
             → (m ≡ s.value) × ((s.kind ≡ Initial) ⊎ IsReason s.kind m)
         first (inl g) = absurd (quiet.echo m (may.0, inl g))
         first (inr g) = (sym (ap (λ (t : Statement). t.value) g.1), inl (ap (λ (t : Statement). t.kind) g.1))
@@ -178,34 +167,34 @@ module _ (past : Past) (from : ℕ) (s : Statement) (news : IsFirst past from s)
         step (inr g) = back (backing m g)
 
 -- by the words
-module _ (b b' : Broadcasts) (past : Past) (from : ℕ) (s : Statement) (news : IsFirst past from s) (stands : Stands b past)
-    (stands' : Stands b' (after_hearing past from s)) (asked : s.place.question ≡ past.question) where
+module _ (b b' : Broadcasts) (past : Past) (from : ℕ) (s : Statement) (news : IsFirst past from s) (stands : BroadcastsStandFor b past)
+    (stands' : BroadcastsStandFor b' (after_hearing past from s)) (asked : s.place.question ≡ past.question) where
   -- the test by the words is the reason
   backed : Bool
-  backed = is_backed_as (size_by b') (got_by b') s.kind s.place s.value
+  backed = is_backed_as (broadcasts_size b') (broadcasts_got b') s.kind s.place s.value
 
-  same_n : (size_by b').n ≡ past.size.n
+  same_n : (broadcasts_size b').n ≡ past.size.n
   same_n = ap (λ (z : Size). z.n) stands'.size
 
-  same_t : (size_by b').t ≡ past.size.t
+  same_t : (broadcasts_size b').t ≡ past.size.t
   same_t = ap (λ (z : Size). z.t) stands'.size
 
-  reason_from : (k : Kind) → is_backed_as (size_by b') (got_by b') k s.place s.value ≡ true → IsReason past from s news k s.value
+  reason_from : (k : Kind) → is_backed_as (broadcasts_size b') (broadcasts_got b') k s.place s.value ≡ true → IsReason past from s news k s.value
   reason_from Initial h = cc
   reason_from Echo h = omega (arith, ltb-true _ _ h, senders b' (after_hearing past from s) stands' s.place asked Echo s.value, same_n, same_t)
   reason_from Ready h = omega (arith, leb-true _ _ h, senders b' (after_hearing past from s) stands' s.place asked Ready s.value, same_t)
 
-  from_reason : (k : Kind) → IsReason past from s news k s.value → is_backed_as (size_by b') (got_by b') k s.place s.value ≡ true
+  from_reason : (k : Kind) → IsReason past from s news k s.value → is_backed_as (broadcasts_size b') (broadcasts_got b') k s.place s.value ≡ true
   from_reason Initial r = absurd r
   from_reason Echo r = lt-ltb _ _ (omega (arith, r, senders b' (after_hearing past from s) stands' s.place asked Echo s.value, same_n, same_t))
   from_reason Ready r = le-leb _ _ (omega (arith, r, senders b' (after_hearing past from s) stands' s.place asked Ready s.value, same_t))
 
   -- the Ready that is due now
   pub ready_now : IsQuietAt past s.place → (o : Option Value)
-      → o ≡ unless_said (said_by b' Ready s.place) (is_backed_as (size_by b') (got_by b') s.kind s.place s.value) s.value
+      → o ≡ unless_said (broadcasts_said b' Ready s.place) (is_backed_as (broadcasts_size b') (broadcasts_got b') s.kind s.place s.value) s.value
       → IsLeast (MaySay (after_hearing past from s) Ready s.place) o
   ready_now quiet o e =
-      rw e (least_given (MaySay (after_hearing past from s) Ready s.place) (said_by b' Ready s.place) _ s.value
+      rw e (least_given (MaySay (after_hearing past from s) Ready s.place) (broadcasts_said b' Ready s.place) _ s.value
       (λ m p. stands'.facts.readied s.place asked ∙ p.0)
       (λ n t. (sym (stands'.facts.readied s.place asked) ∙ n, from_own past from s news s.kind (reason_from s.kind t)))
       (λ m p. let own = ready_only past from s news quiet m p in
@@ -213,35 +202,35 @@ module _ (b b' : Broadcasts) (past : Past) (from : ℕ) (s : Statement) (news : 
 
   -- and the Echo
   pub echo_now : IsQuietAt past s.place → (o : Option Value)
-      → o ≡ unless_said (said_by b' Echo s.place) (kind_eq s.kind Initial || is_backed_as (size_by b') (got_by b') s.kind s.place s.value) s.value
+      → o ≡ unless_said (broadcasts_said b' Echo s.place) (kind_eq s.kind Initial || is_backed_as (broadcasts_size b') (broadcasts_got b') s.kind s.place s.value) s.value
       → IsLeast (MaySay (after_hearing past from s) Echo s.place) o
   echo_now quiet o e =
-      rw e (least_given (MaySay (after_hearing past from s) Echo s.place) (said_by b' Echo s.place) _ s.value
+      rw e (least_given (MaySay (after_hearing past from s) Echo s.place) (broadcasts_said b' Echo s.place) _ s.value
       (λ m p. stands'.facts.echoed s.place asked ∙ p.0)
       (λ n t. (sym (stands'.facts.echoed s.place asked) ∙ n, sound (or_cases _ _ t)))
       (λ m p. let own = echo_only past from s news quiet m p in (own.0, complete m own.0 own.1)))
     where
-      sound : (kind_eq s.kind Initial ≡ true) ⊎ (is_backed_as (size_by b') (got_by b') s.kind s.place s.value ≡ true)
+      sound : (kind_eq s.kind Initial ≡ true) ⊎ (is_backed_as (broadcasts_size b') (broadcasts_got b') s.kind s.place s.value ≡ true)
           → (got (hear past.heard (from, s)) s.place.origin Initial s.place ≡ Some s.value)
           ⊎ (IsEchoQuorum past.size (backs (hear past.heard (from, s)) Echo s.place s.value) ⊎ IsHelpSet past.size (backs (hear past.heard (from, s)) Ready s.place s.value))
       sound (inl h) = inl (got_initial past from s news (kind_eq-true s.kind Initial h))
       sound (inr h) = inr (from_own past from s news s.kind (reason_from s.kind h))
 
       complete : (m : Value) → m ≡ s.value → (s.kind ≡ Initial) ⊎ IsReason past from s news s.kind m
-          → (kind_eq s.kind Initial || is_backed_as (size_by b') (got_by b') s.kind s.place s.value) ≡ true
+          → (kind_eq s.kind Initial || is_backed_as (broadcasts_size b') (broadcasts_got b') s.kind s.place s.value) ≡ true
       complete m v (inl k) = or_left _ _ (ap (λ (x : Kind). kind_eq x Initial) k)
       complete m v (inr r) = or_right _ _ (from_reason s.kind (subst (λ (x : Value). IsReason past from s news s.kind x) v r))
 
   -- the value that is accepted now
-  pub accepted_now : (o : Option Value) → o ≡ cond (is_some (accepted_by b s.place)) None (accepted_by b' s.place)
+  pub accepted_now : (o : Option Value) → o ≡ cond (is_some (broadcasts_accepted b s.place)) None (broadcasts_accepted b' s.place)
       → IsNewlyAccepted past from s o
-  accepted_now o e = rw e (step (accepted_by b s.place) (accepted_by b' s.place) refl refl)
+  accepted_now o e = rw e (step (broadcasts_accepted b s.place) (broadcasts_accepted b' s.place) refl refl)
     where
       longer_hearing : (m : Value) → Accepted past.size past.heard s.place m → Accepted past.size (hear past.heard (from, s)) s.place m
       longer_hearing m a =
           subst (λ (x : List (ℕ × Statement)). Accepted past.size x s.place m) (sym (longer past from s news)) (Accepted-more past.size past.heard ((from, s) ∷ []) s.place m a)
 
-      step : (x y : Option Value) → accepted_by b s.place ≡ x → accepted_by b' s.place ≡ y → IsNewlyAccepted past from s (cond (is_some x) None y)
+      step : (x y : Option Value) → broadcasts_accepted b s.place ≡ x → broadcasts_accepted b' s.place ≡ y → IsNewlyAccepted past from s (cond (is_some x) None y)
       step (Some x) y f g = λ m a.
           let before : Accepted past.size past.heard s.place x = stands.facts.taken s.place x asked f in
           let one : x ≡ m = Accepted-one past.size (hear past.heard (from, s)) s.place x m (longer_hearing x before) a in
@@ -259,24 +248,24 @@ same_spot-itself p =
 
 -- the same by what is known of the place
 module _ (b : Broadcasts) (s : Statement) (known : Known) (is : known_in b.cells.items b.size.n s.place ≡ known) where
-  backed_known : (k : Kind) → is_backed_as b.size (got_known known) k s.place s.value ≡ is_backed_as (size_by b) (got_by b) k s.place s.value
-  unfolding size_by got_by
+  backed_known : (k : Kind) → is_backed_as b.size (got_known known) k s.place s.value ≡ is_backed_as (broadcasts_size b) (broadcasts_got b) k s.place s.value
+  unfolding broadcasts_size broadcasts_got
   backed_known Initial = refl
   backed_known Echo = ap (λ (x : Known). is_backed_as b.size (got_known x) Echo s.place s.value) (sym is)
   backed_known Ready = ap (λ (x : Known). is_backed_as b.size (got_known x) Ready s.place s.value) (sym is)
 
-  said_known_by : (k : Kind) → said_known known k ≡ said_by b k s.place
-  unfolding said_by
+  said_known_by : (k : Kind) → said_known known k ≡ broadcasts_said b k s.place
+  unfolding broadcasts_said
   said_known_by k = ap (λ (x : Known). said_known x k) (sym is)
 
   pub echo_known : echo_for b.size known s
-      ≡ unless_said (said_by b Echo s.place) (kind_eq s.kind Initial || is_backed_as (size_by b) (got_by b) s.kind s.place s.value) s.value
+      ≡ unless_said (broadcasts_said b Echo s.place) (kind_eq s.kind Initial || is_backed_as (broadcasts_size b) (broadcasts_got b) s.kind s.place s.value) s.value
   echo_known = λ i. unless_said (said_known_by Echo i) (kind_eq s.kind Initial || backed_known s.kind i) s.value
 
   pub ready_known : ready_for b.size known s
-      ≡ unless_said (said_by b Ready s.place) (is_backed_as (size_by b) (got_by b) s.kind s.place s.value) s.value
+      ≡ unless_said (broadcasts_said b Ready s.place) (is_backed_as (broadcasts_size b) (broadcasts_got b) s.kind s.place s.value) s.value
   ready_known = λ i. unless_said (said_known_by Ready i) (backed_known s.kind i) s.value
 
-  pub accepted_by_known : accepted_known s.place known ≡ accepted_by b s.place
-  unfolding accepted_by
+  pub accepted_by_known : accepted_known s.place known ≡ broadcasts_accepted b s.place
+  unfolding broadcasts_accepted
   accepted_by_known = ap (λ (x : Known). accepted_known s.place x) (sym is)

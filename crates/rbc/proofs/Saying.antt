@@ -1,30 +1,19 @@
 -- What a statement of its own does to what a `Broadcasts` stands for, and what changes nothing.
 use Rattle.std.proofs.Common.{ℕ, zero, suc, ◌≡◌, ◌<◌, ◌≤◌, ◌⊎◌, inl, inr, false, sym, ap, ◌∙◌, arith, Option, None, IsSome, [], ◌∷◌, ◌++◌, length}
 use Rattle.std.proofs.lemmas.Bool.{cases_lt, false≢true}
-use Rattle.terms.specs.declared.Value.{Value}
-use Rattle.terms.specs.declared.Kind.{Kind}
-use Rattle.terms.specs.declared.Kind.TheVariants.{Initial, Echo, Ready}
-use Rattle.terms.specs.Same.{kind_eq}
-use Rattle.terms.specs.declared.Place.{Place}
-use Rattle.terms.specs.declared.Size.{Size}
-use Rattle.terms.specs.declared.Statement.{Statement}
-use Rattle.terms.specs.declared.Record.TheVariants.{Said}
-use Rattle.terms.specs.Count.{count_below}
-use Rattle.terms.specs.Journal.{said}
-use Rattle.terms.specs.Keep.{keep_or, given}
-use Rattle.terms.specs.Past.{Past, no_past, after_record}
+use Rattle.vocabulary.specs.Terms.{Value, Kind, Initial, Echo, Ready, kind_eq, Place, Size, Statement, Said, count_below, said, keep_or, given, Past, no_past, after_record}
 use Rattle.terms.proofs.Journal.{said-append_one}
 use Rattle.rbc.specs.declared.Broadcasts.{Broadcasts}
 use Rattle.rbc.specs.Table.{spot_of}
 use Rattle.rbc.specs.Answers.{IsTouched}
 use Rattle.rbc.specs.Spots.{is_at}
-use Rattle.rbc.specs.Stands.{Stands}
-use Rattle.rbc.specs.Words.{size_by, me_by, accepted_by, said_by}
+use Rattle.rbc.specs.Stands.{BroadcastsStandFor}
+use Rattle.rbc.specs.Readers.{broadcasts_size, broadcasts_me, broadcasts_accepted, broadcasts_said}
 use Rattle.rbc.proofs.Changes.{IsSame, SaysOne, said_with, none_got, none_said, none_accepted}
 use Rattle.rbc.proofs.Spots.{about-at}
 
 -- the same words stand for the same pasts
-pub same_stands : (b b' : Broadcasts) → IsSame b b' → (past : Past) → Stands b past → Stands b' past
+pub same_stands : (b b' : Broadcasts) → IsSame b b' → (past : Past) → BroadcastsStandFor b past → BroadcastsStandFor b' past
 same_stands b b' same past stands =
     record {
       size = same.size ∙ stands.size;
@@ -38,11 +27,11 @@ same_stands b b' same past stands =
       };
     }
 
-module _ (b b' : Broadcasts) (past : Past) (s : Statement) (stands : Stands b past) (more : SaysOne b b' s)
+module _ (b b' : Broadcasts) (past : Past) (s : Statement) (stands : BroadcastsStandFor b past) (more : SaysOne b b' s)
     (asked : s.place.question ≡ past.question) where
   -- what was said as that kind is what the records have
   said_more : (kind : Kind) (place : Place) → place.question ≡ past.question
-      → said_by b kind place ≡ said past.records kind place
+      → broadcasts_said b kind place ≡ said past.records kind place
       → said_with b s kind place ≡ said (past.records ++ Said s ∷ []) kind place
   said_more kind place e h =
       ap (λ x. keep_or x (given (is_at s kind place) s.value)) h
@@ -50,7 +39,7 @@ module _ (b b' : Broadcasts) (past : Past) (s : Statement) (stands : Stands b pa
       ∙ sym (said-append_one past.records s kind place)
 
   -- what is noted is said
-  pub noted_said : Stands b' (after_record past (Said s))
+  pub noted_said : BroadcastsStandFor b' (after_record past (Said s))
   noted_said =
       record {
         size = more.size ∙ stands.size;
@@ -71,8 +60,8 @@ none_counted (suc n) h = none_counted n (omega (arith, h))
 
 -- an empty table stands for nothing heard and nothing said
 pub empty_stands : (b : Broadcasts) (size : Size) (me question : ℕ) → b.size ≡ size → b.me ≡ me
-    → b.cells.items ≡ [] → Stands b (no_past size me question)
-unfolding size_by me_by accepted_by
+    → b.cells.items ≡ [] → BroadcastsStandFor b (no_past size me question)
+unfolding broadcasts_size broadcasts_me broadcasts_accepted
 empty_stands b size me question same_size same_me h =
     record {
       size = same_size;
@@ -90,9 +79,9 @@ empty_stands b size me question same_size same_me h =
     past place = let e : length b.cells.items ≡ 0 = rw h in omega arith
 
 -- at a place of which something is known the table has a spot
-pub touched : (b : Broadcasts) (past : Past) (place : Place) → Stands b past → place.question ≡ past.question
-    → IsTouched past place → spot_of (size_by b).n place < length b.cells.items
-unfolding size_by
+pub touched : (b : Broadcasts) (past : Past) (place : Place) → BroadcastsStandFor b past → place.question ≡ past.question
+    → IsTouched past place → spot_of (broadcasts_size b).n place < length b.cells.items
+unfolding broadcasts_size
 touched b past place stands asked h = step (cases_lt (spot_of b.size.n place) (length b.cells.items)) h
   where
     differ : (x y : Option Value) → x ≡ y → x ≡ None → IsSome y → ⊥
@@ -107,10 +96,10 @@ touched b past place stands asked h = step (cases_lt (spot_of b.size.n place) (l
     step (inr l) (inr (inr h)) = absurd (differ _ _ (stands.facts.readied place asked) (none_said b place l Ready) h)
 
 -- where the table has no spot nothing was said
-pub not_said : (b : Broadcasts) (past : Past) (s : Statement) → Stands b past → s.place.question ≡ past.question
-    → kind_eq s.kind Initial ≡ false → (spot_of (size_by b).n s.place < length b.cells.items → ⊥)
+pub not_said : (b : Broadcasts) (past : Past) (s : Statement) → BroadcastsStandFor b past → s.place.question ≡ past.question
+    → kind_eq s.kind Initial ≡ false → (spot_of (broadcasts_size b).n s.place < length b.cells.items → ⊥)
     → said past.records s.kind s.place ≡ None
-unfolding size_by
+unfolding broadcasts_size
 not_said b past s stands asked other short = step s.kind other
   where
     beyond : length b.cells.items ≤ spot_of b.size.n s.place

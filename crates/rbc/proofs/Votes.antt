@@ -1,15 +1,7 @@
 -- The masks of a place after one more vote.
 use Rattle.std.proofs.Common.{ℕ, zero, suc, ◌≡◌, ◌<◌, Bool, true, false, ◌&&◌, ◌||◌, eqb, refl, sym, ap, ◌∙◌, Option, Some, None}
 use Rattle.std.proofs.lemmas.Nat.Bits.{bit_at-zero}
-use Rattle.terms.specs.declared.Kind.{Kind}
-use Rattle.terms.specs.declared.Kind.TheVariants.{Initial, Echo, Ready}
-use Rattle.terms.specs.declared.Value.{Value}
-use Rattle.terms.specs.declared.Value.TheVariants.{Zero, One, SureZero, SureOne, Unsure}
-use Rattle.terms.specs.declared.Place.{Place}
-use Rattle.terms.specs.declared.Size.{Size}
-use Rattle.terms.specs.Bounds.{FitsStep}
-use Rattle.terms.specs.Keep.{keep_or, given}
-use Rattle.terms.specs.Same.{kind_eq}
+use Rattle.vocabulary.specs.Terms.{Kind, Initial, Echo, Ready, Value, Zero, One, SureZero, SureOne, Unsure, Place, Size, FitsStep, keep_or, given, kind_eq}
 use Rattle.terms.proofs.Votes.{bit_more, voted, keep_None}
 use Rattle.rbc.specs.declared.known.Votes.{Votes}
 use Rattle.rbc.specs.declared.known.Known.{Known}

@@ -1,15 +1,7 @@
 -- What the masks of a place say. The words on bits and values are those of `Rattle.terms.proofs.Votes`.
 use Rattle.std.specs.Prelude.{ℕ, ◌+◌, ◌*◌, ◌%◌, ◌^◌, Bool, true, false, cond, ◌&&◌, ◌==◌, nat_le, Option, Some, None, bit_or, bit_xor}
 use Rattle.std.specs.Int.{bit_at}
-use Rattle.terms.specs.declared.Kind.{Kind}
-use Rattle.terms.specs.declared.Kind.TheVariants.{Initial, Echo, Ready}
-use Rattle.terms.specs.declared.Value.{Value}
-use Rattle.terms.specs.declared.Value.TheVariants.{Zero, One, SureZero, SureOne, Unsure}
-use Rattle.terms.specs.declared.Place.{Place}
-use Rattle.terms.specs.declared.Size.{Size}
-use Rattle.terms.specs.Count.{count_below}
-use Rattle.terms.specs.Keep.{keep_or, given}
-use Rattle.terms.specs.Same.{kind_eq, value_is}
+use Rattle.vocabulary.specs.Terms.{Kind, Initial, Echo, Ready, Value, Zero, One, SureZero, SureOne, Unsure, Place, Size, count_below, keep_or, given, kind_eq, value_is}
 use Rattle.rbc.specs.declared.known.Votes.{Votes}
 use Rattle.rbc.specs.declared.known.Known.{Known}
 

@@ -1,10 +1,6 @@
 //! What is known of one place: which members sent which value, what is accepted there, and what was said.
 ghost use Rattle.std.specs.Prelude.{◌≡◌, ◌&&◌, ◌<◌, ◌^◌, ◌-◌, IfSome};
-ghost use Rattle.terms.specs.Count.{count_below};
-ghost use Rattle.terms.specs.Heard.{is_foreign};
-ghost use Rattle.terms.specs.Same.{value_is, kind_eq};
-ghost use Rattle.terms.specs.declared.Kind.TheVariants.{Initial, Ready};
-ghost use Rattle.terms.specs.Bounds.{FitsStep};
+ghost use Rattle.vocabulary.specs.Terms.{count_below, is_foreign, value_is, kind_eq, Initial, Ready, FitsStep};
 ghost use Rattle.rbc.specs.Known.{is_third, fits, has_bit, value_of, votes_of, senders_of, with_vote, no_known, value_known, voted_known, is_reached, heard_known, said_known, say_known, accepted_known};
 
 use terms::{Kind, Place, Size, Statement, Value};

@@ -76,22 +76,17 @@ pub struct Broadcasts {
 }
 
 impl Broadcasts {
-    ghost use Rattle.terms.specs.declared.Kind.TheVariants.{Echo, Ready};
-    ghost use Rattle.terms.specs.declared.Record.TheVariants.{Said};
-    ghost use Rattle.terms.specs.Answer.{MaySay, IsLeast};
-    ghost use Rattle.terms.specs.Bounds.{FitsStep};
-    ghost use Rattle.terms.specs.Journal.{said};
-    ghost use Rattle.terms.specs.Past.{Past, no_past, after_hearing, after_record};
+    ghost use Rattle.vocabulary.specs.Terms.{Echo, Ready, Said, MaySay, IsLeast, FitsStep, said, Past, no_past, after_hearing, after_record};
     ghost use Rattle.rbc.specs.declared.Heard.TheVariants.{News};
-    ghost use Rattle.rbc.specs.Words.{size_by};
-    ghost use Rattle.rbc.specs.Stands.{Stands};
+    ghost use Rattle.rbc.specs.Readers.{broadcasts_size};
+    ghost use Rattle.rbc.specs.Stands.{BroadcastsStandFor};
     ghost use Rattle.rbc.specs.Answers.{heard_as, heard_of, IsAccepted, IsNewlyAccepted, IsQuietAt, IfNews, IsTouched};
 
     /// Those of the member `me`, below `size.n()`, that heard and said nothing yet. It takes no memory: `alloc` is
     /// kept for [`hear`](Broadcasts::hear) and [`say`](Broadcasts::say).
     pub fn new(alloc: Global, size: Size, me: u8) -> Broadcasts
-        ensures size { size_by result ≡ size }
-        ensures stands { (question : ℕ) → Stands result (no_past size me question) }
+        ensures size { broadcasts_size result ≡ size }
+        ensures stands { (question : ℕ) → BroadcastsStandFor result (no_past size me question) }
     {
         Broadcasts {
             size,
@@ -107,25 +102,25 @@ impl Broadcasts {
     /// [`Memory`]: the statement is news, and there was no memory to note it. Nothing changed, so it may be heard
     /// again. A place at which something that counts was heard, or something was said, has its memory already.
     pub fn hear(&mut self, from: u8, s: &Statement) -> Result<Heard, Memory>
-        requires from { from < (size_by self.old).n }
-        requires origin { s.now.place.origin < (size_by self.old).n }
+        requires from { from < (broadcasts_size self.old).n }
+        requires origin { s.now.place.origin < (broadcasts_size self.old).n }
 
         ensures answer { IfOk result (λ taken.
-            (past : Past) → Stands self.old past → s.now.place.question ≡ past.question →
+            (past : Past) → BroadcastsStandFor self.old past → s.now.place.question ≡ past.question →
             taken ≡ heard_as past from s.now) }
         ensures ok { OnOk result (
-            (past : Past) → Stands self.old past → s.now.place.question ≡ past.question →
-            Stands self.new (after_hearing past from s.now)) }
+            (past : Past) → BroadcastsStandFor self.old past → s.now.place.question ≡ past.question →
+            BroadcastsStandFor self.new (after_hearing past from s.now)) }
         ensures unchanged_unless_news { IfOk result (λ taken. taken ≢ News →
-            (past : Past) → Stands self.old past → Stands self.new past) }
+            (past : Past) → BroadcastsStandFor self.old past → BroadcastsStandFor self.new past) }
 
-        ensures err { OnErr result ((past : Past) → Stands self.old past → Stands self.new past) }
+        ensures err { OnErr result ((past : Past) → BroadcastsStandFor self.old past → BroadcastsStandFor self.new past) }
         ensures err_only_at_news { OnErr result (
-            (past : Past) → Stands self.old past → s.now.place.question ≡ past.question →
+            (past : Past) → BroadcastsStandFor self.old past → s.now.place.question ≡ past.question →
             heard_as past from s.now ≡ News) }
-        ensures no_memory { (past : Past) → Stands self.old past → s.now.place.question ≡ past.question →
+        ensures no_memory { (past : Past) → BroadcastsStandFor self.old past → s.now.place.question ≡ past.question →
             IsTouched past s.now.place → IsOk result }
-        ensures size { size_by self.new ≡ size_by self.old }
+        ensures size { broadcasts_size self.new ≡ broadcasts_size self.old }
     {
         match self.take(from, s) {
             Ok(taken) => Ok(heard_of(taken)),
@@ -139,40 +134,40 @@ impl Broadcasts {
     ///
     /// [`Memory`]: the statement is news, and there was no memory to note it. Nothing changed, so it may be heard
     /// again. A place at which something that counts was heard, or something was said, has its memory already.
-    #[tactic(auto, unfolding(crate::specs::Words::got_by, crate::specs::Words::size_by))]
+    #[tactic(auto, unfolding(crate::specs::Readers::broadcasts_got, crate::specs::Readers::broadcasts_size))]
     pub fn take(&mut self, from: u8, s: &Statement) -> Result<Taken, Memory>
-        requires from { from < (size_by self.old).n }
-        requires origin { s.now.place.origin < (size_by self.old).n }
+        requires from { from < (broadcasts_size self.old).n }
+        requires origin { s.now.place.origin < (broadcasts_size self.old).n }
 
         ensures answer { IfOk result (λ taken.
-            (past : Past) → Stands self.old past → s.now.place.question ≡ past.question →
+            (past : Past) → BroadcastsStandFor self.old past → s.now.place.question ≡ past.question →
             heard_of taken ≡ heard_as past from s.now) }
         ensures ok { OnOk result (
-            (past : Past) → Stands self.old past → s.now.place.question ≡ past.question →
-            Stands self.new (after_hearing past from s.now)) }
+            (past : Past) → BroadcastsStandFor self.old past → s.now.place.question ≡ past.question →
+            BroadcastsStandFor self.new (after_hearing past from s.now)) }
         ensures unchanged_unless_news { IfOk result (λ taken. heard_of taken ≢ News →
-            (past : Past) → Stands self.old past → Stands self.new past) }
+            (past : Past) → BroadcastsStandFor self.old past → BroadcastsStandFor self.new past) }
 
         // What may be said at a place where nothing might be said before is of the statement's own value.
         ensures echo { IfOk result (λ taken. IfNews taken (λ brought.
-            (past : Past) → Stands self.old past → s.now.place.question ≡ past.question → IsQuietAt past s.now.place →
+            (past : Past) → BroadcastsStandFor self.old past → s.now.place.question ≡ past.question → IsQuietAt past s.now.place →
             IsLeast (MaySay (after_hearing past from s.now) Echo s.now.place) brought.due.echo)) }
         ensures ready { IfOk result (λ taken. IfNews taken (λ brought.
-            (past : Past) → Stands self.old past → s.now.place.question ≡ past.question → IsQuietAt past s.now.place →
+            (past : Past) → BroadcastsStandFor self.old past → s.now.place.question ≡ past.question → IsQuietAt past s.now.place →
             IsLeast (MaySay (after_hearing past from s.now) Ready s.now.place) brought.due.ready)) }
         ensures accepted { IfOk result (λ taken. IfNews taken (λ brought.
-            (past : Past) → Stands self.old past → s.now.place.question ≡ past.question →
+            (past : Past) → BroadcastsStandFor self.old past → s.now.place.question ≡ past.question →
             IsNewlyAccepted past from s.now brought.accepted)) }
         ensures fits { IfOk result (λ taken. IfNews taken (λ brought.
             IfSome brought.accepted (λ m. FitsStep s.now.place.step m))) }
 
-        ensures err { OnErr result ((past : Past) → Stands self.old past → Stands self.new past) }
+        ensures err { OnErr result ((past : Past) → BroadcastsStandFor self.old past → BroadcastsStandFor self.new past) }
         ensures err_only_at_news { OnErr result (
-            (past : Past) → Stands self.old past → s.now.place.question ≡ past.question →
+            (past : Past) → BroadcastsStandFor self.old past → s.now.place.question ≡ past.question →
             heard_as past from s.now ≡ News) }
-        ensures no_memory { (past : Past) → Stands self.old past → s.now.place.question ≡ past.question →
+        ensures no_memory { (past : Past) → BroadcastsStandFor self.old past → s.now.place.question ≡ past.question →
             IsTouched past s.now.place → IsOk result }
-        ensures size { size_by self.new ≡ size_by self.old }
+        ensures size { broadcasts_size self.new ≡ broadcasts_size self.old }
     {
         let _members = self.size.n();
         if known::is_foreign(from, *s) {
@@ -189,12 +184,12 @@ impl Broadcasts {
     }
 
     /// What is to be said at the place, whose origin is below n. It takes no memory.
-    #[tactic(auto, unfolding(crate::specs::Words::size_by))]
+    #[tactic(auto, unfolding(crate::specs::Readers::broadcasts_size))]
     pub fn due(&self, place: Place) -> Due
-        requires { place.origin < (size_by self.now).n }
-        ensures echo { (past : Past) → Stands self.now past → place.question ≡ past.question →
+        requires { place.origin < (broadcasts_size self.now).n }
+        ensures echo { (past : Past) → BroadcastsStandFor self.now past → place.question ≡ past.question →
             IsLeast (MaySay past Echo place) result.echo }
-        ensures ready { (past : Past) → Stands self.now past → place.question ≡ past.question →
+        ensures ready { (past : Past) → BroadcastsStandFor self.now past → place.question ≡ past.question →
             IsLeast (MaySay past Ready place) result.ready }
     {
         let _members = self.size.n();
@@ -214,21 +209,21 @@ impl Broadcasts {
     /// [`Memory`]: the statement is the first of its kind at the place, and there was no memory to note it. Nothing
     /// changed, so it may be said again. A place at which something that counts was heard, or something was said, has
     /// its memory already.
-    #[tactic(auto, unfolding(crate::specs::Words::size_by))]
+    #[tactic(auto, unfolding(crate::specs::Readers::broadcasts_size))]
     pub fn say(&mut self, s: &Statement) -> Result<(), Memory>
-        requires { s.now.place.origin < (size_by self.old).n }
+        requires { s.now.place.origin < (broadcasts_size self.old).n }
 
         ensures ok { OnOk result (
-            (past : Past) → Stands self.old past → s.now.place.question ≡ past.question →
-            Stands self.new (after_record past (Said s.now))) }
+            (past : Past) → BroadcastsStandFor self.old past → s.now.place.question ≡ past.question →
+            BroadcastsStandFor self.new (after_record past (Said s.now))) }
 
-        ensures err { OnErr result ((past : Past) → Stands self.old past → Stands self.new past) }
+        ensures err { OnErr result ((past : Past) → BroadcastsStandFor self.old past → BroadcastsStandFor self.new past) }
         ensures err_only_at_first { OnErr result (
-            (past : Past) → Stands self.old past → s.now.place.question ≡ past.question →
+            (past : Past) → BroadcastsStandFor self.old past → s.now.place.question ≡ past.question →
             said past.records s.now.kind s.now.place ≡ None) }
-        ensures no_memory { (past : Past) → Stands self.old past → s.now.place.question ≡ past.question →
+        ensures no_memory { (past : Past) → BroadcastsStandFor self.old past → s.now.place.question ≡ past.question →
             IsTouched past s.now.place → IsOk result }
-        ensures size { size_by self.new ≡ size_by self.old }
+        ensures size { broadcasts_size self.new ≡ broadcasts_size self.old }
     {
         if known::is_initial(s.kind()) {
             return Ok(());
@@ -242,10 +237,10 @@ impl Broadcasts {
 
     /// The value that is accepted at the place, whose origin is below n: the first of which 2t + 1 senders of a Ready
     /// were heard. None where there is none yet. It takes no memory.
-    #[tactic(auto, unfolding(crate::specs::Words::size_by))]
+    #[tactic(auto, unfolding(crate::specs::Readers::broadcasts_size))]
     pub fn accepted(&self, place: Place) -> Option<Value>
-        requires { place.origin < (size_by self.now).n }
-        ensures value { (past : Past) → Stands self.now past → place.question ≡ past.question →
+        requires { place.origin < (broadcasts_size self.now).n }
+        ensures value { (past : Past) → BroadcastsStandFor self.now past → place.question ≡ past.question →
             IsAccepted past place result }
         ensures fits { IfSome result (λ m. FitsStep place.step m) }
     {

@@ -1,7 +1,6 @@
 //! What is known of a place is reason for: to say a value.
 ghost use Rattle.std.specs.Prelude.{◌≡◌, ◌+◌, ◌*◌, ◌||◌, nat_lt, cond, is_some, None, IfSome};
-ghost use Rattle.terms.specs.Bounds.{FitsStep};
-ghost use Rattle.terms.specs.Same.{value_is};
+ghost use Rattle.vocabulary.specs.Terms.{FitsStep, value_is};
 ghost use Rattle.rbc.specs.Due.{is_backed, is_backed_as, least_of, due_known, unless_said, echo_for, ready_for};
 ghost use Rattle.rbc.specs.Known.{got_known, accepted_known};
 

@@ -1,7 +1,6 @@
 //! The places of one question, each at its spot: by round, then by step, then by origin.
 ghost use Rattle.std.specs.Prelude.{◌≡◌, ◌<◌, ℕ, IsOk, IfOk, OnOk, OnErr, cond, get_or, length};
-ghost use Rattle.terms.specs.declared.Place.{Place};
-ghost use Rattle.terms.specs.Bounds.{IsPlace};
+ghost use Rattle.vocabulary.specs.Terms.{Place, IsPlace};
 ghost use Rattle.rbc.specs.Spots.{same_spot};
 ghost use Rattle.rbc.specs.Known.{no_known, heard_known};
 ghost use Rattle.rbc.specs.Table.{spot_of, known_in};

@@ -3,31 +3,29 @@ use Rattle.std.proofs.Common.{ℕ, suc, ◌≡◌, ◌+◌, ◌<◌, refl, sym, 
 use Rattle.std.specs.declared.alloc.AllocError.{AllocError}
 use Rattle.std.proofs.lemmas.Result.{IfOk-weaker}
 use Rattle.std.proofs.Math.Seq.{take-suc}
-use Rattle.terms.specs.declared.Record.{Record}
-use Rattle.terms.specs.declared.Record.TheVariants.{Said, Decided}
-use Rattle.terms.specs.declared.Statement.{Statement}
-use Rattle.report.specs.Charts.{statements_of, IsSvg}
+use Rattle.vocabulary.specs.Terms.{Record, Said, Decided, Statement}
+use Rattle.report.specs.Charts.{statements_said, IsSvg}
 
-statements-append : (xs ys : List Record) → statements_of (xs ++ ys) ≡ statements_of xs ++ statements_of ys
+statements-append : (xs ys : List Record) → statements_said (xs ++ ys) ≡ statements_said xs ++ statements_said ys
 statements-append [] ys = refl
 statements-append (Said s ∷ xs) ys = ap (λ (rest : List Statement). s ∷ rest) (statements-append xs ys)
 statements-append (Decided question round bit ∷ xs) ys = statements-append xs ys
 
 -- the statements of one record more
 pub statements_more : (xs : List Record) (i : ℕ) (d r : Record) → i < length xs → get_or xs i d ≡ r
-    → statements_of (take (i + 1) xs) ≡ statements_of (take i xs) ++ statements_of (r ∷ [])
+    → statements_said (take (i + 1) xs) ≡ statements_said (take i xs) ++ statements_said (r ∷ [])
 statements_more xs i d r within at =
     let n : suc i ≡ i + 1 = omega arith in
     let step : take (i + 1) xs ≡ take i xs ++ r ∷ [] =
     subst (λ k. take k xs ≡ take i xs ++ r ∷ []) n (take-suc xs i d within ∙ ap (λ (y : Record). take i xs ++ y ∷ []) at) in
-    ap statements_of step ∙ statements-append (take i xs) (r ∷ [])
+    ap statements_said step ∙ statements-append (take i xs) (r ∷ [])
 
 -- two lists behind another, and the two as one
 pub behind : (before some more all : List Statement) → all ≡ some ++ more → (before ++ some) ++ more ≡ before ++ all
 behind before some more all e = append_assoc before some more ∙ ap (λ (l : List Statement). before ++ l) (sym e)
 
 -- a decision is no statement
-pub not_said : (r : Record) (before : List Statement) → ((s : Statement) → r ≡ Said s → ⊥) → before ++ statements_of (r ∷ []) ≡ before
+pub not_said : (r : Record) (before : List Statement) → ((s : Statement) → r ≡ Said s → ⊥) → before ++ statements_said (r ∷ []) ≡ before
 not_said (Said s) before h = absurd (h s refl)
 not_said (Decided question round bit) before h = append-nil before
 

@@ -1,14 +1,11 @@
 -- Bytes that are the frame of a statement.
-use Rattle.std.proofs.Common.{ℕ, ◌≡◌, ◌+◌, Some, List, [], ◌∷◌, ◌++◌, length, slice_get, refl, sym, ap, subst, ◌∙◌, arith}
+use Rattle.std.proofs.Common.{ℕ, ◌≡◌, ◌+◌, Some, List, [], ◌∷◌, ◌++◌, length, slice_get, refl, sym, ap, subst, ◌∙◌, arith, length-append}
 use Rattle.std.specs.List.{flat_map}
-use Rattle.std.proofs.lemmas.List.{length-append}
-use Rattle.terms.specs.declared.Statement.{Statement}
-use Rattle.terms.specs.declared.Size.{Size}
-use Rattle.terms.specs.Bounds.{IsSize}
+use Rattle.vocabulary.specs.Terms.{Statement, Size, IsSize}
 use Rattle.wire.specs.declared.message.Message.{Message}
 use Rattle.wire.specs.declared.message.Message.TheVariants as message
-use Rattle.wire.specs.Texts.{text, Fits}
-use Rattle.wire.specs.Reading.{Reads, End, Rest, Broken, Ends, IsPartial}
+use Rattle.wire.specs.Texts.{frame_bytes, Fits}
+use Rattle.wire.specs.Reading.{ReadsMessages, End, Rest, Broken, Ends, IsPartial}
 use Rattle.wire.specs.Feeding.{Took, Feeds}
 use Rattle.wire.proofs.Unique.{reads_once}
 use Rattle.wire.proofs.Frames.{begins_with}
@@ -19,11 +16,11 @@ empty_of [] h = refl
 empty_of (x ∷ l) h = absurd (omega (arith, h))
 
 -- no message has no bytes
-alone : (ms : List Message) → flat_map text ms ≡ [] → ms ≡ []
+alone : (ms : List Message) → flat_map frame_bytes ms ≡ [] → ms ≡ []
 alone [] h = refl
-alone (m ∷ ms) h = absurd (omega (arith, ap length h, length-append (text m) (flat_map text ms), ap length (begins_with m).0))
+alone (m ∷ ms) h = absurd (omega (arith, ap length h, length-append (frame_bytes m) (flat_map frame_bytes ms), ap length (begins_with m).0))
 
-long : (s : Statement) → length (text (message.Statement s)) ≡ 10
+long : (s : Statement) → length (frame_bytes (message.Statement s)) ≡ 10
 long s = refl
 
 -- nothing is left behind it
@@ -36,19 +33,19 @@ pub is_frame : (size : Size) (bytes : List ℕ) (out : List Message) (end : End)
     → length bytes ≡ 10 → slice_get out 0 ≡ Some (message.Statement s) → IsFrameOf size bytes s
 is_frame size bytes out end s took ten first = go took.0 took.1 (subst (λ (l : List Message). slice_get l 0 ≡ Some (message.Statement s)) took.2 first)
   where
-    go : (ms : List Message) → Reads size bytes ms end → slice_get ms 0 ≡ Some (message.Statement s) → IsFrameOf size bytes s
+    go : (ms : List Message) → ReadsMessages size bytes ms end → slice_get ms 0 ≡ Some (message.Statement s) → IsFrameOf size bytes s
     go [] r f = cc
     go (m ∷ ms) r f =
         let is : m ≡ message.Statement s = cc in
-        let rest : length (flat_map text ms) + length r.others ≡ 0 =
-        omega (arith, ap length r.whole, length-append (text m ++ flat_map text ms) r.others, length-append (text m) (flat_map text ms), ap (λ (x : Message). length (text x)) is, long s, ten) in
-        let none : ms ≡ [] = alone ms (empty_of (flat_map text ms) (omega (arith, rest))) in
+        let rest : length (flat_map frame_bytes ms) + length r.others ≡ 0 =
+        omega (arith, ap length r.whole, length-append (frame_bytes m ++ flat_map frame_bytes ms) r.others, length-append (frame_bytes m) (flat_map frame_bytes ms), ap (λ (x : Message). length (frame_bytes x)) is, long s, ten) in
+        let none : ms ≡ [] = alone ms (empty_of (flat_map frame_bytes ms) (omega (arith, rest))) in
         let nothing : r.others ≡ [] = empty_of r.others (omega (arith, rest)) in
         record {
           each = (subst (λ (x : Message). Fits size x) is r.each.0, tt);
           others = [];
-          whole = r.whole ∙ ap (λ (l : List ℕ). flat_map text (m ∷ ms) ++ l) nothing ∙ ap (λ (l : List Message). flat_map text (m ∷ l) ++ []) none
-              ∙ ap (λ (x : Message). flat_map text (x ∷ []) ++ []) is;
+          whole = r.whole ∙ ap (λ (l : List ℕ). flat_map frame_bytes (m ∷ ms) ++ l) nothing ∙ ap (λ (l : List Message). flat_map frame_bytes (m ∷ l) ++ []) none
+              ∙ ap (λ (x : Message). flat_map frame_bytes (x ∷ []) ++ []) is;
           ends = ends_there size end (subst (λ (l : List ℕ). Ends size l end) nothing r.ends);
         }
 

@@ -1,11 +1,10 @@
 -- The pieces of a trace.
-use Rattle.std.proofs.Common.{ℕ, zero, suc, min, ◌≡◌, ◌≤◌, ◌⊎◌, inl, inr, refl, sym, ap, ◌∙◌, arith, append_assoc, append-nil, codes, List, [], ◌∷◌, ◌++◌, length, take, drop}
+use Rattle.std.proofs.Common.{ℕ, zero, suc, min, ◌≡◌, ◌≤◌, ◌⊎◌, inl, inr, refl, sym, ap, ◌∙◌, arith, append_assoc, append-nil, codes, List, [], ◌∷◌, ◌++◌, length, take, drop, length-take-le}
 use Rattle.std.proofs.Math.Nat.{le-min, min-le_left}
-use Rattle.std.proofs.lemmas.List.{length-take-le}
 use Rattle.std.specs.Global.{Vec}
 use Rattle.std.specs.Fmt.{decimal}
 use Rattle.std.proofs.Math.ListN.{drop_of_length-le}
-use Rattle.terms.specs.declared.Record.{Record}
+use Rattle.vocabulary.specs.Terms.{Record}
 use Rattle.sim.specs.declared.events.Event.{Event}
 use Rattle.sim.specs.declared.events.Mark.{Mark}
 use Rattle.sim.specs.Texts.{event_text}

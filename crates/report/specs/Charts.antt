@@ -5,12 +5,9 @@ use Rattle.hex.specs.Hex.{encode_lower}
 use Rattle.disk.specs.declared.crash.Pick.{Pick}
 use Rattle.disk.specs.declared.crash.Pick.TheVariants.{Kept, Lost, Fill}
 use Rattle.words.specs.Sentences.{sentence}
-use Rattle.terms.specs.declared.Record.{Record}
-use Rattle.terms.specs.declared.Record.TheVariants.{Said, Decided}
-use Rattle.terms.specs.declared.Statement.{Statement}
-use Rattle.terms.specs.declared.Size.{Size}
+use Rattle.vocabulary.specs.Terms.{Record, Said, Decided, Statement, Size}
 use Rattle.wire.specs.declared.message.Message.TheVariants as message
-use Rattle.wire.specs.Reading.{Reads, Rest}
+use Rattle.wire.specs.Reading.{ReadsMessages, Rest}
 use Rattle.report.specs.Records.{statement_text}
 use Rattle.sim.specs.declared.events.Event.{Event}
 use Rattle.sim.specs.declared.events.Event.TheVariants.{Propose, Deliver, DeliverAll, LieBytes, Fuse, Crash, Restart, Reset}
@@ -65,10 +62,10 @@ place_after said (Restart member) Failed sender place = place
 place_after said (Reset from to) mark sender place = if sender == from then 0 else place
 
 -- the statements among records, in order
-abbrev pub statements_of : List Record → List Statement
-statements_of [] = []
-statements_of (Said s ∷ records) = s ∷ statements_of records
-statements_of (Decided question round bit ∷ records) = statements_of records
+abbrev pub statements_said : List Record → List Statement
+statements_said [] = []
+statements_said (Said s ∷ records) = s ∷ statements_said records
+statements_said (Decided question round bit ∷ records) = statements_said records
 
 -- which statement a delivery is of: the one at the link's place, or the one of the number
 abbrev pub delivered : List Statement → ℕ → Which → Option Statement
@@ -96,7 +93,7 @@ bytes_label bytes = if nat_le (length bytes) 12 then encode_lower bytes else enc
 
 -- the bytes are the frame of that statement, and nothing else
 abbrev pub IsFrameOf : Size → List ℕ → Statement → Type 0
-IsFrameOf size bytes s = Reads size bytes (message.Statement s ∷ []) (Rest [])
+IsFrameOf size bytes s = ReadsMessages size bytes (message.Statement s ∷ []) (Rest [])
 
 -- what the arrow of a lie carries: the words of the statement whose frame its bytes are, or where they are none the bytes
 abbrev pub IsLieLabel : Size → List ℕ → List ℕ → Type 0

@@ -1,13 +1,13 @@
 -- What the chart knows of a member.
 use Rattle.std.specs.Prelude.{ℕ, ◌≡◌, ◌++◌, Bool, true, false, Option, Some, None, List, [], length, replicate, slice_get}
-use Rattle.terms.specs.declared.Record.{Record}
+use Rattle.vocabulary.specs.Terms.{Record}
 use Rattle.sim.specs.declared.events.Event.{Event}
 use Rattle.sim.specs.declared.events.Event.TheVariants.{DeliverAll}
 use Rattle.sim.specs.declared.events.Mark.{Mark}
 use Rattle.report.specs.declared.chart.column.Column.{Column}
 use Rattle.report.specs.declared.chart.drawing.Line.{Line}
 use Rattle.report.specs.declared.chart.drawing.Line.TheVariants.{Runs, Down, Lies}
-use Rattle.report.specs.Charts.{member_of, runs_after, statements_of, AreMoved}
+use Rattle.report.specs.Charts.{member_of, runs_after, statements_said, AreMoved}
 
 -- how the lifeline of a liar, or else of a member that runs or doesn't, looks
 abbrev pub line_of : Bool → Bool → Line
@@ -37,7 +37,7 @@ said_before event columns = 0
 pub record Follows (count : ℕ) (event : Event) (mark : Mark) (saved : List Record) (old new : Column) : Type 0 where
   pub side : new.is_liar ≡ old.is_liar
   pub runs : new.runs ≡ runs_after event mark old.runs
-  pub said : new.said.items ≡ old.said.items ++ statements_of saved
+  pub said : new.said.items ≡ old.said.items ++ statements_said saved
   pub places : AreMoved count event mark old.places.items new.places.items
 
 -- all members, before and after an event: its own follows it, and the others stay as they are

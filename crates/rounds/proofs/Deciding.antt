@@ -1,55 +1,49 @@
 -- What a tally of step 3 decides.
 use Rattle.std.proofs.Common.{ℕ, zero, suc, ◌≡◌, ◌+◌, ◌*◌, ◌<◌, ◌≤◌, ◌⊎◌, inl, inr, Bool, true, false, refl, sym, ap, subst, ◌∙◌, arith, Option, Some, None}
 use Rattle.std.proofs.lemmas.Bool.{cases_lt}
-use Rattle.terms.specs.declared.Value.{Value}
-use Rattle.terms.specs.declared.Value.TheVariants.{SureZero, SureOne}
-use Rattle.terms.specs.declared.Place.{Place}
-use Rattle.terms.specs.declared.Size.{Size}
-use Rattle.terms.specs.Bounds.{IsPlace}
-use Rattle.terms.specs.Count.{count_below, AtLeast}
-use Rattle.terms.specs.Same.{value_is, sure, place_of}
+use Rattle.vocabulary.specs.Terms.{Value, SureZero, SureOne, Place, Size, IsPlace, count_below, AtLeast, value_is, sure, new_place}
 use Rattle.terms.proofs.Count.{count-mono, Outside, has_outside}
 use Rattle.terms.proofs.Same.{value_is-true, value_is-from}
 use Rattle.validate.specs.declared.follow.Tally.{Tally}
 use Rattle.validate.specs.declared.steps.Steps.{Steps}
-use Rattle.validate.specs.Accepted.{IsSound}
+use Rattle.validate.specs.Accepted.{AreAcceptable}
 use Rattle.validate.specs.Tallies.{IsTally}
-use Rattle.validate.specs.Words.{size_by, question_by, taken_by, IsTakenBy, IsValidBy}
+use Rattle.validate.specs.Readers.{steps_size, steps_question, steps_taken, IsTakenBy, IsValidBy}
 use Rattle.validate.proofs.Validity.{valid_taken}
 use Rattle.rounds.specs.Due.{DecidesBy, NoneBefore, FirstDecisionBy}
 
-module _ (steps : Steps) (size : Size) (same : size ≡ size_by steps) (round : ℕ) (t : Tally) (is : IsTally (size_by steps).n 3 (IsValidBy steps round 3) t) where
+module _ (steps : Steps) (size : Size) (same : size ≡ steps_size steps) (round : ℕ) (t : Tally) (is : IsTally (steps_size steps).n 3 (IsValidBy steps round 3) t) where
   -- the members that the tally counts are valid
-  at_least : (m : Value) (c k : ℕ) → count_below (size_by steps).n (λ a. value_is (is.set a) m) ≡ k → c ≤ k → AtLeast (size_by steps).n c (λ a. IsValidBy steps round 3 a m)
+  at_least : (m : Value) (c k : ℕ) → count_below (steps_size steps).n (λ a. value_is (is.set a) m) ≡ k → c ≤ k → AtLeast (steps_size steps).n c (λ a. IsValidBy steps round 3 a m)
   at_least m c k e l =
       record { set = λ a. value_is (is.set a) m; size = omega arith; each = λ a i h. is.good a m i (value_is-true (is.set a) m h) }
 
   -- and no others
-  at_most : (m : Value) (c k : ℕ) → count_below (size_by steps).n (λ a. value_is (is.set a) m) ≡ k → k < c → AtLeast (size_by steps).n c (λ a. IsValidBy steps round 3 a m) → ⊥
+  at_most : (m : Value) (c k : ℕ) → count_below (steps_size steps).n (λ a. value_is (is.set a) m) ≡ k → k < c → AtLeast (steps_size steps).n c (λ a. IsValidBy steps round 3 a m) → ⊥
   at_most m c k e l h =
-      let f = count-mono (size_by steps).n h.set (λ a. value_is (is.set a) m) (λ a i g. value_is-from (is.set a) m (is.here a m i (h.each a i g))) in
+      let f = count-mono (steps_size steps).n h.set (λ a. value_is (is.set a) m) (λ a i g. value_is-from (is.set a) m (is.here a m i (h.each a i g))) in
       let g = h.size in
       omega arith
 
   -- the sizes have the same accept set
-  accept_is : 2 * size.t + 1 ≡ 2 * (size_by steps).t + 1
+  accept_is : 2 * size.t + 1 ≡ 2 * (steps_size steps).t + 1
   accept_is = ap (λ (z : Size). 2 * z.t + 1) same
 
   -- so many for 0 decide it
   pub decides_zero : 2 * size.t + 1 ≤ t.zero → DecidesBy steps round false
-  decides_zero l = let e = accept_is in at_least SureZero (2 * (size_by steps).t + 1) t.zero is.counts.zeros (omega arith)
+  decides_zero l = let e = accept_is in at_least SureZero (2 * (steps_size steps).t + 1) t.zero is.counts.zeros (omega arith)
 
   -- so many for 1 decide it
   pub decides_one : 2 * size.t + 1 ≤ t.one → DecidesBy steps round true
-  decides_one l = let e = accept_is in at_least SureOne (2 * (size_by steps).t + 1) t.one is.counts.ones (omega arith)
+  decides_one l = let e = accept_is in at_least SureOne (2 * (steps_size steps).t + 1) t.one is.counts.ones (omega arith)
 
   -- fewer for 0 don't
   pub not_zero : t.zero < 2 * size.t + 1 → DecidesBy steps round false → ⊥
-  not_zero l = let e = accept_is in at_most SureZero (2 * (size_by steps).t + 1) t.zero is.counts.zeros (omega arith)
+  not_zero l = let e = accept_is in at_most SureZero (2 * (steps_size steps).t + 1) t.zero is.counts.zeros (omega arith)
 
   -- fewer for 1 don't
   pub not_one : t.one < 2 * size.t + 1 → DecidesBy steps round true → ⊥
-  not_one l = let e = accept_is in at_most SureOne (2 * (size_by steps).t + 1) t.one is.counts.ones (omega arith)
+  not_one l = let e = accept_is in at_most SureOne (2 * (steps_size steps).t + 1) t.one is.counts.ones (omega arith)
 
   -- fewer for both decide nothing
   pub not_any : t.zero < 2 * size.t + 1 → t.one < 2 * size.t + 1 → (bit : Bool) → DecidesBy steps round bit → ⊥
@@ -64,28 +58,28 @@ count-nobody (suc n) = let e : count_below n (λ a. false) ≡ 0 = count-nobody 
 -- some value of a round that decides was taken
 record Decider (steps : Steps) (round : ℕ) (bit : Bool) : Type 0 where
   member : ℕ
-  taken : IsTakenBy steps (place_of (question_by steps) member round 3) (sure bit)
+  taken : IsTakenBy steps (new_place (steps_question steps) member round 3) (sure bit)
 
 decider : (steps : Steps) (round : ℕ) (bit : Bool) → DecidesBy steps round bit → Decider steps round bit
 decider steps round bit h =
-    let z = count-nobody (size_by steps).n in
+    let z = count-nobody (steps_size steps).n in
     let s = h.size in
-    let o : Outside (size_by steps).n h.set (λ a. false) = has_outside (size_by steps).n h.set (λ a. false) (omega arith) in
-    record { member = o.member; taken = valid_taken (size_by steps) (IsTakenBy steps) (question_by steps) round 3 o.member (sure bit) (h.each o.member o.below o.passes) }
+    let o : Outside (steps_size steps).n h.set (λ a. false) = has_outside (steps_size steps).n h.set (λ a. false) (omega arith) in
+    record { member = o.member; taken = valid_taken (steps_size steps) (IsTakenBy steps) (steps_question steps) round 3 o.member (sure bit) (h.each o.member o.below o.passes) }
 
 -- a round that decides is one of the 32
-pub decides_within : (steps : Steps) → IsSound (taken_by steps) → (round : ℕ) (bit : Bool) → DecidesBy steps round bit → round < 33
+pub decides_within : (steps : Steps) → AreAcceptable (steps_taken steps) → (round : ℕ) (bit : Bool) → DecidesBy steps round bit → round < 33
 decides_within steps sound round bit h =
     let d = decider steps round bit h in
-    let p : IsPlace (place_of (question_by steps) d.member round 3) = sound.place (place_of (question_by steps) d.member round 3) (sure bit) d.taken in
+    let p : IsPlace (new_place (steps_question steps) d.member round 3) = sound.place (new_place (steps_question steps) d.member round 3) (sure bit) d.taken in
     let l = p.to_last in
     omega arith
 
 -- where nothing was taken nothing is decided
-pub nothing_decides : (steps : Steps) → ((p : Place) → taken_by steps p ≡ None) → FirstDecisionBy steps None
+pub nothing_decides : (steps : Steps) → ((p : Place) → steps_taken steps p ≡ None) → FirstDecisionBy steps None
 nothing_decides steps none round bit h =
     let d = decider steps round bit h in
-    let e : ◌≡◌ {A = Option Value} None (Some (sure bit)) = sym (none (place_of (question_by steps) d.member round 3)) ∙ d.taken in
+    let e : ◌≡◌ {A = Option Value} None (Some (sure bit)) = sym (none (new_place (steps_question steps) d.member round 3)) ∙ d.taken in
     cc e
 
 -- the first round that is found to decide is the least

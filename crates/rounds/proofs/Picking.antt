@@ -1,19 +1,13 @@
 -- The value that the tally of all valid messages of a step gives.
-use Rattle.std.proofs.Common.{ℕ, zero, suc, ◌≡◌, ◌+◌, ◌-◌, ◌*◌, ◌<◌, ◌≤◌, true, refl, sym, ap, subst, ◌∙◌, arith, Option, Some, None}
-use Rattle.std.specs.Prelude.{is_some}
-use Rattle.terms.specs.declared.Value.{Value}
-use Rattle.terms.specs.declared.Size.{Size}
-use Rattle.terms.specs.Bounds.{IsSize, FitsStep}
-use Rattle.terms.specs.Lawful.{round_before, step_before}
-use Rattle.terms.specs.Next.{Gives}
-use Rattle.terms.specs.Answer.{choice, coin}
+use Rattle.std.proofs.Common.{ℕ, zero, suc, ◌≡◌, ◌+◌, ◌-◌, ◌*◌, ◌<◌, ◌≤◌, true, refl, sym, ap, subst, ◌∙◌, arith, Option, Some, None, is_some}
+use Rattle.vocabulary.specs.Terms.{Value, Size, IsSize, FitsStep, round_before, step_before, Gives, choice, coin}
 use Rattle.terms.proofs.Count.{count-mono}
 use Rattle.terms.proofs.Next.{chosen_gives}
 use Rattle.validate.specs.declared.follow.Tally.{Tally}
 use Rattle.validate.specs.declared.steps.Steps.{Steps}
 use Rattle.validate.specs.Follow.{Counts}
 use Rattle.validate.specs.Tallies.{IsTally}
-use Rattle.validate.specs.Words.{size_by, question_by, IsTakenBy, IsValidBy}
+use Rattle.validate.specs.Readers.{steps_size, steps_question, IsTakenBy, IsValidBy}
 use Rattle.validate.proofs.Counting.{counts_all}
 use Rattle.validate.proofs.Validity.{given_iff, given_fits}
 use Rattle.rounds.specs.Choosing.{chosen, IsPicked}
@@ -65,8 +59,8 @@ before_bounds (suc (suc (suc zero))) a b = (omega arith, omega arith)
 before_bounds (suc (suc (suc (suc k)))) a b = absurd (omega arith)
 
 -- for the value of an own Initial
-module _ (steps : Steps) (size : Size) (same : size ≡ size_by steps) (ok : IsSize size) (round step : ℕ) (from_one : 1 ≤ round) (first : 1 ≤ step) (third : step ≤ 3) (later : 4 < 3 * round + step)
-    (r s : ℕ) (r_is : r ≡ round_before round step) (s_is : s ≡ step_before step) (t : Tally) (is : IsTally (size_by steps).n s (IsValidBy steps r s) t) where
+module _ (steps : Steps) (size : Size) (same : size ≡ steps_size steps) (ok : IsSize size) (round step : ℕ) (from_one : 1 ≤ round) (first : 1 ≤ step) (third : step ≤ 3) (later : 4 < 3 * round + step)
+    (r s : ℕ) (r_is : r ≡ round_before round step) (s_is : s ≡ step_before step) (t : Tally) (is : IsTally (steps_size steps).n s (IsValidBy steps r s) t) where
   -- the step before is at least 1
   low : 1 ≤ s
   low = let h = before_bounds step first third in let a = h.0 in omega arith
@@ -76,35 +70,35 @@ module _ (steps : Steps) (size : Size) (same : size ≡ size_by steps) (ok : IsS
   high = let h = before_bounds step first third in let a = h.1 in omega arith
 
   -- the size has its bounds
-  ok_by : IsSize (size_by steps)
+  ok_by : IsSize (steps_size steps)
   ok_by = subst (λ z. IsSize z) same ok
 
   -- too few valid messages give no own Initial
   pub none_given : t.zero + t.one + t.unsure < size.n - size.t → (m : Value) → IsGivenBy steps round step m → ⊥
   none_given l m g =
-      let h : Gives (size_by steps) (step_before step) (IsValidBy steps (round_before round step) (step_before step)) m =
-      (given_iff (size_by steps) (IsTakenBy steps) (question_by steps) round step m from_one first third later).0 g in
-      let k : Gives (size_by steps) s (IsValidBy steps r s) m =
-      subst (λ x. Gives (size_by steps) s (IsValidBy steps x s) m) (sym r_is) (subst (λ x. Gives (size_by steps) x (IsValidBy steps (round_before round step) x) m) (sym s_is) h) in
-      too_few (size_by steps) ok_by s low high (IsValidBy steps r s) t is m (subst (λ (z : Size). t.zero + t.one + t.unsure < z.n - z.t) same l) k
+      let h : Gives (steps_size steps) (step_before step) (IsValidBy steps (round_before round step) (step_before step)) m =
+      (given_iff (steps_size steps) (IsTakenBy steps) (steps_question steps) round step m from_one first third later).0 g in
+      let k : Gives (steps_size steps) s (IsValidBy steps r s) m =
+      subst (λ x. Gives (steps_size steps) s (IsValidBy steps x s) m) (sym r_is) (subst (λ x. Gives (steps_size steps) x (IsValidBy steps (round_before round step) x) m) (sym s_is) h) in
+      too_few (steps_size steps) ok_by s low high (IsValidBy steps r s) t is m (subst (λ (z : Size). t.zero + t.one + t.unsure < z.n - z.t) same l) k
 
   -- enough give that of all
   pub some_picked : (toss : ℕ) (m : Value) → size.n - size.t ≤ t.zero + t.one + t.unsure → m ≡ chosen size s t (coin toss r) → IsPickedBy steps toss round step m
   some_picked toss m l e =
-      let p : IsPicked (size_by steps) (IsValidBy steps r s) toss r s m =
-      picked (size_by steps) ok_by s low high (IsValidBy steps r s) t is toss r m (subst (λ (z : Size). z.n - z.t ≤ t.zero + t.one + t.unsure) same l) (e ∙ ap (λ z. chosen z s t (coin toss r)) same) in
-      subst (λ x. IsPicked (size_by steps) (IsValidBy steps (round_before round step) x) toss (round_before round step) x m) s_is
-      (subst (λ x. IsPicked (size_by steps) (IsValidBy steps x s) toss x s m) r_is p)
+      let p : IsPicked (steps_size steps) (IsValidBy steps r s) toss r s m =
+      picked (steps_size steps) ok_by s low high (IsValidBy steps r s) t is toss r m (subst (λ (z : Size). z.n - z.t ≤ t.zero + t.one + t.unsure) same l) (e ∙ ap (λ z. chosen z s t (coin toss r)) same) in
+      subst (λ x. IsPicked (steps_size steps) (IsValidBy steps (round_before round step) x) toss (round_before round step) x m) s_is
+      (subst (λ x. IsPicked (steps_size steps) (IsValidBy steps x s) toss x s m) r_is p)
 
   -- which some n-t of them give
   pub some_given : (toss : ℕ) (m : Value) → size.n - size.t ≤ t.zero + t.one + t.unsure → m ≡ chosen size s t (coin toss r) → IsGivenBy steps round step m
   some_given toss m l e =
-      let p : IsPicked (size_by steps) (IsValidBy steps r s) toss r s m =
-      picked (size_by steps) ok_by s low high (IsValidBy steps r s) t is toss r m (subst (λ (z : Size). z.n - z.t ≤ t.zero + t.one + t.unsure) same l) (e ∙ ap (λ z. chosen z s t (coin toss r)) same) in
-      let g : Gives (size_by steps) s (IsValidBy steps r s) m = picked_given (size_by steps) ok_by s low high (IsValidBy steps r s) t is toss r m p in
-      (given_iff (size_by steps) (IsTakenBy steps) (question_by steps) round step m from_one first third later).1
-      (subst (λ x. Gives (size_by steps) x (IsValidBy steps (round_before round step) x) m) s_is (subst (λ x. Gives (size_by steps) s (IsValidBy steps x s) m) r_is g))
+      let p : IsPicked (steps_size steps) (IsValidBy steps r s) toss r s m =
+      picked (steps_size steps) ok_by s low high (IsValidBy steps r s) t is toss r m (subst (λ (z : Size). z.n - z.t ≤ t.zero + t.one + t.unsure) same l) (e ∙ ap (λ z. chosen z s t (coin toss r)) same) in
+      let g : Gives (steps_size steps) s (IsValidBy steps r s) m = picked_given (steps_size steps) ok_by s low high (IsValidBy steps r s) t is toss r m p in
+      (given_iff (steps_size steps) (IsTakenBy steps) (steps_question steps) round step m from_one first third later).1
+      (subst (λ x. Gives (steps_size steps) x (IsValidBy steps (round_before round step) x) m) s_is (subst (λ x. Gives (steps_size steps) s (IsValidBy steps x s) m) r_is g))
 
 -- it fits its step
 pub fits_given : (steps : Steps) (round step : ℕ) (m : Value) → IsGivenBy steps round step m → FitsStep step m
-fits_given steps round step m g = given_fits (size_by steps) (IsTakenBy steps) (question_by steps) round step m g
+fits_given steps round step m g = given_fits (steps_size steps) (IsTakenBy steps) (steps_question steps) round step m g

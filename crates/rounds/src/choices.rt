@@ -1,10 +1,7 @@
 //! What a tally of valid messages decides, and which value it gives for the next own Initial.
 ghost use Rattle.std.specs.Prelude.{◌≡◌, ◌+◌, ◌-◌, ◌*◌, ◌<◌, ◌≤◌, ◌↔◌, IfSome, MatchOption, true, false, Bool};
-ghost use Rattle.terms.specs.declared.Value.{Value};
-ghost use Rattle.terms.specs.Answer.{coin};
-ghost use Rattle.terms.specs.Bounds.{FitsStep};
-ghost use Rattle.terms.specs.Lawful.{round_before, step_before};
-ghost use Rattle.validate.specs.Words.{size_by};
+ghost use Rattle.vocabulary.specs.Terms.{Value, coin, FitsStep, round_before, step_before};
+ghost use Rattle.validate.specs.Readers.{steps_size};
 ghost use Rattle.rounds.specs.Choosing.{chosen};
 ghost use Rattle.rounds.specs.Due.{DecidesBy, FirstDecisionBy, IsGivenBy, IsPickedBy};
 
@@ -78,7 +75,7 @@ fn choose_bit(size: Size, tally: &Tally, coin: Value) -> Value
 
 /// The bit that the valid messages of step 3 of a round decide, 0 before 1.
 fn decides(size: Size, steps: &Steps, round: u8) -> Option<bool>
-    requires { size ≡ size_by steps.now }
+    requires { size ≡ steps_size steps.now }
     ensures { MatchOption result
         ((bit : Bool) → DecidesBy steps.now round bit → ⊥)
         (λ bit. DecidesBy steps.now round bit × (bit ≡ true → DecidesBy steps.now round false → ⊥)) }

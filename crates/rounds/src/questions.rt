@@ -1,9 +1,6 @@
 //! One question, as one member takes part in it.
 ghost use Rattle.std.specs.Prelude.{◌≡◌, ◌+◌, ◌-◌, ◌*◌, ◌<◌, ◌≤◌, ◌↔◌, ◌==◌, ℕ, Bool, IsTrue, MatchOption, Some, None, false};
-ghost use Rattle.terms.specs.declared.Place.{Place};
-ghost use Rattle.terms.specs.declared.Kind.TheVariants.{Initial};
-ghost use Rattle.terms.specs.Bounds.{FitsStep, IsPlace};
-ghost use Rattle.terms.specs.Same.{place_of, statement_of};
+ghost use Rattle.vocabulary.specs.Terms.{Place, Initial, FitsStep, IsPlace, new_place, new_statement};
 ghost use Rattle.rounds.specs.Due.{MaySayAt};
 ghost use Rattle.rounds.specs.Rounded.{begins_at, decision_after};
 
@@ -27,20 +24,16 @@ pub struct Question {
 
 impl Question {
     ghost use Rattle.std.specs.Prelude.{OnOk, OnErr};
-    ghost use Rattle.terms.specs.Answer.{IsFirstDecision, IsNextInitial};
-    ghost use Rattle.terms.specs.Journal.{decided};
-    ghost use Rattle.terms.specs.Keep.{keep_or, given};
-    ghost use Rattle.terms.specs.Past.{Past, no_past, after_record};
-    ghost use Rattle.terms.specs.Same.{place_eq};
-    ghost use Rattle.rounds.specs.Words.{size_for, question_for, taken_for, decision_for};
-    ghost use Rattle.rounds.specs.Stands.{Stands, IsSameElse};
+    ghost use Rattle.vocabulary.specs.Terms.{IsFirstDecision, IsNextInitial, decided, keep_or, given, Past, no_past, after_record, place_eq};
+    ghost use Rattle.rounds.specs.Readers.{question_size, question_number, question_taken, question_decision};
+    ghost use Rattle.rounds.specs.Stands.{QuestionStandsFor, IsSameElse};
 
     /// That question at the member `me`, of which it heard and said nothing yet. It takes no memory: `alloc` is kept
     /// for [`accept`](Question::accept).
     pub fn new(alloc: Global, size: Size, me: u8, question: u16) -> Question
-        ensures stands { Stands result (no_past size me question) }
-        ensures size { size_for result ≡ size }
-        ensures question { question_for result ≡ question }
+        ensures stands { QuestionStandsFor result (no_past size me question) }
+        ensures size { question_size result ≡ size }
+        ensures question { question_number result ≡ question }
     {
         Question {
             me,
@@ -57,15 +50,15 @@ impl Question {
     /// [`Memory`]: the place has no value yet, and there was no memory to note this one. Nothing changed, so it may be
     /// accepted again.
     pub fn accept(&mut self, place: Place, value: Value) -> Result<(), Memory>
-        requires question { place.question ≡ question_for self.old }
-        requires origin { place.origin < (size_for self.old).n }
+        requires question { place.question ≡ question_number self.old }
+        requires origin { place.origin < (question_size self.old).n }
         requires fits { FitsStep place.step value }
 
         ensures ok { OnOk result ((p : Place) →
-            taken_for self.new p ≡ keep_or (taken_for self.old p) (given (place_eq place p) value)) }
+            question_taken self.new p ≡ keep_or (question_taken self.old p) (given (place_eq place p) value)) }
 
-        ensures err { OnErr result ((p : Place) → taken_for self.new p ≡ taken_for self.old p) }
-        ensures err_only_at_first { OnErr result (taken_for self.old place ≡ None) }
+        ensures err { OnErr result ((p : Place) → question_taken self.new p ≡ question_taken self.old p) }
+        ensures err_only_at_first { OnErr result (question_taken self.old place ≡ None) }
         ensures rest { IsSameElse self.old self.new }
     {
         self.steps.accept(place, value)
@@ -75,7 +68,7 @@ impl Question {
     /// messages of step 3 are sure of one bit, 0 before 1. None where there is no such round, and where a decision was
     /// noted. It takes no memory.
     pub fn decision_due(&self) -> Option<(u8, bool)>
-        ensures { (past : Past) → Stands self.now past → IsFirstDecision past result }
+        ensures { (past : Past) → QuestionStandsFor self.now past → IsFirstDecision past result }
     {
         match self.decision {
             Some(_) => None,
@@ -86,7 +79,7 @@ impl Question {
     /// The next own Initial that is due, with the coin of that toss: of several the one of the first place, by round
     /// and then step. None where none is due. It takes no memory.
     pub fn next(&self, toss: Toss) -> Option<Statement>
-        ensures { (past : Past) → Stands self.now past → IsNextInitial past toss.0 result }
+        ensures { (past : Past) → QuestionStandsFor self.now past → IsNextInitial past toss.0 result }
     {
         let steps = self.steps.values();
         // One place alone, where its own Initials have no gap.
@@ -107,9 +100,9 @@ impl Question {
     /// Notes a record of the member's own: an Initial of its own, or a decision of the question. Any other changes
     /// nothing, and of several decisions the first counts. It takes no memory.
     pub fn note(&mut self, noted: &Record)
-        ensures stands { (past : Past) → Stands self.old past → Stands self.new (after_record past noted.now) }
-        ensures size { size_for self.new ≡ size_for self.old }
-        ensures question { question_for self.new ≡ question_for self.old }
+        ensures stands { (past : Past) → QuestionStandsFor self.old past → QuestionStandsFor self.new (after_record past noted.now) }
+        ensures size { question_size self.new ≡ question_size self.old }
+        ensures question { question_number self.new ≡ question_number self.old }
     {
         let question = self.steps.values().question();
         if let Some(number) = own_initial(self.me, question, noted) {
@@ -120,8 +113,8 @@ impl Question {
 
     /// The decision that was noted first, its round and bit. None where none was noted.
     pub fn verdict(&self) -> Option<(u8, bool)>
-        ensures value { result ≡ decision_for self.now }
-        ensures noted { (past : Past) → Stands self.now past → result ≡ decided past.records past.question }
+        ensures value { result ≡ question_decision self.now }
+        ensures noted { (past : Past) → QuestionStandsFor self.now past → result ≡ decided past.records past.question }
     {
         self.decision
     }
@@ -143,9 +136,9 @@ fn may_say(said: &Own, decision: Option<(u8, bool)>, code: u8) -> bool
 
 /// An own Initial.
 fn initial(question: u16, me: u8, round: u8, step: u8, value: Value) -> Option<Statement>
-    requires place { IsPlace (place_of question me round step) }
+    requires place { IsPlace (new_place question me round step) }
     requires fits { FitsStep step value }
-    ensures { result ≡ Some (statement_of Initial (place_of question me round step) value) }
+    ensures { result ≡ Some (new_statement Initial (new_place question me round step) value) }
 {
     let place = Place::new(question, me, round, step)?;
     Statement::new(Kind::Initial, place, value)

@@ -1,10 +1,7 @@
 //! The accepted values of one question, and the decision that follows from them.
 ghost use Rattle.std.specs.Prelude.{◌≡◌, ◌<◌, OnOk, OnErr, None};
-ghost use Rattle.terms.specs.declared.Place.{Place};
-ghost use Rattle.terms.specs.Bounds.{FitsStep};
-ghost use Rattle.terms.specs.Keep.{keep_or, given};
-ghost use Rattle.terms.specs.Same.{place_eq};
-ghost use Rattle.validate.specs.Words.{size_by, question_by, taken_by};
+ghost use Rattle.vocabulary.specs.Terms.{Place, FitsStep, keep_or, given, place_eq};
+ghost use Rattle.validate.specs.Readers.{steps_size, steps_question, steps_taken};
 ghost use Rattle.rounds.specs.Due.{FirstDecisionBy};
 
 use super::choices::first_decision;
@@ -35,9 +32,9 @@ impl Model for Settling {
 impl Settling {
     /// A question of which nothing was accepted yet. It takes no memory.
     pub fn new(alloc: Global, size: Size, question: u16) -> Settling
-        ensures size { size_by result ≡ size }
-        ensures question { question_by result ≡ question }
-        ensures nothing { (p : Place) → taken_by result p ≡ None }
+        ensures size { steps_size result ≡ size }
+        ensures question { steps_question result ≡ question }
+        ensures nothing { (p : Place) → steps_taken result p ≡ None }
     {
         Settling {
             steps: Steps::new(alloc, size, question),
@@ -61,17 +58,17 @@ impl Settling {
 
     /// Takes the value that was accepted at a place, as [`Steps::accept`] does.
     pub fn accept(&mut self, place: Place, value: Value) -> Result<(), Memory>
-        requires question { place.question ≡ question_by self.old }
-        requires origin { place.origin < (size_by self.old).n }
+        requires question { place.question ≡ steps_question self.old }
+        requires origin { place.origin < (steps_size self.old).n }
         requires fits { FitsStep place.step value }
 
         ensures ok { OnOk result ((p : Place) →
-            taken_by self.new p ≡ keep_or (taken_by self.old p) (given (place_eq place p) value)) }
+            steps_taken self.new p ≡ keep_or (steps_taken self.old p) (given (place_eq place p) value)) }
 
-        ensures err { OnErr result ((p : Place) → taken_by self.new p ≡ taken_by self.old p) }
-        ensures err_only_at_first { OnErr result (taken_by self.old place ≡ None) }
-        ensures size { size_by self.new ≡ size_by self.old }
-        ensures question { question_by self.new ≡ question_by self.old }
+        ensures err { OnErr result ((p : Place) → steps_taken self.new p ≡ steps_taken self.old p) }
+        ensures err_only_at_first { OnErr result (steps_taken self.old place ≡ None) }
+        ensures size { steps_size self.new ≡ steps_size self.old }
+        ensures question { steps_question self.new ≡ steps_question self.old }
     {
         let accepted = self.steps.accept(place, value);
         self.first = first_decision(&self.steps);

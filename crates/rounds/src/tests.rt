@@ -1,7 +1,7 @@
 //! Worked rows. A call that is refused memory is made again, and is then to answer as with ample memory: so under
 //! `rt try --test --fail-alloc N` the same rows test a refusal of the Nth allocation.
 ghost use Rattle.std.specs.Prelude.{◌≡◌};
-ghost use Rattle.rounds.specs.Words.{size_for, question_for};
+ghost use Rattle.rounds.specs.Readers.{question_size, question_number};
 
 use super::*;
 use std::process::Abort;
@@ -17,8 +17,8 @@ mod plain;
 struct Asked {
     size: Size,
     question: Question,
-    ghost made_for: { size_for question ≡ size },
-    ghost first: { question_for question ≡ 0 },
+    ghost made_for: { question_size question ≡ size },
+    ghost first: { question_number question ≡ 0 },
 }
 
 /// A statement at a place of question 0.

@@ -34,14 +34,14 @@ bit_number false = 0
 bit_number true = 1
 
 -- an event's line, without its end
-abbrev pub event_text : Event → List ℕ
-event_text (Ready me) = codes "ready member " ++ decimal me
-event_text (LinkUp peer) = codes "link-up from " ++ decimal peer
-event_text (LinkDown peer end) = codes "link-down from " ++ (decimal peer ++ (codes " " ++ cause_text end))
-event_text (LinkUpTo peer) = codes "link-up to " ++ decimal peer
-event_text (LinkDownTo peer end) = codes "link-down to " ++ (decimal peer ++ (codes " " ++ cause_text end))
-event_text (Refused end) = codes "refused " ++ cause_text end
-event_text (Decided question bit) = codes "decided " ++ (decimal question ++ (codes " " ++ decimal (bit_number bit)))
-event_text Stopped = codes "stopped"
-event_text (Missed count) = codes "missed " ++ decimal count
-event_text End = codes "end"
+abbrev pub log_text : Event → List ℕ
+log_text (Ready me) = codes "ready member " ++ decimal me
+log_text (LinkUp peer) = codes "link-up from " ++ decimal peer
+log_text (LinkDown peer end) = codes "link-down from " ++ (decimal peer ++ (codes " " ++ cause_text end))
+log_text (LinkUpTo peer) = codes "link-up to " ++ decimal peer
+log_text (LinkDownTo peer end) = codes "link-down to " ++ (decimal peer ++ (codes " " ++ cause_text end))
+log_text (Refused end) = codes "refused " ++ cause_text end
+log_text (Decided question bit) = codes "decided " ++ (decimal question ++ (codes " " ++ decimal (bit_number bit)))
+log_text Stopped = codes "stopped"
+log_text (Missed count) = codes "missed " ++ decimal count
+log_text End = codes "end"

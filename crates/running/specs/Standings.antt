@@ -10,10 +10,10 @@ after_read Answered = Answered
 after_read Up = Up
 
 -- a write took bytes: the first one behind a read is to a peer that has welcomed the link
-abbrev pub after_write : Standing → Standing
-after_write Greeting = Greeting
-after_write Answered = Up
-after_write Up = Up
+abbrev pub after_written : Standing → Standing
+after_written Greeting = Greeting
+after_written Answered = Up
+after_written Up = Up
 
 -- it wasn't up before, and is up now
 abbrev pub has_come_up : Standing → Standing → Bool

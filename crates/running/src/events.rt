@@ -64,9 +64,9 @@ fn cause_text(end: LinkEnd) -> &'static str
 
 impl fmt::Display for Event {
     ghost use Rattle.std.specs.Prelude.{Some};
-    ghost use Rattle.running.specs.Events.{event_text};
+    ghost use Rattle.running.specs.Events.{log_text};
 
-    ghost output = { λ event. Some (event_text event) };
+    ghost output = { λ event. Some (log_text event) };
 
     fn fmt<W: fmt::Write>(&self, f: &mut fmt::Formatter<W>) -> fmt::Result {
         match *self {

@@ -2,7 +2,7 @@
 
 ghost use Rattle.std.specs.Prelude.{◌≡◌, true};
 ghost use Rattle.links.specs.Net.{told_net, is_closed_net};
-ghost use Rattle.running.specs.Standings.{after_read, after_write, has_come_up};
+ghost use Rattle.running.specs.Standings.{after_read, after_written, has_come_up};
 
 use crate::events::Event;
 use crate::watch::Telling;
@@ -34,7 +34,7 @@ impl Standing {
 
     /// Where it stands when a write took bytes.
     pub fn written(self) -> Standing
-        ensures { result ≡ after_write self }
+        ensures { result ≡ after_written self }
     {
         match self {
             Standing::Answered => Standing::Up,
@@ -44,7 +44,7 @@ impl Standing {
 
     /// Whether it comes up when a write takes bytes: it was answered, and is not up yet.
     pub fn comes_up(self) -> bool
-        ensures { result ≡ has_come_up self (after_write self) }
+        ensures { result ≡ has_come_up self (after_written self) }
     {
         self == Standing::Answered
     }
@@ -84,7 +84,7 @@ impl<'a, R: Wait> Outgoing<'a, R> {
 
     /// A write took bytes. Where the link is up by that its event is to be told.
     fn note_written(&mut self)
-        ensures { self.new ≡ record self.old { standing = after_write self.old.standing } }
+        ensures { self.new ≡ record self.old { standing = after_written self.old.standing } }
     {
         if self.standing.comes_up() {
             if let Some(telling) = &mut *self.telling.lock(self.rt) {

@@ -3,7 +3,7 @@
 ghost use Rattle.std.specs.Prelude.{◌≡◌, [], false, length};
 ghost use Rattle.std.specs.Arc.{arc_value};
 ghost use Rattle.member.specs.Sound.{IsSound};
-ghost use Rattle.member.specs.Words.{header_of, saved_of, is_stopped_of, StandsFor};
+ghost use Rattle.member.specs.Readers.{member_header, member_saved, member_is_stopped, MemberStandsFor};
 
 use crate::clients::accept_clients;
 use crate::events::Event;
@@ -68,9 +68,9 @@ fn share<D: Disk + Drop, J: Naming>(
     seed: [u8; 32],
 ) -> Result<Shared<D, J>, Memory>
     requires sound { IsSound D.Disk member }
-    requires fresh { is_stopped_of member ≡ false → StandsFor member (saved_of member) [] }
+    requires fresh { member_is_stopped member ≡ false → MemberStandsFor member (member_saved member) [] }
     requires board { arc_value board ≡ J.names }
-    requires cells { length (arc_value board) ≡ (header_of member).size.questions }
+    requires cells { length (arc_value board) ≡ (member_header member).size.questions }
 {
     let Tossers { links, desk } = tossers_of(alloc, seed, &member)?;
     let link_tossers = locked(alloc, links)?;
@@ -164,9 +164,9 @@ fn run_named<
     log: Option<&Mutex<L>>,
 ) -> Result<(), RunFault>
     requires sound { IsSound D.Disk member }
-    requires fresh { is_stopped_of member ≡ false → StandsFor member (saved_of member) [] }
+    requires fresh { member_is_stopped member ≡ false → MemberStandsFor member (member_saved member) [] }
     requires board { arc_value board ≡ J.names }
-    requires cells { length (arc_value board) ≡ (header_of member).size.questions }
+    requires cells { length (arc_value board) ≡ (member_header member).size.questions }
 {
     let (listener, desk) = listeners;
     let shared = share::<D, J>(alloc, member, board, peers, seed)?;
@@ -232,7 +232,7 @@ pub fn run_member<D: Disk + Drop + Send, O: Operator, L: Log + Send, R: Machine>
     log: Option<&Mutex<L>>,
 ) -> Result<(), RunFault>
     requires sound { IsSound D.Disk member }
-    requires fresh { is_stopped_of member ≡ false → StandsFor member (saved_of member) [] }
+    requires fresh { member_is_stopped member ≡ false → MemberStandsFor member (member_saved member) [] }
 {
     let Addresses { peers, desk } = addresses;
     let header = member.header();

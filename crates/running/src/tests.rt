@@ -2,7 +2,7 @@
 ghost use Rattle.std.specs.Prelude.{◌≡◌, IfSome, false, []};
 ghost use Rattle.member.specs.Memory.{memory_disk};
 ghost use Rattle.member.specs.Sound.{IsSound};
-ghost use Rattle.member.specs.Words.{saved_of, is_stopped_of, StandsFor};
+ghost use Rattle.member.specs.Readers.{member_saved, member_is_stopped, MemberStandsFor};
 
 use super::*;
 use crate::sockets::Sockets;
@@ -56,7 +56,7 @@ impl Cluster {
     /// A member on a new disk, of which so many calls pass once it is open.
     fn member(&self, alloc: Global, me: u8, calls: Option<u64>) -> Option<Member<MemDisk>>
         ensures sound { IfSome result (λ m. IsSound memory_disk m) }
-        ensures fresh { IfSome result (λ m. is_stopped_of m ≡ false → StandsFor m (saved_of m) []) }
+        ensures fresh { IfSome result (λ m. member_is_stopped m ≡ false → MemberStandsFor m (member_saved m) []) }
     {
         let Ok(size) = Size::new(self.n, self.t, 1) else {
             return None;

@@ -2,7 +2,7 @@
 
 ghost use Rattle.std.specs.Prelude.{◌≡◌, ◌+◌, ◌*◌, ◌<◌, ◌^◌, length, IfOk};
 ghost use Rattle.member.specs.Sound.{IsSound};
-ghost use Rattle.member.specs.Words.{header_of, saved_of};
+ghost use Rattle.member.specs.Readers.{member_header, member_saved};
 ghost use Rattle.rounds.specs.Tossing.{stream_of};
 ghost use Rattle.running.specs.Streams.{streams};
 
@@ -72,10 +72,10 @@ pub fn tossers_of<D: Disk>(
     member: &Member<D>,
 ) -> Result<Tossers, Memory>
     requires { IsSound D.Disk member.now }
-    ensures links { length (saved_of member.now) < 2 ^ 55 → IfOk result (λ tossers.
-        tossers.links.items ≡ streams seed (length (saved_of member.now) * 256) (header_of member.now).size.n) }
-    ensures desk { length (saved_of member.now) < 2 ^ 55 → IfOk result (λ tossers.
-        tossers.desk.items ≡ streams seed (length (saved_of member.now) * 256 + 128) 32) }
+    ensures links { length (member_saved member.now) < 2 ^ 55 → IfOk result (λ tossers.
+        tossers.links.items ≡ streams seed (length (member_saved member.now) * 256) (member_header member.now).size.n) }
+    ensures desk { length (member_saved member.now) < 2 ^ 55 → IfOk result (λ tossers.
+        tossers.desk.items ≡ streams seed (length (member_saved member.now) * 256 + 128) 32) }
 {
     let records = member.records().len() as u64;
     let members = member.header().size().n();

@@ -1,28 +1,28 @@
 -- What orders stand for, and how many events that is.
 use Rattle.std.proofs.Common.{ℕ, zero, suc, ◌≡◌, ◌+◌, ◌*◌, ◌-◌, ◌<◌, ◌≤◌, ◌^◌, min, refl, sym, ap, ◌∙◌, subst, arith, inl, inr, ◌⊎◌, List, [], ◌∷◌, ◌++◌, length, drop, Result, Ok, Err, IfOk, IfErr}
-use Rattle.terms.specs.declared.Size.{Size}
+use Rattle.vocabulary.specs.Terms.{Size}
 use Rattle.sim.specs.declared.TheConstants.{MOST_EVENTS}
 use Rattle.script.specs.declared.fault.ScriptFault.{ScriptFault}
 use Rattle.script.specs.declared.fault.ScriptFault.TheVariants as faults
 use Rattle.script.specs.declared.lines.Line.{Line}
 use Rattle.script.specs.declared.step.Order.{Order}
-use Rattle.script.specs.Words.{words_of}
-use Rattle.script.specs.Steps.{Step, Says}
-use Rattle.script.specs.Steps.Step.{Once, Rounds, Random}
+use Rattle.script.specs.LineWords.{words_of}
+use Rattle.script.specs.Steps.{ScriptStep, SaysStep}
+use Rattle.script.specs.Steps.ScriptStep.{Once, Rounds, Random}
 use Rattle.script.specs.Making.{Made, after_step, how_many, turns, LeadsBy, BreakBy}
-use Rattle.script.specs.Untossed.{numbered, step_of, made_by}
+use Rattle.script.specs.Untossed.{numbered, order_step, made_by}
 use Rattle.script.proofs.Counting.{length-add, length-rounds, length-draws, uncut}
 use Rattle.script.proofs.Leading.{Reached, line_at, reached_start, reached_next, broken_or_refused}
 
 -- how many events there are behind a step
-pub length-after_step : (size : Size) (correct : List ℕ) (step : Step) (made : Made)
+pub length-after_step : (size : Size) (correct : List ℕ) (step : ScriptStep) (made : Made)
     → length (after_step size correct step made).events ≡ length made.events + how_many (length correct) step
 length-after_step size correct (Once act) made = length-add act made
 length-after_step size correct (Rounds k) made = length-rounds k correct made
 length-after_step size correct (Random k) made = length-draws size k made
 
 -- a step that takes no turn stands for nothing
-pub over_step : (size : Size) (correct : List ℕ) (step : Step) (made : Made) → turns step ≡ 0 → after_step size correct step made ≡ made
+pub over_step : (size : Size) (correct : List ℕ) (step : ScriptStep) (made : Made) → turns step ≡ 0 → after_step size correct step made ≡ made
 over_step size correct (Once act) made h = absurd (omega (arith, h))
 over_step size correct (Rounds zero) made h = refl
 over_step size correct (Rounds (suc k)) made h = absurd (omega (arith, h))
@@ -31,9 +31,9 @@ over_step size correct (Random (suc k)) made h = absurd (omega (arith, h))
 
 -- one order more
 pub made_more : (size : Size) (correct : List ℕ) (orders : List Order) (order : Order) (made : Made)
-    → made_by size correct (orders ++ order ∷ []) made ≡ after_step size correct (step_of order) (made_by size correct orders made)
+    → made_by size correct (orders ++ order ∷ []) made ≡ after_step size correct (order_step order) (made_by size correct orders made)
 made_more size correct [] order made = refl
-made_more size correct (first ∷ orders) order made = made_more size correct orders order (after_step size correct (step_of first) made)
+made_more size correct (first ∷ orders) order made = made_more size correct orders order (after_step size correct (order_step first) made)
 
 -- a number of rounds that was counted
 pub rounds_counted : (have k members links sat : ℕ) (r : Result ℕ ScriptFault)
@@ -57,17 +57,17 @@ module _ (size : Size) (correct : List ℕ) (start : Made) (lines : List Line) w
     abbrev now : Made
     now = made_by size correct orders start
 
-    length_behind : (order : Order) → length (after_step size correct (step_of order) now).events ≡ count + how_many (length correct) (step_of order)
-    length_behind order = length-after_step size correct (step_of order) now ∙ ap (λ (k : ℕ). k + how_many (length correct) (step_of order)) so.counted
+    length_behind : (order : Order) → length (after_step size correct (order_step order) now).events ≡ count + how_many (length correct) (order_step order)
+    length_behind order = length-after_step size correct (order_step order) now ∙ ap (λ (k : ℕ). k + how_many (length correct) (order_step order)) so.counted
 
     -- one line more
-    pub one_read : (order : Order) (more : List Order) (all : ℕ) → Says (words_of (line_at lines i d).1) (step_of order)
-        → all ≡ count + how_many (length correct) (step_of order) → all ≤ MOST_EVENTS → more ≡ orders ++ order ∷ []
+    pub one_read : (order : Order) (more : List Order) (all : ℕ) → SaysStep (words_of (line_at lines i d).1) (order_step order)
+        → all ≡ count + how_many (length correct) (order_step order) → all ≤ MOST_EVENTS → more ≡ orders ++ order ∷ []
         → ReadSoFar size correct start lines (i + 1) more all
     one_read order more all says sum few are =
-        let next : Made = after_step size correct (step_of order) now in
+        let next : Made = after_step size correct (order_step order) now in
         let long : length next.events ≡ all = length_behind order ∙ sym sum in
-        let leads : LeadsBy size correct now (line_at lines i d) next = (step_of order, says, record { there = refl; few = omega (arith, long, few) }) in
+        let leads : LeadsBy size correct now (line_at lines i d) next = (order_step order, says, record { there = refl; few = omega (arith, long, few) }) in
         let there : made_by size correct more start ≡ next = ap (λ (l : List Order). made_by size correct l start) are ∙ made_more size correct orders order start in
         record {
           reached = subst (λ (m : Made). Reached size correct start (numbered lines) m (numbered (drop (i + 1) lines))) (sym there)
@@ -77,15 +77,15 @@ module _ (size : Size) (correct : List ℕ) (start : Made) (lines : List Line) w
 
     -- a line that says nothing
     pub not_read : (fault : ScriptFault)
-        → (fault ≡ faults.Memory) ⊎ (((step : Step) → Says (words_of (line_at lines i d).1) step → ⊥) × (fault ≡ faults.Line (line_at lines i d).0))
+        → (fault ≡ faults.Memory) ⊎ (((step : ScriptStep) → SaysStep (words_of (line_at lines i d).1) step → ⊥) × (fault ≡ faults.Line (line_at lines i d).0))
         → (fault ≡ faults.Memory) ⊎ BreakBy size correct start (numbered lines) fault
     not_read fault (inl e) = inl e
     not_read fault (inr none) = broken_or_refused size correct start lines i d now fault lt (inr (inl none)) so.reached
 
     -- a line with which there are too many events
-    pub too_many : (order : Order) (fault : ScriptFault) → Says (words_of (line_at lines i d).1) (step_of order)
-        → (MOST_EVENTS < count + how_many (length correct) (step_of order)) × (fault ≡ faults.Events)
+    pub too_many : (order : Order) (fault : ScriptFault) → SaysStep (words_of (line_at lines i d).1) (order_step order)
+        → (MOST_EVENTS < count + how_many (length correct) (order_step order)) × (fault ≡ faults.Events)
         → (fault ≡ faults.Memory) ⊎ BreakBy size correct start (numbered lines) fault
     too_many order fault says over =
         let long = length_behind order in
-        broken_or_refused size correct start lines i d now fault lt (inr (inr (step_of order, says, (omega (arith, long, over.0), over.1)))) so.reached
+        broken_or_refused size correct start lines i d now fault lt (inr (inr (order_step order, says, (omega (arith, long, over.0), over.1)))) so.reached

@@ -5,7 +5,7 @@ use Rattle.std.proofs.Math.Seq.{drop-cons}
 use Rattle.sim.specs.declared.events.Which.TheVariants.{Next}
 use Rattle.script.specs.Acts.Act.{Deliver}
 use Rattle.std.specs.List.{flat_map}
-use Rattle.terms.specs.declared.Size.{Size}
+use Rattle.vocabulary.specs.Terms.{Size}
 use Rattle.script.specs.Acts.{Act}
 use Rattle.script.specs.Making.{Made, add, add_drawn, adds, draws, row, round, times}
 

@@ -1,15 +1,14 @@
 -- A text has one script or one first fault, and not both.
 use Rattle.std.proofs.Common.{ℕ, ◌≡◌, sym, ap, ◌∙◌, subst, arith, inl, inr, Option, Some, None, List, [], ◌∷◌, length, drop, map, codes}
-use Rattle.terms.specs.declared.Size.{Size}
-use Rattle.terms.specs.declared.SizeFault.{SizeFault}
+use Rattle.vocabulary.specs.Terms.{Size, SizeFault}
 use Rattle.script.specs.declared.fault.ScriptFault.{ScriptFault}
 use Rattle.script.specs.declared.Script.{Script}
-use Rattle.script.specs.Words.{words_of, IsCount, IsLong, AreMembers}
-use Rattle.script.specs.Lines.{Page, page_of, HasLine}
-use Rattle.script.specs.Acts.{told}
-use Rattle.script.specs.Steps.{Step}
+use Rattle.script.specs.LineWords.{words_of, IsCount, IsLong, AreMembers}
+use Rattle.script.specs.Lines.{Page, page_from, HasLine}
+use Rattle.script.specs.Acts.{tossed_act}
+use Rattle.script.specs.Steps.{ScriptStep}
 use Rattle.script.specs.Making.{Made, after_step, correct_below, LeadsBy, LeadTo, BreaksAt, BreakBy}
-use Rattle.script.specs.Scripts.{IsNamed, AreLiars, IsSeed, MakeSize, at_start, IsScript, FailsOr, SizeFailsOr, IsFirstFault}
+use Rattle.script.specs.Scripts.{IsNamed, AreListedLiars, IsSeed, MakeSize, at_start, IsScript, FailsOr, SizeFailsOr, IsFirstFault}
 use Rattle.script.proofs.Exact.{IsExact, one_below, one_members, one_step}
 
 one_named : (name : List ℕ) → IsExact (IsNamed name)
@@ -18,7 +17,7 @@ one_named name ws x y (v, e, h) (w, f, g) =
     let q : v ≡ w = cc in
     one_below 16 v x y h (subst (λ (u : List ℕ). IsCount u y) (sym q) g)
 
-one_liars : IsExact AreLiars
+one_liars : IsExact AreListedLiars
 one_liars ws x y (v, e, h) (w, f, g) =
     let p : codes "liars" ∷ v ≡ codes "liars" ∷ w = sym e ∙ f in
     let q : v ≡ w = cc in
@@ -41,7 +40,7 @@ one_line page place Form exact x y h g =
 one_next : (size : Size) (correct : List ℕ) (before : Made) (line : ℕ × List ℕ) (x y : Made) → LeadsBy size correct before line x → LeadsBy size correct before line y → x ≡ y
 one_next size correct before line x y (s, h, a) (t, g, b) =
     let e = one_step (words_of line.1) s t h g in
-    a.there ∙ (ap (λ (z : Step). after_step size correct z before) e ∙ sym b.there)
+    a.there ∙ (ap (λ (z : ScriptStep). after_step size correct z before) e ∙ sym b.there)
 
 pub one_leading : (size : Size) (correct : List ℕ) (before : Made) (lines : List (ℕ × List ℕ)) (x y : Made)
     → LeadTo size correct before lines x → LeadTo size correct before lines y → x ≡ y
@@ -56,7 +55,7 @@ no_break : (size : Size) (correct : List ℕ) (before : Made) (line : ℕ × Lis
 no_break size correct before line next fault (s, h, a) (inl b) = b.0 s h
 no_break size correct before line next fault (s, h, a) (inr (t, g, over)) =
     let e = one_step (words_of line.1) s t h g in
-    let n = ap (λ (z : Step). length (after_step size correct z before).events) e in
+    let n = ap (λ (z : ScriptStep). length (after_step size correct z before).events) e in
     let few = a.few in
     let many = over.0 in
     absurd (omega arith)
@@ -126,7 +125,7 @@ abbrev pub BehindLiars : Page → Size → List ℕ → ScriptFault → Type 0
 BehindLiars page size = λ liars. FailsOr page 4 IsSeed (BehindSeed page size liars)
 
 abbrev pub BehindSize : Page → Size → ScriptFault → Type 0
-BehindSize page = λ size. FailsOr page 3 AreLiars (BehindLiars page size)
+BehindSize page = λ size. FailsOr page 3 AreListedLiars (BehindLiars page size)
 
 abbrev pub BehindQuestions : Page → ℕ → ℕ → ℕ → ScriptFault → Type 0
 BehindQuestions page n t = λ questions. SizeFailsOr n t questions (BehindSize page)
@@ -139,37 +138,37 @@ BehindN page = λ n. FailsOr page 1 (IsNamed (codes "t")) (BehindT page n)
 
 pub one_first_fault : (text : List ℕ) (f g : ScriptFault) → IsFirstFault text f → IsFirstFault text g → f ≡ g
 one_first_fault text f g =
-    let page = page_of text in
+    let page = page_from text in
     one_failing page 0 (IsNamed (codes "n")) (BehindN page) f g (one_named (codes "n")) (λ n.
     one_failing page 1 (IsNamed (codes "t")) (BehindT page n) f g (one_named (codes "t")) (λ t.
     one_failing page 2 (IsNamed (codes "questions")) (BehindQuestions page n t) f g (one_named (codes "questions")) (λ questions.
     one_size_failing n t questions (BehindSize page) f g (λ size.
-    one_failing page 3 AreLiars (BehindLiars page size) f g one_liars (λ liars.
+    one_failing page 3 AreListedLiars (BehindLiars page size) f g one_liars (λ liars.
     one_failing page 4 IsSeed (BehindSeed page size liars) f g one_seed (λ seed.
     one_break size (correct_below size.n liars) (at_start seed) (drop 5 page.said) f g))))))
 
 pub script_or_fault : (text : List ℕ) (script : Script) (fault : ScriptFault) → IsScript text script → IsFirstFault text fault → ⊥
 script_or_fault text script fault s f =
-    let page = page_of text in
+    let page = page_from text in
     let h = s.head in
     let a = later page 0 (IsNamed (codes "n")) (BehindN page) fault (one_named (codes "n")) h.n h.n_is f in
     let b = later page 1 (IsNamed (codes "t")) (BehindT page h.n) fault (one_named (codes "t")) h.t h.t_is a in
     let c = later page 2 (IsNamed (codes "questions")) (BehindQuestions page h.n h.t) fault (one_named (codes "questions")) h.questions h.questions_is b in
     let d = later_size h.n h.t h.questions (BehindSize page) fault script.size h.size_is c in
-    let e = later page 3 AreLiars (BehindLiars page script.size) fault one_liars script.liars.items h.liars_are d in
+    let e = later page 3 AreListedLiars (BehindLiars page script.size) fault one_liars script.liars.items h.liars_are d in
     let g = later page 4 IsSeed (BehindSeed page script.size script.liars.items) fault one_seed s.seed h.seed_is e in
     not_both script.size (correct_below script.size.n script.liars.items) (at_start s.seed) (drop 5 page.said) s.last fault s.steps g
 
 pub one_script : (text : List ℕ) (a b : Script) → IsScript text a → IsScript text b
-    → (a.size ≡ b.size) × (a.liars.items ≡ b.liars.items) × (map told a.events.items ≡ map told b.events.items)
+    → (a.size ≡ b.size) × (a.liars.items ≡ b.liars.items) × (map tossed_act a.events.items ≡ map tossed_act b.events.items)
 one_script text a b s t =
-    let page = page_of text in
+    let page = page_from text in
     let h = s.head in
     let g = t.head in
     let n = one_line page 0 (IsNamed (codes "n")) (one_named (codes "n")) h.n g.n h.n_is g.n_is in
     let m = one_line page 1 (IsNamed (codes "t")) (one_named (codes "t")) h.t g.t h.t_is g.t_is in
     let q = one_line page 2 (IsNamed (codes "questions")) (one_named (codes "questions")) h.questions g.questions h.questions_is g.questions_is in
-    let l = one_line page 3 AreLiars one_liars a.liars.items b.liars.items h.liars_are g.liars_are in
+    let l = one_line page 3 AreListedLiars one_liars a.liars.items b.liars.items h.liars_are g.liars_are in
     let d = one_line page 4 IsSeed one_seed s.seed t.seed h.seed_is g.seed_is in
     let z : a.size ≡ b.size = same_size h.n g.n h.t g.t h.questions g.questions a.size b.size n m q h.size_is g.size_is in
     let x = one_leading a.size (correct_below a.size.n a.liars.items) (at_start s.seed) (drop 5 page.said) s.last t.last s.steps

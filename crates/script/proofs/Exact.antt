@@ -4,9 +4,9 @@ use Rattle.disk.specs.declared.Pick.TheVariants.{Kept, Lost, Fill}
 use Rattle.sim.specs.declared.events.Which.TheVariants.{Next, At}
 use Rattle.script.specs.declared.step.Verb.{Verb}
 use Rattle.script.specs.declared.step.Verb.TheVariants as verb
-use Rattle.script.specs.Words.{IsMember, IsCount, IsLong, IsGroupSize, IsBit, IsWhich, IsFuse, ArePick, AreMembers}
-use Rattle.words.specs.Numbers.{IsNumber, IsBelow, AreBytes}
-use Rattle.script.specs.Steps.{Step, name_of, One, Two, Three, SaysBehind, Says}
+use Rattle.script.specs.LineWords.{IsMember, IsCount, IsLong, IsGroupSize, IsBit, IsWhich, IsFuse, ArePick, AreMembers}
+use Rattle.words.specs.Numbers.{IsNumber, IsBelow, IsHexOf}
+use Rattle.script.specs.Steps.{ScriptStep, verb_name, One, Two, Three, SaysBehind, SaysStep}
 
 -- a form that a thing has at most once
 abbrev pub IsExact : {A B : Type 0} → (A → B → Type 0) → Type 0
@@ -45,7 +45,7 @@ one_fuse w None (Some k) h g = absurd (off_is_no_number k (subst (λ (v : List �
 one_fuse w (Some k) None h g = absurd (off_is_no_number k (subst (λ (v : List ℕ). IsLong v k) g h))
 one_fuse w (Some k) (Some j) h g = ap (λ (i : ℕ). Some i) (one_below 64 w k j h g)
 
-pub one_bytes : IsExact AreBytes
+pub one_bytes : IsExact IsHexOf
 one_bytes w x y h g = let a = h.decoded in let b = g.decoded in cc
 
 -- the first byte of the first word
@@ -68,7 +68,7 @@ one_pick ws (Fill a) Lost h g = absurd (differ (codes "fill" ∷ h.0 ∷ []) (co
 one_pick ws (Fill a) (Fill b) h g =
     let e : codes "fill" ∷ h.0 ∷ [] ≡ codes "fill" ∷ g.0 ∷ [] = sym h.1 ∙ g.1 in
     let f : h.0 ≡ g.0 = cc in
-    let i : a ∷ [] ≡ b ∷ [] = one_bytes h.0 (a ∷ []) (b ∷ []) h.2 (subst (λ (v : List ℕ). AreBytes v (b ∷ [])) (sym f) g.2) in
+    let i : a ∷ [] ≡ b ∷ [] = one_bytes h.0 (a ∷ []) (b ∷ []) h.2 (subst (λ (v : List ℕ). IsHexOf v (b ∷ [])) (sym f) g.2) in
     let j : a ≡ b = cc in
     ap (λ (x : ℕ). Fill x) j
 
@@ -111,7 +111,7 @@ one_three F G H one other third ws a d b e c f x y =
       third x.third c f x.third_is (subst (λ (w : List ℕ). H w f) (sym s) y.third_is),
     )
 
-one_behind : (v : Verb) (ws : List (List ℕ)) (s t : Step) → SaysBehind v ws s → SaysBehind v ws t → s ≡ t
+one_behind : (v : Verb) (ws : List (List ℕ)) (s t : ScriptStep) → SaysBehind v ws s → SaysBehind v ws t → s ≡ t
 one_behind verb.Propose ws s t (m, q, b, h, e) (n, r, c, g, f) =
     let k = one_three IsMember IsCount IsBit (one_below 8) (one_below 16) one_bit ws m n q r b c h g in cc
 one_behind verb.Deliver ws s t (m, q, b, h, e) (n, r, c, g, f) =
@@ -119,7 +119,7 @@ one_behind verb.Deliver ws s t (m, q, b, h, e) (n, r, c, g, f) =
 one_behind verb.Group ws s t (m, q, b, h, e) (n, r, c, g, f) =
     let k = one_three IsMember IsMember IsGroupSize (one_below 8) (one_below 8) one_group_size ws m n q r b c h g in cc
 one_behind verb.Lie ws s t (m, q, b, h, e) (n, r, c, g, f) =
-    let k = one_three IsMember IsMember AreBytes (one_below 8) (one_below 8) one_bytes ws m n q r b c h g in cc
+    let k = one_three IsMember IsMember IsHexOf (one_below 8) (one_below 8) one_bytes ws m n q r b c h g in cc
 one_behind verb.Fuse ws s t (m, q, h, e) (n, r, g, f) = let k = one_two IsMember IsFuse (one_below 8) one_fuse ws m n q r h g in cc
 one_behind verb.Crash ws s t (m, p, d, b, h, i, j, e) (n, q, c, a, g, k, l, f) =
     let w : d ∷ b ≡ c ∷ a = sym h ∙ g in
@@ -150,7 +150,7 @@ verb_with k =
     (cond (eqb k (6 * 65536 + 114 * 256 + 111)) (Some verb.Rounds)
     (Some verb.Random)))))))))
 
-of_name : (v : Verb) → verb_with (key (name_of v)) ≡ Some v
+of_name : (v : Verb) → verb_with (key (verb_name v)) ≡ Some v
 unfolding verb_with key
 of_name verb.Propose = refl
 of_name verb.Deliver = refl
@@ -163,15 +163,15 @@ of_name verb.Reset = refl
 of_name verb.Rounds = refl
 of_name verb.Random = refl
 
-pub one_verb : (v w : Verb) → name_of v ≡ name_of w → v ≡ w
+pub one_verb : (v w : Verb) → verb_name v ≡ verb_name w → v ≡ w
 one_verb v w e =
     let f : ◌≡◌ {A = Option Verb} (Some v) (Some w) = sym (of_name v) ∙ (ap (λ (n : List ℕ). verb_with (key n)) e ∙ of_name w) in
     cc
 
-pub one_step : IsExact Says
+pub one_step : IsExact SaysStep
 one_step ws s t h g =
-    let e : name_of h.its_verb ∷ h.behind ≡ name_of g.its_verb ∷ g.behind = sym h.words_are ∙ g.words_are in
-    let n : name_of h.its_verb ≡ name_of g.its_verb = cc in
+    let e : verb_name h.its_verb ∷ h.behind ≡ verb_name g.its_verb ∷ g.behind = sym h.words_are ∙ g.words_are in
+    let n : verb_name h.its_verb ≡ verb_name g.its_verb = cc in
     let b : h.behind ≡ g.behind = cc in
     let v = one_verb h.its_verb g.its_verb n in
     one_behind h.its_verb h.behind s t h.says

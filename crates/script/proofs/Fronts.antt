@@ -1,44 +1,44 @@
 -- What is made is the same whatever was made before.
 use Rattle.std.proofs.Common.{ℕ, zero, suc, ◌≡◌, refl, sym, ap, ◌∙◌, List, [], ◌∷◌, ◌++◌, append_assoc, append-nil}
 use Rattle.rand_chacha.specs.ChaCha.{ChaCha}
-use Rattle.terms.specs.declared.Size.{Size}
-use Rattle.script.specs.Acts.{Act, Told}
+use Rattle.vocabulary.specs.Terms.{Size}
+use Rattle.script.specs.Acts.{Act, TossedAct}
 use Rattle.script.specs.Drawing.{drawn, tossed}
-use Rattle.script.specs.Steps.{Step}
-use Rattle.script.specs.Steps.Step.{Once, Rounds, Random}
+use Rattle.script.specs.Steps.{ScriptStep}
+use Rattle.script.specs.Steps.ScriptStep.{Once, Rounds, Random}
 use Rattle.script.specs.Making.{Made, add, add_drawn, adds, draws, round, times, turns, after_step, after_steps}
 use Rattle.script.specs.Sources.{events_of}
 use Rattle.script.proofs.Counted.{over_step}
 
 -- with these events in front
-abbrev pub behind : List Told → Made → Made
+abbrev pub behind : List TossedAct → Made → Made
 behind front made = record { events = front ++ made.events; stream = made.stream }
 
-add_behind : (act : Act) (front : List Told) (made : Made) → add act (behind front made) ≡ behind front (add act made)
+add_behind : (act : Act) (front : List TossedAct) (made : Made) → add act (behind front made) ≡ behind front (add act made)
 unfolding add
 add_behind act front made =
-    ap (λ (l : List Told). record { events = l; stream = (tossed act made.stream).1 }) (append_assoc front made.events ((tossed act made.stream).0 ∷ []))
+    ap (λ (l : List TossedAct). record { events = l; stream = (tossed act made.stream).1 }) (append_assoc front made.events ((tossed act made.stream).0 ∷ []))
 
-add_drawn_behind : (size : Size) (front : List Told) (made : Made) → add_drawn size (behind front made) ≡ behind front (add_drawn size made)
+add_drawn_behind : (size : Size) (front : List TossedAct) (made : Made) → add_drawn size (behind front made) ≡ behind front (add_drawn size made)
 unfolding add_drawn
 add_drawn_behind size front made =
     add_behind (drawn size made.stream).0 front (record { events = made.events; stream = (drawn size made.stream).1 })
 
-adds_behind : (acts : List Act) (front : List Told) (made : Made) → adds acts (behind front made) ≡ behind front (adds acts made)
+adds_behind : (acts : List Act) (front : List TossedAct) (made : Made) → adds acts (behind front made) ≡ behind front (adds acts made)
 adds_behind [] front made = refl
 adds_behind (act ∷ acts) front made = ap (λ (m : Made). adds acts m) (add_behind act front made) ∙ adds_behind acts front (add act made)
 
-draws_behind : (size : Size) (k : ℕ) (front : List Told) (made : Made) → draws size k (behind front made) ≡ behind front (draws size k made)
+draws_behind : (size : Size) (k : ℕ) (front : List TossedAct) (made : Made) → draws size k (behind front made) ≡ behind front (draws size k made)
 draws_behind size zero front made = refl
 draws_behind size (suc k) front made = ap (λ (m : Made). draws size k m) (add_drawn_behind size front made) ∙ draws_behind size k front (add_drawn size made)
 
-step_behind : (size : Size) (correct : List ℕ) (step : Step) (front : List Told) (made : Made)
+step_behind : (size : Size) (correct : List ℕ) (step : ScriptStep) (front : List TossedAct) (made : Made)
     → after_step size correct step (behind front made) ≡ behind front (after_step size correct step made)
 step_behind size correct (Once act) front made = add_behind act front made
 step_behind size correct (Rounds k) front made = adds_behind (times k (round correct)) front made
 step_behind size correct (Random k) front made = draws_behind size k front made
 
-steps_behind : (size : Size) (correct : List ℕ) (steps : List Step) (front : List Told) (made : Made)
+steps_behind : (size : Size) (correct : List ℕ) (steps : List ScriptStep) (front : List TossedAct) (made : Made)
     → after_steps size correct steps (behind front made) ≡ behind front (after_steps size correct steps made)
 steps_behind size correct [] front made = refl
 steps_behind size correct (step ∷ steps) front made =
@@ -46,18 +46,18 @@ steps_behind size correct (step ∷ steps) front made =
     ∙ steps_behind size correct steps front (after_step size correct step made)
 
 -- the first events of a step, and what they leave
-pub first_events : (size : Size) (correct : List ℕ) (step rest : Step) (steps : List Step) (stream : ChaCha) (now : Made)
+pub first_events : (size : Size) (correct : List ℕ) (step rest : ScriptStep) (steps : List ScriptStep) (stream : ChaCha) (now : Made)
     → after_step size correct rest now ≡ after_step size correct step (record { events = []; stream = stream })
     → events_of size correct (step ∷ steps) stream ≡ now.events ++ events_of size correct (rest ∷ steps) now.stream
 first_events size correct step rest steps stream now same =
     let none : Made = record { events = []; stream = now.stream } in
-    let front : now ≡ behind now.events none = ap (λ (l : List Told). record { events = l; stream = now.stream }) (sym (append-nil now.events)) in
+    let front : now ≡ behind now.events none = ap (λ (l : List TossedAct). record { events = l; stream = now.stream }) (sym (append-nil now.events)) in
     ap (λ (m : Made). (after_steps size correct steps m).events) (sym same)
     ∙ (ap (λ (m : Made). (after_steps size correct (rest ∷ steps) m).events) front
     ∙ ap (λ (m : Made). m.events) (steps_behind size correct (rest ∷ steps) now.events none))
 
 -- a step that stands for nothing
-pub no_events : (size : Size) (correct : List ℕ) (step : Step) (steps : List Step) (stream : ChaCha) → turns step ≡ 0
+pub no_events : (size : Size) (correct : List ℕ) (step : ScriptStep) (steps : List ScriptStep) (stream : ChaCha) → turns step ≡ 0
     → events_of size correct (step ∷ steps) stream ≡ events_of size correct steps stream
 no_events size correct step steps stream h =
     ap (λ (m : Made). (after_steps size correct steps m).events) (over_step size correct step (record { events = []; stream = stream }) h)

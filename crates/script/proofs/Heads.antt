@@ -1,24 +1,21 @@
 -- Lines of the head.
-use Rattle.std.proofs.Common.{ℕ, ◌≡◌, sym, ap, ◌∙◌, subst, ◌+◌, ◌<◌, ◌≤◌, append-nil, refl, inl, inr, ◌⊎◌, codes, Option, Some, List, [], ◌∷◌, ◌++◌, length, drop, get_or, Bor, append_assoc}
-use Rattle.script.specs.Words.{IsMember, AreMembers}
+use Rattle.std.proofs.Common.{ℕ, ◌≡◌, sym, ap, ◌∙◌, subst, ◌+◌, ◌<◌, ◌≤◌, append-nil, refl, inl, inr, ◌⊎◌, codes, Option, Some, List, [], ◌∷◌, ◌++◌, length, drop, get_or, Bor, append_assoc, slice_get}
+use Rattle.script.specs.LineWords.{IsMember, AreMembers}
 use Rattle.script.specs.Untossed.{texts}
 use Rattle.std.proofs.lemmas.List.{drop_all}
 use Rattle.script.proofs.Counting.{next_of}
-use Rattle.std.specs.Prelude.{slice_get}
 use Rattle.script.specs.declared.fault.ScriptFault.{ScriptFault}
 use Rattle.script.specs.declared.fault.ScriptFault.TheVariants as faults
-use Rattle.script.specs.Words.{words_of}
-use Rattle.script.specs.Lines.{Page, page_of, HasLine, number_or}
-use Rattle.script.specs.Scripts.{IsNamed, AreLiars, IsSeed, MakeSize, IsHead, IsHeadFault, HeadFailsOr, IsFirstFault, Lacks, at_start}
+use Rattle.script.specs.LineWords.{words_of}
+use Rattle.script.specs.Lines.{Page, page_from, HasLine, number_or}
+use Rattle.script.specs.Scripts.{IsNamed, AreListedLiars, IsSeed, MakeSize, IsHead, IsHeadFault, HeadFailsOr, IsFirstFault, LacksLine, at_start}
 use Rattle.script.specs.Making.{Made, correct_below, BreakBy}
-use Rattle.terms.specs.declared.Size.{Size}
-use Rattle.terms.specs.declared.SizeFault.{SizeFault}
-use Rattle.terms.specs.Sizes.{size_fault}
+use Rattle.vocabulary.specs.Terms.{Size, SizeFault, size_fault}
 
 -- a line whose words aren't of the form
 pub lacks : {A : Type 0} (page : Page) (place : ℕ) (Form : List (List ℕ) → A → Type 0) (fault : ScriptFault) (number : ℕ) (text : List ℕ) (words : List (List ℕ))
     → slice_get page.said place ≡ Some (number, text) → words ≡ words_of text → ((x : A) → Form words x → ⊥) → fault ≡ faults.Line number
-    → Lacks page place Form fault
+    → LacksLine page place Form fault
 lacks page place Form fault number text words there words_are none fault_is = record {
   none = λ x h.
       let same : ◌≡◌ {A = Option (ℕ × List ℕ)} (Some h.line) (Some (number, text)) = sym h.there ∙ there in
@@ -67,15 +64,15 @@ of_size page n t questions wrong a b c e = inr (n, a, inr (t, b, inr (questions,
 -- it is in the line of liars, or memory was refused there
 pub of_liars : (page : Page) (n t questions : ℕ) (size : Size) (fault : ScriptFault)
     → HasLine page 0 (IsNamed (codes "n")) n → HasLine page 1 (IsNamed (codes "t")) t → HasLine page 2 (IsNamed (codes "questions")) questions
-    → MakeSize n t questions size → (fault ≡ faults.Memory) ⊎ Lacks page 3 AreLiars fault → (fault ≡ faults.Memory) ⊎ IsHeadFault page fault
+    → MakeSize n t questions size → (fault ≡ faults.Memory) ⊎ LacksLine page 3 AreListedLiars fault → (fault ≡ faults.Memory) ⊎ IsHeadFault page fault
 of_liars page n t questions size fault a b c s (inl e) = inl e
 of_liars page n t questions size fault a b c s (inr l) = inr (inr (n, a, inr (t, b, inr (questions, c, inr (size, s, inl l)))))
 
 -- it is in the line of the seed, or memory was refused there
 pub of_seed : (page : Page) (n t questions : ℕ) (size : Size) (liars : List ℕ) (fault : ScriptFault)
     → HasLine page 0 (IsNamed (codes "n")) n → HasLine page 1 (IsNamed (codes "t")) t → HasLine page 2 (IsNamed (codes "questions")) questions
-    → MakeSize n t questions size → HasLine page 3 AreLiars liars
-    → (fault ≡ faults.Memory) ⊎ Lacks page 4 IsSeed fault → (fault ≡ faults.Memory) ⊎ IsHeadFault page fault
+    → MakeSize n t questions size → HasLine page 3 AreListedLiars liars
+    → (fault ≡ faults.Memory) ⊎ LacksLine page 4 IsSeed fault → (fault ≡ faults.Memory) ⊎ IsHeadFault page fault
 of_seed page n t questions size liars fault a b c s l (inl e) = inl e
 of_seed page n t questions size liars fault a b c s l (inr k) =
     inr (inr (n, a, inr (t, b, inr (questions, c, inr (size, s, inr (liars, l, inl k))))))
@@ -92,15 +89,15 @@ weaken page fault Later (inr (n, a, inr (t, b, inr (q, c, inr (size, s, inr (lia
 weaken page fault Later (inr (n, a, inr (t, b, inr (q, c, inr (size, s, inr (liars, l, inr (seed, k, h))))))) = absurd h
 
 -- a first fault of the head, or memory was refused there
-pub in_head : (text : List ℕ) (fault : ScriptFault) → (fault ≡ faults.Memory) ⊎ IsHeadFault (page_of text) fault
+pub in_head : (text : List ℕ) (fault : ScriptFault) → (fault ≡ faults.Memory) ⊎ IsHeadFault (page_from text) fault
     → (fault ≡ faults.Memory) ⊎ IsFirstFault text fault
 in_head text fault (inl e) = inl e
 in_head text fault (inr h) =
-    inr (weaken (page_of text) fault (λ size liars seed. BreakBy size (correct_below size.n liars) (at_start seed) (drop 5 (page_of text).said)) h)
+    inr (weaken (page_from text) fault (λ size liars seed. BreakBy size (correct_below size.n liars) (at_start seed) (drop 5 (page_from text).said)) h)
 
 -- a first fault of the events, or memory was refused there
-pub in_events : (text : List ℕ) (fault : ScriptFault) (size : Size) (liars : List ℕ) (seed : ℕ) → IsHead (page_of text) size liars seed
-    → (fault ≡ faults.Memory) ⊎ BreakBy size (correct_below size.n liars) (at_start seed) (drop 5 (page_of text).said) fault
+pub in_events : (text : List ℕ) (fault : ScriptFault) (size : Size) (liars : List ℕ) (seed : ℕ) → IsHead (page_from text) size liars seed
+    → (fault ≡ faults.Memory) ⊎ BreakBy size (correct_below size.n liars) (at_start seed) (drop 5 (page_from text).said) fault
     → (fault ≡ faults.Memory) ⊎ IsFirstFault text fault
 in_events text fault size liars seed head (inl e) = inl e
 in_events text fault size liars seed head (inr b) =
@@ -120,7 +117,7 @@ in_events text fault size liars seed head (inr b) =
 
 -- the same, of what the code has for the parts
 pub in_events_of : (text : List ℕ) (fault : ScriptFault) (size : Size) (liars : List ℕ) (seed : ℕ) (page : Page) (correct : List ℕ) (start : Made) (lines : List (ℕ × List ℕ))
-    → page ≡ page_of text → correct ≡ correct_below size.n liars → start ≡ at_start seed → lines ≡ drop 5 page.said
+    → page ≡ page_from text → correct ≡ correct_below size.n liars → start ≡ at_start seed → lines ≡ drop 5 page.said
     → IsHead page size liars seed → (fault ≡ faults.Memory) ⊎ BreakBy size correct start lines fault
     → (fault ≡ faults.Memory) ⊎ IsFirstFault text fault
 in_events_of text fault size liars seed page correct start lines page_is correct_is start_is lines_are head h =

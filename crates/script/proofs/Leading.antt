@@ -1,7 +1,7 @@
 -- Lines of events, in turn.
 use Rattle.std.proofs.Common.{ℕ, zero, suc, ◌∙◌, ◌-◌, take, take_all, length-drop, arith, ◌≡◌, ◌+◌, ◌<◌, ◌≤◌, refl, sym, ap, subst, inl, inr, ◌⊎◌, List, [], ◌∷◌, length, drop, get_or}
 use Rattle.std.proofs.lemmas.List.{drop_all}
-use Rattle.terms.specs.declared.Size.{Size}
+use Rattle.vocabulary.specs.Terms.{Size}
 use Rattle.script.specs.declared.fault.ScriptFault.{ScriptFault}
 use Rattle.script.specs.declared.fault.ScriptFault.TheVariants as faults
 use Rattle.script.specs.declared.lines.Line.{Line}

@@ -1,12 +1,9 @@
 -- The words of a slice of so many.
-use Rattle.std.proofs.Common.{ℕ, ◌≡◌, ◌<◌, ◌≤◌, refl, arith, Bor, List, [], ◌∷◌, length, get_or, drop, take, take_all, ◌-◌, sym, ap, IsUtf8, codes, Bool, true, false, nat_lt, zero, suc, lit<, rules, Some, cond, ◌==◌, subst, ◌∙◌}
-use Rattle.std.proofs.lemmas.Bool.{eqb-true}
-use Rattle.std.specs.Prelude.{slice_get}
+use Rattle.std.proofs.Common.{ℕ, ◌≡◌, ◌<◌, ◌≤◌, refl, arith, Bor, List, [], ◌∷◌, length, get_or, drop, take, take_all, ◌-◌, sym, ap, IsUtf8, codes, Bool, true, false, nat_lt, zero, suc, lit<, rules, Some, cond, ◌==◌, subst, ◌∙◌, eqb-true, slice_get, ltb-true}
 use Rattle.std.proofs.lemmas.Str.{IsUtf8-from_ascii}
-use borrow.Author.Tests.{ltb-true}
 use Rattle.script.specs.declared.step.Verb.{Verb}
 use Rattle.script.specs.declared.step.Verb.TheVariants as verb
-use Rattle.script.specs.Steps.{name_of}
+use Rattle.script.specs.Steps.{verb_name}
 use Rattle.script.specs.Untossed.{texts, is_empty, ends_empty}
 
 pub three : (ws : List (Bor (List ℕ))) (d : Bor (List ℕ)) → 3 ≤ length ws → length ws < 4
@@ -41,7 +38,7 @@ is_ascii (b ∷ bs) h i = step (nat_lt b 128) refl h i (is_ascii bs)
     step false e g i go = cc
 
 -- the name of a verb is a text
-pub name_is_text : (v : Verb) → IsUtf8 (name_of v)
+pub name_is_text : (v : Verb) → IsUtf8 (verb_name v)
 unfolding small
 name_is_text verb.Propose = IsUtf8-from_ascii (codes "propose") (is_ascii (codes "propose") refl)
 name_is_text verb.Deliver = IsUtf8-from_ascii (codes "deliver") (is_ascii (codes "deliver") refl)

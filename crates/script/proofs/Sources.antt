@@ -1,10 +1,10 @@
 -- A script whose events are made as they are asked for.
 use Rattle.std.proofs.Common.{ℕ, ◌≡◌, ◌<◌, ◌⊎◌, inl, inr, refl, ap, ◌∙◌, arith, List, [], ◌∷◌, ◌++◌, length, map}
 use Rattle.rand_chacha.specs.ChaCha.{ChaCha}
-use Rattle.terms.specs.declared.Size.{Size}
+use Rattle.vocabulary.specs.Terms.{Size}
 use Rattle.script.specs.declared.step.Order.{Order}
 use Rattle.script.specs.Making.{Made, after_step, turns}
-use Rattle.script.specs.Untossed.{step_of}
+use Rattle.script.specs.Untossed.{order_step}
 use Rattle.script.specs.Sources.{events_of, left_of, turns_of, all_turns}
 use Rattle.script.proofs.Fronts.{first_events, no_events}
 
@@ -14,6 +14,6 @@ none_left (x ∷ xs) h = absurd (omega (arith, h))
 
 -- a piece of an order
 pub next_piece : (size : Size) (correct : List ℕ) (order rest : Order) (orders : List Order) (stream : ChaCha) (now : Made)
-    → after_step size correct (step_of rest) now ≡ after_step size correct (step_of order) (record { events = []; stream = stream })
+    → after_step size correct (order_step rest) now ≡ after_step size correct (order_step order) (record { events = []; stream = stream })
     → left_of size correct order orders stream ≡ now.events ++ left_of size correct rest orders now.stream
-next_piece size correct order rest orders stream now same = first_events size correct (step_of order) (step_of rest) (map step_of orders) stream now same
+next_piece size correct order rest orders stream now same = first_events size correct (order_step order) (order_step rest) (map order_step orders) stream now same

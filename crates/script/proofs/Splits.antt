@@ -1,9 +1,8 @@
 -- The lines of a text are what stands between its bytes 10, but for nothing behind the last.
-use Rattle.std.proofs.Common.{ℕ, suc, ◌≡◌, ◌+◌, ◌-◌, ◌≤◌, ◌==◌, refl, sym, ap, ◌∙◌, arith, Bool, true, false, cond, List, [], ◌∷◌, length, Bor}
+use Rattle.std.proofs.Common.{ℕ, suc, ◌≡◌, ◌+◌, ◌-◌, ◌≤◌, ◌==◌, refl, sym, ap, ◌∙◌, arith, Bool, true, false, cond, List, [], ◌∷◌, length, Bor, if◌then◌else◌}
 use mir.Val.{bool_byte}
-use Rattle.std.specs.Prelude.{if◌then◌else◌}
 use Rattle.std.specs.List.{slice_split, onto_first}
-use Rattle.script.specs.Lines.{Page, is_skipped, said_from, page_of}
+use Rattle.script.specs.Lines.{Page, is_comment, said_from, page_from}
 use Rattle.words.specs.Lines.{onto_line, lines_of}
 use Rattle.script.specs.Untossed.{texts, is_empty, ends_empty}
 
@@ -60,7 +59,7 @@ pub same_said : (k : ℕ) (parts : List (List ℕ)) → said_from k parts ≡ sa
 same_said k [] = refl
 same_said k ([] ∷ []) = refl
 same_said k ((c ∷ p) ∷ []) = refl
-same_said k (p ∷ q ∷ ps) = step (is_skipped p) (same_said (k + 1) (q ∷ ps))
+same_said k (p ∷ q ∷ ps) = step (is_comment p) (same_said (k + 1) (q ∷ ps))
   where
     step : (t : Bool) → said_from (k + 1) (q ∷ ps) ≡ said_from (k + 1) (without_last (q ∷ ps))
         → cond t (said_from (k + 1) (q ∷ ps)) ((k, p) ∷ said_from (k + 1) (q ∷ ps))
@@ -99,7 +98,7 @@ length-texts (w ∷ ws) = ap suc (length-texts ws)
 -- what the code has for a page
 pub page_is : (text : List ℕ) (parts : List (Bor (List ℕ))) (found : List (ℕ × List ℕ)) (len b : ℕ) (t : Bool)
     → texts parts ≡ parts_of text → found ≡ said_from 1 (texts parts) → len ≡ length parts → b ≡ bool_byte t → t ≡ ends_empty (texts parts)
-    → ◌≡◌ {A = Page} (record { said = found; next = 1 + len - b }) (page_of text)
+    → ◌≡◌ {A = Page} (record { said = found; next = 1 + len - b }) (page_from text)
 page_is text parts found len b t parts_are said_is len_is b_is t_is =
     let s = some_part text in
     let lines = lines_are text in

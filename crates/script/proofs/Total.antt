@@ -1,15 +1,10 @@
 -- Each text says something or has a first fault.
-use Rattle.std.proofs.Common.{ℕ, zero, suc, ◌≡◌, ◌^◌, ◌<◌, ◌≤◌, refl, sym, ap, ◌∙◌, subst, rules, arith, inl, inr, ◌⊎◌, Bool, true, false, eqb, eq-eqb, nat_lt, Option, Some, None, Result, Ok, Err, List, [], ◌∷◌, length, drop, codes}
-use Rattle.std.specs.Prelude.{slice_get}
+use Rattle.std.proofs.Common.{ℕ, zero, suc, ◌≡◌, ◌^◌, ◌<◌, ◌≤◌, refl, sym, ap, ◌∙◌, subst, rules, arith, inl, inr, ◌⊎◌, Bool, true, false, eqb, eq-eqb, nat_lt, Option, Some, None, Result, Ok, Err, List, [], ◌∷◌, length, drop, codes, slice_get, eqb-true, tests}
 use Rattle.std.specs.Str.Parse.{AllDigits, digits_value}
 use Rattle.std.specs.Char.{digit_value}
-use Rattle.std.proofs.lemmas.Bool.{eqb-true}
-use borrow.Author.Tests.{tests}
 use Rattle.hex.specs.Hex.{decode_of}
 use Rattle.hex.specs.declared.error.FromHexError.{FromHexError}
-use Rattle.terms.specs.declared.Size.{Size}
-use Rattle.terms.specs.declared.SizeFault.{SizeFault}
-use Rattle.terms.specs.Sizes.{size_of, size_fault}
+use Rattle.vocabulary.specs.Terms.{Size, SizeFault, new_size, size_fault}
 use Rattle.disk.specs.declared.Pick.{Pick}
 use Rattle.disk.specs.declared.Pick.TheVariants.{Kept, Lost, Fill}
 use Rattle.sim.specs.declared.events.Which.{Which}
@@ -19,15 +14,15 @@ use Rattle.script.specs.declared.fault.ScriptFault.TheVariants as faults
 use Rattle.script.specs.declared.step.Verb.{Verb}
 use Rattle.script.specs.declared.step.Verb.TheVariants as verb
 use Rattle.sim.specs.declared.TheConstants.{MOST_EVENTS}
-use Rattle.script.specs.Words.{words_of, IsMember, IsCount, IsLong, IsGroupSize, IsBit, IsWhich, IsFuse, ArePick, AreMembers}
-use Rattle.words.specs.Numbers.{IsNumber, IsBelow, AreBytes}
-use Rattle.script.specs.Lines.{Page, page_of, HasLine, number_at}
-use Rattle.script.specs.Acts.{Told}
+use Rattle.script.specs.LineWords.{words_of, IsMember, IsCount, IsLong, IsGroupSize, IsBit, IsWhich, IsFuse, ArePick, AreMembers}
+use Rattle.words.specs.Numbers.{IsNumber, IsBelow, IsHexOf}
+use Rattle.script.specs.Lines.{Page, page_from, HasLine, line_number}
+use Rattle.script.specs.Acts.{TossedAct}
 use Rattle.script.specs.Acts.Act.{Propose, Deliver, DeliverAll, Lie, Fuse, Crash, Restart, Reset}
-use Rattle.script.specs.Steps.{Step, name_of, One, Two, Three, SaysBehind, Says}
-use Rattle.script.specs.Steps.Step.{Once, Rounds, Random}
+use Rattle.script.specs.Steps.{ScriptStep, verb_name, One, Two, Three, SaysBehind, SaysStep}
+use Rattle.script.specs.Steps.ScriptStep.{Once, Rounds, Random}
 use Rattle.script.specs.Making.{Made, after_step, correct_below, LeadTo, BreakBy}
-use Rattle.script.specs.Scripts.{IsNamed, AreLiars, IsSeed, MakeSize, IsTold, at_start, Lacks, IsFirstFault}
+use Rattle.script.specs.Scripts.{IsNamed, AreListedLiars, IsSeed, MakeSize, IsTold, at_start, LacksLine, IsFirstFault}
 use Rattle.script.proofs.Exact.{one_number, one_bytes, one_verb}
 
 -- a form that a thing has, or has not
@@ -131,10 +126,10 @@ fuse w = step (same_list w (codes "off")) (below 64 w)
     step (inr a) (inl (k, h)) = inl (Some k, h)
     step (inr a) (inr b) = inr (none a b)
 
-pub bytes : Decides AreBytes
+pub bytes : Decides IsHexOf
 bytes w = step (decode_of w) refl
   where
-    step : (r : Result (List ℕ) FromHexError) → decode_of w ≡ r → ((x : List ℕ) × AreBytes w x) ⊎ ((x : List ℕ) → AreBytes w x → ⊥)
+    step : (r : Result (List ℕ) FromHexError) → decode_of w ≡ r → ((x : List ℕ) × IsHexOf w x) ⊎ ((x : List ℕ) → IsHexOf w x → ⊥)
     step (Ok []) e = inr (λ x h.
         let d = h.decoded in
         let f : ◌≡◌ {A = Result (List ℕ) FromHexError} (Ok []) (Ok x) = sym e ∙ d in
@@ -188,21 +183,21 @@ pick (w ∷ d ∷ []) = step (same_list w (codes "fill")) (bytes d)
     named a Lost h = cc
     named a (Fill k) h = let e = h.1 in let f : w ≡ codes "fill" = cc in a f
 
-    written : ((x : List ℕ) → AreBytes d x → ⊥) → (p : Pick) → ArePick (w ∷ d ∷ []) p → ⊥
+    written : ((x : List ℕ) → IsHexOf d x → ⊥) → (p : Pick) → ArePick (w ∷ d ∷ []) p → ⊥
     written a Kept h = cc
     written a Lost h = cc
-    written a (Fill k) h = let e = h.1 in let f : d ≡ h.0 = cc in a (k ∷ []) (subst (λ (v : List ℕ). AreBytes v (k ∷ [])) (sym f) h.2)
+    written a (Fill k) h = let e = h.1 in let f : d ≡ h.0 = cc in a (k ∷ []) (subst (λ (v : List ℕ). IsHexOf v (k ∷ [])) (sym f) h.2)
 
-    many : (x y : ℕ) (xs : List ℕ) → AreBytes d (x ∷ y ∷ xs) → (p : Pick) → ArePick (w ∷ d ∷ []) p → ⊥
+    many : (x y : ℕ) (xs : List ℕ) → IsHexOf d (x ∷ y ∷ xs) → (p : Pick) → ArePick (w ∷ d ∷ []) p → ⊥
     many x y xs g Kept h = cc
     many x y xs g Lost h = cc
     many x y xs g (Fill k) h =
         let e = h.1 in
         let f : d ≡ h.0 = cc in
-        let i : x ∷ y ∷ xs ≡ k ∷ [] = one_bytes d (x ∷ y ∷ xs) (k ∷ []) g (subst (λ (v : List ℕ). AreBytes v (k ∷ [])) (sym f) h.2) in
+        let i : x ∷ y ∷ xs ≡ k ∷ [] = one_bytes d (x ∷ y ∷ xs) (k ∷ []) g (subst (λ (v : List ℕ). IsHexOf v (k ∷ [])) (sym f) h.2) in
         cc
 
-    step : (w ≡ codes "fill") ⊎ (w ≡ codes "fill" → ⊥) → ((x : List ℕ) × AreBytes d x) ⊎ ((x : List ℕ) → AreBytes d x → ⊥)
+    step : (w ≡ codes "fill") ⊎ (w ≡ codes "fill" → ⊥) → ((x : List ℕ) × IsHexOf d x) ⊎ ((x : List ℕ) → IsHexOf d x → ⊥)
         → ((p : Pick) × ArePick (w ∷ d ∷ []) p) ⊎ ((p : Pick) → ArePick (w ∷ d ∷ []) p → ⊥)
     step (inl e) (inl ([], h)) = let l = h.some in absurd (omega arith)
     step (inl e) (inl (x ∷ [], h)) = inl (Fill x, (d, ap (λ (v : List ℕ). v ∷ d ∷ []) e, h))
@@ -273,17 +268,17 @@ three {A} {B} {C} F G H f g i (w ∷ v ∷ u ∷ []) = step (f w) (g v) (i u)
         let m : u ≡ h.third = cc in
         isnt c (subst (λ (x : List ℕ). H x c) (sym m) h.third_is))
 
-crash : (ws : List (List ℕ)) → ((s : Step) × SaysBehind verb.Crash ws s) ⊎ ((s : Step) → SaysBehind verb.Crash ws s → ⊥)
+crash : (ws : List (List ℕ)) → ((s : ScriptStep) × SaysBehind verb.Crash ws s) ⊎ ((s : ScriptStep) → SaysBehind verb.Crash ws s → ⊥)
 crash [] = inr (λ s h. let e = h.4 in cc)
 crash (w ∷ ws) = step (below 8 w) (pick ws)
   where
     step : ((m : ℕ) × IsMember w m) ⊎ ((m : ℕ) → IsMember w m → ⊥) → ((p : Pick) × ArePick ws p) ⊎ ((p : Pick) → ArePick ws p → ⊥)
-        → ((s : Step) × SaysBehind verb.Crash (w ∷ ws) s) ⊎ ((s : Step) → SaysBehind verb.Crash (w ∷ ws) s → ⊥)
+        → ((s : ScriptStep) × SaysBehind verb.Crash (w ∷ ws) s) ⊎ ((s : ScriptStep) → SaysBehind verb.Crash (w ∷ ws) s → ⊥)
     step (inl (m, h)) (inl (p, g)) = inl (Once (Crash m p), (m, p, w, ws, refl, h, g, refl))
     step (inr isnt) r = inr (λ s (m, p, d, b, e, i, j, f). let k : w ≡ d = cc in isnt m (subst (λ (x : List ℕ). IsMember x m) (sym k) i))
     step (inl q) (inr isnt) = inr (λ s (m, p, d, b, e, i, j, f). let k : ws ≡ b = cc in isnt p (subst (λ (x : List (List ℕ)). ArePick x p) (sym k) j))
 
-behind : (v : Verb) (ws : List (List ℕ)) → ((s : Step) × SaysBehind v ws s) ⊎ ((s : Step) → SaysBehind v ws s → ⊥)
+behind : (v : Verb) (ws : List (List ℕ)) → ((s : ScriptStep) × SaysBehind v ws s) ⊎ ((s : ScriptStep) → SaysBehind v ws s → ⊥)
 behind verb.Propose ws =
     elim (three IsMember IsCount IsBit (below 8) (below 16) bit ws)
     [ inl (a, b, c, h) ↦ inl (Once (Propose a b c), (a, b, c, h, refl)) | inr isnt ↦ inr (λ s (a, b, c, h, e). isnt a b c h) ]
@@ -294,7 +289,7 @@ behind verb.Group ws =
     elim (three IsMember IsMember IsGroupSize (below 8) (below 8) group_size ws)
     [ inl (a, b, c, h) ↦ inl (Once (DeliverAll a b c), (a, b, c, h, refl)) | inr isnt ↦ inr (λ s (a, b, c, h, e). isnt a b c h) ]
 behind verb.Lie ws =
-    elim (three IsMember IsMember AreBytes (below 8) (below 8) bytes ws)
+    elim (three IsMember IsMember IsHexOf (below 8) (below 8) bytes ws)
     [ inl (a, b, c, h) ↦ inl (Once (Lie a b c), (a, b, c, h, refl)) | inr isnt ↦ inr (λ s (a, b, c, h, e). isnt a b c h) ]
 behind verb.Fuse ws =
     elim (two IsMember IsFuse (below 8) fuse ws)
@@ -312,7 +307,7 @@ behind verb.Random ws =
 
 -- the verb of a name
 no_verb : (w : List ℕ) → (w ≡ codes "group" → ⊥) → (w ≡ codes "propose" → ⊥) → (w ≡ codes "deliver" → ⊥) → (w ≡ codes "lie" → ⊥) → (w ≡ codes "fuse" → ⊥) → (w ≡ codes "crash" → ⊥)
-    → (w ≡ codes "restart" → ⊥) → (w ≡ codes "reset" → ⊥) → (w ≡ codes "rounds" → ⊥) → (w ≡ codes "random" → ⊥) → (v : Verb) → w ≡ name_of v → ⊥
+    → (w ≡ codes "restart" → ⊥) → (w ≡ codes "reset" → ⊥) → (w ≡ codes "rounds" → ⊥) → (w ≡ codes "random" → ⊥) → (v : Verb) → w ≡ verb_name v → ⊥
 no_verb w z a b c d e f g h i verb.Group = z
 no_verb w z a b c d e f g h i verb.Propose = a
 no_verb w z a b c d e f g h i verb.Deliver = b
@@ -324,7 +319,7 @@ no_verb w z a b c d e f g h i verb.Reset = g
 no_verb w z a b c d e f g h i verb.Rounds = h
 no_verb w z a b c d e f g h i verb.Random = i
 
-verb_named : (w : List ℕ) → ((v : Verb) × (w ≡ name_of v)) ⊎ ((v : Verb) → w ≡ name_of v → ⊥)
+verb_named : (w : List ℕ) → ((v : Verb) × (w ≡ verb_name v)) ⊎ ((v : Verb) → w ≡ verb_name v → ⊥)
 verb_named w =
     elim (same_list w (codes "group")) [
       | inl e ↦ inl (verb.Group, e)
@@ -368,25 +363,25 @@ verb_named w =
           ]
     ]
 
-says : Decides Says
+says : Decides SaysStep
 says [] = inr (λ s h. let e = h.words_are in cc)
 says (w ∷ ws) = step (verb_named w)
   where
-    known : (v : Verb) → w ≡ name_of v → ((s : Step) × SaysBehind v ws s) ⊎ ((s : Step) → SaysBehind v ws s → ⊥)
-        → ((s : Step) × Says (w ∷ ws) s) ⊎ ((s : Step) → Says (w ∷ ws) s → ⊥)
+    known : (v : Verb) → w ≡ verb_name v → ((s : ScriptStep) × SaysBehind v ws s) ⊎ ((s : ScriptStep) → SaysBehind v ws s → ⊥)
+        → ((s : ScriptStep) × SaysStep (w ∷ ws) s) ⊎ ((s : ScriptStep) → SaysStep (w ∷ ws) s → ⊥)
     known v e (inl (s, h)) = inl (s, record { its_verb = v; behind = ws; words_are = ap (λ (x : List ℕ). x ∷ ws) e; says = h })
     known v e (inr isnt) = inr (λ s h.
-        let f : w ∷ ws ≡ name_of h.its_verb ∷ h.behind = h.words_are in
-        let g : w ≡ name_of h.its_verb = cc in
+        let f : w ∷ ws ≡ verb_name h.its_verb ∷ h.behind = h.words_are in
+        let g : w ≡ verb_name h.its_verb = cc in
         let i : ws ≡ h.behind = cc in
         let j = one_verb v h.its_verb (sym e ∙ g) in
         isnt s (subst (λ (x : Verb). SaysBehind x ws s) (sym j) (subst (λ (x : List (List ℕ)). SaysBehind h.its_verb x s) (sym i) h.says)))
 
-    step : ((v : Verb) × (w ≡ name_of v)) ⊎ ((v : Verb) → w ≡ name_of v → ⊥) → ((s : Step) × Says (w ∷ ws) s) ⊎ ((s : Step) → Says (w ∷ ws) s → ⊥)
+    step : ((v : Verb) × (w ≡ verb_name v)) ⊎ ((v : Verb) → w ≡ verb_name v → ⊥) → ((s : ScriptStep) × SaysStep (w ∷ ws) s) ⊎ ((s : ScriptStep) → SaysStep (w ∷ ws) s → ⊥)
     step (inl (v, e)) = known v e (behind v ws)
     step (inr isnt) = inr (λ s h.
-        let f : w ∷ ws ≡ name_of h.its_verb ∷ h.behind = h.words_are in
-        let g : w ≡ name_of h.its_verb = cc in
+        let f : w ∷ ws ≡ verb_name h.its_verb ∷ h.behind = h.words_are in
+        let g : w ≡ verb_name h.its_verb = cc in
         isnt h.its_verb g)
 
 -- lines lead on or break
@@ -396,7 +391,7 @@ leads_or_breaks size correct before [] = inl (before, refl)
 leads_or_breaks size correct before (line ∷ lines) =
     step (says (words_of line.1)) (λ next. leads_or_breaks size correct next lines)
   where
-    fits : (s : Step) → Says (words_of line.1) s
+    fits : (s : ScriptStep) → SaysStep (words_of line.1) s
         → (MOST_EVENTS < length (after_step size correct s before).events) ⊎ (length (after_step size correct s before).events ≤ MOST_EVENTS)
         → ((after : Made) × LeadTo size correct (after_step size correct s before) lines after)
         ⊎ ((fault : ScriptFault) × BreakBy size correct (after_step size correct s before) lines fault)
@@ -405,7 +400,7 @@ leads_or_breaks size correct before (line ∷ lines) =
     fits s h (inr few) (inl (after, l)) = inl (after, (after_step size correct s before, (s, h, record { there = refl; few = few }), l))
     fits s h (inr few) (inr (fault, b)) = inr (fault, inr (after_step size correct s before, (s, h, record { there = refl; few = few }), b))
 
-    step : ((s : Step) × Says (words_of line.1) s) ⊎ ((s : Step) → Says (words_of line.1) s → ⊥)
+    step : ((s : ScriptStep) × SaysStep (words_of line.1) s) ⊎ ((s : ScriptStep) → SaysStep (words_of line.1) s → ⊥)
         → ((next : Made) → ((after : Made) × LeadTo size correct next lines after) ⊎ ((fault : ScriptFault) × BreakBy size correct next lines fault))
         → ((after : Made) × LeadTo size correct before (line ∷ lines) after) ⊎ ((fault : ScriptFault) × BreakBy size correct before (line ∷ lines) fault)
     step (inl (s, h)) go = fits s h (less_or MOST_EVENTS (length (after_step size correct s before).events)) (go (after_step size correct s before))
@@ -413,11 +408,11 @@ leads_or_breaks size correct before (line ∷ lines) =
 
 -- the line at a place is of a form, or the fault names it
 has_line : {A : Type 0} (page : Page) (place : ℕ) (Form : List (List ℕ) → A → Type 0) → Decides Form
-    → ((x : A) × HasLine page place Form x) ⊎ Lacks page place Form (faults.Line (number_at page place))
+    → ((x : A) × HasLine page place Form x) ⊎ LacksLine page place Form (faults.Line (line_number page place))
 has_line {A} page place Form decide = step (slice_get page.said place) refl
   where
     known : (line : ℕ × List ℕ) → slice_get page.said place ≡ Some line → ((x : A) × Form (words_of line.1) x) ⊎ ((x : A) → Form (words_of line.1) x → ⊥)
-        → ((x : A) × HasLine page place Form x) ⊎ Lacks page place Form (faults.Line (number_at page place))
+        → ((x : A) × HasLine page place Form x) ⊎ LacksLine page place Form (faults.Line (line_number page place))
     known line e (inl (x, h)) = inl (x, record { line = line; there = e; form = h })
     known line e (inr isnt) = inr (record {
       none = λ x h.
@@ -427,7 +422,7 @@ has_line {A} page place Form decide = step (slice_get page.said place) refl
       fault_is = refl;
     })
 
-    step : (o : Option (ℕ × List ℕ)) → slice_get page.said place ≡ o → ((x : A) × HasLine page place Form x) ⊎ Lacks page place Form (faults.Line (number_at page place))
+    step : (o : Option (ℕ × List ℕ)) → slice_get page.said place ≡ o → ((x : A) × HasLine page place Form x) ⊎ LacksLine page place Form (faults.Line (line_number page place))
     step (Some line) e = known line e (decide (words_of line.1))
     step None e = inr (record {
       none = λ x h. let f : ◌≡◌ {A = Option (ℕ × List ℕ)} None (Some h.line) = sym e ∙ h.there in cc;
@@ -446,12 +441,12 @@ named name (v ∷ w ∷ []) = step (same_list v name) (below 16 w)
     step (inr isnt) r = inr (λ n (x, f, g). let e : v ≡ name = cc in isnt e)
     step (inl e) (inr isnt) = inr (λ n (x, f, g). let e : w ≡ x = cc in isnt n (subst (λ (y : List ℕ). IsCount y n) (sym e) g))
 
-liars : Decides AreLiars
+liars : Decides AreListedLiars
 liars [] = inr (λ x h. let e = h.1 in cc)
 liars (w ∷ ws) = step (same_list w (codes "liars")) (members ws)
   where
     step : (w ≡ codes "liars") ⊎ (w ≡ codes "liars" → ⊥) → ((ms : List ℕ) × AreMembers ws ms) ⊎ ((ms : List ℕ) → AreMembers ws ms → ⊥)
-        → ((ms : List ℕ) × AreLiars (w ∷ ws) ms) ⊎ ((ms : List ℕ) → AreLiars (w ∷ ws) ms → ⊥)
+        → ((ms : List ℕ) × AreListedLiars (w ∷ ws) ms) ⊎ ((ms : List ℕ) → AreListedLiars (w ∷ ws) ms → ⊥)
     step (inl e) (inl (ms, h)) = inl (ms, (ws, ap (λ (x : List ℕ). x ∷ ws) e, h))
     step (inr isnt) r = inr (λ n (x, f, g). let e : w ≡ codes "liars" = cc in isnt e)
     step (inl e) (inr isnt) = inr (λ n (x, f, g). let e : ws ≡ x = cc in isnt n (subst (λ (y : List (List ℕ)). AreMembers y n) (sym e) g))
@@ -473,31 +468,31 @@ sized n t questions = step (size_fault n t questions) refl
   where
     step : (o : Option SizeFault) → size_fault n t questions ≡ o
         → ((size : Size) × MakeSize n t questions size) ⊎ ((wrong : SizeFault) × (size_fault n t questions ≡ Some wrong))
-    step None e = inl (size_of n t questions, record { size_is = refl; sound = e })
+    step None e = inl (new_size n t questions, record { size_is = refl; sound = e })
     step (Some wrong) e = inr (wrong, e)
 
 -- each text says something, or has a first fault
-pub told_or_fault : (text : List ℕ) → ((size : Size) × (ls : List ℕ) × (events : List Told) × IsTold text size ls events) ⊎ ((fault : ScriptFault) × IsFirstFault text fault)
+pub told_or_fault : (text : List ℕ) → ((size : Size) × (ls : List ℕ) × (events : List TossedAct) × IsTold text size ls events) ⊎ ((fault : ScriptFault) × IsFirstFault text fault)
 told_or_fault text =
-    elim (has_line (page_of text) 0 (IsNamed (codes "n")) (named (codes "n"))) [
+    elim (has_line (page_from text) 0 (IsNamed (codes "n")) (named (codes "n"))) [
       | inr k ↦ inr (_, inl k)
       | inl (n, a) ↦
-          elim (has_line (page_of text) 1 (IsNamed (codes "t")) (named (codes "t"))) [
+          elim (has_line (page_from text) 1 (IsNamed (codes "t")) (named (codes "t"))) [
             | inr k ↦ inr (_, inr (n, a, inl k))
             | inl (t, b) ↦
-                elim (has_line (page_of text) 2 (IsNamed (codes "questions")) (named (codes "questions"))) [
+                elim (has_line (page_from text) 2 (IsNamed (codes "questions")) (named (codes "questions"))) [
                   | inr k ↦ inr (_, inr (n, a, inr (t, b, inl k)))
                   | inl (q, c) ↦
                       elim (sized n t q) [
                         | inr (wrong, e) ↦ inr (faults.Size wrong, inr (n, a, inr (t, b, inr (q, c, inl (wrong, e, refl)))))
                         | inl (size, s) ↦
-                            elim (has_line (page_of text) 3 AreLiars liars) [
+                            elim (has_line (page_from text) 3 AreListedLiars liars) [
                               | inr k ↦ inr (_, inr (n, a, inr (t, b, inr (q, c, inr (size, s, inl k)))))
                               | inl (ls, l) ↦
-                                  elim (has_line (page_of text) 4 IsSeed seed) [
+                                  elim (has_line (page_from text) 4 IsSeed seed) [
                                     | inr k ↦ inr (_, inr (n, a, inr (t, b, inr (q, c, inr (size, s, inr (ls, l, inl k))))))
                                     | inl (d, g) ↦
-                                        elim (leads_or_breaks size (correct_below size.n ls) (at_start d) (drop 5 (page_of text).said)) [
+                                        elim (leads_or_breaks size (correct_below size.n ls) (at_start d) (drop 5 (page_from text).said)) [
                                           | inr (fault, h) ↦ inr (fault, inr (n, a, inr (t, b, inr (q, c, inr (size, s, inr (ls, l, inr (d, g, h)))))))
                                           | inl (after, h) ↦ inl (
                                             size,

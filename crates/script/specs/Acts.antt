@@ -17,20 +17,20 @@ pub data Act : Type 0 where
   Reset : (from : ℕ) → (to : ℕ) → Act
 
 -- an event: what happens, and the toss where it takes one
-pub record Told : Type 0 where
+pub record TossedAct : Type 0 where
   pub act : Act
   pub toss : Option ℕ
 
 -- what an event tells
-abbrev pub told : Event → Told
-told (event.Propose member question bit toss) = record { act = Propose member question bit; toss = Some toss.0 }
-told (event.Deliver from to which toss) = record { act = Deliver from to which; toss = Some toss.0 }
-told (event.DeliverAll from to count toss) = record { act = DeliverAll from to count; toss = Some toss.0 }
-told (event.LieBytes liar to bytes toss) = record { act = Lie liar to bytes.items; toss = Some toss.0 }
-told (event.Fuse member calls) = record { act = Fuse member calls; toss = None }
-told (event.Crash member pick) = record { act = Crash member pick; toss = None }
-told (event.Restart member) = record { act = Restart member; toss = None }
-told (event.Reset from to) = record { act = Reset from to; toss = None }
+abbrev pub tossed_act : Event → TossedAct
+tossed_act (event.Propose member question bit toss) = record { act = Propose member question bit; toss = Some toss.0 }
+tossed_act (event.Deliver from to which toss) = record { act = Deliver from to which; toss = Some toss.0 }
+tossed_act (event.DeliverAll from to count toss) = record { act = DeliverAll from to count; toss = Some toss.0 }
+tossed_act (event.LieBytes liar to bytes toss) = record { act = Lie liar to bytes.items; toss = Some toss.0 }
+tossed_act (event.Fuse member calls) = record { act = Fuse member calls; toss = None }
+tossed_act (event.Crash member pick) = record { act = Crash member pick; toss = None }
+tossed_act (event.Restart member) = record { act = Restart member; toss = None }
+tossed_act (event.Reset from to) = record { act = Reset from to; toss = None }
 
 -- whether an event takes a toss: a member may then say something
 abbrev pub takes_toss : Act → Bool

@@ -2,20 +2,14 @@
 use Rattle.std.specs.Prelude.{ℕ, ◌+◌, ◌%◌, ◌==◌, if◌then◌else◌, Option, Some, None, List, [], ◌∷◌, ◌++◌}
 use Rattle.std.specs.Int.{w64, to_be_bytes}
 use Rattle.rand_chacha.specs.ChaCha.{ChaCha, next_word, of_seed}
-use Rattle.rounds.specs.Tossing.{toss_of}
-use Rattle.terms.specs.declared.Kind.{Kind}
-use Rattle.terms.specs.declared.Kind.TheVariants.{Initial, Echo, Ready}
-use Rattle.terms.specs.declared.Value.{Value}
-use Rattle.terms.specs.declared.Value.TheVariants.{Zero, One, SureZero, SureOne, Unsure}
-use Rattle.terms.specs.declared.Size.{Size}
-use Rattle.terms.specs.declared.Statement.{Statement}
-use Rattle.terms.specs.Same.{place_of, statement_of}
+use Rattle.rounds.specs.Tossing.{next_toss}
+use Rattle.vocabulary.specs.Terms.{Kind, Initial, Echo, Ready, Value, Zero, One, SureZero, SureOne, Unsure, Size, Statement, new_place, new_statement}
 use Rattle.wire.specs.declared.message.Message.TheVariants as message
-use Rattle.wire.specs.Texts.{text}
+use Rattle.wire.specs.Texts.{frame_bytes}
 use Rattle.disk.specs.declared.Pick.{Pick}
 use Rattle.disk.specs.declared.Pick.TheVariants.{Kept, Lost, Fill}
 use Rattle.sim.specs.declared.events.Which.TheVariants.{Next, At}
-use Rattle.script.specs.Acts.{Act, Told, takes_toss}
+use Rattle.script.specs.Acts.{Act, TossedAct, takes_toss}
 use Rattle.script.specs.Acts.Act.{Propose, Deliver, Lie, Fuse, Crash, Restart, Reset}
 
 -- 24 bytes of zero
@@ -46,7 +40,7 @@ below bound = λ g. ((next_word 10 g).0 % bound, (next_word 10 g).1)
 
 -- a toss: two words, the first the low half
 unfoldable pub toss : Drawn ℕ
-toss = λ g. toss_of g
+toss = λ g. next_toss g
 
 -- a member, or an origin
 abbrev pub member : Size → Drawn ℕ
@@ -92,7 +86,7 @@ statement size = do
   round ← below 3
   step ← below 3
   its_value ← value (1 + step)
-  pure (statement_of its_kind (place_of its_question origin (1 + round) (1 + step)) its_value)
+  pure (new_statement its_kind (new_place its_question origin (1 + round) (1 + step)) its_value)
 
 -- 0 to 255 fills, 256 keeps, 257 loses
 abbrev pub pick_numbered : ℕ → Pick
@@ -126,7 +120,7 @@ lie size = do
   liar ← member size
   to ← member size
   s ← statement size
-  pure (Lie liar to (text (message.Statement s)))
+  pure (Lie liar to (frame_bytes (message.Statement s)))
 
 abbrev pub pick : Drawn Pick
 pick = do
@@ -181,7 +175,7 @@ drawn size = do
   act_of_kind size k
 
 -- the act as an event: where it takes a toss, that is drawn
-abbrev pub tossed : Act → Drawn Told
+abbrev pub tossed : Act → Drawn TossedAct
 tossed act = λ g.
     if takes_toss act then (record { act = act; toss = Some (toss g).0 }, (toss g).1)
     else (record { act = act; toss = None }, g)

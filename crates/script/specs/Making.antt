@@ -2,18 +2,18 @@
 use Rattle.std.specs.Prelude.{ℕ, zero, suc, ◌≡◌, ◌<◌, ◌≤◌, ◌*◌, ◌⊎◌, if◌then◌else◌, List, [], ◌∷◌, ◌++◌, length, map}
 use Rattle.std.specs.List.{flat_map}
 use Rattle.rand_chacha.specs.ChaCha.{ChaCha}
-use Rattle.terms.specs.declared.Size.{Size}
+use Rattle.vocabulary.specs.Terms.{Size}
 use Rattle.sim.specs.declared.events.Which.TheVariants.{Next}
 use Rattle.sim.specs.Outcomes.{among}
 use Rattle.script.specs.declared.fault.ScriptFault.{ScriptFault}
 use Rattle.script.specs.declared.fault.ScriptFault.TheVariants as faults
 use Rattle.sim.specs.declared.TheConstants.{MOST_EVENTS}
-use Rattle.script.specs.Words.{words_of}
-use Rattle.script.specs.Acts.{Act, Told}
+use Rattle.script.specs.LineWords.{words_of}
+use Rattle.script.specs.Acts.{Act, TossedAct}
 use Rattle.script.specs.Acts.Act.{Deliver}
 use Rattle.script.specs.Drawing.{drawn, tossed}
-use Rattle.script.specs.Steps.{Step, Says}
-use Rattle.script.specs.Steps.Step.{Once, Rounds, Random}
+use Rattle.script.specs.Steps.{ScriptStep, SaysStep}
+use Rattle.script.specs.Steps.ScriptStep.{Once, Rounds, Random}
 
 -- the members below a number that don't lie, upwards
 abbrev pub correct_below : ℕ → List ℕ → List ℕ
@@ -35,7 +35,7 @@ times (suc k) xs = xs ++ times k xs
 
 -- the events so far, and the stream of words behind those that were drawn
 pub record Made : Type 0 where
-  pub events : List Told
+  pub events : List TossedAct
   pub stream : ChaCha
 
 -- one event more
@@ -58,24 +58,24 @@ draws size zero made = made
 draws size (suc k) made = draws size k (add_drawn size made)
 
 -- what there is behind a step, in a cluster of that size in which these members don't lie
-abbrev pub after_step : Size → List ℕ → Step → Made → Made
+abbrev pub after_step : Size → List ℕ → ScriptStep → Made → Made
 after_step size correct (Once act) made = add act made
 after_step size correct (Rounds k) made = adds (times k (round correct)) made
 after_step size correct (Random k) made = draws size k made
 
 -- what there is behind these steps, in turn
-abbrev pub after_steps : Size → List ℕ → List Step → Made → Made
+abbrev pub after_steps : Size → List ℕ → List ScriptStep → Made → Made
 after_steps size correct [] made = made
 after_steps size correct (step ∷ steps) made = after_steps size correct steps (after_step size correct step made)
 
 -- how many events a step stands for, where so many members don't lie
-abbrev pub how_many : ℕ → Step → ℕ
+abbrev pub how_many : ℕ → ScriptStep → ℕ
 how_many members (Once act) = 1
 how_many members (Rounds k) = k * (members * members)
 how_many members (Random k) = k
 
 -- in how many turns, at most, a step's events are made
-abbrev pub turns : Step → ℕ
+abbrev pub turns : ScriptStep → ℕ
 turns (Once act) = 1
 turns (Rounds k) = k
 turns (Random k) = k
@@ -85,7 +85,7 @@ abbrev pub AreFew : Made → Type 0
 AreFew made = length made.events ≤ MOST_EVENTS
 
 -- what there is now is what was to come, and there are no more events than may be
-pub record Goes (to now : Made) : Type 0 where
+pub record Becomes (to now : Made) : Type 0 where
   pub there : now ≡ to
   pub few : AreFew to
 
@@ -100,7 +100,7 @@ Fails to fault = (fault ≡ faults.Memory) ⊎ IsOver to fault
 -- the line says a step, and that leads from what there was to what there is
 abbrev pub LeadsBy : Size → List ℕ → Made → ℕ × List ℕ → Made → Type 0
 LeadsBy size correct before line after =
-    (step : Step) × Says (words_of line.1) step × Goes (after_step size correct step before) after
+    (step : ScriptStep) × SaysStep (words_of line.1) step × Becomes (after_step size correct step before) after
 
 -- each of the lines does, in turn
 abbrev pub LeadTo : Size → List ℕ → Made → List (ℕ × List ℕ) → Made → Type 0
@@ -111,8 +111,8 @@ LeadTo size correct before (line ∷ lines) after =
 -- the line says no step, or one with which there are too many events
 abbrev pub BreaksAt : Size → List ℕ → Made → ℕ × List ℕ → ScriptFault → Type 0
 BreaksAt size correct before line fault =
-    (((step : Step) → Says (words_of line.1) step → ⊥) × (fault ≡ faults.Line line.0))
-    ⊎ ((step : Step) × Says (words_of line.1) step × IsOver (after_step size correct step before) fault)
+    (((step : ScriptStep) → SaysStep (words_of line.1) step → ⊥) × (fault ≡ faults.Line line.0))
+    ⊎ ((step : ScriptStep) × SaysStep (words_of line.1) step × IsOver (after_step size correct step before) fault)
 
 -- one of the lines does, and those before it lead there
 abbrev pub BreakBy : Size → List ℕ → Made → List (ℕ × List ℕ) → ScriptFault → Type 0

@@ -4,29 +4,29 @@ use Rattle.disk.specs.declared.Pick.{Pick}
 use Rattle.sim.specs.declared.events.Which.{Which}
 use Rattle.script.specs.declared.step.Verb.{Verb}
 use Rattle.script.specs.declared.step.Verb.TheVariants as verb
-use Rattle.script.specs.Words.{IsMember, IsCount, IsLong, IsGroupSize, IsBit, IsWhich, IsFuse, ArePick}
-use Rattle.words.specs.Numbers.{AreBytes}
+use Rattle.script.specs.LineWords.{IsMember, IsCount, IsLong, IsGroupSize, IsBit, IsWhich, IsFuse, ArePick}
+use Rattle.words.specs.Numbers.{IsHexOf}
 use Rattle.script.specs.Acts.{Act}
 use Rattle.script.specs.Acts.Act.{Propose, Deliver, DeliverAll, Lie, Fuse, Crash, Restart, Reset}
 
 -- an act, or many
-pub data Step : Type 0 where
-  Once : (act : Act) → Step
-  Rounds : (count : ℕ) → Step
-  Random : (count : ℕ) → Step
+pub data ScriptStep : Type 0 where
+  Once : (act : Act) → ScriptStep
+  Rounds : (count : ℕ) → ScriptStep
+  Random : (count : ℕ) → ScriptStep
 
 -- the word that a line begins with
-abbrev pub name_of : Verb → List ℕ
-name_of verb.Propose = codes "propose"
-name_of verb.Deliver = codes "deliver"
-name_of verb.Group = codes "group"
-name_of verb.Lie = codes "lie"
-name_of verb.Fuse = codes "fuse"
-name_of verb.Crash = codes "crash"
-name_of verb.Restart = codes "restart"
-name_of verb.Reset = codes "reset"
-name_of verb.Rounds = codes "rounds"
-name_of verb.Random = codes "random"
+abbrev pub verb_name : Verb → List ℕ
+verb_name verb.Propose = codes "propose"
+verb_name verb.Deliver = codes "deliver"
+verb_name verb.Group = codes "group"
+verb_name verb.Lie = codes "lie"
+verb_name verb.Fuse = codes "fuse"
+verb_name verb.Crash = codes "crash"
+verb_name verb.Restart = codes "restart"
+verb_name verb.Reset = codes "reset"
+verb_name verb.Rounds = codes "rounds"
+verb_name verb.Random = codes "random"
 
 -- one word, of this form
 pub record One {A : Type 0} (First : List ℕ → A → Type 0) (words : List (List ℕ)) (a : A) : Type 0 where
@@ -53,7 +53,7 @@ pub record Three {A B C : Type 0} (First : List ℕ → A → Type 0) (Second : 
   pub third_is : Third third c
 
 -- what the words behind a line's first word say
-abbrev pub SaysBehind : Verb → List (List ℕ) → Step → Type 0
+abbrev pub SaysBehind : Verb → List (List ℕ) → ScriptStep → Type 0
 -- propose M Q B
 SaysBehind verb.Propose words step =
     (member : ℕ) × (question : ℕ) × (bit : Bool) × Three IsMember IsCount IsBit words member question bit
@@ -66,7 +66,7 @@ SaysBehind verb.Group words step =
     (from : ℕ) × (to : ℕ) × (count : ℕ) × Three IsMember IsMember IsGroupSize words from to count × (step ≡ Once (DeliverAll from to count))
 -- lie L M HEX
 SaysBehind verb.Lie words step =
-    (liar : ℕ) × (to : ℕ) × (bytes : List ℕ) × Three IsMember IsMember AreBytes words liar to bytes × (step ≡ Once (Lie liar to bytes))
+    (liar : ℕ) × (to : ℕ) × (bytes : List ℕ) × Three IsMember IsMember IsHexOf words liar to bytes × (step ≡ Once (Lie liar to bytes))
 -- fuse M K, fuse M off
 SaysBehind verb.Fuse words step =
     (member : ℕ) × (calls : Option ℕ) × Two IsMember IsFuse words member calls × (step ≡ Once (Fuse member calls))
@@ -84,8 +84,8 @@ SaysBehind verb.Rounds words step = (count : ℕ) × One IsLong words count × (
 SaysBehind verb.Random words step = (count : ℕ) × One IsLong words count × (step ≡ Random count)
 
 -- the words of a line say the step
-pub record Says (words : List (List ℕ)) (step : Step) : Type 0 where
+pub record SaysStep (words : List (List ℕ)) (step : ScriptStep) : Type 0 where
   pub its_verb : Verb
   pub behind : List (List ℕ)
-  pub words_are : words ≡ name_of its_verb ∷ behind
+  pub words_are : words ≡ verb_name its_verb ∷ behind
   pub says : SaysBehind its_verb behind step

@@ -1,7 +1,7 @@
 -- What stands in the code for acts and steps.
 use Rattle.std.specs.Prelude.{ℕ, Bool, true, false, List, [], ◌∷◌, map}
 use denote.Ref.{Bor}
-use Rattle.terms.specs.declared.Size.{Size}
+use Rattle.vocabulary.specs.Terms.{Size}
 use Rattle.script.specs.declared.draw.Untossed.{Untossed}
 use Rattle.script.specs.declared.draw.Untossed.TheVariants as untossed
 use Rattle.script.specs.declared.step.Order.{Order}
@@ -9,9 +9,10 @@ use Rattle.script.specs.declared.step.Order.TheVariants as order
 use Rattle.script.specs.declared.lines.Line.{Line}
 use Rattle.script.specs.Acts.{Act}
 use Rattle.script.specs.Acts.Act.{Propose, Deliver, DeliverAll, Lie, Fuse, Crash, Restart, Reset}
-use Rattle.script.specs.Steps.{Step}
-use Rattle.script.specs.Steps.Step.{Once, Rounds, Random}
+use Rattle.script.specs.Steps.{ScriptStep}
+use Rattle.script.specs.Steps.ScriptStep.{Once, Rounds, Random}
 use Rattle.script.specs.Making.{Made, after_steps}
+pub use Rattle.words.specs.Sentences.{texts}
 
 -- what an event without its toss is
 abbrev pub act_of : Untossed → Act
@@ -25,18 +26,14 @@ act_of (untossed.Restart member) = Restart member
 act_of (untossed.Reset from to) = Reset from to
 
 -- what a line's order is
-abbrev pub step_of : Order → Step
-step_of (order.Once event) = Once (act_of event)
-step_of (order.Rounds count) = Rounds count
-step_of (order.Random count) = Random count
+abbrev pub order_step : Order → ScriptStep
+order_step (order.Once event) = Once (act_of event)
+order_step (order.Rounds count) = Rounds count
+order_step (order.Random count) = Random count
 
 -- what there is behind what these orders stand for
 abbrev pub made_by : Size → List ℕ → List Order → Made → Made
-made_by size correct orders made = after_steps size correct (map step_of orders) made
-
--- the bytes of words
-abbrev pub texts : List (Bor (List ℕ)) → List (List ℕ)
-texts words = map (λ word. word.now) words
+made_by size correct orders made = after_steps size correct (map order_step orders) made
 
 -- lines with their numbers
 abbrev pub numbered : List Line → List (ℕ × List ℕ)

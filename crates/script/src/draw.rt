@@ -2,8 +2,8 @@
 
 ghost use Rattle.std.specs.Prelude.{◌≡◌, ◌<◌, ◌≤◌, IfOk};
 ghost use Rattle.rand_chacha.specs.ChaCha.{ChaCha};
-ghost use Rattle.terms.specs.Bounds.{FitsStep, IsPlain, IsOfThird};
-ghost use Rattle.script.specs.Acts.{told};
+ghost use Rattle.vocabulary.specs.Terms.{FitsStep, IsPlain, IsOfThird};
+ghost use Rattle.script.specs.Acts.{tossed_act};
 ghost use Rattle.script.specs.Untossed.{act_of};
 ghost use Rattle.script.specs.Drawing as drawing;
 
@@ -323,7 +323,7 @@ impl Draw {
 
     /// The event with its toss, which is drawn where it takes one.
     pub fn tossed(&mut self, event: Untossed) -> Event
-        ensures { (told result, self.new) ≡ drawing.tossed (act_of event) self.old }
+        ensures { (tossed_act result, self.new) ≡ drawing.tossed (act_of event) self.old }
     {
         match event {
             Untossed::Propose {

@@ -1,8 +1,8 @@
 //! The first five lines of a script.
 
 ghost use Rattle.std.specs.Prelude.{ℕ, List, ◌≡◌, ◌⊎◌, ◌<◌, ◌^◌, Some, IfOk, IfErr, IfSome, MatchOption};
-ghost use Rattle.script.specs.Words.{AreMembers};
-ghost use Rattle.script.specs.Scripts.{IsNamed, AreLiars, IsSeed, IsHead, IsHeadFault, Lacks};
+ghost use Rattle.script.specs.LineWords.{AreMembers};
+ghost use Rattle.script.specs.Scripts.{IsNamed, AreListedLiars, IsSeed, IsHead, IsHeadFault, LacksLine};
 ghost use Rattle.script.specs.Lines.{HasLine};
 ghost use Rattle.script.specs.Untossed.{texts};
 
@@ -26,7 +26,7 @@ fn named(words: &[&[u8]], name: &str) -> Option<u16>
 /// The number below 2^16 behind this name on the line of that place.
 fn named_at(alloc: Global, lines: &Lines, place: usize, name: &str) -> Result<u16, ScriptFault>
     ensures ok { IfOk result (HasLine lines.now place (IsNamed name.now)) }
-    ensures err { IfErr result (λ fault. (fault ≡ ScriptFault.Memory) ⊎ Lacks lines.now place (IsNamed name.now) fault) }
+    ensures err { IfErr result (λ fault. (fault ≡ ScriptFault.Memory) ⊎ LacksLine lines.now place (IsNamed name.now) fault) }
 {
     let line = lines.at(place)?;
     let words = line.words(alloc)?;
@@ -53,8 +53,8 @@ fn members(alloc: Global, words: &[&[u8]]) -> Result<Option<Vec<u8>>, AllocError
 
 /// The members that a line of liars lists.
 fn liars(alloc: Global, words: &[&[u8]]) -> Result<Option<Vec<u8>>, AllocError>
-    ensures some { IfOk result (λ found. IfSome found (λ liars. AreLiars (texts words.now) liars.items)) }
-    ensures exact { (liars : List ℕ) → AreLiars (texts words.now) liars → IfOk result (λ found. MatchOption found ⊥ (λ found. found.items ≡ liars)) }
+    ensures some { IfOk result (λ found. IfSome found (λ liars. AreListedLiars (texts words.now) liars.items)) }
+    ensures exact { (liars : List ℕ) → AreListedLiars (texts words.now) liars → IfOk result (λ found. MatchOption found ⊥ (λ found. found.items ≡ liars)) }
 {
     match words {
         [name, listed @ ..] if is(name, "liars") => members(alloc, listed),
@@ -64,8 +64,8 @@ fn liars(alloc: Global, words: &[&[u8]]) -> Result<Option<Vec<u8>>, AllocError>
 
 /// The members that the line of that place lists as liars.
 fn liars_at(alloc: Global, lines: &Lines, place: usize) -> Result<Vec<u8>, ScriptFault>
-    ensures ok { IfOk result (λ liars. HasLine lines.now place AreLiars liars.items) }
-    ensures err { IfErr result (λ fault. (fault ≡ ScriptFault.Memory) ⊎ Lacks lines.now place AreLiars fault) }
+    ensures ok { IfOk result (λ liars. HasLine lines.now place AreListedLiars liars.items) }
+    ensures err { IfErr result (λ fault. (fault ≡ ScriptFault.Memory) ⊎ LacksLine lines.now place AreListedLiars fault) }
 {
     let line = lines.at(place)?;
     let words = line.words(alloc)?;
@@ -89,7 +89,7 @@ fn seed(words: &[&[u8]]) -> Option<u64>
 /// The seed that the line of that place writes.
 fn seed_at(alloc: Global, lines: &Lines, place: usize) -> Result<u64, ScriptFault>
     ensures ok { IfOk result (HasLine lines.now place IsSeed) }
-    ensures err { IfErr result (λ fault. (fault ≡ ScriptFault.Memory) ⊎ Lacks lines.now place IsSeed fault) }
+    ensures err { IfErr result (λ fault. (fault ≡ ScriptFault.Memory) ⊎ LacksLine lines.now place IsSeed fault) }
 {
     let line = lines.at(place)?;
     let words = line.words(alloc)?;

@@ -3,22 +3,22 @@
 //! Each function does nothing: its contract is a law over the definitions that the contract of `read` cites.
 
 ghost use Rattle.std.specs.Prelude.{ℕ, List, ◌≡◌, ◌⊎◌, map};
-ghost use Rattle.terms.specs.declared.Size.{Size};
+ghost use Rattle.vocabulary.specs.Terms.{Size};
 ghost use Rattle.script.specs.declared.Script.{Script};
 ghost use Rattle.script.specs.declared.fault.ScriptFault.{ScriptFault};
-ghost use Rattle.script.specs.Acts.{Told, told};
-ghost use Rattle.script.specs.Steps.{Step, Says};
+ghost use Rattle.script.specs.Acts.{TossedAct, tossed_act};
+ghost use Rattle.script.specs.Steps.{ScriptStep, SaysStep};
 ghost use Rattle.script.specs.Scripts.{IsTold, IsScript, IsFirstFault};
 
 /// No line says two things.
 pub fn no_line_says_two_things()
-    ensures { (words : List (List ℕ)) (a b : Step) → Says words a → Says words b → a ≡ b }
+    ensures { (words : List (List ℕ)) (a b : ScriptStep) → SaysStep words a → SaysStep words b → a ≡ b }
 {}
 
 /// No text says two scripts.
 pub fn no_text_says_two_scripts()
     ensures { (text : List ℕ) (a b : Script) → IsScript text a → IsScript text b
-        → (a.size ≡ b.size) × (a.liars.items ≡ b.liars.items) × (map told a.events.items ≡ map told b.events.items) }
+        → (a.size ≡ b.size) × (a.liars.items ≡ b.liars.items) × (map tossed_act a.events.items ≡ map tossed_act b.events.items) }
 {}
 
 /// No text has two first faults.
@@ -33,6 +33,6 @@ pub fn no_script_has_a_fault()
 
 /// Each text says a cluster and its events, or has a first fault.
 pub fn each_text_says_something_or_has_a_fault()
-    ensures { (text : List ℕ) → ((size : Size) × (liars : List ℕ) × (events : List Told) × IsTold text size liars events)
+    ensures { (text : List ℕ) → ((size : Size) × (liars : List ℕ) × (events : List TossedAct) × IsTold text size liars events)
         ⊎ ((fault : ScriptFault) × IsFirstFault text fault) }
 {}

@@ -2,8 +2,8 @@
 
 ghost use Rattle.std.specs.Prelude.{◌≡◌, ◌+◌, ◌==◌, Some, None, drop, slice_get, IfOk, IfErr};
 ghost use Rattle.std.specs.List.{slice_split};
-ghost use Rattle.script.specs.Words.{words_of};
-ghost use Rattle.script.specs.Lines.{Page, page_of, is_skipped, said_from};
+ghost use Rattle.script.specs.LineWords.{words_of};
+ghost use Rattle.script.specs.Lines.{Page, page_from, is_comment, said_from};
 ghost use Rattle.script.specs.Untossed.{texts, numbered, ends_empty};
 
 use crate::fault::ScriptFault;
@@ -55,7 +55,7 @@ fn ends_empty(parts: &[&[u8]]) -> bool
 
 /// Whether the line is empty or begins with `#`.
 fn is_skipped(line: &[u8]) -> bool
-    ensures { result ≡ is_skipped line.now }
+    ensures { result ≡ is_comment line.now }
 {
     match line.first() {
         Some(byte) => *byte == b'#',
@@ -95,7 +95,7 @@ impl<'a> Lines<'a> {
     /// The lines of the text. A line ends at byte 0A, the last one perhaps at the text's end. Empty lines and those that
     /// begin with `#` are skipped.
     pub fn of(alloc: Global, text: &'a [u8]) -> Result<Lines<'a>, Memory>
-        ensures { IfOk result (λ lines. lines ≡ page_of text.now) }
+        ensures { IfOk result (λ lines. lines ≡ page_from text.now) }
     {
         let parts = parts(alloc, text)?;
         let said = said(alloc, &parts)?;

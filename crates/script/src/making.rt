@@ -1,9 +1,9 @@
 //! The events that a script's lines stand for.
 
 ghost use Rattle.std.specs.Prelude.{ℕ, List, ◌≡◌, ◌⊎◌, ◌<◌, [], map, OnOk, IfOk, IfErr};
-ghost use Rattle.terms.specs.declared.Size.{Size};
-ghost use Rattle.script.specs.Acts.{told};
-ghost use Rattle.script.specs.Untossed.{act_of, step_of, made_by};
+ghost use Rattle.vocabulary.specs.Terms.{Size};
+ghost use Rattle.script.specs.Acts.{tossed_act};
+ghost use Rattle.script.specs.Untossed.{act_of, order_step, made_by};
 ghost use Rattle.script.specs.Making.{Made, add, add_drawn, adds, draws, row, round, times, turns, after_step};
 
 use crate::draw::{Draw, Untossed};
@@ -27,7 +27,7 @@ pub struct Making {
 impl Model for Making {
     ghost Value = { Made };
 
-    ghost view = { λ m. record { events = map told m.events.items; stream = m.draw } };
+    ghost view = { λ m. record { events = map tossed_act m.events.items; stream = m.draw } };
 }
 
 impl Making {
@@ -124,7 +124,7 @@ impl Making {
         correct: &[u8],
         order: Order,
     ) -> Result<(), ScriptFault>
-        ensures ok { OnOk result (self.new ≡ after_step size correct.now (step_of order) self.old) }
+        ensures ok { OnOk result (self.new ≡ after_step size correct.now (order_step order) self.old) }
         ensures err { IfErr result (λ fault. fault ≡ ScriptFault.Memory) }
     {
         match order {
@@ -154,8 +154,8 @@ impl Making {
     /// Adds one of so many rounds, and gives the order of those behind it. Without members there is nothing to add.
     fn take_round(&mut self, count: u64, members: &[u8]) -> Result<Order, ScriptFault>
         ensures ok { IfOk result (λ rest.
-            (size : Size) → after_step size members.now (step_of rest) self.new ≡ adds (times count (round members.now)) self.old) }
-        ensures fewer { IfOk result (λ rest. (count ≡ 0) ⊎ (turns (step_of rest) < count)) }
+            (size : Size) → after_step size members.now (order_step rest) self.new ≡ adds (times count (round members.now)) self.old) }
+        ensures fewer { IfOk result (λ rest. (count ≡ 0) ⊎ (turns (order_step rest) < count)) }
         ensures err { IfErr result (λ fault. fault ≡ ScriptFault.Memory) }
     {
         if members.is_empty() {
@@ -171,8 +171,8 @@ impl Making {
     /// Adds some of so many drawn events, and gives the order of those behind them.
     fn take_drawn(&mut self, alloc: Global, size: Size, count: u64) -> Result<Order, ScriptFault>
         ensures ok { IfOk result (λ rest.
-            (correct : List ℕ) → after_step size correct (step_of rest) self.new ≡ draws size count self.old) }
-        ensures fewer { IfOk result (λ rest. (count ≡ 0) ⊎ (turns (step_of rest) < count)) }
+            (correct : List ℕ) → after_step size correct (order_step rest) self.new ≡ draws size count self.old) }
+        ensures fewer { IfOk result (λ rest. (count ≡ 0) ⊎ (turns (order_step rest) < count)) }
         ensures err { IfErr result (λ fault. fault ≡ ScriptFault.Memory) }
     {
         let now = count.min(PIECE);
@@ -183,8 +183,8 @@ impl Making {
     /// Adds the event.
     fn take_one(&mut self, event: Untossed) -> Result<Order, ScriptFault>
         ensures ok { IfOk result (λ rest.
-            (size : Size) (correct : List ℕ) → after_step size correct (step_of rest) self.new ≡ add (act_of event) self.old) }
-        ensures fewer { IfOk result (λ rest. turns (step_of rest) ≡ 0) }
+            (size : Size) (correct : List ℕ) → after_step size correct (order_step rest) self.new ≡ add (act_of event) self.old) }
+        ensures fewer { IfOk result (λ rest. turns (order_step rest) ≡ 0) }
         ensures err { IfErr result (λ fault. fault ≡ ScriptFault.Memory) }
     {
         self.add(event)?;
@@ -201,8 +201,8 @@ impl Making {
         order: Order,
     ) -> Result<Order, ScriptFault>
         ensures ok { IfOk result (λ rest.
-            after_step size correct.now (step_of rest) self.new ≡ after_step size correct.now (step_of order) self.old) }
-        ensures fewer { IfOk result (λ rest. (turns (step_of order) ≡ 0) ⊎ (turns (step_of rest) < turns (step_of order))) }
+            after_step size correct.now (order_step rest) self.new ≡ after_step size correct.now (order_step order) self.old) }
+        ensures fewer { IfOk result (λ rest. (turns (order_step order) ≡ 0) ⊎ (turns (order_step rest) < turns (order_step order))) }
         ensures err { IfErr result (λ fault. fault ≡ ScriptFault.Memory) }
     {
         match order {
@@ -221,14 +221,14 @@ impl Making {
 
     /// The events.
     pub fn events(&self) -> &[Event]
-        ensures { map told result.now ≡ self.now.events }
+        ensures { map tossed_act result.now ≡ self.now.events }
     {
         &self.events
     }
 
     /// All events.
     pub fn into_events(self) -> Vec<Event>
-        ensures { map told result.items ≡ self.events }
+        ensures { map tossed_act result.items ≡ self.events }
     {
         let Making { events, draw: _ } = self;
         events

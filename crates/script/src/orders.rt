@@ -2,10 +2,10 @@
 
 ghost use Rattle.std.specs.Prelude.{ℕ, ◌≡◌, ◌<◌, ◌≤◌, ◌+◌, ◌*◌, ◌-◌, ◌^◌, [], length, min, IfOk, IfErr, ◌⊎◌};
 ghost use Rattle.sim.specs.declared.TheConstants.{MOST_EVENTS};
-ghost use Rattle.terms.specs.declared.Size.{Size};
-ghost use Rattle.script.specs.Steps.{Step, Says};
-ghost use Rattle.script.specs.Words.{words_of};
-ghost use Rattle.script.specs.Untossed.{step_of, numbered, made_by};
+ghost use Rattle.vocabulary.specs.Terms.{Size};
+ghost use Rattle.script.specs.Steps.{ScriptStep, SaysStep};
+ghost use Rattle.script.specs.LineWords.{words_of};
+ghost use Rattle.script.specs.Untossed.{order_step, numbered, made_by};
 ghost use Rattle.script.specs.Making.{Made, LeadTo, BreakBy, how_many};
 
 use crate::fault::ScriptFault;
@@ -37,9 +37,9 @@ fn with_room(have: u64, more: u64) -> Result<u64, ScriptFault>
 /// How many events there are with those that the order stands for: `Events` where these are too many.
 fn with_order(have: u64, order: &Order, correct: &[u8]) -> Result<u64, ScriptFault>
     requires { have ≤ MOST_EVENTS }
-    ensures ok { IfOk result (λ all. (all ≡ have + how_many (length correct.now) (step_of order.now)) × (all ≤ MOST_EVENTS)) }
+    ensures ok { IfOk result (λ all. (all ≡ have + how_many (length correct.now) (order_step order.now)) × (all ≤ MOST_EVENTS)) }
     ensures err { IfErr result (λ fault.
-        (MOST_EVENTS < have + how_many (length correct.now) (step_of order.now)) × (fault ≡ ScriptFault.Events)) }
+        (MOST_EVENTS < have + how_many (length correct.now) (order_step order.now)) × (fault ≡ ScriptFault.Events)) }
 {
     match order {
         Order::Once(_) => with_room(have, 1),
@@ -50,9 +50,9 @@ fn with_order(have: u64, order: &Order, correct: &[u8]) -> Result<u64, ScriptFau
 
 /// What the line says: `Line` where it says nothing.
 fn order_of(alloc: Global, line: Line) -> Result<Order, ScriptFault>
-    ensures ok { IfOk result (λ order. Says (words_of line.entry.text.now) (step_of order)) }
+    ensures ok { IfOk result (λ order. SaysStep (words_of line.entry.text.now) (order_step order)) }
     ensures err { IfErr result (λ fault. (fault ≡ ScriptFault.Memory)
-        ⊎ (((step : Step) → Says (words_of line.entry.text.now) step → ⊥) × (fault ≡ ScriptFault.Line line.entry.number))) }
+        ⊎ (((step : ScriptStep) → SaysStep (words_of line.entry.text.now) step → ⊥) × (fault ≡ ScriptFault.Line line.entry.number))) }
 {
     let words = line.words(alloc)?;
     match Order::parse(alloc, &words)? {

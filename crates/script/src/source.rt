@@ -2,9 +2,9 @@
 
 ghost use Rattle.std.specs.Prelude.{◌≡◌, ◌<◌, ◌≤◌, ◌⊎◌, ◌++◌, [], length, map, IfOk, IfErr, OnOk, IsTrue, ◌↔◌, false, true};
 ghost use Rattle.sim.specs.declared.TheConstants.{MOST_EVENTS};
-ghost use Rattle.script.specs.Acts.{told};
+ghost use Rattle.script.specs.Acts.{tossed_act};
 ghost use Rattle.script.specs.Making.{turns};
-ghost use Rattle.script.specs.Untossed.{step_of};
+ghost use Rattle.script.specs.Untossed.{order_step};
 ghost use Rattle.script.specs.Scripts.{IsTold, IsFirstFault};
 
 use crate::correct_members;
@@ -124,7 +124,7 @@ impl Source {
 
     /// The events that were made last.
     pub fn batch(&self) -> &[Event]
-        ensures { map told result.now ≡ self.now.batch }
+        ensures { map tossed_act result.now ≡ self.now.batch }
     {
         self.making.events()
     }
@@ -132,7 +132,7 @@ impl Source {
 
 /// Whether the order stands for nothing, as a number of 0 says.
 fn is_over(order: &Order) -> bool
-    ensures { IsTrue result ↔ (turns (step_of order.now) ≡ 0) }
+    ensures { IsTrue result ↔ (turns (order_step order.now) ≡ 0) }
 {
     match order {
         Order::Once(_) => false,

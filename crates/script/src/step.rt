@@ -2,10 +2,10 @@
 
 ghost use Rattle.std.specs.Prelude.{ℕ, ◌≡◌, IfOk, IfSome, MatchOption, Some};
 ghost use Rattle.disk.specs.declared.Pick.{Pick};
-ghost use Rattle.script.specs.Words.{ArePick, IsLong};
-ghost use Rattle.script.specs.Steps.{Step, One, name_of, SaysBehind, Says};
+ghost use Rattle.script.specs.LineWords.{ArePick, IsLong};
+ghost use Rattle.script.specs.Steps.{ScriptStep, One, verb_name, SaysBehind, SaysStep};
 ghost use Rattle.script.specs.declared.step.Verb.{Verb};
-ghost use Rattle.script.specs.Untossed.{step_of, texts};
+ghost use Rattle.script.specs.Untossed.{order_step, texts};
 
 use crate::draw::Untossed;
 use crate::values::{bit, fuse, group_size, which};
@@ -52,8 +52,8 @@ pub enum Order {
 
 /// What the words behind `propose` say.
 fn propose(words: &[&[u8]]) -> Option<Order>
-    ensures some { IfSome result (λ order. SaysBehind Verb.Propose (texts words.now) (step_of order)) }
-    ensures exact { (step : Step) → SaysBehind Verb.Propose (texts words.now) step → MatchOption result ⊥ (λ order. step_of order ≡ step) }
+    ensures some { IfSome result (λ order. SaysBehind Verb.Propose (texts words.now) (order_step order)) }
+    ensures exact { (step : ScriptStep) → SaysBehind Verb.Propose (texts words.now) step → MatchOption result ⊥ (λ order. order_step order ≡ step) }
 {
     let [m, q, b] = words else {
         return None;
@@ -67,8 +67,8 @@ fn propose(words: &[&[u8]]) -> Option<Order>
 
 /// What the words behind `deliver` say.
 fn deliver(words: &[&[u8]]) -> Option<Order>
-    ensures some { IfSome result (λ order. SaysBehind Verb.Deliver (texts words.now) (step_of order)) }
-    ensures exact { (step : Step) → SaysBehind Verb.Deliver (texts words.now) step → MatchOption result ⊥ (λ order. step_of order ≡ step) }
+    ensures some { IfSome result (λ order. SaysBehind Verb.Deliver (texts words.now) (order_step order)) }
+    ensures exact { (step : ScriptStep) → SaysBehind Verb.Deliver (texts words.now) step → MatchOption result ⊥ (λ order. order_step order ≡ step) }
 {
     let [a, b, i] = words else {
         return None;
@@ -82,8 +82,8 @@ fn deliver(words: &[&[u8]]) -> Option<Order>
 
 /// What the words behind `group` say.
 fn group(words: &[&[u8]]) -> Option<Order>
-    ensures some { IfSome result (λ order. SaysBehind Verb.Group (texts words.now) (step_of order)) }
-    ensures exact { (step : Step) → SaysBehind Verb.Group (texts words.now) step → MatchOption result ⊥ (λ order. step_of order ≡ step) }
+    ensures some { IfSome result (λ order. SaysBehind Verb.Group (texts words.now) (order_step order)) }
+    ensures exact { (step : ScriptStep) → SaysBehind Verb.Group (texts words.now) step → MatchOption result ⊥ (λ order. order_step order ≡ step) }
 {
     let [a, b, k] = words else {
         return None;
@@ -97,8 +97,8 @@ fn group(words: &[&[u8]]) -> Option<Order>
 
 /// What the words behind `fuse` say.
 fn fuse_of(words: &[&[u8]]) -> Option<Order>
-    ensures some { IfSome result (λ order. SaysBehind Verb.Fuse (texts words.now) (step_of order)) }
-    ensures exact { (step : Step) → SaysBehind Verb.Fuse (texts words.now) step → MatchOption result ⊥ (λ order. step_of order ≡ step) }
+    ensures some { IfSome result (λ order. SaysBehind Verb.Fuse (texts words.now) (order_step order)) }
+    ensures exact { (step : ScriptStep) → SaysBehind Verb.Fuse (texts words.now) step → MatchOption result ⊥ (λ order. order_step order ≡ step) }
 {
     let [m, k] = words else {
         return None;
@@ -111,8 +111,8 @@ fn fuse_of(words: &[&[u8]]) -> Option<Order>
 
 /// What the words behind `restart` say.
 fn restart(words: &[&[u8]]) -> Option<Order>
-    ensures some { IfSome result (λ order. SaysBehind Verb.Restart (texts words.now) (step_of order)) }
-    ensures exact { (step : Step) → SaysBehind Verb.Restart (texts words.now) step → MatchOption result ⊥ (λ order. step_of order ≡ step) }
+    ensures some { IfSome result (λ order. SaysBehind Verb.Restart (texts words.now) (order_step order)) }
+    ensures exact { (step : ScriptStep) → SaysBehind Verb.Restart (texts words.now) step → MatchOption result ⊥ (λ order. order_step order ≡ step) }
 {
     let [m] = words else {
         return None;
@@ -124,8 +124,8 @@ fn restart(words: &[&[u8]]) -> Option<Order>
 
 /// What the words behind `lie` say.
 fn lie(alloc: Global, words: &[&[u8]]) -> Result<Option<Order>, Memory>
-    ensures some { IfOk result (λ found. IfSome found (λ order. SaysBehind Verb.Lie (texts words.now) (step_of order))) }
-    ensures exact { (step : Step) → SaysBehind Verb.Lie (texts words.now) step → IfOk result (λ found. MatchOption found ⊥ (λ order. step_of order ≡ step)) }
+    ensures some { IfOk result (λ found. IfSome found (λ order. SaysBehind Verb.Lie (texts words.now) (order_step order))) }
+    ensures exact { (step : ScriptStep) → SaysBehind Verb.Lie (texts words.now) step → IfOk result (λ found. MatchOption found ⊥ (λ order. order_step order ≡ step)) }
 {
     let [l, m, hex] = words else {
         return Ok(None);
@@ -154,8 +154,8 @@ fn pick(alloc: Global, words: &[&[u8]]) -> Result<Option<Pick>, Memory>
 
 /// What the words behind `crash` say.
 fn crash(alloc: Global, words: &[&[u8]]) -> Result<Option<Order>, Memory>
-    ensures some { IfOk result (λ found. IfSome found (λ order. SaysBehind Verb.Crash (texts words.now) (step_of order))) }
-    ensures exact { (step : Step) → SaysBehind Verb.Crash (texts words.now) step → IfOk result (λ found. MatchOption found ⊥ (λ order. step_of order ≡ step)) }
+    ensures some { IfOk result (λ found. IfSome found (λ order. SaysBehind Verb.Crash (texts words.now) (order_step order))) }
+    ensures exact { (step : ScriptStep) → SaysBehind Verb.Crash (texts words.now) step → IfOk result (λ found. MatchOption found ⊥ (λ order. order_step order ≡ step)) }
 {
     let [m, behind @ ..] = words else {
         return Ok(None);
@@ -171,8 +171,8 @@ fn crash(alloc: Global, words: &[&[u8]]) -> Result<Option<Order>, Memory>
 
 /// What the words behind `reset` say.
 fn reset(words: &[&[u8]]) -> Option<Order>
-    ensures some { IfSome result (λ order. SaysBehind Verb.Reset (texts words.now) (step_of order)) }
-    ensures exact { (step : Step) → SaysBehind Verb.Reset (texts words.now) step → MatchOption result ⊥ (λ order. step_of order ≡ step) }
+    ensures some { IfSome result (λ order. SaysBehind Verb.Reset (texts words.now) (order_step order)) }
+    ensures exact { (step : ScriptStep) → SaysBehind Verb.Reset (texts words.now) step → MatchOption result ⊥ (λ order. order_step order ≡ step) }
 {
     let [a, b] = words else {
         return None;
@@ -197,8 +197,8 @@ fn count(words: &[&[u8]]) -> Option<u64>
 impl Verb {
     /// The verb of this name.
     fn parse(name: &[u8]) -> Option<Verb>
-        ensures some { IfSome result (λ verb. name.now ≡ name_of verb) }
-        ensures exact { (verb : Verb) → name.now ≡ name_of verb → result ≡ Some verb }
+        ensures some { IfSome result (λ verb. name.now ≡ verb_name verb) }
+        ensures exact { (verb : Verb) → name.now ≡ verb_name verb → result ≡ Some verb }
     {
         let Ok(name) = str::from_utf8(name) else {
             return None;
@@ -222,8 +222,8 @@ impl Verb {
 impl Order {
     /// What the words behind the verb say.
     fn behind(alloc: Global, verb: Verb, words: &[&[u8]]) -> Result<Option<Order>, Memory>
-        ensures some { IfOk result (λ found. IfSome found (λ order. SaysBehind verb (texts words.now) (step_of order))) }
-        ensures exact { (step : Step) → SaysBehind verb (texts words.now) step → IfOk result (λ found. MatchOption found ⊥ (λ order. step_of order ≡ step)) }
+        ensures some { IfOk result (λ found. IfSome found (λ order. SaysBehind verb (texts words.now) (order_step order))) }
+        ensures exact { (step : ScriptStep) → SaysBehind verb (texts words.now) step → IfOk result (λ found. MatchOption found ⊥ (λ order. order_step order ≡ step)) }
     {
         match verb {
             Verb::Propose => Ok(propose(words)),
@@ -247,8 +247,8 @@ impl Order {
 
     /// What the words say, or none where they are no line of events.
     pub fn parse(alloc: Global, words: &[&[u8]]) -> Result<Option<Order>, Memory>
-        ensures some { IfOk result (λ found. IfSome found (λ order. Says (texts words.now) (step_of order))) }
-        ensures exact { (step : Step) → Says (texts words.now) step → IfOk result (λ found. MatchOption found ⊥ (λ order. step_of order ≡ step)) }
+        ensures some { IfOk result (λ found. IfSome found (λ order. SaysStep (texts words.now) (order_step order))) }
+        ensures exact { (step : ScriptStep) → SaysStep (texts words.now) step → IfOk result (λ found. MatchOption found ⊥ (λ order. order_step order ≡ step)) }
     {
         let [name, behind @ ..] = words else {
             return Ok(None);

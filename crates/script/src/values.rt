@@ -1,7 +1,7 @@
 //! What the words of an event write, beside numbers.
 
 ghost use Rattle.std.specs.Prelude.{◌≡◌, ℕ, Bool, Option, Some, IfSome};
-ghost use Rattle.script.specs.Words.{IsBit, IsWhich, IsGroupSize, IsFuse};
+ghost use Rattle.script.specs.LineWords.{IsBit, IsWhich, IsGroupSize, IsFuse};
 ghost use Rattle.sim.specs.declared.events.Which.{Which};
 
 use sim::{MOST_IN_GROUP, Which};

@@ -1,20 +1,18 @@
 -- Entries that don't fit one another, and settings without a fault.
-use Rattle.std.proofs.Common.{◌≡◌, ◌<◌, ◌≤◌, refl, sym, subst, arith, Bool, true, false, cond, ◌==◌, nat_lt, Option, Some, None, Result, Ok, Err, IfErr, length, ◌⊎◌, inl, inr, string_bytes}
-use Rattle.std.proofs.lemmas.Bool.{eq-eqb}
+use Rattle.std.proofs.Common.{◌≡◌, ◌<◌, ◌≤◌, refl, sym, subst, arith, Bool, true, false, cond, ◌==◌, nat_lt, Option, Some, None, Result, Ok, Err, IfErr, length, ◌⊎◌, inl, inr, string_bytes, eq-eqb}
 use Rattle.std.proofs.lemmas.Bool.Decides.{nat_tests}
 use Rattle.toml.specs.Data.{Members}
-use Rattle.terms.specs.Sizes.{size_fault}
-use Rattle.terms.specs.declared.SizeFault.{SizeFault}
+use Rattle.vocabulary.specs.Terms.{size_fault, SizeFault}
 use Rattle.settings.specs.declared.entries.Entries.{Entries}
 use Rattle.settings.specs.declared.keys.Key.TheVariants.{Me, Peers}
 use Rattle.settings.specs.declared.document.Settings.{Settings}
 use Rattle.settings.specs.declared.fault.SettingsFault.{SettingsFault}
 use Rattle.settings.specs.declared.fault.SettingsFault.TheVariants as fault
 use Rattle.settings.specs.Settings.{AllSuit, HasNumbers, IsOfMany, IsFault}
-use Rattle.settings.specs.Entries.{Says, unfit, misfit, size_or}
+use Rattle.settings.specs.Entries.{SaysEntries, unfit, misfit, size_or}
 
 -- all keys of what the entries say have values of their own
-pub all_suit : (ms : Members) (e : Entries) → Says ms e → AllSuit ms
+pub all_suit : (ms : Members) (e : Entries) → SaysEntries ms e → AllSuit ms
 all_suit ms e says = (
   (e.cluster, says.cluster),
   (
@@ -41,11 +39,11 @@ all_suit ms e says = (
   ),
 )
 
-numbers : (ms : Members) (e : Entries) → Says ms e → HasNumbers ms e.n e.t e.questions
+numbers : (ms : Members) (e : Entries) → SaysEntries ms e → HasNumbers ms e.n e.t e.questions
 numbers ms e says = record { suit = all_suit ms e says; n_is = says.n.0; t_is = says.t.0; questions_is = says.questions.0 }
 
 -- what is wrong with entries is a fault of the document
-pub unfit_fault : (ms : Members) (e : Entries) (ends : SettingsFault) → Says ms e → unfit e ≡ Some ends → IsFault (Some ms) ends
+pub unfit_fault : (ms : Members) (e : Entries) (ends : SettingsFault) → SaysEntries ms e → unfit e ≡ Some ends → IsFault (Some ms) ends
 unfit_fault ms e ends says h = by_size (size_fault e.n e.t e.questions) refl h
   where
     of_many : size_fault e.n e.t e.questions ≡ None → IsOfMany ms e.n
@@ -82,7 +80,7 @@ unfit_fault ms e ends says h = by_size (size_fault e.n e.t e.questions) refl h
     by_size None p g = by_me (nat_lt e.me e.n) refl p g
 
 -- so is the answer
-pub unfit_answer : (ms : Members) (doc : Option Members) (e : Entries) (r : Result Settings SettingsFault) → doc ≡ Some ms → Says ms e
+pub unfit_answer : (ms : Members) (doc : Option Members) (e : Entries) (r : Result Settings SettingsFault) → doc ≡ Some ms → SaysEntries ms e
     → IfErr r (λ ends. unfit e ≡ Some ends) → IfErr r (λ ends. IsFault doc ends ⊎ (ends ≡ fault.Memory))
 unfit_answer ms doc e (Ok s) is says h = tt
 unfit_answer ms doc e (Err ends) is says h = inl (subst (λ (d : Option Members). IsFault d ends) (sym is) (unfit_fault ms e ends says h))

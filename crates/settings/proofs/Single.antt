@@ -2,8 +2,7 @@
 use Rattle.std.proofs.Common.{ℕ, pos, ◌≡◌, refl, sym, ap, ◌∙◌, subst, arith, Option, Some, None, Result, Ok, Err, IfOk, IfErr, List, [], ◌∷◌, ◌++◌, length, ◌⊎◌, inl, inr, string_bytes, rules}
 use Rattle.std.specs.List.{AllByRecursion}
 use Rattle.toml.specs.Data.{Data, Members, Items, integer, array, item, no_items}
-use Rattle.terms.specs.Sizes.{size_fault}
-use Rattle.terms.specs.declared.SizeFault.{SizeFault}
+use Rattle.vocabulary.specs.Terms.{size_fault, SizeFault}
 use Rattle.settings.specs.declared.address.Address.{Address}
 use Rattle.settings.specs.declared.keys.Key.{Key}
 use Rattle.settings.specs.declared.keys.Key.TheVariants.{Cluster, N, T, Questions, Me, Journal, Peers, Desk, Seed}
@@ -11,8 +10,8 @@ use Rattle.settings.specs.declared.document.Settings.{Settings}
 use Rattle.settings.specs.declared.fault.SettingsFault.{SettingsFault}
 use Rattle.settings.specs.declared.fault.SettingsFault.TheVariants as fault
 use Rattle.settings.specs.declared.entries.Entries.{Entries}
-use Rattle.settings.specs.Entries.{Says, Fits, unfit, IsOfFirst}
-use Rattle.settings.specs.Settings.{Suits, AllSuit, HasNumber, AreAddresses, HasAddresses, HasNumbers, IsFirstBad, IsBadSize, IsOfMany, IsMisfit, IsFault, Gives, IsSettings}
+use Rattle.settings.specs.Entries.{SaysEntries, FitsEntries, unfit, IsOfFirst}
+use Rattle.settings.specs.Settings.{Suits, AllSuit, HasNumber, AreAddresses, HasAddresses, HasNumbers, IsFirstBad, IsBadSize, IsOfMany, IsMisfit, IsFault, GivesSettings, IsSettings}
 
 -- what holds of all holds of the one in the middle
 middle : (P : Key → Type 0) (before : List Key) (key : Key) (behind : List Key) → AllByRecursion P (before ++ key ∷ behind) → P key
@@ -97,7 +96,7 @@ not_both ms (n, me, many, is, above) (m, you, peers, others, are, below, address
     omega (arith, above, below)
 
 -- settings fit
-fits : (ms : Members) (s : Settings) → Gives ms s → (key : Key) → IsMisfit ms key → ⊥
+fits : (ms : Members) (s : Settings) → GivesSettings ms s → (key : Key) → IsMisfit ms key → ⊥
 fits ms s g Cluster h = h
 fits ms s g N h = h
 fits ms s g T h = h
@@ -179,7 +178,7 @@ one_fault (Some ms) (fault.Key a) (fault.Key b) (inr x) (inl y) = absurd (no_fir
 one_fault (Some ms) (fault.Key a) (fault.Key b) (inr x) (inr y) = ap fault.Key (misfit_same ms a b x y)
 
 -- settings have all keys
-gives_suits : (ms : Members) (s : Settings) → Gives ms s → AllSuit ms
+gives_suits : (ms : Members) (s : Settings) → GivesSettings ms s → AllSuit ms
 gives_suits ms s g = (
   (s.header.cluster, g.cluster),
   (
@@ -241,11 +240,11 @@ pub of_key : (doc : Option Members) (ms : Members) (f : SettingsFault) → doc �
 of_key doc ms f is (inl (key, names, bad)) = inl (subst (λ (d : Option Members). IsFault d f) (sym is) (subst (IsFault (Some ms)) (sym names) (inl bad)))
 of_key doc ms f is (inr x) = inr x
 
-gives : (ms : Members) (e : Entries) (s : Settings) → Says ms e → Fits e s → unfit e ≡ None → Gives ms s
+gives : (ms : Members) (e : Entries) (s : Settings) → SaysEntries ms e → FitsEntries e s → unfit e ≡ None → GivesSettings ms s
 gives ms e s says fit none = search rules
 
 -- the settings of entries that fit
-pub of_entries : (doc : Option Members) (ms : Members) (e : Entries) (r : Result Settings SettingsFault) → doc ≡ Some ms → Says ms e
-    → IfOk r (λ s. Fits e s × (unfit e ≡ None)) → IfOk r (IsSettings doc)
+pub of_entries : (doc : Option Members) (ms : Members) (e : Entries) (r : Result Settings SettingsFault) → doc ≡ Some ms → SaysEntries ms e
+    → IfOk r (λ s. FitsEntries e s × (unfit e ≡ None)) → IfOk r (IsSettings doc)
 of_entries doc ms e (Ok s) is says h = subst (λ (d : Option Members). IsSettings d s) (sym is) (gives ms e s says h.0 h.1)
 of_entries doc ms e (Err f) is says h = tt

@@ -1,8 +1,6 @@
 -- What the keys say, each by itself.
 use Rattle.std.specs.Prelude.{ℕ, ◌≡◌, ◌⊎◌, ◌==◌, nat_lt, Option, Some, None, length, if◌then◌else◌, string_bytes}
-use Rattle.terms.specs.Sizes.{size_of, size_fault}
-use Rattle.terms.specs.Headers.{header_of}
-use Rattle.terms.specs.declared.SizeFault.{SizeFault}
+use Rattle.vocabulary.specs.Terms.{new_size, size_fault, new_header, SizeFault}
 use Rattle.settings.specs.declared.document.Settings.{Settings}
 use Rattle.toml.specs.Data.{Members}
 use Rattle.settings.specs.declared.keys.Key.{Key}
@@ -13,7 +11,7 @@ use Rattle.settings.specs.declared.entries.Entries.{Entries}
 use Rattle.settings.specs.Settings.{HasNumber, HasSmall, HasPath, HasAddress, HasAddresses, HasSeed, IsFirstBad}
 
 -- the entries are what the keys say
-pub record Says (ms : Members) (e : Entries) : Type 0 where
+pub record SaysEntries (ms : Members) (e : Entries) : Type 0 where
   pub cluster : HasNumber ms Cluster e.cluster
   pub n : HasSmall ms N e.n
   pub t : HasSmall ms T e.t
@@ -52,8 +50,8 @@ abbrev pub unfit : Entries → Option SettingsFault
 unfit e = size_or (size_fault e.n e.t e.questions) (misfit e.n e.me (length e.peers.items))
 
 -- the settings have what the entries say
-pub record Fits (e : Entries) (s : Settings) : Type 0 where
-  pub header : s.header ≡ header_of e.cluster (size_of e.n e.t e.questions) e.me
+pub record FitsEntries (e : Entries) (s : Settings) : Type 0 where
+  pub header : s.header ≡ new_header e.cluster (new_size e.n e.t e.questions) e.me
   pub journal : s.journal ≡ e.journal
   pub peers : s.peers ≡ e.peers
   pub desk : s.desk ≡ e.desk

@@ -2,6 +2,6 @@
 use Rattle.std.specs.Prelude.{ℕ, ◌≢◌, List, [], ◌∷◌}
 
 -- no byte is the mark
-abbrev pub Lacks : ℕ → List ℕ → Type 0
-Lacks mark [] = Unit {0}
-Lacks mark (c ∷ cs) = (c ≢ mark) × Lacks mark cs
+abbrev pub LacksMark : ℕ → List ℕ → Type 0
+LacksMark mark [] = Unit {0}
+LacksMark mark (c ∷ cs) = (c ≢ mark) × LacksMark mark cs

@@ -3,8 +3,7 @@ use Rattle.std.specs.Prelude.{ℕ, pos, ◌≡◌, ◌≢◌, ◌<◌, ◌≤◌
 use Rattle.std.specs.List.{AllByRecursion}
 use Rattle.toml.specs.Data.{Data, Items, Members, string, integer, array, no_items, item, get_member}
 use Rattle.hex.specs.Hex.{decode_of}
-use Rattle.terms.specs.Sizes.{size_fault}
-use Rattle.terms.specs.declared.SizeFault.{SizeFault}
+use Rattle.vocabulary.specs.Terms.{size_fault, SizeFault}
 use Rattle.settings.specs.declared.address.Address.{Address}
 use Rattle.settings.specs.declared.keys.Key.{Key}
 use Rattle.settings.specs.declared.keys.Key.TheVariants.{Cluster, N, T, Questions, Me, Journal, Peers, Desk, Seed}
@@ -123,7 +122,7 @@ IsFault (Some ms) (fault.Size fault) = IsBadSize ms fault
 IsFault (Some ms) fault.Memory = ⊥
 
 -- the settings are what the keys say, and they fit one another
-pub record Gives (ms : Members) (s : Settings) : Type 0 where
+pub record GivesSettings (ms : Members) (s : Settings) : Type 0 where
   pub cluster : HasNumber ms Cluster s.header.cluster
   pub n : HasSmall ms N s.header.size.n
   pub t : HasSmall ms T s.header.size.t
@@ -140,4 +139,4 @@ pub record Gives (ms : Members) (s : Settings) : Type 0 where
 -- the document gives the settings
 abbrev pub IsSettings : Option Members → Settings → Type 0
 IsSettings None s = ⊥
-IsSettings (Some ms) s = Gives ms s
+IsSettings (Some ms) s = GivesSettings ms s

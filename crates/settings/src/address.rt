@@ -2,7 +2,7 @@
 
 ghost use Rattle.std.specs.Prelude.{ℕ, List, ◌≡◌, ◌<◌, ◌∷◌, ◌++◌, [], IfSome, MatchOption, Some};
 ghost use Rattle.settings.specs.Addresses.{IsOctet, IsPort, IsHost, AreDotted};
-ghost use Rattle.settings.specs.Marks.{Lacks};
+ghost use Rattle.settings.specs.Marks.{LacksMark};
 
 use words::{number8, number16};
 
@@ -19,7 +19,7 @@ pub struct Address {
 fn split(text: &str, mark: char) -> Option<(&str, &str)>
     requires { mark < 128 }
     ensures parts { IfSome result (λ parts. text.now ≡ parts.0.now ++ mark ∷ parts.1.now) }
-    ensures exact { (front behind : List ℕ) → text.now ≡ front ++ mark ∷ behind → Lacks mark front →
+    ensures exact { (front behind : List ℕ) → text.now ≡ front ++ mark ∷ behind → LacksMark mark front →
         MatchOption result ⊥ (λ parts. (parts.0.now ≡ front) × (parts.1.now ≡ behind)) }
 {
     text.split_once(mark)

@@ -6,7 +6,7 @@ ghost use Rattle.toml.specs.View.{view, table_view, items_view};
 ghost use Rattle.settings.specs.Keys.{key_text};
 ghost use Rattle.settings.specs.Settings.{HasNumber, HasSmall, HasPath, HasAddress, HasAddresses, IsAddressText, AreAddresses, HasSeed};
 ghost use Rattle.settings.specs.Entries.{IsLack, IsLackOrMemory};
-ghost use Rattle.terms.specs.Headers.{header_of};
+ghost use Rattle.vocabulary.specs.Terms.{new_header};
 
 use crate::address::Address;
 use crate::document::Settings;
@@ -132,11 +132,11 @@ pub struct Entries {
 }
 
 impl Entries {
-    ghost use Rattle.settings.specs.Entries.{Says, IsOfFirst, Fits, unfit};
+    ghost use Rattle.settings.specs.Entries.{SaysEntries, IsOfFirst, FitsEntries, unfit};
 
     /// What the keys say, or the first of them, in the order of [`Key`], that has no value of its own type and range.
     pub fn read(alloc: Global, table: &Table) -> Result<Entries, SettingsFault>
-        ensures ok { IfOk result (Says (table_view table.now)) }
+        ensures ok { IfOk result (SaysEntries (table_view table.now)) }
         ensures fault { IfErr result (IsOfFirst (table_view table.now)) }
     {
         Ok(Entries {
@@ -154,7 +154,7 @@ impl Entries {
 
     /// The settings of the entries, or the first thing in which they don't fit one another.
     pub fn fit(self) -> Result<Settings, SettingsFault>
-        ensures ok { IfOk result (λ settings. Fits self settings × (unfit self ≡ None)) }
+        ensures ok { IfOk result (λ settings. FitsEntries self settings × (unfit self ≡ None)) }
         ensures fault { IfErr result (λ fault. unfit self ≡ Some fault) }
     {
         let size = size_from(self.n, self.t, self.questions)?;
@@ -174,7 +174,7 @@ impl Entries {
 
 /// The header of the member, if there is such a member.
 fn header(cluster: u64, size: Size, me: u64) -> Option<Header>
-    ensures some { IfSome result (λ header. header ≡ header_of cluster size me) }
+    ensures some { IfSome result (λ header. header ≡ new_header cluster size me) }
     ensures exact { IsSome result ↔ (me < size.n) }
 {
     Header::new(cluster, size, u8::try_from(me).ok()?)

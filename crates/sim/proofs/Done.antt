@@ -1,16 +1,12 @@
 -- Tasks of one post as steps of the world.
-use Rattle.std.proofs.Common.{◌≡◌, ◌<◌, ◌+◌, ℕ, Bool, true, false, eqb, eq-eqb, Option, Result, Ok, Err, IfOk, List, [], ◌∷◌, ◌++◌, length, get_or, set, get_or-set_same, get_or-set_other, refl, sym, ap, subst, ◌∙◌, arith}
-use Rattle.std.specs.Prelude.{is_some}
+use Rattle.std.proofs.Common.{◌≡◌, ◌<◌, ◌+◌, ℕ, Bool, true, false, eqb, eq-eqb, Option, Result, Ok, Err, IfOk, List, [], ◌∷◌, ◌++◌, length, get_or, set, get_or-set_same, get_or-set_other, refl, sym, ap, subst, ◌∙◌, arith, is_some, eqb-true}
 use Rattle.std.specs.List.{AllByRecursion}
-use Rattle.std.proofs.lemmas.Bool.{eqb-true, eqb-false}
-use Rattle.terms.specs.declared.Size.{Size}
-use Rattle.terms.specs.declared.Statement.{Statement}
-use Rattle.terms.specs.WellFormed.{IsWellFormed}
-use Rattle.terms.specs.Reply.Event.{Hearing, Proposal}
+use Rattle.std.proofs.lemmas.Bool.{eqb-false}
+use Rattle.vocabulary.specs.Terms.{Size, Statement, IsWellFormed, Hearing, Proposal}
 use Rattle.rounds.specs.declared.tosses.Toss.{Toss}
 use Rattle.disk.specs.declared.crash.Pick.{Pick}
 use Rattle.wire.specs.declared.message.Message.{Message}
-use Rattle.wire.specs.Reading.{End, Rest, Broken, Reads}
+use Rattle.wire.specs.Reading.{End, Rest, Broken, ReadsMessages}
 use Rattle.wire.proofs.Cutting.{written_reads}
 use Rattle.wire.proofs.Whole.{joins}
 use Rattle.world.specs.World.{World, Step, after, after_all}
@@ -25,9 +21,9 @@ use Rattle.sim.specs.declared.posts.Post.{Post}
 use Rattle.sim.specs.declared.seats.Seat.{Seat}
 use Rattle.sim.specs.declared.tasks.Task.TheVariants as task
 use Rattle.sim.specs.Links.{statements_in, is_broken_at, Takes}
-use Rattle.sim.specs.Seats.{IsSeat, IsMove, Answers, AnswersAll, hearings_from, AreLies, GoesOn, Reopens, is_liar, mine}
+use Rattle.sim.specs.Seats.{IsSeatAt, IsMove, Answers, AnswersGroup, hearings_from, AreLies, GoesOn, Reopens, is_liar, mine}
 use Rattle.sim.specs.Scene.{Scene, Does, HearsLies, group_of, put_at, cleared}
-use Rattle.sim.specs.Posts.{IsPost, IsLink, IsNewLink, IsDone, Fits}
+use Rattle.sim.specs.Posts.{IsPost, IsLink, IsNewLink, IsDone, CanBeDone}
 use Rattle.sim.proofs.Reading.{all_formed}
 
 pub mapped : {A E : Type 0} (P Q : A → Type 0) (r : Result A E) → IfOk r P → ((x : A) → P x → Q x) → IfOk r Q
@@ -55,7 +51,7 @@ link_same size liar place other fed bytes link e f l = record {
   place_is = l.place_is ∙ sym e;
   size_is = l.size_is;
   messages = l.messages;
-  read = subst (λ (b : List ℕ). Reads size b l.messages link.end) (sym f) l.read;
+  read = subst (λ (b : List ℕ). ReadsMessages size b l.messages link.end) (sym f) l.read;
   whole = l.whole;
 }
 
@@ -66,7 +62,7 @@ link_new size liar place fed link e f at is end = record {
   place_is = at ∙ sym e;
   size_is = is;
   messages = [];
-  read = subst (λ (b : List ℕ). Reads size b [] link.end) (sym f) (subst (λ (x : End). Reads size [] [] x) (sym end) (written_reads size [] tt));
+  read = subst (λ (b : List ℕ). ReadsMessages size b [] link.end) (sym f) (subst (λ (x : End). ReadsMessages size [] [] x) (sym end) (written_reads size [] tt));
   whole = λ honest. end;
 }
 
@@ -134,7 +130,7 @@ module _ (size : Size) (liars : ℕ → Bool) (c : Scene) (p : ℕ) (old : Post)
         place_is = at ∙ sym (put_at-here c.place from p place);
         size_is = is;
         messages = first.messages;
-        read = subst (λ (x : End). Reads size (c.fed from p) first.messages x) (first.whole honest ∙ sym end) first.read;
+        read = subst (λ (x : End). ReadsMessages size (c.fed from p) first.messages x) (first.whole honest ∙ sym end) first.read;
         whole = λ h. end;
       } in
       subst (λ (l : List Link). IsLink size (liars a) (put_at c.place from p place a p) (c.fed a p) (get_or l a x)) (sym set_is)
@@ -143,7 +139,7 @@ module _ (size : Size) (liars : ℕ → Bool) (c : Scene) (p : ℕ) (old : Post)
 
   -- a delivery
   pub delivered : (from : ℕ) (s : Statement) (place : ℕ) (toss : Toss) (bytes : List ℕ) (mark : Mark) (new : Post) (i : ℕ) (link : Link) → length old.incoming.items ≡ size.n
-      → Fits size liars c p (task.Deliver from s place toss) → i ≡ from → link.place ≡ place → link.size ≡ size → link.end ≡ Rest []
+      → CanBeDone size liars c p (task.Deliver from s place toss) → i ≡ from → link.place ≡ place → link.size ≡ size → link.end ≡ Rest []
       → new.header ≡ old.header → is_liar new.seat ≡ is_liar old.seat → new.fused ≡ old.fused → new.incoming.items ≡ set old.incoming.items i link
       → IsMove size liars p c.world (Answers size p c.world old.fused toss.0 (Hearing from s) mark) new.seat
       → IsDone size liars c p (task.Deliver from s place toss) bytes mark new
@@ -171,14 +167,14 @@ module _ (size : Size) (liars : ℕ → Bool) (c : Scene) (p : ℕ) (old : Post)
 
   -- a group
   pub delivered_all : (from count : ℕ) (toss : Toss) (bytes : List ℕ) (mark : Mark) (new : Post) (i : ℕ) (link : Link) (hearings : List (ℕ × Statement × ℕ)) → length old.incoming.items ≡ size.n
-      → Fits size liars c p (task.DeliverAll from count toss) → i ≡ from → link.place ≡ c.place from p + length (group_of c from p count) → link.size ≡ size → link.end ≡ Rest []
+      → CanBeDone size liars c p (task.DeliverAll from count toss) → i ≡ from → link.place ≡ c.place from p + length (group_of c from p count) → link.size ≡ size → link.end ≡ Rest []
       → new.header ≡ old.header → is_liar new.seat ≡ is_liar old.seat → new.fused ≡ old.fused → new.incoming.items ≡ set old.incoming.items i link
       → hearings ≡ hearings_from from toss.0 (group_of c from p count)
-      → IsMove size liars p c.world (AnswersAll size p c.world old.fused hearings mark) new.seat
+      → IsMove size liars p c.world (AnswersGroup size p c.world old.fused hearings mark) new.seat
       → IsDone size liars c p (task.DeliverAll from count toss) bytes mark new
   delivered_all from count toss bytes mark new i link hearings len fits ei at is end h side f items hears move =
-      go mark (subst (λ (f : Bool). IsMove size liars p c.world (AnswersAll size p c.world f (hearings_from from toss.0 group) mark) new.seat) (post.fused fits.0.0)
-      (subst (λ (es : List (ℕ × Statement × ℕ)). IsMove size liars p c.world (AnswersAll size p c.world old.fused es mark) new.seat) hears move))
+      go mark (subst (λ (f : Bool). IsMove size liars p c.world (AnswersGroup size p c.world f (hearings_from from toss.0 group) mark) new.seat) (post.fused fits.0.0)
+      (subst (λ (es : List (ℕ × Statement × ℕ)). IsMove size liars p c.world (AnswersGroup size p c.world old.fused es mark) new.seat) hears move))
     where
       group : List Statement
       group = group_of c from p count
@@ -186,7 +182,7 @@ module _ (size : Size) (liars : ℕ → Bool) (c : Scene) (p : ℕ) (old : Post)
       links : (w : World) (a : ℕ) (x : Link) → a < size.n → IsLink size (liars a) (put_at c.place from p (c.place from p + length group) a p) (c.fed a p) (get_or new.incoming.items a x)
       links w = links_moved from (c.place from p + length group) i link new.incoming.items w len fits.1 fits.2 ei at is end items
 
-      go : (k : Mark) → IsMove size liars p c.world (AnswersAll size p c.world (c.fused p) (hearings_from from toss.0 group) k) new.seat
+      go : (k : Mark) → IsMove size liars p c.world (AnswersGroup size p c.world (c.fused p) (hearings_from from toss.0 group) k) new.seat
           → IsDone size liars c p (task.DeliverAll from count toss) bytes k new
       go Done m = record {
         steps = m.steps;
@@ -209,12 +205,12 @@ module _ (size : Size) (liars : ℕ → Bool) (c : Scene) (p : ℕ) (old : Post)
       → IsDone size liars c p (task.Lie liar toss) bytes (Skipped Nothing) new
   broken liar toss bytes new i len member ei link at is h s f items = record {
     steps = [];
-    does = (first.messages, link.end, subst (λ (x : End). Reads size (c.fed liar p) first.messages x) same first.read, hears link.end is);
+    does = (first.messages, link.end, subst (λ (x : End). ReadsMessages size (c.fed liar p) first.messages x) same first.read, hears link.end is);
     is_run = tt;
     at = record {
       header = h ∙ post.header;
       side = ap is_liar s ∙ post.side;
-      at = λ honest. subst (λ (x : Seat). IsSeat (mine size p) c.world x) (sym s) (post.at honest);
+      at = λ honest. subst (λ (x : Seat). IsSeatAt (mine size p) c.world x) (sym s) (post.at honest);
       fused = λ honest. f ∙ post.fused honest;
       links = λ a x la. subst (λ (l : List Link). IsLink size (liars a) (c.place a p) (c.fed a p) (get_or l a x)) (sym items)
           (link_set size liars c c p liar i old.incoming.items link len member ei post.links
@@ -237,7 +233,7 @@ module _ (size : Size) (liars : ℕ → Bool) (c : Scene) (p : ℕ) (old : Post)
 
   -- the fuse
   pub fuse_set : (calls : Option ℕ) (bytes : List ℕ) (seat : Seat) (fused : Bool) → is_liar seat ≡ is_liar old.seat → fused ≡ is_some calls
-      → (liars p ≡ false → IsSeat (mine size p) c.world seat)
+      → (liars p ≡ false → IsSeatAt (mine size p) c.world seat)
       → IsDone size liars c p (task.Fuse calls) bytes Done (record old { seat = seat; fused = fused })
   fuse_set calls bytes seat fused side f at = record {
     steps = [];
@@ -264,7 +260,7 @@ module _ (size : Size) (liars : ℕ → Bool) (c : Scene) (p : ℕ) (old : Post)
     at = record {
       header = h ∙ post.header;
       side = ap is_liar s ∙ post.side;
-      at = λ honest. subst (λ (x : Seat). IsSeat (mine size p) c.world x) (sym s) (post.at honest);
+      at = λ honest. subst (λ (x : Seat). IsSeatAt (mine size p) c.world x) (sym s) (post.at honest);
       fused = λ honest. f ∙ post.fused honest;
       links = λ a x la. subst (λ (l : List Link). IsLink size (liars a) (put_at c.place from p 0 a p) (put_at c.fed from p [] a p) (get_or l a x)) (sym items)
           (link_set size liars c (record c { place = put_at c.place from p 0; fed = put_at c.fed from p [] }) p from i old.incoming.items link len member ei post.links
@@ -275,7 +271,7 @@ module _ (size : Size) (liars : ℕ → Bool) (c : Scene) (p : ℕ) (old : Post)
 
   -- a crash
   pub crash_done : (pick : Pick) (bytes : List ℕ) (seat : Seat) → is_liar seat ≡ is_liar old.seat → liars p ≡ false
-      → IsSeat (mine size p) (after c.world (CrashStep p)) seat
+      → IsSeatAt (mine size p) (after c.world (CrashStep p)) seat
       → IsDone size liars c p (task.Crash pick) bytes Done (record old { seat = seat; fused = false })
   crash_done pick bytes seat side honest at = record {
     steps = CrashStep p ∷ [];
@@ -353,7 +349,7 @@ module _ (size : Size) (liars : ℕ → Bool) (c : Scene) (p : ℕ) (old : Post)
     lies_done mark new honest h side f items move =
         go link.end refl whole taken mark (subst (λ (x : Bool). IsMove size liars p c.world (AreLies size p c.world x liar toss.0 statements mark) new.seat) (post.fused honest) move)
       where
-        post_after : (w : World) (more : List Message) → Reads size (c.fed liar p ++ bytes) (first.messages ++ more) now.end → IsSeat (mine size p) w new.seat
+        post_after : (w : World) (more : List Message) → ReadsMessages size (c.fed liar p ++ bytes) (first.messages ++ more) now.end → IsSeatAt (mine size p) w new.seat
             → IsPost size liars (record c { world = w; fed = put_at c.fed liar p (c.fed liar p ++ bytes) }) p new
         post_after w more reads seat = record {
           header = h ∙ post.header;
@@ -366,26 +362,26 @@ module _ (size : Size) (liars : ℕ → Bool) (c : Scene) (p : ℕ) (old : Post)
                 place_is = place_is ∙ first.place_is;
                 size_is = size_is ∙ first.size_is;
                 messages = first.messages ++ more;
-                read = subst (λ (b : List ℕ). Reads size b (first.messages ++ more) now.end) (sym (put_at-here c.fed liar p (c.fed liar p ++ bytes))) reads;
+                read = subst (λ (b : List ℕ). ReadsMessages size b (first.messages ++ more) now.end) (sym (put_at-here c.fed liar p (c.fed liar p ++ bytes))) reads;
                 whole = λ no_liar. let clash : true ≡ false = sym lies ∙ no_liar in cc;
               })
               (λ b ne. refl) (λ b ne. put_at-row c.fed liar p (c.fed liar p ++ bytes) b ne) a x la);
         }
 
-        does_rest : (k : Mark) (steps : List Step) (rest : List ℕ) → link.end ≡ Rest rest → (more : List Message) → Reads size (c.fed liar p ++ bytes) (first.messages ++ more) now.end
+        does_rest : (k : Mark) (steps : List Step) (rest : List ℕ) → link.end ≡ Rest rest → (more : List Message) → ReadsMessages size (c.fed liar p ++ bytes) (first.messages ++ more) now.end
             → AreLies size p c.world (c.fused p) liar toss.0 (statements_in more) k steps → Does size c p (task.Lie liar toss) bytes k steps
         does_rest k steps rest e more reads are =
-            (first.messages, Rest rest, subst (λ (x : End). Reads size (c.fed liar p) first.messages x) e first.read, (more, now.end, reads, are))
+            (first.messages, Rest rest, subst (λ (x : End). ReadsMessages size (c.fed liar p) first.messages x) e first.read, (more, now.end, reads, are))
 
         go : (e : End) → link.end ≡ e → is_broken_at e ≡ false → Takes size e bytes statements now.end → (k : Mark) → IsMove size liars p c.world (AreLies size p c.world (c.fused p) liar toss.0 statements k) new.seat
             → IsDone size liars c p (task.Lie liar toss) bytes k new
         go (Broken fault) e w t k m = cc
         go (Rest rest) e w t (Skipped reason) m = absurd (never_skipped size p c.world (c.fused p) liar toss.0 statements reason m.steps m.is)
         go (Rest rest) e w t Done m =
-            let reads = joins size (c.fed liar p) bytes rest first.messages t.1.0 now.end (subst (λ (x : End). Reads size (c.fed liar p) first.messages x) e first.read) t.1.1 in
+            let reads = joins size (c.fed liar p) bytes rest first.messages t.1.0 now.end (subst (λ (x : End). ReadsMessages size (c.fed liar p) first.messages x) e first.read) t.1.1 in
             let are = subst (λ (l : List Statement). AreLies size p c.world (c.fused p) liar toss.0 l Done m.steps) (t.2 ∙ ap statements_in t.1.2) m.is in
             record { steps = m.steps; does = does_rest Done m.steps rest e t.1.0 reads are; is_run = m.is_run; at = post_after (after_all c.world m.steps) t.1.0 reads m.at }
         go (Rest rest) e w t Failed m =
-            let reads = joins size (c.fed liar p) bytes rest first.messages t.1.0 now.end (subst (λ (x : End). Reads size (c.fed liar p) first.messages x) e first.read) t.1.1 in
+            let reads = joins size (c.fed liar p) bytes rest first.messages t.1.0 now.end (subst (λ (x : End). ReadsMessages size (c.fed liar p) first.messages x) e first.read) t.1.1 in
             let are = subst (λ (l : List Statement). AreLies size p c.world (c.fused p) liar toss.0 l Failed m.steps) (t.2 ∙ ap statements_in t.1.2) m.is in
             record { steps = m.steps; does = does_rest Failed m.steps rest e t.1.0 reads are; is_run = m.is_run; at = post_after (after_all c.world m.steps) t.1.0 reads m.at }

@@ -1,23 +1,12 @@
 -- How many records a member can come to save.
-use Rattle.std.proofs.Common.{◌≡◌, ◌+◌, ◌*◌, ◌<◌, ◌≤◌, ℕ, zero, suc, Bool, true, false, cond, ◌⊎◌, inl, inr, eqb, eq-eqb, refl, arith, List, [], ◌∷◌, length, map}
+use Rattle.std.proofs.Common.{◌≡◌, ◌+◌, ◌*◌, ◌<◌, ◌≤◌, ℕ, zero, suc, Bool, true, false, cond, ◌⊎◌, inl, inr, eqb, eq-eqb, refl, arith, List, [], ◌∷◌, length, map, ne_eqb, eqb-true}
 use Rattle.std.specs.List.{AllByRecursion, IsDistinct, list_any}
-use Rattle.std.proofs.lemmas.Bool.{ne_eqb, eqb-true, or_cases, and_from}
+use Rattle.std.proofs.lemmas.Bool.{or_cases, and_from}
 use Rattle.std.proofs.lemmas.List.{length-map}
 use Rattle.std.proofs.lemmas.Map.Steps.{length-le_from_distinct_below}
-use Rattle.terms.specs.declared.Kind.{Kind}
-use Rattle.terms.specs.declared.Kind.TheVariants.{Initial, Echo, Ready}
-use Rattle.terms.specs.declared.Place.{Place}
-use Rattle.terms.specs.declared.Value.{Value}
-use Rattle.terms.specs.declared.Size.{Size}
-use Rattle.terms.specs.declared.Statement.{Statement}
-use Rattle.terms.specs.declared.Record.{Record}
-use Rattle.terms.specs.declared.Record.TheVariants.{Said, Decided}
-use Rattle.terms.specs.Bounds.{IsSize, FitsStep}
-use Rattle.terms.specs.Journal.{sayings, decisions}
-use Rattle.terms.specs.Same.{kind_code, is_about}
-use Rattle.terms.specs.WellFormed.{IsWellFormed}
+use Rattle.vocabulary.specs.Terms.{Kind, Initial, Echo, Ready, Place, Value, Size, Statement, Record, Said, Decided, IsSize, FitsStep, sayings, decisions, kind_code, is_about, IsWellFormed}
 use Rattle.terms.proofs.Same.{is_about-same}
-use Rattle.world.specs.Laws.{IsWellFormedRecord, AreWellFormed}
+use Rattle.world.specs.Laws.{IsWellFormedRecord, AreWellFormedRecords}
 
 -- a number for each question, for its decision, and one for each kind at each place; rounds and steps count from 1 and so do
 -- their digits, and the least number of a place is 12, so 244 more sets all of them behind the 256 questions
@@ -65,7 +54,7 @@ at_most false m h = omega arith
 
 module _ (size : Size) (ok : IsSize size) where
   -- a statement that isn't said again has a number of its own
-  said_apart : (s : Statement) (xs : List Record) → IsWellFormed size s → AreWellFormed size xs → sayings xs s.kind s.place ≡ 0
+  said_apart : (s : Statement) (xs : List Record) → IsWellFormed size s → AreWellFormedRecords size xs → sayings xs s.kind s.place ≡ 0
       → AllByRecursion (λ c. eqb (code (Said s)) c ≡ false) (map code xs)
   said_apart s [] is all h = tt
   said_apart s (Said t ∷ xs) is all h =
@@ -83,7 +72,7 @@ module _ (size : Size) (ok : IsSize size) where
   )
 
   -- so has a decision
-  decided_apart : (question : ℕ) (xs : List Record) → question < size.questions → AreWellFormed size xs → decisions xs question ≡ 0
+  decided_apart : (question : ℕ) (xs : List Record) → question < size.questions → AreWellFormedRecords size xs → decisions xs question ≡ 0
       → AllByRecursion (λ c. eqb question c ≡ false) (map code xs)
   decided_apart question [] l all h = tt
   decided_apart question (Said t ∷ xs) l all h = (
@@ -100,7 +89,7 @@ module _ (size : Size) (ok : IsSize size) where
       )
 
   -- in a journal that says and decides everything once all numbers differ
-  apart : (xs : List Record) → AreWellFormed size xs → ((kind : Kind) (place : Place) → sayings xs kind place ≤ 1) → ((question : ℕ) → decisions xs question ≤ 1)
+  apart : (xs : List Record) → AreWellFormedRecords size xs → ((kind : Kind) (place : Place) → sayings xs kind place ≤ 1) → ((question : ℕ) → decisions xs question ≤ 1)
       → IsDistinct eqb (map code xs)
   unfolding IsDistinct
   apart [] all says decides = tt
@@ -122,7 +111,7 @@ module _ (size : Size) (ok : IsSize size) where
       omega arith
   code_below (Decided question round bit) is = let few = ok.few in let asked = is.0 in omega arith
 
-  codes_below : (xs : List Record) → AreWellFormed size xs → (c : ℕ) → list_any (eqb c) (map code xs) ≡ true → c < 2359552
+  codes_below : (xs : List Record) → AreWellFormedRecords size xs → (c : ℕ) → list_any (eqb c) (map code xs) ≡ true → c < 2359552
   codes_below [] all c h = cc
   codes_below (x ∷ xs) all c h = step (or_cases (eqb c (code x)) (list_any (eqb c) (map code xs)) h) (codes_below xs all.1 c)
     where
@@ -131,7 +120,7 @@ module _ (size : Size) (ok : IsSize size) where
       step (inr e) ih = ih e
 
   -- it has no more records than there are such numbers
-  pub few_records : (xs : List Record) → AreWellFormed size xs → ((kind : Kind) (place : Place) → sayings xs kind place ≤ 1) → ((question : ℕ) → decisions xs question ≤ 1)
+  pub few_records : (xs : List Record) → AreWellFormedRecords size xs → ((kind : Kind) (place : Place) → sayings xs kind place ≤ 1) → ((question : ℕ) → decisions xs question ≤ 1)
       → length xs ≤ 2359552
   few_records xs all says decides =
       let few = length-le_from_distinct_below (map code xs) 2359552 (apart xs all says decides) (codes_below xs all) in

@@ -1,17 +1,10 @@
 -- Statements that go as one group.
-use Rattle.std.proofs.Common.{◌≡◌, ◌<◌, ◌≤◌, ◌+◌, ◌||◌, ℕ, zero, suc, Option, Some, None, Bool, true, false, List, [], ◌∷◌, ◌++◌, length, length-append, get_or, refl, sym, ap, ◌∙◌, arith}
-use Rattle.std.specs.Prelude.{map, min, drop, take}
+use Rattle.std.proofs.Common.{◌≡◌, ◌<◌, ◌≤◌, ◌+◌, ◌||◌, ℕ, zero, suc, Option, Some, None, Bool, true, false, List, [], ◌∷◌, ◌++◌, length, length-append, get_or, refl, sym, ap, ◌∙◌, arith, map, min, drop, take, take_all}
 use Rattle.std.specs.List.{AllByRecursion}
 use Rattle.std.proofs.Math.Nat.{zero-add}
 use Rattle.std.proofs.Math.Seq.{drop-nil}
-use Rattle.std.proofs.lemmas.List.{map_more, take_all}
-use Rattle.terms.specs.declared.Size.{Size}
-use Rattle.terms.specs.declared.Statement.{Statement}
-use Rattle.terms.specs.declared.Record.{Record}
-use Rattle.terms.specs.declared.Record.TheVariants.{Said, Decided}
-use Rattle.terms.specs.Journal.{has_said}
-use Rattle.terms.specs.Same.{statement_eq}
-use Rattle.terms.specs.WellFormed.{IsWellFormed}
+use Rattle.std.proofs.lemmas.List.{map_more}
+use Rattle.vocabulary.specs.Terms.{Size, Statement, Record, Said, Decided, has_said, statement_eq, IsWellFormed}
 use Rattle.terms.proofs.Same.{statement_eq-same}
 use Rattle.rounds.specs.declared.tosses.Toss.{Toss}
 use Rattle.wire.specs.Reading.{End, Rest}

@@ -3,32 +3,27 @@ use Rattle.std.proofs.Common.{◌≡◌, ◌<◌, ◌+◌, ℕ, Bool, true, None
 use Rattle.std.specs.List.{AllByRecursion}
 use Rattle.std.proofs.Math.Seq.{drop-cons}
 use Rattle.std.proofs.lemmas.Bool.{and_from}
-use Rattle.terms.specs.declared.Size.{Size}
-use Rattle.terms.specs.declared.Statement.{Statement}
-use Rattle.terms.specs.declared.Record.{Record}
-use Rattle.terms.specs.WellFormed.{IsWellFormed}
-use Rattle.terms.specs.Reply.{Event as Happening, records_of}
-use Rattle.terms.specs.Reply.Event.{Hearing, Proposal}
-use Rattle.terms.specs.Same.{statement_eq}
+use Rattle.vocabulary.specs.Terms.{Size, Statement, Record, IsWellFormed, records_of, Hearing, Proposal, statement_eq}
+use Rattle.terms.specs.Reply.{Event as Happening}
 use Rattle.terms.proofs.Same.{statement_eq-same}
 use Rattle.world.specs.World.{World, Step, IsCorrect, IsRun, has_sent, after, after_all}
 use Rattle.world.specs.World.Step.{Lie}
 use Rattle.world.proofs.Runs.{IsRun-append, after_all-append}
-use Rattle.member.specs.Life.{step_of}
+use Rattle.member.specs.Life.{world_step}
 use Rattle.sim.specs.declared.events.Mark.{Mark}
 use Rattle.sim.specs.declared.events.Mark.TheVariants.{Done, Failed, Skipped}
 use Rattle.sim.specs.declared.seats.Seat.{Seat}
 use Rattle.sim.specs.declared.seats.Seat.TheVariants.{Here, Down, Liar}
-use Rattle.sim.specs.Seats.{IsSeat, IsMove, Answers, AreLies, MayCome, mine}
+use Rattle.sim.specs.Seats.{IsSeatAt, IsMove, Answers, AreLies, MayCome, mine}
 use Rattle.sim.proofs.Room.{comes_after}
 
 -- a step that is kept leaves the member up
-pub kept_up : (w : World) (p : ℕ) (event : Happening) (batch : List Record) → (after w (step_of p event batch true)).doubt p ≡ w.doubt p
+pub kept_up : (w : World) (p : ℕ) (event : Happening) (batch : List Record) → (after w (world_step p event batch true)).doubt p ≡ w.doubt p
 kept_up w p (Hearing a s) batch = refl
 kept_up w p (Proposal question bit) batch = refl
 
 -- a lie changes nothing of a member
-pub seat_of_lie : (size : Size) (w : World) (p liar : ℕ) (s : Statement) (seat : Seat) → IsSeat (mine size p) w seat → IsSeat (mine size p) (after w (Lie liar s)) seat
+pub seat_of_lie : (size : Size) (w : World) (p liar : ℕ) (s : Statement) (seat : Seat) → IsSeatAt (mine size p) w seat → IsSeatAt (mine size p) (after w (Lie liar s)) seat
 seat_of_lie size w p liar s (Here m) at = at
 seat_of_lie size w p liar s (Down disk records) at = record { batch = at.batch; doubt = at.doubt; saved = at.saved; left = at.left }
 seat_of_lie size w p liar s Liar at = at
@@ -43,13 +38,13 @@ pub record HeardSoFar (size : Size) (liars : ℕ → Bool) (p : ℕ) (w : World)
   pub steps : List Step
   pub is_run : IsRun size liars w steps
   pub up : (after_all w steps).doubt p ≡ None
-  pub at : IsSeat (mine size p) (after_all w steps) seat
+  pub at : IsSeatAt (mine size p) (after_all w steps) seat
   pub formed : AllByRecursion (IsWellFormed size) (drop i statements)
   pub others : (mark : Mark) (more : List Step) → AreLies size p (after_all w steps) fused liar toss (drop i statements) mark more
       → AreLies size p w fused liar toss statements mark (steps ++ more)
 
 module _ (size : Size) (liars : ℕ → Bool) (p : ℕ) (w : World) (fused : Bool) (liar toss : ℕ) (statements : List Statement) where
-  pub none_heard : (seat : Seat) → w.doubt p ≡ None → IsSeat (mine size p) w seat → AllByRecursion (IsWellFormed size) statements
+  pub none_heard : (seat : Seat) → w.doubt p ≡ None → IsSeatAt (mine size p) w seat → AllByRecursion (IsWellFormed size) statements
       → HeardSoFar size liars p w fused liar toss statements 0 seat
   none_heard seat up at formed = record {
     steps = [];
@@ -74,7 +69,7 @@ module _ (size : Size) (liars : ℕ → Bool) (p : ℕ) (w : World) (fused : Boo
   -- one statement more
   module _ (i : ℕ) (s : Statement) (old new : Seat) (mark : Mark) (next : drop i statements ≡ s ∷ drop (i + 1) statements) (correct : IsCorrect size liars p)
       (member : liar < size.n) (lies : liars liar ≡ true) (h : HeardSoFar size liars p w fused liar toss statements i old)
-      (heard : (v : World) → IsCorrect size liars p → v.doubt p ≡ None → IsSeat (mine size p) v old → has_sent v.sent liar s ≡ true
+      (heard : (v : World) → IsCorrect size liars p → v.doubt p ≡ None → IsSeatAt (mine size p) v old → has_sent v.sent liar s ≡ true
       → IsMove size liars p v (Answers size p v fused toss (Hearing liar s) mark) new) where
     abbrev said : World
     said = after (after_all w h.steps) (Lie liar s)
@@ -91,8 +86,8 @@ module _ (size : Size) (liars : ℕ → Bool) (p : ℕ) (w : World) (fused : Boo
     is_run_both : (m : IsMove size liars p said (Answers size p said fused toss (Hearing liar s) mark) new) → IsRun size liars w (h.steps ++ both m)
     is_run_both m = IsRun-append size liars w h.steps (both m) h.is_run ((member, lies, formed_here.0), m.is_run)
 
-    at_both : (m : IsMove size liars p said (Answers size p said fused toss (Hearing liar s) mark) new) → IsSeat (mine size p) (after_all w (h.steps ++ both m)) new
-    at_both m = subst (λ (v : World). IsSeat (mine size p) v new) (sym (after_all-append w h.steps (both m))) m.at
+    at_both : (m : IsMove size liars p said (Answers size p said fused toss (Hearing liar s) mark) new) → IsSeatAt (mine size p) (after_all w (h.steps ++ both m)) new
+    at_both m = subst (λ (v : World). IsSeatAt (mine size p) v new) (sym (after_all-append w h.steps (both m))) m.at
 
     pub one_heard : mark ≡ Done → HeardSoFar size liars p w fused liar toss statements (i + 1) new
     one_heard e = done move (subst (λ (k : Mark). Answers size p said fused toss (Hearing liar s) k move.steps) e move.is)
@@ -139,7 +134,7 @@ module _ (size : Size) (liars : ℕ → Bool) (p : ℕ) (w : World) (fused : Boo
 pub one_more : (size : Size) (liars : ℕ → Bool) (p : ℕ) (w : World) (fused : Bool) (liar toss : ℕ) (statements : List Statement) (i : ℕ) (s : Statement) (seat : Seat) {T : Type 0}
     → drop i statements ≡ s ∷ drop (i + 1) statements → MayCome size liars w → IsCorrect size liars p → liar < size.n → liars liar ≡ true
     → HeardSoFar size liars p w fused liar toss statements i seat
-    → ((v : World) → IsCorrect size liars p → v.doubt p ≡ None → IsSeat (mine size p) v seat → has_sent v.sent liar s ≡ true → MayCome size liars v → T) → T
+    → ((v : World) → IsCorrect size liars p → v.doubt p ≡ None → IsSeatAt (mine size p) v seat → has_sent v.sent liar s ≡ true → MayCome size liars v → T) → T
 one_more size liars p w fused liar toss statements i s seat next may correct member lies h holds =
     let here = after_all w h.steps in
     let formed : AllByRecursion (IsWellFormed size) (s ∷ drop (i + 1) statements) = subst (λ (l : List Statement). AllByRecursion (IsWellFormed size) l) next h.formed in

@@ -1,10 +1,7 @@
 -- A script as a run of the world.
 use Rattle.std.proofs.Common.{◌≡◌, ◌≤◌, ℕ, Bool, List, [], ◌∷◌, ◌++◌, refl, sym, ap, subst, ◌∙◌, append-nil, append_assoc}
 use Rattle.std.specs.Global.{Vec}
-use Rattle.terms.specs.declared.Size.{Size}
-use Rattle.terms.specs.declared.Record.{Record}
-use Rattle.terms.specs.Bounds.{IsSize}
-use Rattle.terms.specs.Count.{count_below}
+use Rattle.vocabulary.specs.Terms.{Size, Record, IsSize, count_below}
 use Rattle.world.specs.World.{World, Step, IsRun, start, after_all}
 use Rattle.world.proofs.Runs.{IsRun-append, after_all-append}
 use Rattle.world.proofs.Keeps.{reached_ok}

@@ -1,16 +1,13 @@
 -- What a member does, as steps of the world.
 use Rattle.std.proofs.Common.{◌≡◌, ℕ, ◌⊎◌, inl, inr, Bool, true, false, Option, Some, Result, Ok, Err, IfOk, List, [], ◌∷◌, ◌++◌, refl, sym, ap, subst, ◌∙◌, append_assoc}
-use Rattle.terms.specs.declared.Size.{Size}
+use Rattle.vocabulary.specs.Terms.{Size, Record, Statement, Header, records_of, records_of_all, without_tosses}
 use Rattle.std.specs.Global.{Vec}
-use Rattle.terms.specs.declared.Record.{Record}
-use Rattle.terms.specs.declared.Statement.{Statement}
-use Rattle.terms.specs.declared.Header.{Header}
-use Rattle.terms.specs.Reply.{Event as Happening, records_of, records_of_all, without_tosses}
+use Rattle.terms.specs.Reply.{Event as Happening}
 use Rattle.disk.specs.declared.memory.MemDisk.{MemDisk}
 use Rattle.disk.specs.Memory.{memory_state}
 use Rattle.disk.specs.Model.{State, MayLeave, at_rest}
-use Rattle.journal.specs.Texts.{header_text, texts}
-use Rattle.journal.specs.File.{Begins, Holds}
+use Rattle.journal.specs.Texts.{header_text, batches_bytes}
+use Rattle.journal.specs.File.{IsFrontOf, Holds}
 use Rattle.journal.proofs.Crash.{begins_kept}
 use Rattle.journal.proofs.Held.{left_holds}
 use Rattle.questions.specs.declared.answer.Answer.{Answer}
@@ -21,31 +18,31 @@ use Rattle.world.proofs.Runs.{put-here}
 use Rattle.member.specs.declared.fault.MemberFault.{MemberFault}
 use Rattle.member.specs.declared.fault.MemberFault.TheVariants.{Stopped, Device, Memory, JournalFull, NoSuchQuestion, NoSuchMember}
 use Rattle.member.specs.declared.member.Member.{Member}
-use Rattle.member.specs.Words.{disk_of, saved_of, header_of, is_stopped_of}
+use Rattle.member.specs.Readers.{member_disk, member_saved, member_header, member_is_stopped}
 use Rattle.member.specs.Sound.{IsSound}
 use Rattle.member.specs.Memory.{memory_disk}
 use Rattle.member.specs.Stands.{IsLeft}
-use Rattle.member.specs.Life.{IsAt, Goes, Lives, step_of}
+use Rattle.member.specs.Life.{MemberIsAt, DoesStep, Lives, world_step}
 use Rattle.member.specs.Groups.{LivesAll, replies_of}
 use Rattle.sim.specs.declared.events.Mark.{Mark}
 use Rattle.sim.specs.declared.events.Mark.TheVariants.{Done}
 use Rattle.sim.specs.declared.seats.Seat.TheVariants.{Here}
-use Rattle.sim.specs.Seats.{IsMarkOf, IsMove, IsDown, Answers, AnswersAll, Reopens, mine}
+use Rattle.sim.specs.Seats.{IsMarkOf, IsMove, IsDown, Answers, AnswersGroup, Reopens, mine}
 
 -- an event that a member answered
 pub told : (size : Size) (liars : ℕ → Bool) (p : ℕ) (w : World) (toss : ℕ) (fused : Bool) (event : Happening) (old new : Member MemDisk)
     (answer : Result Answer MemberFault) (mark : Mark) → IsMarkOf fused answer mark → Lives memory_disk (mine size p) liars w toss event answer old new
     → IsMove size liars p w (Answers size p w fused toss event mark) (Here new)
 told size liars p w toss fused event old new (Ok a) mark is lives = record {
-  steps = step_of p event (records_of (reply_of a)) true ∷ [];
-  is = subst (λ (m : Mark). Answers size p w fused toss event m (step_of p event (records_of (reply_of a)) true ∷ [])) (sym is)
+  steps = world_step p event (records_of (reply_of a)) true ∷ [];
+  is = subst (λ (m : Mark). Answers size p w fused toss event m (world_step p event (records_of (reply_of a)) true ∷ [])) (sym is)
       (record { reply = reply_of a; replies = lives.0; is = refl });
   is_run = (lives.1.0, tt);
   at = lives.1.1;
 }
 told size liars p w toss fused event old new (Err Device) mark is lives = record {
-  steps = step_of p event (records_of lives.0) false ∷ [];
-  is = subst (λ (m : Mark). Answers size p w fused toss event m (step_of p event (records_of lives.0) false ∷ [])) (sym is.1)
+  steps = world_step p event (records_of lives.0) false ∷ [];
+  is = subst (λ (m : Mark). Answers size p w fused toss event m (world_step p event (records_of lives.0) false ∷ [])) (sym is.1)
       (is.0, record { reply = lives.0; replies = lives.1; is = refl });
   is_run = (lives.2.0, tt);
   at = lives.2.1;
@@ -66,17 +63,17 @@ told_ok size liars p w toss fused event old new answer (Err e) is lives = tt
 -- a group that a member answered
 told_all : (size : Size) (liars : ℕ → Bool) (p : ℕ) (w : World) (fused : Bool) (es : List (ℕ × Statement × ℕ)) (old new : Member MemDisk)
     (answers : Result (Vec Answer) MemberFault) (mark : Mark) → IsMarkOf fused answers mark → LivesAll memory_disk (mine size p) liars w es answers old new
-    → IsMove size liars p w (AnswersAll size p w fused es mark) (Here new)
+    → IsMove size liars p w (AnswersGroup size p w fused es mark) (Here new)
 told_all size liars p w fused es old new (Ok a) mark is lives = record {
   steps = Hears p (without_tosses es) (records_of_all (replies_of a.items)) true ∷ [];
-  is = subst (λ (m : Mark). AnswersAll size p w fused es m (Hears p (without_tosses es) (records_of_all (replies_of a.items)) true ∷ [])) (sym is)
+  is = subst (λ (m : Mark). AnswersGroup size p w fused es m (Hears p (without_tosses es) (records_of_all (replies_of a.items)) true ∷ [])) (sym is)
       (record { replies = replies_of a.items; all_reply = lives.0; is = refl });
   is_run = (lives.1.0, tt);
   at = lives.1.1;
 }
 told_all size liars p w fused es old new (Err Device) mark is lives = record {
   steps = Hears p (without_tosses es) (records_of_all lives.0) false ∷ [];
-  is = subst (λ (m : Mark). AnswersAll size p w fused es m (Hears p (without_tosses es) (records_of_all lives.0) false ∷ [])) (sym is.1)
+  is = subst (λ (m : Mark). AnswersGroup size p w fused es m (Hears p (without_tosses es) (records_of_all lives.0) false ∷ [])) (sym is.1)
       (is.0, record { replies = lives.0; all_reply = lives.1; is = refl });
   is_run = (lives.2.0, tt);
   at = lives.2.1;
@@ -90,15 +87,15 @@ told_all size liars p w fused es old new (Err NoSuchMember) mark is lives = absu
 pub told_all_ok : (size : Size) (liars : ℕ → Bool) (p : ℕ) (w : World) (fused : Bool) (es : List (ℕ × Statement × ℕ)) (old new : Member MemDisk)
     (answers : Result (Vec Answer) MemberFault) {E : Type 0} (result : Result Mark E) → IfOk result (λ mark. IsMarkOf fused answers mark)
     → LivesAll memory_disk (mine size p) liars w es answers old new
-    → IfOk result (λ mark. IsMove size liars p w (AnswersAll size p w fused es mark) (Here new))
+    → IfOk result (λ mark. IsMove size liars p w (AnswersGroup size p w fused es mark) (Here new))
 told_all_ok size liars p w fused es old new answers (Ok mark) is lives = told_all size liars p w fused es old new answers mark is lives
 told_all_ok size liars p w fused es old new answers (Err e) is lives = tt
 
 -- a file that a crash leaves of one at rest holds what that one held
 pub holds_kept : (header : Header) (records : List Record) (seen file : List ℕ) → Holds header records seen → MayLeave (at_rest seen) file → Holds header records file
 holds_kept header records seen file held may =
-    let text : List ℕ = header_text header ++ texts held.batches in
-    let b : Begins (text ++ 0 ∷ []) file =
+    let text : List ℕ = header_text header ++ batches_bytes held.batches in
+    let b : IsFrontOf (text ++ 0 ∷ []) file =
     begins_kept (text ++ 0 ∷ []) seen file (held.rest, held.is ∙ sym (append_assoc text (0 ∷ []) held.rest)) may in
     record {
       lawful = held.lawful;
@@ -125,20 +122,20 @@ true_or_false true = inl refl
 true_or_false false = inr refl
 
 -- the disk and the records of a member
-pub parts_of : (header : Header) (w : World) (m : Member MemDisk) (disk : MemDisk) (records : List Record) → IsSound memory_disk m → IsAt memory_disk header w m
-    → disk ≡ disk_of m → records ≡ saved_of m
+pub parts_of : (header : Header) (w : World) (m : Member MemDisk) (disk : MemDisk) (records : List Record) → IsSound memory_disk m → MemberIsAt memory_disk header w m
+    → disk ≡ member_disk m → records ≡ member_saved m
     → (records ≡ w.journal header.me) × IsLeft (memory_state disk) header (w.journal header.me) (w.doubt header.me)
-unfolding disk_of
+unfolding member_disk
 parts_of header w m disk records sound at d r =
-    (r ∙ at.records, subst (λ (x : MemDisk). IsLeft (memory_state x) header (w.journal header.me) (w.doubt header.me)) (sym d) (left (true_or_false (is_stopped_of m))))
+    (r ∙ at.records, subst (λ (x : MemDisk). IsLeft (memory_state x) header (w.journal header.me) (w.doubt header.me)) (sym d) (left (true_or_false (member_is_stopped m))))
   where
-    left : (is_stopped_of m ≡ true) ⊎ (is_stopped_of m ≡ false) → IsLeft (memory_state (disk_of m)) header (w.journal header.me) (w.doubt header.me)
+    left : (member_is_stopped m ≡ true) ⊎ (member_is_stopped m ≡ false) → IsLeft (memory_state (member_disk m)) header (w.journal header.me) (w.doubt header.me)
     left (inl e) = (at.down e).1
     left (inr e) =
         let settled = sound.filed.settled tt e in
         λ file may.
-        let h : Holds (header_of m) (saved_of m) file = left_holds (memory_state (disk_of m)) (header_of m) _ (saved_of m) settled.held file may in
-        inl (subst (λ (x : Header). Holds x (w.journal header.me) file) at.header_is (subst (λ (x : List Record). Holds (header_of m) x file) at.records h))
+        let h : Holds (member_header m) (member_saved m) file = left_holds (memory_state (member_disk m)) (member_header m) _ (member_saved m) settled.held file may in
+        inl (subst (λ (x : Header). Holds x (w.journal header.me) file) at.header_is (subst (λ (x : List Record). Holds (member_header m) x file) at.records h))
 
 -- a crash
 pub crashed : (header : Header) (w : World) (disk : MemDisk) (records : List Record) → records ≡ w.journal header.me
@@ -153,10 +150,10 @@ crashed header w disk records saved left = record {
 
 -- an opening that succeeds
 pub reopened : (size : Size) (liars : ℕ → Bool) (p : ℕ) (w : World) (fused : Bool) (header : Header) (m : Member MemDisk) → header ≡ mine size p
-    → ((kept : Bool) × Goes memory_disk header liars w (Restart header.me kept) m) → IsMove size liars p w (Reopens p fused Done) (Here m)
+    → ((kept : Bool) × DoesStep memory_disk header liars w (Restart header.me kept) m) → IsMove size liars p w (Reopens p fused Done) (Here m)
 reopened size liars p w fused header m e h =
-    let g : (kept : Bool) × Goes memory_disk (mine size p) liars w (Restart p kept) m =
-    subst (λ (x : Header). (kept : Bool) × Goes memory_disk x liars w (Restart x.me kept) m) e h in
+    let g : (kept : Bool) × DoesStep memory_disk (mine size p) liars w (Restart p kept) m =
+    subst (λ (x : Header). (kept : Bool) × DoesStep memory_disk x liars w (Restart x.me kept) m) e h in
     record {
       steps = Restart p g.0 ∷ [];
       is = (g.0, refl);

@@ -1,27 +1,25 @@
 -- All journals are opened, one after the other.
-use Rattle.std.proofs.Common.{ap, ◌≡◌, ◌<◌, ◌≤◌, ◌+◌, ℕ, zero, suc, [], ◌∷◌, ◌++◌, Bool, true, false, eqb, List, length, get_or, set, get_or-set_same, get_or-set_other, refl, sym, subst, ◌∙◌, arith}
-use Rattle.std.proofs.lemmas.Bool.{eqb-true, eqb-false}
+use Rattle.std.proofs.Common.{ap, ◌≡◌, ◌<◌, ◌≤◌, ◌+◌, ℕ, zero, suc, [], ◌∷◌, ◌++◌, Bool, true, false, eqb, List, length, get_or, set, get_or-set_same, get_or-set_other, refl, sym, subst, ◌∙◌, arith, eqb-true, is_some}
+use Rattle.std.proofs.lemmas.Bool.{eqb-false}
 use Rattle.std.proofs.lemmas.List.{get_or_default}
-use Rattle.std.specs.Prelude.{is_some}
 use Rattle.disk.specs.declared.memory.MemDisk.{MemDisk}
 use Rattle.disk.specs.Memory.{fuse_left}
 use Rattle.sim.specs.declared.posts.Post.{Post}
 use Rattle.sim.specs.Outcomes.{HasFuse, among, fused_in}
-use Rattle.terms.specs.declared.Size.{Size}
-use Rattle.terms.specs.declared.Header.{Header}
+use Rattle.vocabulary.specs.Terms.{Size, Header}
 use Rattle.sim.proofs.Done.{link_new}
 use Rattle.sim.specs.declared.links.Link.{Link}
 use Rattle.sim.specs.Seats.{mine, is_liar}
 use Rattle.sim.specs.Scene.{opening}
-use Rattle.sim.specs.Posts.{Opens, IsReady, IsCreated, IsOpened, IsNewLink, IsLink, IsPost}
+use Rattle.sim.specs.Posts.{OpensPost, IsReady, IsCreated, IsOpenedPost, IsNewLink, IsLink, IsPost}
 
-module _ (initial posts : List Post) (i : ℕ) (x new : Post) (l : i < length posts) (at : x ≡ get_or posts i x) (one : Opens x new)
-    (done : (p : ℕ) (d : Post) → p < i → Opens (get_or initial p d) (get_or posts p d))
+module _ (initial posts : List Post) (i : ℕ) (x new : Post) (l : i < length posts) (at : x ≡ get_or posts i x) (one : OpensPost x new)
+    (done : (p : ℕ) (d : Post) → p < i → OpensPost (get_or initial p d) (get_or posts p d))
     (rest : (p : ℕ) (d : Post) → i ≤ p → get_or posts p d ≡ get_or initial p d) where
-  pub opens_more : (p : ℕ) (d : Post) → p < i + 1 → Opens (get_or initial p d) (get_or (set posts i new) p d)
+  pub opens_more : (p : ℕ) (d : Post) → p < i + 1 → OpensPost (get_or initial p d) (get_or (set posts i new) p d)
   opens_more p d lt = go (eqb p i) refl
     where
-      go : (b : Bool) → eqb p i ≡ b → Opens (get_or initial p d) (get_or (set posts i new) p d)
+      go : (b : Bool) → eqb p i ≡ b → OpensPost (get_or initial p d) (get_or (set posts i new) p d)
       go true e =
           let g : p ≡ i = eqb-true p i e in
           let old : get_or initial i d ≡ x = sym (rest i d (omega arith)) ∙ get_or_default posts i d x l ∙ sym at in
@@ -65,7 +63,7 @@ new_link : (size : Size) (liar : Bool) (link : Link) → IsNewLink size link →
 new_link size liar link new = link_new size liar 0 [] link refl refl new.place_is new.size_is new.end_is
 
 -- a post that was opened is what the first scene has
-pub opened_post : (size : Size) (liars : ℕ → Bool) (fused : ℕ → Bool) (p : ℕ) (post : Post) → IsOpened (mine size p) (liars p) (fused p) post
+pub opened_post : (size : Size) (liars : ℕ → Bool) (fused : ℕ → Bool) (p : ℕ) (post : Post) → IsOpenedPost (mine size p) (liars p) (fused p) post
     → IsPost size liars (opening fused) p post
 opened_post size liars fused p post opened = record {
   header = opened.header_is;
@@ -76,10 +74,10 @@ opened_post size liars fused p post opened = record {
 }
 
 -- so is each that was created and then opened
-pub opens_post : (size : Size) (liars : ℕ → Bool) (fused : ℕ → Bool) (p : ℕ) (old new : Post) → IsCreated (mine size p) (liars p) (fused p) old → Opens old new
+pub opens_post : (size : Size) (liars : ℕ → Bool) (fused : ℕ → Bool) (p : ℕ) (old new : Post) → IsCreated (mine size p) (liars p) (fused p) old → OpensPost old new
     → IsPost size liars (opening fused) p new
 opens_post size liars fused p old new created opens =
-    opened_post size liars fused p new (subst (λ (h : Header). IsOpened h (liars p) (fused p) new) created.header_is
+    opened_post size liars fused p new (subst (λ (h : Header). IsOpenedPost h (liars p) (fused p) new) created.header_is
     (opens.opened (liars p) (fused p) (subst (λ (h : Header). IsCreated h (liars p) (fused p) old) (sym created.header_is) created)))
 
 -- a list with a place has something in it

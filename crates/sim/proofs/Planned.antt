@@ -1,19 +1,12 @@
 -- What the tests of a plan say.
 use Rattle.std.proofs.Common.{◌≡◌, ◌<◌, ◌+◌, ℕ, zero, suc, [], ◌∷◌, subst, Bool, true, false, not, cond, nat_lt, Option, Some, None, Result, Ok, Err, IfOk, List, length, get_or, refl, sym, ap, ◌∙◌, arith, ◌⊎◌, inl, inr}
 use Rattle.std.proofs.lemmas.Bool.Decides.{nat_tests}
-use Rattle.terms.specs.declared.Size.{Size}
-use Rattle.terms.specs.declared.Record.{Record}
-use Rattle.terms.specs.declared.Record.TheVariants.{Said, Decided}
-use Rattle.terms.specs.declared.Statement.{Statement}
-use Rattle.terms.specs.Journal.{has_said}
-use Rattle.terms.specs.Same.{statement_eq}
+use Rattle.vocabulary.specs.Terms.{Size, Record, Said, Decided, Statement, has_said, statement_eq, is_none, IsWellFormed}
 use Rattle.terms.proofs.Same.{statement_eq-same}
-use Rattle.terms.specs.Heard.{is_none}
 use Rattle.rounds.specs.declared.tosses.Toss.{Toss}
 use Rattle.wire.specs.Reading.{Rest}
 use Rattle.world.specs.World.{World, has_sent}
-use Rattle.terms.specs.WellFormed.{IsWellFormed}
-use Rattle.member.specs.Words.{is_stopped_of}
+use Rattle.member.specs.Readers.{member_is_stopped}
 use Rattle.sim.specs.declared.events.Which.{Which}
 use Rattle.sim.specs.declared.events.Which.TheVariants.{Next, At}
 use Rattle.sim.specs.declared.events.Event.{Event}
@@ -27,9 +20,9 @@ use Rattle.sim.specs.declared.tasks.Task.{Task}
 use Rattle.sim.specs.declared.tasks.Task.TheVariants as tasks
 use Rattle.sim.specs.declared.seats.Seat.{Seat}
 use Rattle.sim.specs.declared.seats.Seat.TheVariants.{Here, Down, Liar}
-use Rattle.sim.specs.Seats.{IsSeat, is_up, saved_in, nth_said, group_from, mine}
+use Rattle.sim.specs.Seats.{IsSeatAt, is_up, saved_in, nth_said, group_from, mine}
 use Rattle.sim.specs.Scene.{Scene, plan_of, for_link, to_deliver, delivery_of, group_of, to_group}
-use Rattle.sim.specs.Posts.{IsPost, IsCluster, Fits, Brings, AreSaid}
+use Rattle.sim.specs.Posts.{IsPost, IsCluster, CanBeDone, Brings, AreSaid}
 use Rattle.sim.specs.Runs.{IsSteady}
 use Rattle.sim.proofs.Moves.{true_or_false}
 use Rattle.sim.proofs.Groups.{or_true, all_in_group, group_some}
@@ -38,17 +31,17 @@ pub lt_is : (a b : ℕ) → a < b → nat_lt a b ≡ true
 lt_is a b l = grind (arith, nat_tests)
 
 -- a seat is up where the world has no batch in doubt
-pub up_is : (size : Size) (p : ℕ) (w : World) (seat : Seat) → IsSeat (mine size p) w seat → is_up seat ≡ is_none (w.doubt p)
-up_is size p w (Here m) at = go (true_or_false (is_stopped_of m))
+pub up_is : (size : Size) (p : ℕ) (w : World) (seat : Seat) → IsSeatAt (mine size p) w seat → is_up seat ≡ is_none (w.doubt p)
+up_is size p w (Here m) at = go (true_or_false (member_is_stopped m))
   where
-    go : (is_stopped_of m ≡ true) ⊎ (is_stopped_of m ≡ false) → not (is_stopped_of m) ≡ is_none (w.doubt p)
+    go : (member_is_stopped m ≡ true) ⊎ (member_is_stopped m ≡ false) → not (member_is_stopped m) ≡ is_none (w.doubt p)
     go (inl e) = ap not e ∙ sym (ap is_none ((at.down e).0.1))
     go (inr e) = ap not e ∙ sym (ap is_none ((at.up e).0))
 up_is size p w (Down disk records) at = sym (ap is_none at.doubt)
 up_is size p w Liar at = absurd at
 
 -- it has what the world has
-pub saved_is : (size : Size) (p : ℕ) (w : World) (seat : Seat) → IsSeat (mine size p) w seat → saved_in seat ≡ w.journal p
+pub saved_is : (size : Size) (p : ℕ) (w : World) (seat : Seat) → IsSeatAt (mine size p) w seat → saved_in seat ≡ w.journal p
 saved_is size p w (Here m) at = at.records
 saved_is size p w (Down disk records) at = at.saved
 saved_is size p w Liar at = absurd at
@@ -139,7 +132,7 @@ told_of size liars s posts i from to place sender e at cluster h =
 
 -- what is taken of the sender for a group is what the group brings
 pub brought_is : (size : Size) (liars : ℕ → Bool) (s : Scene) (posts : List Post) (p from count : ℕ) (toss : Toss) (i j place : ℕ) (receiver sender : Post) {E : Type 0} (result : Result Group E)
-    → IsCluster size liars s posts → p < size.n → Fits size liars s p (tasks.DeliverAll from count toss)
+    → IsCluster size liars s posts → p < size.n → CanBeDone size liars s p (tasks.DeliverAll from count toss)
     → i ≡ p → receiver ≡ get_or posts i receiver → j ≡ from → sender ≡ get_or posts j sender → ((d : Link) → place ≡ (get_or receiver.incoming.items from d).place)
     → IfOk result (λ group. group.statements.items ≡ group_from (saved_in sender.seat) place count)
     → IfOk result (λ group. group.place ≡ place + length group.statements.items)
@@ -172,9 +165,9 @@ nth_has (Decided q r b ∷ rs) k s h = nth_has rs k s h
 -- a planned task fits
 pub record IsRight (size : Size) (liars : ℕ → Bool) (c : Scene) (p : ℕ) (told : Task) : Type 0 where
   pub below : p < size.n
-  pub fits : Fits size liars c p told
+  pub fits : CanBeDone size liars c p told
 
-right : (size : Size) (liars : ℕ → Bool) (c : Scene) (m : ℕ) (one : Task) (p : ℕ) (told : Task) → m < size.n → Fits size liars c m one
+right : (size : Size) (liars : ℕ → Bool) (c : Scene) (m : ℕ) (one : Task) (p : ℕ) (told : Task) → m < size.n → CanBeDone size liars c m one
     → ◌≡◌ {A = Result (ℕ × Task) Reason} (Ok (m, one)) (Ok (p, told)) → IsRight size liars c p told
 right size liars c m one p told l fits h =
     let pair : ◌≡◌ {A = ℕ × Task} (m, one) (p, told) = cc in

@@ -3,12 +3,10 @@ use Rattle.std.proofs.Common.{◌≡◌, ◌<◌, ◌≤◌, ◌^◌, ℕ, zero,
 use Rattle.std.specs.List.{slice_get}
 use Rattle.std.proofs.lemmas.Option.{slice_get_past}
 use Rattle.std.specs.Global.{Vec}
-use Rattle.terms.specs.declared.Size.{Size}
-use Rattle.terms.specs.declared.Record.{Record}
+use Rattle.vocabulary.specs.Terms.{Size, Record, IsSize}
 use Rattle.sim.specs.declared.events.Event.{Event}
 use Rattle.sim.specs.declared.events.Mark.{Mark}
 use Rattle.sim.specs.declared.posts.Post.{Post}
-use Rattle.terms.specs.Bounds.{IsSize}
 use Rattle.world.specs.World.{EveryRun}
 use Rattle.world.specs.Claims.{Agree, Unanimous}
 use Rattle.sim.specs.declared.faults.SimFault.{SimFault}
@@ -18,17 +16,17 @@ use Rattle.sim.specs.Posts.{IsCluster}
 use Rattle.sim.specs.Outcomes.{AreLiars, IsSimulation, HaveOneBit, AreUnanimous, Verdict, among, verdicts_of}
 use Rattle.sim.specs.Runs.{IsTurn, IsSteady}
 use Rattle.sim.specs.Seats.{saved_in}
-use Rattle.sim.specs.Plays.{ClusterFields, Played, Stands, unplayed, and_then, saved_behind, saved_among, last_saved}
+use Rattle.sim.specs.Plays.{ClusterFields, Played, ClusterStandsFor, unplayed, and_then, saved_behind, saved_among, last_saved}
 use Rattle.sim.proofs.Loop.{none_followed, one_followed, steady}
 use Rattle.sim.proofs.Simulations.{few_lie, simulations_agree, simulations_unanimous}
 
 -- the world of what was played is steady
-pub steady_now : (past : Played) (cluster : ClusterFields) (s : Stands past cluster) → IsSteady past.size past.liars s.followed.last
+pub steady_now : (past : Played) (cluster : ClusterFields) (s : ClusterStandsFor past cluster) → IsSteady past.size past.liars s.followed.last
 steady_now past cluster s = steady past.size past.liars (opening past.fused) s.lawful s.few refl past.script past.marks past.saved cluster.posts s.followed
 
 -- one event more
-pub played_on : (past : Played) (old new : ClusterFields) (event : Event) (mark : Mark) (saved : Vec Record) (s : Stands past old) → new.size ≡ old.size
-    → IsTurn past.size past.liars s.followed.last event mark saved.items new.posts → Stands (and_then past event mark saved) new
+pub played_on : (past : Played) (old new : ClusterFields) (event : Event) (mark : Mark) (saved : Vec Record) (s : ClusterStandsFor past old) → new.size ≡ old.size
+    → IsTurn past.size past.liars s.followed.last event mark saved.items new.posts → ClusterStandsFor (and_then past event mark saved) new
 played_on past old new event mark saved s same turn = record {
   lawful = s.lawful;
   few = s.few;
@@ -62,11 +60,11 @@ saved_there posts i p post before e h =
 pub few_behind : (records : List Record) (before : ℕ) → length records < 2 ^ 63 → length (drop before records) < 2 ^ 63
 few_behind records before h = let l = length-drop before records in omega (arith, l, h)
 
-module _ (past : Played) (old : ClusterFields) (s : Stands past old) where
+module _ (past : Played) (old : ClusterFields) (s : ClusterStandsFor past old) where
   -- an event that was carried out
   pub played_next : (new : ClusterFields) (event : Event) (mark : Mark) (saved : Vec Record) → new.size ≡ old.size → saved.items ≡ last_saved new
       → ((liars : ℕ → Bool) (c : Scene) → IsSize old.size → IsSteady old.size liars c → IsCluster old.size liars c old.posts → IsTurn old.size liars c event mark (saved_among new.posts new.last) new.posts)
-      → Stands (and_then past event mark saved) new
+      → ClusterStandsFor (and_then past event mark saved) new
   unfolding last_saved
   played_next new event mark saved same is turns =
       let turn = subst (λ (z : Size). (liars : ℕ → Bool) (c : Scene) → IsSize z → IsSteady z liars c → IsCluster z liars c old.posts → IsTurn z liars c event mark (saved_among new.posts new.last) new.posts)
@@ -88,7 +86,7 @@ few_saved cluster h = h
 
 -- a cluster that was opened
 pub stands_first : (size : Size) (liars : List ℕ) (fused : ℕ → Bool) (cluster : ClusterFields) → IsSize size → AreLiars size liars → cluster.size ≡ size
-    → IsCluster size (among liars) (opening fused) cluster.posts → Stands (unplayed size (among liars) fused) cluster
+    → IsCluster size (among liars) (opening fused) cluster.posts → ClusterStandsFor (unplayed size (among liars) fused) cluster
 stands_first size liars fused cluster lawful are same at = record {
   lawful = lawful;
   few = few_lie size liars are;
@@ -97,11 +95,11 @@ stands_first size liars fused cluster lawful are same at = record {
 }
 
 -- the posts are what the last scene has
-pub at_last : (past : Played) (cluster : ClusterFields) (s : Stands past cluster) → IsCluster cluster.size past.liars s.followed.last cluster.posts
+pub at_last : (past : Played) (cluster : ClusterFields) (s : ClusterStandsFor past cluster) → IsCluster cluster.size past.liars s.followed.last cluster.posts
 at_last past cluster s = subst (λ (z : Size). IsCluster z past.liars s.followed.last cluster.posts) (sym s.size_is) s.followed.at
 
 -- the verdicts of a cluster
-module _ (past : Played) (cluster : ClusterFields) (verdicts : List Verdict) (s : Stands past cluster) (are : verdicts ≡ verdicts_of cluster.size past.liars s.followed.last.world) where
+module _ (past : Played) (cluster : ClusterFields) (verdicts : List Verdict) (s : ClusterStandsFor past cluster) (are : verdicts ≡ verdicts_of cluster.size past.liars s.followed.last.world) where
   pub simulated_so : IsSimulation past.size past.liars past.fused past.script past.marks past.saved verdicts
   simulated_so =
       let f = s.followed in

@@ -1,23 +1,17 @@
 -- The bits that a script proposes are those that the world was handed.
-use Rattle.std.proofs.Common.{◌≡◌, ◌+◌, ℕ, Option, Some, None, Bool, true, false, cond, ◌&&◌, ◌||◌, ◌==◌, ◌⊎◌, inl, inr, Result, Ok, Err, List, [], ◌∷◌, ◌++◌, refl, sym, ap, subst, ◌∙◌}
-use Rattle.std.specs.Prelude.{nat_lt}
-use Rattle.terms.specs.Heard.{is_none}
+use Rattle.std.proofs.Common.{◌≡◌, ◌+◌, ℕ, Option, Some, None, Bool, true, false, cond, ◌&&◌, ◌||◌, ◌==◌, ◌⊎◌, inl, inr, Result, Ok, Err, List, [], ◌∷◌, ◌++◌, refl, sym, ap, subst, ◌∙◌, nat_lt, eqb-true}
+use Rattle.vocabulary.specs.Terms.{is_none, Size, Statement, Record, records_of, Hearing, Proposal}
 use Rattle.rounds.specs.declared.tosses.Toss.{Toss}
 use Rattle.std.specs.Bool.{beq}
 use Rattle.std.specs.List.{AllByRecursion}
-use Rattle.std.proofs.lemmas.Bool.{eqb-true}
 use Rattle.std.specs.Global.{Vec}
-use Rattle.terms.specs.declared.Size.{Size}
-use Rattle.terms.specs.declared.Statement.{Statement}
-use Rattle.terms.specs.declared.Record.{Record}
-use Rattle.terms.specs.Reply.{Event as Happening, records_of}
-use Rattle.terms.specs.Reply.Event.{Hearing, Proposal}
+use Rattle.terms.specs.Reply.{Event as Happening}
 use Rattle.wire.specs.declared.message.Message.{Message}
 use Rattle.wire.specs.Reading.{End, Rest, Broken}
 use Rattle.world.specs.World.{World, Step, after, after_all}
 use Rattle.world.specs.World.Step.{Lie, Hears, Proposes, Crash as CrashStep, Restart as RestartStep}
 use Rattle.world.specs.Claims.{AllPropose, has_proposed}
-use Rattle.member.specs.Life.{step_of}
+use Rattle.member.specs.Life.{world_step}
 use Rattle.sim.specs.declared.events.Event.{Event}
 use Rattle.sim.specs.declared.events.Event.TheVariants.{Propose, Deliver, DeliverAll, LieBytes, Fuse, Crash, Restart, Reset}
 use Rattle.sim.specs.declared.events.Which.{Which}
@@ -27,7 +21,7 @@ use Rattle.sim.specs.declared.events.Mark.TheVariants.{Done, Failed, Skipped}
 use Rattle.sim.specs.declared.events.Reason.{Reason}
 use Rattle.sim.specs.declared.tasks.Task.{Task}
 use Rattle.sim.specs.declared.tasks.Task.TheVariants as task
-use Rattle.sim.specs.Seats.{nth_said, hearings_from, Answers, AnswersAll, AreLies, Reopens}
+use Rattle.sim.specs.Seats.{nth_said, hearings_from, Answers, AnswersGroup, AreLies, Reopens}
 use Rattle.sim.specs.Scene.{Scene, plan_of, delivery_of, to_deliver, for_link, group_of, to_group, Does, HearsLies, moved, bytes_in}
 use Rattle.sim.specs.Runs.{IsPlanned, IsEvent, IsRunOf}
 use Rattle.sim.specs.Outcomes.{ProposesOnly, ProposedOnly, AllProposedOnly}
@@ -83,13 +77,13 @@ module _ (question : ℕ) (v : Bool) where
   none steps e = subst (λ (l : List Step). AllByRecursion IsOfBit l) (sym e) tt
 
   answers_ok : (size : Size) (p : ℕ) (w : World) (fused : Bool) (toss : ℕ) (event : Happening) (mark : Mark) (steps : List Step)
-      → ((records : List Record) (kept : Bool) → IsOfBit (step_of p event records kept)) → Answers size p w fused toss event mark steps → AllByRecursion IsOfBit steps
+      → ((records : List Record) (kept : Bool) → IsOfBit (world_step p event records kept)) → Answers size p w fused toss event mark steps → AllByRecursion IsOfBit steps
   answers_ok size p w fused toss event Done steps ok a = subst (λ (l : List Step). AllByRecursion IsOfBit l) (sym a.is) (ok (records_of a.reply) true, tt)
   answers_ok size p w fused toss event Failed steps ok a = subst (λ (l : List Step). AllByRecursion IsOfBit l) (sym a.1.is) (ok (records_of a.1.reply) false, tt)
   answers_ok size p w fused toss event (Skipped reason) steps ok a = absurd a
 
   all_ok : (size : Size) (p : ℕ) (w : World) (fused : Bool) (es : List (ℕ × Statement × ℕ)) (mark : Mark) (steps : List Step)
-      → AnswersAll size p w fused es mark steps → AllByRecursion IsOfBit steps
+      → AnswersGroup size p w fused es mark steps → AllByRecursion IsOfBit steps
   all_ok size p w fused es Done steps a = subst (λ (l : List Step). AllByRecursion IsOfBit l) (sym a.is) (tt, tt)
   all_ok size p w fused es Failed steps a = subst (λ (l : List Step). AllByRecursion IsOfBit l) (sym a.1.is) (tt, tt)
   all_ok size p w fused es (Skipped reason) steps a = absurd a

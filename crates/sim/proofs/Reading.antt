@@ -2,13 +2,10 @@
 use Rattle.std.proofs.Common.{◌≡◌, ◌+◌, ◌<◌, ℕ, List, [], ◌∷◌, ◌++◌, length, get_or, take, refl, ap, subst, ◌∙◌, append-nil}
 use Rattle.std.specs.List.{AllByRecursion}
 use Rattle.std.proofs.lemmas.List.{take_more}
-use Rattle.terms.specs.declared.Size.{Size}
-use Rattle.terms.specs.declared.Statement.{Statement}
-use Rattle.terms.specs.Bounds.{IsSize}
-use Rattle.terms.specs.WellFormed.{IsWellFormed}
+use Rattle.vocabulary.specs.Terms.{Size, Statement, IsSize, IsWellFormed}
 use Rattle.wire.specs.declared.message.Message.{Message}
 use Rattle.wire.specs.declared.message.Message.TheVariants as message
-use Rattle.wire.specs.Texts.{text, Fits}
+use Rattle.wire.specs.Texts.{frame_bytes, Fits}
 use Rattle.wire.specs.Reading.{End, Rest}
 use Rattle.wire.specs.Feeding.{Feeds}
 use Rattle.wire.proofs.Cutting.{written_is_fed}
@@ -29,11 +26,11 @@ statements_more ms i d m l e =
 
 -- the frame of a statement gives that statement, where nothing was held before
 pub arrives : (size : Size) (s : Statement) (end last : End) (messages : List Message) → IsSize size → IsWellFormed size s
-    → end ≡ Rest [] → Feeds size end (text (message.Statement s)) [] messages last → (messages ≡ message.Statement s ∷ []) × (last ≡ Rest [])
+    → end ≡ Rest [] → Feeds size end (frame_bytes (message.Statement s)) [] messages last → (messages ≡ message.Statement s ∷ []) × (last ≡ Rest [])
 arrives size s end last messages lawful well e feeds =
-    let fed : Feeds size (Rest []) (text (message.Statement s)) [] messages last =
-    subst (λ (x : End). Feeds size x (text (message.Statement s)) [] messages last) e feeds in
-    written_is_fed size (message.Statement s ∷ []) [] messages (text (message.Statement s) ∷ []) last lawful (well, tt) refl
+    let fed : Feeds size (Rest []) (frame_bytes (message.Statement s)) [] messages last =
+    subst (λ (x : End). Feeds size x (frame_bytes (message.Statement s)) [] messages last) e feeds in
+    written_is_fed size (message.Statement s ∷ []) [] messages (frame_bytes (message.Statement s) ∷ []) last lawful (well, tt) refl
     (messages, last, fed, (refl, refl))
 
 -- each statement among messages that fit is well formed

@@ -1,20 +1,15 @@
 -- A member's journal always has room.
 use Rattle.std.proofs.Common.{◌≡◌, ◌+◌, ◌*◌, ◌^◌, ◌<◌, ◌≤◌, ◌⊎◌, inl, inr, ℕ, Bool, true, false, None, Result, Ok, Err, IsErrOf, List, [], ◌∷◌, ◌++◌, length, length-append, sym, ap, subst, ◌∙◌, arith}
-use Rattle.terms.specs.declared.Size.{Size}
-use Rattle.terms.specs.declared.Statement.{Statement}
-use Rattle.terms.specs.declared.Header.{Header}
-use Rattle.terms.specs.declared.Record.{Record}
-use Rattle.terms.specs.Past.{past_of}
-use Rattle.terms.specs.Reply.{Event as Happening, IsReply, AreReplies, records_of, records_of_all, without_tosses}
-use Rattle.terms.specs.Reply.Event.{Hearing, Proposal}
+use Rattle.vocabulary.specs.Terms.{Size, Statement, Header, Record, past_of, IsReply, AreReplies, records_of, records_of_all, without_tosses, Hearing, Proposal}
+use Rattle.terms.specs.Reply.{Event as Happening}
 use Rattle.disk.specs.declared.memory.MemDisk.{MemDisk}
-use Rattle.journal.specs.Texts.{Batch, body, header_text, texts, records_of as records_in}
+use Rattle.journal.specs.Texts.{Batch, batch_body, header_text, batches_bytes, batch_records as records_in}
 use Rattle.journal.specs.WellFormed.{AreBatches}
 use Rattle.journal.proofs.Texts.{length-header_text, length-body}
 use Rattle.questions.specs.declared.answer.Answer.{Answer}
 use Rattle.world.specs.World.{World, Step, IsCorrect, IsAllowed, IsRun, start, in_doubt, after, after_all}
 use Rattle.world.specs.World.Step.{Hears}
-use Rattle.world.specs.Laws.{AreWellFormed}
+use Rattle.world.specs.Laws.{AreWellFormedRecords}
 use Rattle.world.proofs.Runs.{IsRun-append, after_all-append, hears_allowed, put-here}
 use Rattle.world.proofs.Single.{decides_once, says_once}
 use Rattle.world.proofs.Order.{reached_order, saved_formed}
@@ -22,32 +17,32 @@ use Rattle.world.proofs.Formed.{AreWellFormed-front}
 use Rattle.member.specs.declared.fault.MemberFault.{MemberFault}
 use Rattle.member.specs.declared.fault.MemberFault.TheVariants.{Stopped, Device, Memory, JournalFull, NoSuchQuestion, NoSuchMember}
 use Rattle.member.specs.declared.member.Member.{Member}
-use Rattle.member.specs.Answers.{question_of, gate_after, IsFull}
+use Rattle.member.specs.Answers.{event_question, gate_after, IsFull}
 use Rattle.member.specs.Groups.{AllReply, AllCome, IsFullOfAll}
-use Rattle.member.specs.Life.{IsAt, Lives, Comes, Replies, step_of}
+use Rattle.member.specs.Life.{MemberIsAt, Lives, Comes, Replies, world_step}
 use Rattle.member.specs.Memory.{memory_disk}
 use Rattle.member.specs.Sound.{IsSound}
-use Rattle.member.specs.Words.{header_of, gate_of, saved_of, is_stopped_of}
+use Rattle.member.specs.Readers.{member_header, member_gate, member_saved, member_is_stopped}
 use Rattle.member.proofs.Lives.{kept_step}
 use Rattle.sim.specs.Seats.{MayCome, mine}
 use Rattle.sim.proofs.Few.{few_records}
 use Rattle.sim.proofs.Moves.{true_or_false}
 
 -- a batch of at least one record has at most ten bytes a record
-texts_below : (header : Header) (batches : List Batch) → AreBatches header batches → length (texts batches) ≤ 10 * length (records_in batches)
+texts_below : (header : Header) (batches : List Batch) → AreBatches header batches → length (batches_bytes batches) ≤ 10 * length (records_in batches)
 texts_below header [] good = omega arith
 texts_below header (b ∷ bs) good =
     let some = good.0.some in
-    omega (arith, texts_below header bs good.1, length-body b.records, length-append (body b.records) (texts bs), length-append b.records (records_in bs))
+    omega (arith, texts_below header bs good.1, length-body b.records, length-append (batch_body b.records) (batches_bytes bs), length-append b.records (records_in bs))
 
 -- so a journal on which all is on the disk isn't long
-gate_below : (m : Member MemDisk) → IsSound memory_disk m → is_stopped_of m ≡ false → gate_of m ≤ 24 + 10 * length (saved_of m)
-unfolding gate_of
+gate_below : (m : Member MemDisk) → IsSound memory_disk m → member_is_stopped m ≡ false → member_gate m ≤ 24 + 10 * length (member_saved m)
+unfolding member_gate
 gate_below m sound going =
     let held = (sound.filed.settled tt going).held in
     let records = ap (λ (l : List Record). length l) held.records_are in
     let gate = held.gate in
-    omega (arith, gate, records, texts_below (header_of m) held.batches held.good, length-header_text (header_of m), length-append (header_text (header_of m)) (texts held.batches))
+    omega (arith, gate, records, texts_below (member_header m) held.batches held.good, length-header_text (member_header m), length-append (header_text (member_header m)) (batches_bytes held.batches))
 
 -- one step more
 pub comes_after : (size : Size) (liars : ℕ → Bool) (w : World) (steps : List Step) → MayCome size liars w → IsRun size liars w steps → MayCome size liars (after_all w steps)
@@ -66,7 +61,7 @@ few_saved : (size : Size) (liars : ℕ → Bool) (w : World) (p : ℕ) → MayCo
 few_saved size liars w p may correct =
     let r = may.reached in
     let last = after_all start may.steps in
-    let formed : AreWellFormed size (last.journal p) =
+    let formed : AreWellFormedRecords size (last.journal p) =
     AreWellFormed-front size (last.journal p) (in_doubt (last.doubt p)) (saved_formed size liars last (reached_order size liars r.lawful r.few may.steps r.is_run) p correct) in
     subst (λ (v : World). length (v.journal p) ≤ 2359552) (sym may.world_is)
     (few_records size r.lawful (last.journal p) formed
@@ -75,11 +70,11 @@ few_saved size liars w p may correct =
 
 -- A member that is up, and what it may come to save.
 module _ (size : Size) (liars : ℕ → Bool) (p : ℕ) (w : World) (old : Member MemDisk) (correct : IsCorrect size liars p) (free : w.doubt p ≡ None)
-    (may : MayCome size liars w) (sound : IsSound memory_disk old) (at : IsAt memory_disk (mine size p) w old) where
-  going : is_stopped_of old ≡ false
-  going = go (true_or_false (is_stopped_of old))
+    (may : MayCome size liars w) (sound : IsSound memory_disk old) (at : MemberIsAt memory_disk (mine size p) w old) where
+  going : member_is_stopped old ≡ false
+  going = go (true_or_false (member_is_stopped old))
     where
-      go : (is_stopped_of old ≡ true) ⊎ (is_stopped_of old ≡ false) → is_stopped_of old ≡ false
+      go : (member_is_stopped old ≡ true) ⊎ (member_is_stopped old ≡ false) → member_is_stopped old ≡ false
       go (inl e) = let some = (at.down e).0.1 in cc (some, free)
       go (inr e) = e
 
@@ -103,21 +98,21 @@ module _ (size : Size) (liars : ℕ → Bool) (p : ℕ) (w : World) (old : Membe
         (hears_allowed size liars w p 0 es full.0 true correct free come (replies 0)) (put-here w.journal p (w.journal p ++ records_of_all full.0)) full.2
 
 module _ (size : Size) (liars : ℕ → Bool) (p : ℕ) (w : World) (toss : ℕ) (event : Happening) (old : Member MemDisk) (correct : IsCorrect size liars p) (free : w.doubt p ≡ None)
-    (may : MayCome size liars w) (sound : IsSound memory_disk old) (at : IsAt memory_disk (mine size p) w old) (comes : Comes w event) where
-  asked : (happens : Happening) → Comes w happens → IsAllowed size liars w (step_of p happens [] false) → question_of happens < size.questions
+    (may : MayCome size liars w) (sound : IsSound memory_disk old) (at : MemberIsAt memory_disk (mine size p) w old) (comes : Comes w event) where
+  asked : (happens : Happening) → Comes w happens → IsAllowed size liars w (world_step p happens [] false) → event_question happens < size.questions
   asked (Hearing a s) sent allowed =
       let r = may.reached in
       ((reached_order size liars r.lawful r.few may.steps r.is_run).sent a s (rw may.world_is at sent)).1.question
   asked (Proposal question bit) sent allowed = allowed.2
 
-  has_room : IsAllowed size liars w (step_of p event [] false) → IsFull old toss event → ⊥
+  has_room : IsAllowed size liars w (world_step p event [] false) → IsFull old toss event → ⊥
   has_room allowed full =
       let reply = full.0 in
       let replies : Replies (mine size p) w toss event reply =
-      subst (λ (h : Header). IsReply (past_of h.size h.me (question_of event) (w.journal p) (w.heard p)) toss event reply) at.header_is
+      subst (λ (h : Header). IsReply (past_of h.size h.me (event_question event) (w.journal p) (w.heard p)) toss event reply) at.header_is
       (full.1 (w.journal p) (w.heard p) (at.up (going size liars p w old correct free may sound at)).1) in
       let one = kept_step (mine size p) liars w toss event reply correct free comes (asked event comes allowed) replies in
-      saved_fits size liars p w old correct free may sound at (step_of p event (records_of reply) true) (records_of reply) (one.allowed true) one.journal full.2
+      saved_fits size liars p w old correct free may sound at (world_step p event (records_of reply) true) (records_of reply) (one.allowed true) one.journal full.2
 
   -- no event finds the journal full
   pub never_full : (new : Member MemDisk) (answer : Result Answer MemberFault) → (IsErrOf answer JournalFull → IsFull old toss event)

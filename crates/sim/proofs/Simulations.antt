@@ -1,10 +1,7 @@
 -- What a simulation promises.
 use Rattle.std.proofs.Common.{◌≤◌, ℕ, Bool, List, sym, subst, arith}
 use Rattle.std.specs.Global.{Vec}
-use Rattle.terms.specs.declared.Size.{Size}
-use Rattle.terms.specs.declared.Record.{Record}
-use Rattle.terms.specs.Bounds.{IsSize}
-use Rattle.terms.specs.Count.{count_below}
+use Rattle.vocabulary.specs.Terms.{Size, Record, IsSize, count_below}
 use Rattle.world.specs.World.{World, EveryRun}
 use Rattle.world.specs.Claims.{Agree, Unanimous}
 use Rattle.sim.specs.declared.events.Event.{Event}

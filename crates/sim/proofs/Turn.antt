@@ -1,19 +1,16 @@
 -- A task of one post as a turn of the cluster.
-use Rattle.std.proofs.Common.{◌≡◌, ◌<◌, ℕ, Bool, true, false, cond, eqb, Result, Ok, Err, List, [], ◌∷◌, ◌++◌, length, drop, append-nil, append_assoc, get_or, set, get_or-set_same, get_or-set_other, refl, sym, ap, subst, ◌∙◌, arith}
-use Rattle.std.proofs.lemmas.Bool.{eqb-true, eqb-false}
+use Rattle.std.proofs.Common.{◌≡◌, ◌<◌, ℕ, Bool, true, false, cond, eqb, Result, Ok, Err, List, [], ◌∷◌, ◌++◌, length, drop, append-nil, append_assoc, get_or, set, get_or-set_same, get_or-set_other, refl, sym, ap, subst, ◌∙◌, arith, eqb-true}
+use Rattle.std.proofs.lemmas.Bool.{eqb-false}
 use Rattle.std.proofs.Math.Seq.{drop-append_seam}
-use Rattle.terms.specs.declared.Size.{Size}
-use Rattle.terms.specs.declared.Statement.{Statement}
-use Rattle.terms.specs.declared.Record.{Record}
-use Rattle.terms.specs.Reply.{Event as Happening, records_of, records_of_all, without_tosses}
-use Rattle.terms.specs.Reply.Event.{Hearing, Proposal}
+use Rattle.vocabulary.specs.Terms.{Size, Statement, Record, records_of, records_of_all, without_tosses, Hearing, Proposal, IsSize}
+use Rattle.terms.specs.Reply.{Event as Happening}
 use Rattle.wire.specs.declared.message.Message.{Message}
 use Rattle.sim.specs.declared.events.Reason.{Reason}
 use Rattle.wire.specs.Reading.{End, Rest, Broken}
 use Rattle.world.specs.World.{World, Step, put, in_doubt, after, after_all}
 use Rattle.world.specs.World.Step.{Lie, Hears, Proposes, Crash as CrashStep, Restart as RestartStep}
 use Rattle.world.proofs.Runs.{put-there, after_all-append}
-use Rattle.member.specs.Life.{step_of}
+use Rattle.member.specs.Life.{world_step}
 use Rattle.sim.specs.declared.events.Mark.{Mark}
 use Rattle.sim.specs.declared.events.Mark.TheVariants.{Done, Failed, Skipped}
 use Rattle.sim.specs.declared.posts.Post.{Post}
@@ -21,12 +18,11 @@ use Rattle.sim.specs.declared.seats.Seat.{Seat}
 use Rattle.sim.specs.declared.seats.Seat.TheVariants.{Here, Down, Liar}
 use Rattle.sim.specs.declared.tasks.Task.{Task}
 use Rattle.sim.specs.declared.tasks.Task.TheVariants as task
-use Rattle.sim.specs.Seats.{IsSeat, Answers, AnswersAll, hearings_from, AreLies, GoesOn, is_liar, saved_in, mine}
+use Rattle.sim.specs.Seats.{IsSeatAt, Answers, AnswersGroup, hearings_from, AreLies, GoesOn, is_liar, saved_in, mine}
 use Rattle.sim.specs.Scene.{Scene, Does, HearsLies, group_of, moved, scene_after, plan_of, bytes_in}
-use Rattle.sim.specs.Posts.{IsPost, IsDone, IsCluster, Fits}
+use Rattle.sim.specs.Posts.{IsPost, IsDone, IsCluster, CanBeDone}
 use Rattle.sim.specs.Runs.{IsTurn, IsPlanned}
 use Rattle.sim.specs.declared.events.Event.{Event}
-use Rattle.terms.specs.Bounds.{IsSize}
 use Rattle.sim.proofs.Planned.{IsRight, saved_is}
 use Rattle.sim.proofs.Done.{never_skipped, put_at-other, cleared-other, link_same}
 
@@ -42,7 +38,7 @@ same_here q w = record { journal = refl; heard = refl; doubt = refl }
 same_both : (q : ℕ) (w v u : World) → SameAt q w v → SameAt q v u → SameAt q w u
 same_both q w v u a b = record { journal = b.journal ∙ a.journal; heard = b.heard ∙ a.heard; doubt = b.doubt ∙ a.doubt }
 
-event_other : (w : World) (p q : ℕ) (event : Happening) (batch : List Record) (kept : Bool) → eqb q p ≡ false → SameAt q w (after w (step_of p event batch kept))
+event_other : (w : World) (p q : ℕ) (event : Happening) (batch : List Record) (kept : Bool) → eqb q p ≡ false → SameAt q w (after w (world_step p event batch kept))
 event_other w p q (Hearing a s) batch true h = record { journal = rw h refl; heard = rw h refl; doubt = refl }
 event_other w p q (Hearing a s) batch false h = record { journal = refl; heard = rw h refl; doubt = rw h refl }
 event_other w p q (Proposal question bit) batch true h = record { journal = rw h refl; heard = refl; doubt = refl }
@@ -62,7 +58,7 @@ answers_other size p q w fused toss event Failed steps h ne = by_steps q w steps
 answers_other size p q w fused toss event (Skipped reason) steps h ne = absurd h
 
 all_other : (size : Size) (p q : ℕ) (w : World) (fused : Bool) (es : List (ℕ × Statement × ℕ)) (mark : Mark) (steps : List Step)
-    → AnswersAll size p w fused es mark steps → eqb q p ≡ false → SameAt q w (after_all w steps)
+    → AnswersGroup size p w fused es mark steps → eqb q p ≡ false → SameAt q w (after_all w steps)
 all_other size p q w fused es Done steps h ne = by_steps q w steps _ h.is (group_other w p q (without_tosses es) (records_of_all h.replies) true ne)
 all_other size p q w fused es Failed steps h ne = by_steps q w steps _ h.1.is (group_other w p q (without_tosses es) (records_of_all h.1.replies) false ne)
 all_other size p q w fused es (Skipped reason) steps h ne = absurd h
@@ -129,7 +125,7 @@ tables_of c p q task.Restart bytes Failed w ne = record { place = λ a. refl; fe
 tables_of c p q (task.Reset from) bytes Done w ne = record { place = λ a. put_at-other c.place from p 0 a q ne; fed = λ a. put_at-other c.fed from p [] a q ne; fused = refl }
 tables_of c p q (task.Reset from) bytes Failed w ne = record { place = λ a. put_at-other c.place from p 0 a q ne; fed = λ a. put_at-other c.fed from p [] a q ne; fused = refl }
 
-seat_stays : (size : Size) (q : ℕ) (w v : World) (seat : Seat) → SameAt q w v → IsSeat (mine size q) w seat → IsSeat (mine size q) v seat
+seat_stays : (size : Size) (q : ℕ) (w v : World) (seat : Seat) → SameAt q w v → IsSeatAt (mine size q) w seat → IsSeatAt (mine size q) v seat
 seat_stays size q w v (Here m) same at = rw (same.journal, same.heard, same.doubt) at
 seat_stays size q w v (Down disk records) same at = record {
   batch = at.batch;
@@ -187,7 +183,7 @@ post_other size liars c p q told bytes mark steps post does ne h =
     record {
       header = h.header;
       side = h.side;
-      at = λ honest. subst (λ (v : World). IsSeat (mine size q) v post.seat) (sym w) (seat_stays size q c.world (after_all c.world steps) post.seat (does_other size c p q told bytes mark steps does ne) (h.at honest));
+      at = λ honest. subst (λ (v : World). IsSeatAt (mine size q) v post.seat) (sym w) (seat_stays size q c.world (after_all c.world steps) post.seat (does_other size c p q told bytes mark steps does ne) (h.at honest));
       fused = λ honest. h.fused honest ∙ sym t.fused;
       links = λ a d la. link_same size (liars a) (c.place a q) _ (c.fed a q) _ (get_or post.incoming.items a d) (t.place a) (t.fed a) (h.links a d la);
     }
@@ -232,7 +228,7 @@ grown w (x ∷ xs) p =
     )
 
 -- a task at a liar's number takes no step
-liar_stays : (size : Size) (liars : ℕ → Bool) (c : Scene) (p : ℕ) (told : Task) (bytes : List ℕ) (mark : Mark) (steps : List Step) → liars p ≡ true → Fits size liars c p told
+liar_stays : (size : Size) (liars : ℕ → Bool) (c : Scene) (p : ℕ) (told : Task) (bytes : List ℕ) (mark : Mark) (steps : List Step) → liars p ≡ true → CanBeDone size liars c p told
     → Does size c p told bytes mark steps → steps ≡ []
 liar_stays size liars c p (task.Propose question bit toss) bytes mark steps e fits h = let no : liars p ≡ false = fits.0 in cc
 liar_stays size liars c p (task.Deliver from s place toss) bytes mark steps e fits h = let no : liars p ≡ false = fits.0.0 in cc
@@ -250,7 +246,7 @@ liar_saves (Down disk records) e = cc
 liar_saves Liar e = refl
 
 -- what the post has of the member behind what it had is what the member came to save
-came : (size : Size) (liars : ℕ → Bool) (c : Scene) (p : ℕ) (told : Task) (bytes : List ℕ) (mark : Mark) (old new : Post) (saved : List Record) → Fits size liars c p told → IsPost size liars c p old
+came : (size : Size) (liars : ℕ → Bool) (c : Scene) (p : ℕ) (told : Task) (bytes : List ℕ) (mark : Mark) (old new : Post) (saved : List Record) → CanBeDone size liars c p told → IsPost size liars c p old
     → (d : IsDone size liars c p told bytes mark new) → saved ≡ drop (length (saved_in old.seat)) (saved_in new.seat)
     → (scene_after c p told bytes mark (after_all c.world d.steps)).world.journal p ≡ c.world.journal p ++ saved
 came size liars c p told bytes mark old new saved fits here d is = go (liars p) refl
@@ -279,7 +275,7 @@ came size liars c p told bytes mark old new saved fits here d is = go (liars p) 
 -- a task that was carried out, as a turn; the code has the member's number as an index
 pub turned : (size : Size) (liars : ℕ → Bool) (c : Scene) (event : Event) (p : ℕ) (told : Task) (bytes : List ℕ) (i : ℕ) (mark : Mark) (saved : List Record) (posts : List Post) (x post : Post)
     → IsSize size → i ≡ p → bytes ≡ bytes_in event → length posts ≡ size.n → plan_of size liars c event ≡ Ok (p, told) → IsRight size liars c p told → IsCluster size liars c posts
-    → (IsSize size → p < size.n → IsPost size liars c p (get_or posts i x) → Fits size liars c p told → IsDone size liars c p told bytes mark post)
+    → (IsSize size → p < size.n → IsPost size liars c p (get_or posts i x) → CanBeDone size liars c p told → IsDone size liars c p told bytes mark post)
     → saved ≡ drop (length (saved_in (get_or posts i x).seat)) (saved_in post.seat)
     → IsTurn size liars c event mark saved (set posts i post)
 turned size liars c event p told bytes i mark saved posts x post lawful ei eb len plan right cluster moved is =

@@ -1,10 +1,7 @@
 -- What is played on a cluster.
 use Rattle.std.specs.Prelude.{ℕ, ◌≡◌, ◌≤◌, Bool, Option, Some, None, List, [], ◌∷◌, ◌++◌, drop, slice_get}
 use Rattle.std.specs.Global.{Vec}
-use Rattle.terms.specs.declared.Size.{Size}
-use Rattle.terms.specs.declared.Record.{Record}
-use Rattle.terms.specs.Bounds.{IsSize}
-use Rattle.terms.specs.Count.{count_below}
+use Rattle.vocabulary.specs.Terms.{Size, Record, IsSize, count_below}
 use Rattle.sim.specs.declared.events.Event.{Event}
 use Rattle.sim.specs.declared.events.Mark.{Mark}
 use Rattle.sim.specs.declared.posts.Post.{Post}
@@ -56,7 +53,7 @@ and_then past event mark saved =
     played past.size past.liars past.fused (past.script ++ event ∷ []) (past.marks ++ mark ∷ []) (past.saved ++ saved ∷ [])
 
 -- the cluster is where that leads: at most t lie, and all of it is a run of the world after which the posts are what they are
-pub record Stands (past : Played) (cluster : ClusterFields) : Type 0 where
+pub record ClusterStandsFor (past : Played) (cluster : ClusterFields) : Type 0 where
   pub lawful : IsSize past.size
   pub few : count_below past.size.n past.liars ≤ past.size.t
   pub size_is : cluster.size ≡ past.size

@@ -1,13 +1,9 @@
 -- What a post has of the scene, and what a task does to it.
 use Rattle.std.specs.Prelude.{ℕ, ◌≡◌, ◌<◌, ◌+◌, Bool, true, false, Option, Some, None, List, [], length, get_or}
 use Rattle.std.specs.List.{AllByRecursion}
-use Rattle.terms.specs.declared.Size.{Size}
-use Rattle.terms.specs.declared.Record.{Record}
-use Rattle.terms.specs.declared.Statement.{Statement}
-use Rattle.terms.specs.declared.Header.{Header}
-use Rattle.terms.specs.WellFormed.{IsWellFormed}
+use Rattle.vocabulary.specs.Terms.{Size, Record, Statement, Header, IsWellFormed}
 use Rattle.wire.specs.declared.message.Message.{Message}
-use Rattle.wire.specs.Reading.{Rest, Reads}
+use Rattle.wire.specs.Reading.{Rest, ReadsMessages}
 use Rattle.world.specs.World.{Step, IsRun, has_sent, start, after_all}
 use Rattle.sim.specs.declared.events.Mark.{Mark}
 use Rattle.sim.specs.declared.links.Link.{Link}
@@ -18,7 +14,7 @@ use Rattle.sim.specs.declared.tasks.Task.TheVariants as task
 use Rattle.sim.specs.declared.faults.SimFault.{SimFault}
 use Rattle.sim.specs.declared.faults.SimFault.TheVariants as faults
 use Rattle.disk.specs.declared.memory.MemDisk.{MemDisk}
-use Rattle.sim.specs.Seats.{IsOneSound, IsSeat, IsFresh, HasFuse, HasCrashed, is_liar, mine}
+use Rattle.sim.specs.Seats.{IsOneSound, IsSeatAt, IsFreshSeat, HasDiskFuse, HasCrashed, is_liar, mine}
 use Rattle.sim.specs.Scene.{Scene, Does, group_of, scene_after}
 
 -- the link is at that place, and has read those bytes; one from a correct member holds no part of a frame
@@ -26,7 +22,7 @@ pub record IsLink (size : Size) (liar : Bool) (place : ℕ) (fed : List ℕ) (li
   pub place_is : link.place ≡ place
   pub size_is : link.size ≡ size
   pub messages : List Message
-  pub read : Reads size fed messages link.end
+  pub read : ReadsMessages size fed messages link.end
   pub whole : liar ≡ false → link.end ≡ Rest []
 
 -- the link is at its start
@@ -39,7 +35,7 @@ pub record IsNewLink (size : Size) (link : Link) : Type 0 where
 pub record IsPost (size : Size) (liars : ℕ → Bool) (c : Scene) (p : ℕ) (post : Post) : Type 0 where
   pub header : post.header ≡ mine size p
   pub side : is_liar post.seat ≡ liars p
-  pub at : liars p ≡ false → IsSeat (mine size p) c.world post.seat
+  pub at : liars p ≡ false → IsSeatAt (mine size p) c.world post.seat
   pub fused : liars p ≡ false → post.fused ≡ c.fused p
   pub links : (a : ℕ) (d : Link) → a < size.n → IsLink size (liars a) (c.place a p) (c.fed a p) (get_or post.incoming.items a d)
 
@@ -68,17 +64,17 @@ abbrev pub AreSaid : Size → Scene → ℕ → List Statement → Type 0
 AreSaid size c from statements = AllByRecursion (λ s. (has_sent c.world.sent from s ≡ true) × IsWellFormed size s) statements
 
 -- the task may be carried out at that number
-abbrev pub Fits : Size → (ℕ → Bool) → Scene → ℕ → Task → Type 0
-Fits size liars c p (task.Propose question bit toss) = Runs liars c p
-Fits size liars c p (task.Deliver from s place toss) =
+abbrev pub CanBeDone : Size → (ℕ → Bool) → Scene → ℕ → Task → Type 0
+CanBeDone size liars c p (task.Propose question bit toss) = Runs liars c p
+CanBeDone size liars c p (task.Deliver from s place toss) =
     Runs liars c p × (liars from ≡ false) × (from < size.n) × (has_sent c.world.sent from s ≡ true) × IsWellFormed size s
-Fits size liars c p (task.DeliverAll from count toss) =
+CanBeDone size liars c p (task.DeliverAll from count toss) =
     Runs liars c p × (liars from ≡ false) × (from < size.n) × AreSaid size c from (group_of c from p count)
-Fits size liars c p (task.Lie liar toss) = Runs liars c p × (liars liar ≡ true) × (liar < size.n)
-Fits size liars c p (task.Fuse calls) = liars p ≡ false
-Fits size liars c p (task.Crash pick) = liars p ≡ false
-Fits size liars c p task.Restart = (liars p ≡ false) × ((batch : List Record) × (c.world.doubt p ≡ Some batch))
-Fits size liars c p (task.Reset from) = from < size.n
+CanBeDone size liars c p (task.Lie liar toss) = Runs liars c p × (liars liar ≡ true) × (liar < size.n)
+CanBeDone size liars c p (task.Fuse calls) = liars p ≡ false
+CanBeDone size liars c p (task.Crash pick) = liars p ≡ false
+CanBeDone size liars c p task.Restart = (liars p ≡ false) × ((batch : List Record) × (c.world.doubt p ≡ Some batch))
+CanBeDone size liars c p (task.Reset from) = from < size.n
 
 -- the group is what the task at that number brings, with the link's place behind it
 abbrev pub Brings : Scene → ℕ → Task → Group → Type 0
@@ -114,7 +110,7 @@ pub record AreReady (size : Size) (posts : List Post) : Type 0 where
 
 -- what the task of setting a fuse, or of a crash, does to the member's disk
 abbrev pub DoesToDisk : Task → Option MemDisk → Option MemDisk → Type 0
-DoesToDisk (task.Fuse calls) old new = HasFuse calls old new
+DoesToDisk (task.Fuse calls) old new = HasDiskFuse calls old new
 DoesToDisk (task.Crash pick) old new = HasCrashed pick old new
 DoesToDisk (task.Propose question bit toss) old new = Unit {0}
 DoesToDisk (task.Deliver from statement place toss) old new = Unit {0}
@@ -143,20 +139,20 @@ IsOfOpening faults.Full = ⊥
 pub record IsCreated (header : Header) (liar : Bool) (fused : Bool) (post : Post) : Type 0 where
   pub header_is : post.header ≡ header
   pub side : is_liar post.seat ≡ liar
-  pub fresh : liar ≡ false → IsFresh header post.seat
+  pub fresh : liar ≡ false → IsFreshSeat header post.seat
   pub fused_is : post.fused ≡ fused
   pub links : (a : ℕ) (d : Link) → a < header.size.n → IsNewLink header.size (get_or post.incoming.items a d)
 
 -- and then opened
-pub record IsOpened (header : Header) (liar : Bool) (fused : Bool) (post : Post) : Type 0 where
+pub record IsOpenedPost (header : Header) (liar : Bool) (fused : Bool) (post : Post) : Type 0 where
   pub header_is : post.header ≡ header
   pub side : is_liar post.seat ≡ liar
-  pub at : liar ≡ false → IsSeat header start post.seat
+  pub at : liar ≡ false → IsSeatAt header start post.seat
   pub fused_is : post.fused ≡ fused
   pub links : (a : ℕ) (d : Link) → a < header.size.n → IsNewLink header.size (get_or post.incoming.items a d)
 
 -- the first opening of a post
-pub record Opens (old new : Post) : Type 0 where
+pub record OpensPost (old new : Post) : Type 0 where
   pub ready : IsReady new
   pub header : new.header ≡ old.header
-  pub opened : (liar fused : Bool) → IsCreated old.header liar fused old → IsOpened old.header liar fused new
+  pub opened : (liar fused : Bool) → IsCreated old.header liar fused old → IsOpenedPost old.header liar fused new

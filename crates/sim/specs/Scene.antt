@@ -1,12 +1,8 @@
 -- Which runs of the world a script and its marks are.
 use Rattle.std.specs.Prelude.{ℕ, ◌≡◌, ◌+◌, Bool, false, cond, ◌==◌, nat_lt, is_some, Option, Some, None, Result, Ok, Err, List, [], ◌∷◌, ◌++◌, length}
-use Rattle.terms.specs.declared.Size.{Size}
-use Rattle.terms.specs.declared.Statement.{Statement}
-use Rattle.terms.specs.declared.Record.{Record}
-use Rattle.terms.specs.Heard.{is_none}
-use Rattle.terms.specs.Reply.Event.{Hearing, Proposal}
+use Rattle.vocabulary.specs.Terms.{Size, Statement, Record, is_none, Hearing, Proposal}
 use Rattle.wire.specs.declared.message.Message.{Message}
-use Rattle.wire.specs.Reading.{End, Rest, Broken, Reads}
+use Rattle.wire.specs.Reading.{End, Rest, Broken, ReadsMessages}
 use Rattle.rounds.specs.declared.tosses.Toss.{Toss}
 use Rattle.world.specs.World.{World, Step, start, put}
 use Rattle.world.specs.World.Step.{Crash as CrashStep}
@@ -21,7 +17,7 @@ use Rattle.sim.specs.declared.events.Reason.TheVariants.{NoSuch, WrongSide, NotU
 use Rattle.sim.specs.declared.tasks.Task.{Task}
 use Rattle.sim.specs.declared.tasks.Task.TheVariants as task
 use Rattle.sim.specs.Links.{statements_in}
-use Rattle.sim.specs.Seats.{nth_said, group_from, hearings_from, Answers, AnswersAll, AreLies, Reopens}
+use Rattle.sim.specs.Seats.{nth_said, group_from, hearings_from, Answers, AnswersGroup, AreLies, Reopens}
 
 -- the world, and what the script alone tells of links and fuses
 pub record Scene : Type 0 where
@@ -101,7 +97,7 @@ plan_of size liars c (Reset from to) =
 abbrev pub HearsLies : Size → Scene → ℕ → ℕ → List ℕ → ℕ → List Message → End → Mark → List Step → Type 0
 HearsLies size c p liar bytes toss messages (Broken fault) mark steps = (mark ≡ Skipped Nothing) × (steps ≡ [])
 HearsLies size c p liar bytes toss messages (Rest rest) mark steps =
-    (more : List Message) × (end : End) × Reads size (c.fed liar p ++ bytes) (messages ++ more) end
+    (more : List Message) × (end : End) × ReadsMessages size (c.fed liar p ++ bytes) (messages ++ more) end
     × AreLies size p c.world (c.fused p) liar toss (statements_in more) mark steps
 
 -- these steps are the member's task with that mark; the bytes are a liar's
@@ -109,9 +105,9 @@ abbrev pub Does : Size → Scene → ℕ → Task → List ℕ → Mark → List
 Does size c p (task.Propose question bit toss) bytes mark steps = Answers size p c.world (c.fused p) toss.0 (Proposal question bit) mark steps
 Does size c p (task.Deliver from s place toss) bytes mark steps = Answers size p c.world (c.fused p) toss.0 (Hearing from s) mark steps
 Does size c p (task.DeliverAll from count toss) bytes mark steps =
-    AnswersAll size p c.world (c.fused p) (hearings_from from toss.0 (group_of c from p count)) mark steps
+    AnswersGroup size p c.world (c.fused p) (hearings_from from toss.0 (group_of c from p count)) mark steps
 Does size c p (task.Lie liar toss) bytes mark steps =
-    (messages : List Message) × (end : End) × Reads size (c.fed liar p) messages end
+    (messages : List Message) × (end : End) × ReadsMessages size (c.fed liar p) messages end
     × HearsLies size c p liar bytes toss.0 messages end mark steps
 Does size c p (task.Fuse calls) bytes mark steps = (mark ≡ Done) × (steps ≡ [])
 Does size c p (task.Crash pick) bytes mark steps = (mark ≡ Done) × (steps ≡ CrashStep p ∷ [])

@@ -1,14 +1,8 @@
 -- Where a member is, and what it does in the world.
 use Rattle.std.specs.Prelude.{ℕ, zero, suc, ◌≡◌, Bool, true, false, not, Option, Some, None, Result, Ok, Err, List, [], ◌∷◌, ◌++◌, drop, map, min, take}
 use Rattle.std.specs.Global.{Vec}
-use Rattle.terms.specs.declared.Size.{Size}
-use Rattle.terms.specs.declared.Statement.{Statement}
-use Rattle.terms.specs.declared.Record.{Record}
-use Rattle.terms.specs.declared.Record.TheVariants.{Said, Decided}
-use Rattle.terms.specs.declared.Header.{Header}
-use Rattle.terms.specs.Headers.{header_of}
-use Rattle.terms.specs.Reply.{Event as Happening, Reply, records_of, records_of_all, without_tosses}
-use Rattle.terms.specs.Reply.Event.{Hearing}
+use Rattle.vocabulary.specs.Terms.{Size, Statement, Record, Said, Decided, Header, new_header, Reply, records_of, records_of_all, without_tosses, Hearing}
+use Rattle.terms.specs.Reply.{Event as Happening}
 use Rattle.disk.specs.declared.memory.MemDisk.{MemDisk}
 use Rattle.disk.specs.declared.crash.Pick.{Pick}
 use Rattle.disk.specs.Model.{at_rest}
@@ -18,11 +12,11 @@ use Rattle.world.specs.World.{World, Step, IsRun, start, after, after_all}
 use Rattle.world.specs.World.Step.{Lie, Hears, Restart as RestartStep}
 use Rattle.member.specs.declared.fault.MemberFault.{MemberFault}
 use Rattle.member.specs.declared.fault.MemberFault.TheVariants.{Stopped, Device, Memory, JournalFull, NoSuchQuestion, NoSuchMember}
-use Rattle.member.specs.Words.{disk_of, saved_of, is_stopped_of}
+use Rattle.member.specs.Readers.{member_disk, member_saved, member_is_stopped}
 use Rattle.member.specs.Sound.{IsSound}
 use Rattle.member.specs.Memory.{memory_disk}
 use Rattle.member.specs.Stands.{IsLeft}
-use Rattle.member.specs.Life.{IsAt, IsReached, Replies, step_of}
+use Rattle.member.specs.Life.{MemberIsAt, IsReached, Replies, world_step}
 use Rattle.member.specs.Groups.{AllReply}
 use Rattle.sim.specs.declared.events.Mark.{Mark}
 use Rattle.sim.specs.declared.events.Mark.TheVariants.{Done, Failed, Skipped}
@@ -31,7 +25,7 @@ use Rattle.sim.specs.declared.seats.Seat.TheVariants.{Here, Down, Liar}
 
 -- the header of a member's journal: the cluster has the number 0
 abbrev pub mine : Size → ℕ → Header
-mine size p = header_of 0 size p
+mine size p = new_header 0 size p
 
 -- its calls may be made
 abbrev pub IsOneSound : Seat → Type 0
@@ -46,20 +40,20 @@ is_liar Liar = true
 
 -- its member runs
 abbrev pub is_up : Seat → Bool
-is_up (Here m) = not (is_stopped_of m)
+is_up (Here m) = not (member_is_stopped m)
 is_up (Down disk records) = false
 is_up Liar = false
 
 -- its member's disk
 abbrev pub disk_in : Seat → Option MemDisk
-disk_in (Here m) = Some (disk_of m)
+disk_in (Here m) = Some (member_disk m)
 disk_in (Down disk records) = Some disk
 disk_in Liar = None
 
 -- the next calls of the disk pass, as many as this, and nothing else of it is changed
-abbrev pub HasFuse : Option ℕ → Option MemDisk → Option MemDisk → Type 0
-HasFuse calls (Some old) new = new ≡ Some (with_fuse old calls)
-HasFuse calls None new = new ≡ None
+abbrev pub HasDiskFuse : Option ℕ → Option MemDisk → Option MemDisk → Type 0
+HasDiskFuse calls (Some old) new = new ≡ Some (with_fuse old calls)
+HasDiskFuse calls None new = new ≡ None
 
 -- the disk has the file that the pick names, and no fuse
 abbrev pub HasCrashed : Pick → Option MemDisk → Option MemDisk → Type 0
@@ -69,7 +63,7 @@ HasCrashed pick None new = new ≡ None
 
 -- what its member has saved
 abbrev pub saved_in : Seat → List Record
-saved_in (Here m) = saved_of m
+saved_in (Here m) = member_saved m
 saved_in (Down disk records) = records.items
 saved_in Liar = []
 
@@ -99,16 +93,16 @@ pub record IsDown (header : Header) (w : World) (disk : MemDisk) (records : List
   pub left : IsLeft (memory_state disk) header (w.journal header.me) (w.doubt header.me)
 
 -- the seat is what the world has of the correct member of that header
-abbrev pub IsSeat : Header → World → Seat → Type 0
-IsSeat header w (Here m) = IsAt memory_disk header w m
-IsSeat header w (Down disk records) = IsDown header w disk records.items
-IsSeat header w Liar = ⊥
+abbrev pub IsSeatAt : Header → World → Seat → Type 0
+IsSeatAt header w (Here m) = MemberIsAt memory_disk header w m
+IsSeatAt header w (Down disk records) = IsDown header w disk records.items
+IsSeatAt header w Liar = ⊥
 
 -- its journal was created, and nothing was saved
-abbrev pub IsFresh : Header → Seat → Type 0
-IsFresh header (Here m) = ⊥
-IsFresh header (Down disk records) = IsLeft (memory_state disk) header [] None
-IsFresh header Liar = ⊥
+abbrev pub IsFreshSeat : Header → Seat → Type 0
+IsFreshSeat header (Here m) = ⊥
+IsFreshSeat header (Down disk records) = IsLeft (memory_state disk) header [] None
+IsFreshSeat header Liar = ⊥
 
 -- the disk and the records of a member, as the world has them, whether it is up or down
 abbrev pub AreParts : Header → World → Option (MemDisk × Vec Record) → Type 0
@@ -123,9 +117,9 @@ disk_among None = None
 disk_among (Some parts) = Some parts.0
 
 -- the disk of a journal that was created, on which nothing was saved
-abbrev pub AreFresh : Header → Option (MemDisk × Vec Record) → Type 0
-AreFresh header None = ⊥
-AreFresh header (Some parts) = IsLeft (memory_state parts.0) header [] None
+abbrev pub AreFreshRecords : Header → Option (MemDisk × Vec Record) → Type 0
+AreFreshRecords header None = ⊥
+AreFreshRecords header (Some parts) = IsLeft (memory_state parts.0) header [] None
 
 -- what becomes of an event that a member answered so: it failed only where a fuse is in its disk
 abbrev pub IsMarkOf : {A : Type 0} → Bool → Result A MemberFault → Mark → Type 0
@@ -141,7 +135,7 @@ IsMarkOf fused (Err NoSuchMember) mark = ⊥
 pub record IsEventStep (size : Size) (p : ℕ) (w : World) (toss : ℕ) (event : Happening) (kept : Bool) (steps : List Step) : Type 0 where
   pub reply : Reply
   pub replies : Replies (mine size p) w toss event reply
-  pub is : steps ≡ step_of p event (records_of reply) kept ∷ []
+  pub is : steps ≡ world_step p event (records_of reply) kept ∷ []
 
 -- the world may come: some run of the cluster, in which few enough lie, leaves it
 pub record MayCome (size : Size) (liars : ℕ → Bool) (w : World) : Type 0 where
@@ -163,10 +157,10 @@ pub record IsGroupStep (size : Size) (p : ℕ) (w : World) (hearings : List (ℕ
   pub is : steps ≡ Hears p (without_tosses hearings) (records_of_all replies) kept ∷ []
 
 -- the steps of a group at a member with that mark: kept, or, where it failed, a fuse is in and the batch is in doubt
-abbrev pub AnswersAll : Size → ℕ → World → Bool → List (ℕ × Statement × ℕ) → Mark → List Step → Type 0
-AnswersAll size p w fused hearings Done steps = IsGroupStep size p w hearings true steps
-AnswersAll size p w fused hearings Failed steps = (fused ≡ true) × IsGroupStep size p w hearings false steps
-AnswersAll size p w fused hearings (Skipped reason) steps = ⊥
+abbrev pub AnswersGroup : Size → ℕ → World → Bool → List (ℕ × Statement × ℕ) → Mark → List Step → Type 0
+AnswersGroup size p w fused hearings Done steps = IsGroupStep size p w hearings true steps
+AnswersGroup size p w fused hearings Failed steps = (fused ≡ true) × IsGroupStep size p w hearings false steps
+AnswersGroup size p w fused hearings (Skipped reason) steps = ⊥
 
 -- statements of one sender, each with the same toss
 abbrev pub hearings_from : ℕ → ℕ → List Statement → List (ℕ × Statement × ℕ)
@@ -198,10 +192,10 @@ pub record IsMove (size : Size) (liars : ℕ → Bool) (p : ℕ) (w : World) (Is
   pub steps : List Step
   pub is : Is steps
   pub is_run : IsRun size liars w steps
-  pub at : IsSeat (mine size p) (after_all w steps) seat
+  pub at : IsSeatAt (mine size p) (after_all w steps) seat
 
 -- after the first opening the seat is what the world has at its start; it failed only where a fuse is in the disk
 abbrev pub IsBegun : Header → Bool → Mark → Seat → Type 0
-IsBegun header fused Done seat = IsSeat header start seat
+IsBegun header fused Done seat = IsSeatAt header start seat
 IsBegun header fused Failed seat = fused ≡ true
 IsBegun header fused (Skipped reason) seat = ⊥

@@ -2,19 +2,15 @@
 
 ghost use Rattle.std.specs.Prelude.{◌≡◌, ◌++◌, ◌<◌, ◌≤◌, ◌^◌, ℕ, Bool, List, length, drop, get_or, false, true, IfOk, IfErr, OnOk, IsErrOf, IsTrue, Err, option_map, ◌↔◌, ◌≢◌};
 ghost use Rattle.std.specs.Global.{Vec};
-ghost use Rattle.terms.specs.declared.Size.{Size};
-ghost use Rattle.terms.specs.declared.Record.{Record};
-ghost use Rattle.terms.specs.Bounds.{IsSize};
-ghost use Rattle.terms.specs.Count.{count_below};
+ghost use Rattle.vocabulary.specs.Terms.{Size, Record, IsSize, count_below, decided};
 ghost use Rattle.sim.specs.Scene.{Scene, opening};
-ghost use Rattle.sim.specs.Posts.{IsCluster, AreReady, IsReady, IsCreated, IsOfRun, IsOfOpening, Opens};
+ghost use Rattle.sim.specs.Posts.{IsCluster, AreReady, IsReady, IsCreated, IsOfRun, IsOfOpening, OpensPost};
 ghost use Rattle.sim.specs.Outcomes.{AreLiars, AreDisks, HasFuse, IsSimulation, HaveOneBit, AreUnanimous, among, fused_in, verdicts_below, verdicts_of};
 ghost use Rattle.sim.specs.declared.faults.SimFault.TheVariants as faults;
 ghost use Rattle.sim.specs.declared.posts.Post.{Post};
 ghost use Rattle.sim.specs.Seats.{is_liar, mine};
 ghost use Rattle.sim.specs.Runs.{IsTurn, IsSteady};
-ghost use Rattle.sim.specs.Plays.{Played, Stands, played, unplayed, and_then, last_saved, saved_among, saved_behind};
-ghost use Rattle.terms.specs.Journal.{decided};
+ghost use Rattle.sim.specs.Plays.{Played, ClusterStandsFor, played, unplayed, and_then, last_saved, saved_among, saved_behind};
 
 use crate::posts::Post;
 use crate::tasks::{brought, bytes_in, plan};
@@ -81,7 +77,7 @@ impl Cluster {
         ensures bad_liars { IsErrOf result faults.BadLiars ↔ (AreLiars size liars.now → ⊥) }
         ensures bad_disks { IsErrOf result faults.BadDisks ↔ (AreLiars size liars.now × (AreDisks size disks.items → ⊥)) }
         ensures device { IsErrOf result faults.Device → HasFuse liars.now disks.items }
-        ensures stands { IfOk result (Stands (unplayed size (among liars.now) (fused_in disks.items))) }
+        ensures stands { IfOk result (ClusterStandsFor (unplayed size (among liars.now) (fused_in disks.items))) }
         ensures few_lie { IfOk result (λ _. count_below size.n (among liars.now) ≤ size.t) }
         ensures never_full { result ≡ Err faults.Full → ⊥ }
     {
@@ -108,10 +104,10 @@ impl Cluster {
     /// - `memory`: no error but `Memory` comes. So `Full` never does, whatever was played: all that a correct member may
     ///   ever save has room in its journal.
     pub fn play(&mut self, alloc: Global, event: &Event) -> Result<Mark, SimFault>
-        ensures stands { (past : Played) (saved : Vec Record) → Stands past self.old → saved.items ≡ last_saved self.new →
-            IfOk result (λ mark. Stands (and_then past event.now mark saved) self.new) }
+        ensures stands { (past : Played) (saved : Vec Record) → ClusterStandsFor past self.old → saved.items ≡ last_saved self.new →
+            IfOk result (λ mark. ClusterStandsFor (and_then past event.now mark saved) self.new) }
         ensures room { IfOk result (λ _. length (last_saved self.new) < 2 ^ 63) }
-        ensures memory { (past : Played) → Stands past self.old → IfErr result (λ fault. fault ≡ faults.Memory) }
+        ensures memory { (past : Played) → ClusterStandsFor past self.old → IfErr result (λ fault. fault ≡ faults.Memory) }
     {
         let (mark, last) = step(alloc, self.size, self.posts.as_mut_slice(), event)?;
         self.last = last;
@@ -137,10 +133,10 @@ impl Cluster {
     ///
     /// `Memory` comes where there is no memory.
     pub fn verdicts(&self, alloc: Global) -> Result<Vec<(u8, u16, u8, bool)>, SimFault>
-        ensures run { (past : Played) → Stands past self.now → IfOk result (λ verdicts.
+        ensures run { (past : Played) → ClusterStandsFor past self.now → IfOk result (λ verdicts.
             IsSimulation past.size past.liars past.fused past.script past.marks past.saved verdicts.items) }
-        ensures agree { (past : Played) → Stands past self.now → IfOk result (λ verdicts. HaveOneBit verdicts.items) }
-        ensures unanimous { (past : Played) → Stands past self.now → IfOk result (λ verdicts.
+        ensures agree { (past : Played) → ClusterStandsFor past self.now → IfOk result (λ verdicts. HaveOneBit verdicts.items) }
+        ensures unanimous { (past : Played) → ClusterStandsFor past self.now → IfOk result (λ verdicts.
             AreUnanimous past.script past.marks verdicts.items) }
         ensures memory { IfErr result (λ fault. fault ≡ faults.Memory) }
     {
@@ -269,7 +265,7 @@ fn begin(alloc: Global, posts: &mut [Post]) -> Result<(), SimFault>
     requires ready { (p : ℕ) (d : Post) → p < length posts.old → IsReady (get_or posts.old p d) }
     ensures count { length posts.new ≡ length posts.old }
     ensures opened { OnOk result ((p : ℕ) (d : Post) → p < length posts.old →
-        Opens (get_or posts.old p d) (get_or posts.new p d)) }
+        OpensPost (get_or posts.old p d) (get_or posts.new p d)) }
     ensures only { IfErr result IsOfOpening }
     ensures device { IsErrOf result faults.Device → (p : ℕ) × (p < length posts.old) × ((d : Post) →
         (is_liar (get_or posts.old p d).seat ≡ false) × ((get_or posts.old p d).fused ≡ true)) }
@@ -286,9 +282,9 @@ fn follow(
     cluster: &mut Cluster,
     script: &[Event],
 ) -> Result<(Vec<Mark>, Vec<Vec<Record>>), SimFault>
-    ensures stands { (size : Size) (liars fused : ℕ → Bool) → Stands (unplayed size liars fused) cluster.old →
-        IfOk result (λ done. Stands (played size liars fused script.now done.0.items done.1.items) cluster.new) }
-    ensures memory { (size : Size) (liars fused : ℕ → Bool) → Stands (unplayed size liars fused) cluster.old →
+    ensures stands { (size : Size) (liars fused : ℕ → Bool) → ClusterStandsFor (unplayed size liars fused) cluster.old →
+        IfOk result (λ done. ClusterStandsFor (played size liars fused script.now done.0.items done.1.items) cluster.new) }
+    ensures memory { (size : Size) (liars fused : ℕ → Bool) → ClusterStandsFor (unplayed size liars fused) cluster.old →
         IfErr result (λ fault. fault ≡ faults.Memory) }
 {
     let mut marks = Vec::with_capacity(alloc, script.len())?;

@@ -2,9 +2,7 @@
 
 ghost use Rattle.std.specs.Prelude.{◌≡◌, ◌≤◌, ◌++◌, [], ◌∷◌, Some, IfOk, OnErr, length, map};
 ghost use Rattle.std.specs.List.{AllByRecursion};
-ghost use Rattle.terms.specs.declared.Statement.{Statement};
-ghost use Rattle.terms.specs.Bounds.{IsSize};
-ghost use Rattle.terms.specs.WellFormed.{IsWellFormed};
+ghost use Rattle.vocabulary.specs.Terms.{Statement, IsSize, IsWellFormed};
 ghost use Rattle.wire.specs.declared.message.Message.TheVariants as variants;
 ghost use Rattle.wire.specs.Feeding.{Feeds};
 ghost use Rattle.wire.specs.Reading.{End, Rest};

@@ -1,9 +1,7 @@
 //! A member of a simulated cluster, with all that comes to it.
 
 ghost use Rattle.std.specs.Prelude.{◌≡◌, ◌<◌, ◌≤◌, ◌+◌, ◌^◌, ℕ, Bool, true, false, Some, None, List, [], length, get_or, is_some, IfOk, IfErr, IfSome, OnOk, IsErrOf};
-ghost use Rattle.terms.specs.declared.Size.{Size};
-ghost use Rattle.terms.specs.declared.Header.{Header};
-ghost use Rattle.terms.specs.Bounds.{IsSize};
+ghost use Rattle.vocabulary.specs.Terms.{Size, Header, IsSize};
 ghost use Rattle.world.specs.World.{start};
 ghost use Rattle.disk.specs.declared.memory.MemDisk.{MemDisk};
 ghost use Rattle.disk.specs.Memory.{fuse_left};
@@ -12,9 +10,9 @@ ghost use Rattle.disk.specs.Memory.{memory_state};
 ghost use Rattle.sim.specs.declared.tasks.Task.TheVariants as tasks;
 ghost use Rattle.sim.specs.declared.faults.SimFault.TheVariants as faults;
 ghost use Rattle.sim.specs.declared.links.Link.{Link};
-ghost use Rattle.sim.specs.Seats.{is_liar, is_up, saved_in, nth_said, group_from, disk_in, HasFuse, HasCrashed, IsFresh, IsSeat, MayCome, mine};
+ghost use Rattle.sim.specs.Seats.{is_liar, is_up, saved_in, nth_said, group_from, disk_in, HasDiskFuse, HasCrashed, IsFreshSeat, IsSeatAt, MayCome, mine};
 ghost use Rattle.sim.specs.Scene.{Scene};
-ghost use Rattle.sim.specs.Posts.{IsPost, IsReady, IsDone, Brings, IsNewLink, Fits, HasSender, IsCreated, IsOpened, IsOfOpening, IsOfRun, DoesToDisk};
+ghost use Rattle.sim.specs.Posts.{IsPost, IsReady, IsDone, Brings, IsNewLink, CanBeDone, HasSender, IsCreated, IsOpenedPost, IsOfOpening, IsOfRun, DoesToDisk};
 
 use crate::links::Link;
 use crate::seats::Seat;
@@ -78,7 +76,7 @@ impl Post {
         ensures ready { IsReady self.new }
         ensures header { self.new.header ≡ self.old.header }
         ensures opened { (liar fused : Bool) → IsCreated self.old.header liar fused self.old →
-            OnOk result (IsOpened self.old.header liar fused self.new) }
+            OnOk result (IsOpenedPost self.old.header liar fused self.new) }
         ensures device { IsErrOf result faults.Device → (is_liar self.old.seat ≡ false) × (self.old.fused ≡ true) }
         ensures only { IfErr result IsOfOpening }
     {
@@ -175,10 +173,10 @@ impl Post {
         ensures only { IfErr result IsOfRun }
         ensures disk { OnOk result (DoesToDisk task (disk_in self.old.seat) (disk_in self.new.seat)) }
         ensures done { (size : Size) (liars : ℕ → Bool) (c : Scene) (p : ℕ) → IsSize size → p < size.n →
-            IsPost size liars c p self.old → Fits size liars c p task → Brings c p task group.now →
+            IsPost size liars c p self.old → CanBeDone size liars c p task → Brings c p task group.now →
             IfOk result (λ mark. IsDone size liars c p task bytes.now mark self.new) }
         ensures memory { (size : Size) (liars : ℕ → Bool) (c : Scene) (p : ℕ) → IsSize size → p < size.n →
-            IsPost size liars c p self.old → Fits size liars c p task → Brings c p task group.now → MayCome size liars c.world →
+            IsPost size liars c p self.old → CanBeDone size liars c p task → Brings c p task group.now → MayCome size liars c.world →
             IfErr result (λ fault. fault ≡ faults.Memory) }
     {
         match task {
@@ -202,10 +200,10 @@ impl Post {
         ensures header { self.new.header ≡ self.old.header }
         ensures only { IfErr result IsOfRun }
         ensures done { (size : Size) (liars : ℕ → Bool) (c : Scene) (p : ℕ) → IsSize size → p < size.n →
-            IsPost size liars c p self.old → Fits size liars c p (tasks.Propose question bit toss) → (bytes : List ℕ) →
+            IsPost size liars c p self.old → CanBeDone size liars c p (tasks.Propose question bit toss) → (bytes : List ℕ) →
             IfOk result (λ mark. IsDone size liars c p (tasks.Propose question bit toss) bytes mark self.new) }
         ensures memory { (size : Size) (liars : ℕ → Bool) (c : Scene) (p : ℕ) → IsSize size → p < size.n →
-            IsPost size liars c p self.old → Fits size liars c p (tasks.Propose question bit toss) → MayCome size liars c.world →
+            IsPost size liars c p self.old → CanBeDone size liars c p (tasks.Propose question bit toss) → MayCome size liars c.world →
             IfErr result (λ fault. fault ≡ faults.Memory) }
     {
         self.seat.propose(self.fused, question, bit, toss)
@@ -225,10 +223,10 @@ impl Post {
         ensures header { self.new.header ≡ self.old.header }
         ensures only { IfErr result IsOfRun }
         ensures done { (size : Size) (liars : ℕ → Bool) (c : Scene) (p : ℕ) → IsSize size → p < size.n →
-            IsPost size liars c p self.old → Fits size liars c p (tasks.Deliver from statement place toss) → (bytes : List ℕ) →
+            IsPost size liars c p self.old → CanBeDone size liars c p (tasks.Deliver from statement place toss) → (bytes : List ℕ) →
             IfOk result (λ mark. IsDone size liars c p (tasks.Deliver from statement place toss) bytes mark self.new) }
         ensures memory { (size : Size) (liars : ℕ → Bool) (c : Scene) (p : ℕ) → IsSize size → p < size.n →
-            IsPost size liars c p self.old → Fits size liars c p (tasks.Deliver from statement place toss) → MayCome size liars c.world →
+            IsPost size liars c p self.old → CanBeDone size liars c p (tasks.Deliver from statement place toss) → MayCome size liars c.world →
             IfErr result (λ fault. fault ≡ faults.Memory) }
     {
         let link = &mut self.incoming[usize::from(from)];
@@ -254,11 +252,11 @@ impl Post {
         ensures header { self.new.header ≡ self.old.header }
         ensures only { IfErr result IsOfRun }
         ensures done { (size : Size) (liars : ℕ → Bool) (c : Scene) (p count : ℕ) → IsSize size → p < size.n →
-            IsPost size liars c p self.old → Fits size liars c p (tasks.DeliverAll from count toss) →
+            IsPost size liars c p self.old → CanBeDone size liars c p (tasks.DeliverAll from count toss) →
             Brings c p (tasks.DeliverAll from count toss) group.now → (bytes : List ℕ) →
             IfOk result (λ mark. IsDone size liars c p (tasks.DeliverAll from count toss) bytes mark self.new) }
         ensures memory { (size : Size) (liars : ℕ → Bool) (c : Scene) (p count : ℕ) → IsSize size → p < size.n →
-            IsPost size liars c p self.old → Fits size liars c p (tasks.DeliverAll from count toss) →
+            IsPost size liars c p self.old → CanBeDone size liars c p (tasks.DeliverAll from count toss) →
             Brings c p (tasks.DeliverAll from count toss) group.now → MayCome size liars c.world →
             IfErr result (λ fault. fault ≡ faults.Memory) }
     {
@@ -282,10 +280,10 @@ impl Post {
         ensures header { self.new.header ≡ self.old.header }
         ensures only { IfErr result IsOfRun }
         ensures done { (size : Size) (liars : ℕ → Bool) (c : Scene) (p : ℕ) → IsSize size → p < size.n →
-            IsPost size liars c p self.old → Fits size liars c p (tasks.Lie liar toss) →
+            IsPost size liars c p self.old → CanBeDone size liars c p (tasks.Lie liar toss) →
             IfOk result (λ mark. IsDone size liars c p (tasks.Lie liar toss) bytes.now mark self.new) }
         ensures memory { (size : Size) (liars : ℕ → Bool) (c : Scene) (p : ℕ) → IsSize size → p < size.n →
-            IsPost size liars c p self.old → Fits size liars c p (tasks.Lie liar toss) → MayCome size liars c.world →
+            IsPost size liars c p self.old → CanBeDone size liars c p (tasks.Lie liar toss) → MayCome size liars c.world →
             IfErr result (λ fault. fault ≡ faults.Memory) }
     {
         let link = &mut self.incoming[usize::from(liar)];
@@ -300,11 +298,11 @@ impl Post {
     fn fuse(&mut self, calls: Option<u64>) -> Result<Mark, SimFault>
         requires ready { IsReady self.old }
         ensures ready { IsReady self.new }
-        ensures disk { HasFuse calls (disk_in self.old.seat) (disk_in self.new.seat) }
+        ensures disk { HasDiskFuse calls (disk_in self.old.seat) (disk_in self.new.seat) }
         ensures header { self.new.header ≡ self.old.header }
         ensures only { IfErr result (λ fault. fault ≡ faults.Memory) }
         ensures done { (size : Size) (liars : ℕ → Bool) (c : Scene) (p : ℕ) → IsSize size → p < size.n →
-            IsPost size liars c p self.old → Fits size liars c p (tasks.Fuse calls) → (bytes : List ℕ) →
+            IsPost size liars c p self.old → CanBeDone size liars c p (tasks.Fuse calls) → (bytes : List ℕ) →
             IfOk result (λ mark. IsDone size liars c p (tasks.Fuse calls) bytes mark self.new) }
     {
         self.seat.fuse(calls);
@@ -320,7 +318,7 @@ impl Post {
         ensures header { self.new.header ≡ self.old.header }
         ensures only { IfErr result (λ fault. fault ≡ faults.Memory) }
         ensures done { (size : Size) (liars : ℕ → Bool) (c : Scene) (p : ℕ) → IsSize size → p < size.n →
-            IsPost size liars c p self.old → Fits size liars c p (tasks.Crash pick) → (bytes : List ℕ) →
+            IsPost size liars c p self.old → CanBeDone size liars c p (tasks.Crash pick) → (bytes : List ℕ) →
             IfOk result (λ mark. IsDone size liars c p (tasks.Crash pick) bytes mark self.new) }
     {
         self.seat.crash(pick)?;
@@ -335,7 +333,7 @@ impl Post {
         ensures header { self.new.header ≡ self.old.header }
         ensures only { IfErr result (λ fault. fault ≡ faults.Memory) }
         ensures done { (size : Size) (liars : ℕ → Bool) (c : Scene) (p : ℕ) → IsSize size → p < size.n →
-            IsPost size liars c p self.old → Fits size liars c p (tasks.Restart) → (bytes : List ℕ) →
+            IsPost size liars c p self.old → CanBeDone size liars c p (tasks.Restart) → (bytes : List ℕ) →
             IfOk result (λ mark. IsDone size liars c p (tasks.Restart) bytes mark self.new) }
     {
         match self.seat.open(alloc, self.fused, &self.header)? {
@@ -370,7 +368,7 @@ impl Post {
         ensures header { self.new.header ≡ self.old.header }
         ensures only { IfErr result (λ fault. fault ≡ faults.Memory) }
         ensures done { (size : Size) (liars : ℕ → Bool) (c : Scene) (p : ℕ) → IsSize size → p < size.n →
-            IsPost size liars c p self.old → Fits size liars c p (tasks.Reset from) → (bytes : List ℕ) →
+            IsPost size liars c p self.old → CanBeDone size liars c p (tasks.Reset from) → (bytes : List ℕ) →
             IfOk result (λ mark. IsDone size liars c p (tasks.Reset from) bytes mark self.new) }
     {
         self.incoming[usize::from(from)].begin_anew(self.header.size());

@@ -2,11 +2,7 @@
 
 ghost use Rattle.std.specs.Prelude.{◌≡◌, ◌<◌, ◌≤◌, ◌+◌, ◌^◌, length, ℕ, Bool, true, false, None, Some, List, [], IfOk, IfErr, IfSome, OnOk, IsErrOf, MatchOption};
 ghost use Rattle.std.specs.List.{AllByRecursion};
-ghost use Rattle.terms.specs.declared.Header.{Header};
-ghost use Rattle.terms.specs.declared.Size.{Size};
-ghost use Rattle.terms.specs.declared.Record.{Record};
-ghost use Rattle.terms.specs.Reply.Event.{Hearing, Proposal};
-ghost use Rattle.terms.specs.WellFormed.{IsWellFormed};
+ghost use Rattle.vocabulary.specs.Terms.{Header, Size, Record, Hearing, Proposal, IsWellFormed};
 ghost use Rattle.world.specs.World.{World, IsCorrect, has_sent, after};
 ghost use Rattle.world.specs.World.Step.{Crash};
 ghost use Rattle.sim.specs.Posts.{IsOfRun};
@@ -14,7 +10,7 @@ ghost use Rattle.sim.specs.declared.faults.SimFault.TheVariants as faults;
 ghost use Rattle.member.specs.declared.fault.MemberFault.TheVariants as refusals;
 ghost use Rattle.member.specs.Groups.{hearings, AllCome};
 ghost use Rattle.sim.specs.declared.events.Mark.TheVariants as marks;
-ghost use Rattle.sim.specs.Seats.{IsOneSound, IsSeat, IsFresh, IsMarkOf, IsMove, IsBegun, MayCome, Answers, AnswersAll, AreLies, Reopens, AreParts, AreFresh, HasFuse, HasCrashed, disk_in, disk_among, mine, is_liar, is_up, saved_in, nth_said};
+ghost use Rattle.sim.specs.Seats.{IsOneSound, IsSeatAt, IsFreshSeat, IsMarkOf, IsMove, IsBegun, MayCome, Answers, AnswersGroup, AreLies, Reopens, AreParts, AreFreshRecords, HasDiskFuse, HasCrashed, disk_in, disk_among, mine, is_liar, is_up, saved_in, nth_said};
 
 use crate::{Mark, Reason, SimFault};
 use disk::{MemDisk, Pick};
@@ -98,10 +94,10 @@ impl Seat {
         ensures only { IfErr result IsOfRun }
         ensures side { is_liar self.new ≡ is_liar self.old }
         ensures moved { (size : Size) (liars : ℕ → Bool) (p : ℕ) (w : World) → IsCorrect size liars p → w.doubt p ≡ None →
-            IsSeat (mine size p) w self.old → IfOk result (λ mark.
+            IsSeatAt (mine size p) w self.old → IfOk result (λ mark.
             IsMove size liars p w (Answers size p w fused toss.0 (Proposal question bit) mark) self.new) }
         ensures memory { (size : Size) (liars : ℕ → Bool) (p : ℕ) (w : World) → IsCorrect size liars p → w.doubt p ≡ None →
-            IsSeat (mine size p) w self.old → MayCome size liars w → IfErr result (λ fault. fault ≡ faults.Memory) }
+            IsSeatAt (mine size p) w self.old → MayCome size liars w → IfErr result (λ fault. fault ≡ faults.Memory) }
     {
         let Seat::Here(member) = self else {
             return Ok(Mark::Skipped(Reason::NotUp));
@@ -123,10 +119,10 @@ impl Seat {
         ensures only { IfErr result IsOfRun }
         ensures side { is_liar self.new ≡ is_liar self.old }
         ensures moved { (size : Size) (liars : ℕ → Bool) (p : ℕ) (w : World) → IsCorrect size liars p → w.doubt p ≡ None →
-            IsSeat (mine size p) w self.old → has_sent w.sent from statement.now ≡ true → IfOk result (λ mark.
+            IsSeatAt (mine size p) w self.old → has_sent w.sent from statement.now ≡ true → IfOk result (λ mark.
             IsMove size liars p w (Answers size p w fused toss.0 (Hearing from statement.now) mark) self.new) }
         ensures memory { (size : Size) (liars : ℕ → Bool) (p : ℕ) (w : World) → IsCorrect size liars p → w.doubt p ≡ None →
-            IsSeat (mine size p) w self.old → has_sent w.sent from statement.now ≡ true → MayCome size liars w →
+            IsSeatAt (mine size p) w self.old → has_sent w.sent from statement.now ≡ true → MayCome size liars w →
             IfErr result (λ fault. fault ≡ faults.Memory) }
     {
         let Seat::Here(member) = self else {
@@ -148,10 +144,10 @@ impl Seat {
         ensures only { IfErr result IsOfRun }
         ensures side { is_liar self.new ≡ is_liar self.old }
         ensures moved { (size : Size) (liars : ℕ → Bool) (p : ℕ) (w : World) → IsCorrect size liars p → w.doubt p ≡ None →
-            IsSeat (mine size p) w self.old → AllCome w (hearings events.now) → IfOk result (λ mark.
-            IsMove size liars p w (AnswersAll size p w fused (hearings events.now) mark) self.new) }
+            IsSeatAt (mine size p) w self.old → AllCome w (hearings events.now) → IfOk result (λ mark.
+            IsMove size liars p w (AnswersGroup size p w fused (hearings events.now) mark) self.new) }
         ensures memory { (size : Size) (liars : ℕ → Bool) (p : ℕ) (w : World) → IsCorrect size liars p → w.doubt p ≡ None →
-            IsSeat (mine size p) w self.old → AllCome w (hearings events.now) → MayCome size liars w →
+            IsSeatAt (mine size p) w self.old → AllCome w (hearings events.now) → MayCome size liars w →
             IfErr result (λ fault. fault ≡ faults.Memory) }
     {
         let Seat::Here(member) = self else {
@@ -174,10 +170,10 @@ impl Seat {
         ensures only { IfErr result IsOfRun }
         ensures side { is_liar self.new ≡ is_liar self.old }
         ensures moved { (size : Size) (liars : ℕ → Bool) (p : ℕ) (w : World) → IsCorrect size liars p → w.doubt p ≡ None →
-            IsSeat (mine size p) w self.old → from < size.n → liars from ≡ true → AllByRecursion (IsWellFormed size) statements.now →
+            IsSeatAt (mine size p) w self.old → from < size.n → liars from ≡ true → AllByRecursion (IsWellFormed size) statements.now →
             IfOk result (λ mark. IsMove size liars p w (AreLies size p w fused from toss.0 statements.now mark) self.new) }
         ensures memory { (size : Size) (liars : ℕ → Bool) (p : ℕ) (w : World) → IsCorrect size liars p → w.doubt p ≡ None →
-            IsSeat (mine size p) w self.old → from < size.n → liars from ≡ true → AllByRecursion (IsWellFormed size) statements.now →
+            IsSeatAt (mine size p) w self.old → from < size.n → liars from ≡ true → AllByRecursion (IsWellFormed size) statements.now →
             MayCome size liars w → IfErr result (λ fault. fault ≡ faults.Memory) }
     {
         for statement in statements {
@@ -194,9 +190,9 @@ impl Seat {
     pub(crate) fn fuse(&mut self, calls: Option<u64>)
         requires sound { IsOneSound self.old }
         ensures sound { IsOneSound self.new }
-        ensures fuse { HasFuse calls (disk_in self.old) (disk_in self.new) }
+        ensures fuse { HasDiskFuse calls (disk_in self.old) (disk_in self.new) }
         ensures side { is_liar self.new ≡ is_liar self.old }
-        ensures at { (header : Header) (w : World) → IsSeat header w self.old → IsSeat header w self.new }
+        ensures at { (header : Header) (w : World) → IsSeatAt header w self.old → IsSeatAt header w self.new }
     {
         match self {
             Seat::Here(member) => member.fuse(calls),
@@ -212,8 +208,8 @@ impl Seat {
         ensures disk { OnOk result (HasCrashed pick (disk_in self.old) (disk_in self.new)) }
         ensures only { IfErr result (λ fault. fault ≡ faults.Memory) }
         ensures side { OnOk result (is_liar self.new ≡ is_liar self.old) }
-        ensures at { (header : Header) (w : World) → IsSeat header w self.old →
-            OnOk result (IsSeat header (after w (Crash header.me)) self.new) }
+        ensures at { (header : Header) (w : World) → IsSeatAt header w self.old →
+            OnOk result (IsSeatAt header (after w (Crash header.me)) self.new) }
     {
         match mem::replace(self, Seat::Liar).into_parts() {
             Some((disk, records)) => {
@@ -237,9 +233,9 @@ impl Seat {
         ensures failed { IfOk result (λ mark. mark ≡ marks.Failed → fused ≡ true) }
         ensures side { OnOk result (is_liar self.new ≡ is_liar self.old) }
         ensures moved { (size : Size) (liars : ℕ → Bool) (p : ℕ) (w : World) (batch : List Record) → IsCorrect size liars p →
-            header.now ≡ mine size p → w.doubt p ≡ Some batch → IsSeat (mine size p) w self.old →
+            header.now ≡ mine size p → w.doubt p ≡ Some batch → IsSeatAt (mine size p) w self.old →
             IfOk result (λ mark. IsMove size liars p w (Reopens p fused mark) self.new) }
-        ensures begun { IsFresh header.now self.old → IfOk result (λ mark. IsBegun header.now fused mark self.new) }
+        ensures begun { IsFreshSeat header.now self.old → IfOk result (λ mark. IsBegun header.now fused mark self.new) }
     {
         let (disk, records) = match mem::replace(self, Seat::Liar).into_parts() {
             Some(parts) => parts,
@@ -261,8 +257,8 @@ impl Seat {
     /// Its disk, and what its member has saved.
     fn into_parts(self) -> Option<(MemDisk, Vec<Record>)>
         requires sound { IsOneSound self }
-        ensures parts { (header : Header) (w : World) → IsSeat header w self → AreParts header w result }
-        ensures fresh { (header : Header) → IsFresh header self → AreFresh header result }
+        ensures parts { (header : Header) (w : World) → IsSeatAt header w self → AreParts header w result }
+        ensures fresh { (header : Header) → IsFreshSeat header self → AreFreshRecords header result }
         ensures disk { disk_among result ≡ disk_in self }
         ensures side { MatchOption result (is_liar self ≡ true) (λ _. is_liar self ≡ false) }
     {

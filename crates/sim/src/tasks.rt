@@ -2,7 +2,7 @@
 
 ghost use Rattle.std.specs.Prelude.{◌≡◌, ◌<◌, ◌≤◌, ℕ, Bool, List, Ok, IfOk, IfErr, length};
 ghost use Rattle.sim.specs.Scene.{Scene, plan_of, lie_plan, delivery_of, to_group, for_correct, for_running, for_link, bytes_in};
-ghost use Rattle.sim.specs.Posts.{IsCluster, AreReady, IsReady, HasSender, Fits, Brings};
+ghost use Rattle.sim.specs.Posts.{IsCluster, AreReady, IsReady, HasSender, CanBeDone, Brings};
 ghost use Rattle.sim.specs.Seats.{saved_in, group_from};
 ghost use Rattle.sim.specs.declared.faults.SimFault.TheVariants as faults;
 ghost use Rattle.sim.specs.declared.events.Event.TheVariants as events;
@@ -277,7 +277,7 @@ pub(crate) fn brought(
 ) -> Result<Group, SimFault>
     requires ready { AreReady size posts.now }
     requires within { (to < size.n) × HasSender size.n task.now }
-    ensures brings { (liars : ℕ → Bool) (c : Scene) → IsCluster size liars c posts.now → Fits size liars c to task.now →
+    ensures brings { (liars : ℕ → Bool) (c : Scene) → IsCluster size liars c posts.now → CanBeDone size liars c to task.now →
         IfOk result (Brings c to task.now) }
     ensures few { IfOk result (λ group. length group.statements.items ≤ 256) }
     ensures only { IfErr result (λ fault. fault ≡ faults.Memory) }

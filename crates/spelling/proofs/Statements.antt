@@ -1,20 +1,16 @@
 -- A kind and a value are read back from their bytes.
 use Rattle.std.proofs.Common.{◌≡◌, refl}
-use Rattle.terms.specs.declared.Kind.{Kind}
-use Rattle.terms.specs.declared.Kind.TheVariants.{Initial, Echo, Ready}
-use Rattle.terms.specs.declared.Value.{Value}
-use Rattle.terms.specs.declared.Value.TheVariants.{Zero, One, SureZero, SureOne, Unsure}
-use Rattle.terms.specs.Same.{value_code}
-use Rattle.spelling.specs.Statements.{kind_byte, kind_of, value_of}
+use Rattle.vocabulary.specs.Terms.{Kind, Initial, Echo, Ready, Value, Zero, One, SureZero, SureOne, Unsure, value_code}
+use Rattle.spelling.specs.Statements.{kind_byte, kind_from, value_from}
 
 -- the kind of the byte of a kind
-pub kind_again : (k : Kind) → kind_of (kind_byte k) ≡ k
+pub kind_again : (k : Kind) → kind_from (kind_byte k) ≡ k
 kind_again Initial = refl
 kind_again Echo = refl
 kind_again Ready = refl
 
 -- the value of the byte of a value
-pub value_again : (v : Value) → value_of (value_code v) ≡ v
+pub value_again : (v : Value) → value_from (value_code v) ≡ v
 value_again Zero = refl
 value_again One = refl
 value_again SureZero = refl

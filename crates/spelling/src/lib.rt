@@ -2,9 +2,7 @@
 #![tactic(auto)]
 
 ghost use Rattle.std.specs.Prelude.{◌≡◌, ◌≢◌, MatchOption};
-ghost use Rattle.terms.specs.declared.Kind.{Kind};
-ghost use Rattle.terms.specs.declared.Value.{Value};
-ghost use Rattle.terms.specs.Same.{value_code};
+ghost use Rattle.vocabulary.specs.Terms.{Kind, Value, value_code};
 ghost use Rattle.spelling.specs.Statements.{kind_byte, statement_bytes};
 
 use terms::{Kind, Statement, Value};

@@ -1,6 +1,5 @@
 -- When nothing is lawful: after a restart, and after an event once all that is due was said.
-use Rattle.std.proofs.Common.{ℕ, zero, suc, ◌≡◌, ◌≤◌, Bool, true, false, cond, not, ◌&&◌, ◌⊎◌, inl, inr, eqb, refl, sym, ap, ◌∙◌, arith, Option, Some, None, List, [], ◌∷◌, ◌++◌, take}
-use Rattle.std.specs.Prelude.{is_some}
+use Rattle.std.proofs.Common.{ℕ, zero, suc, ◌≡◌, ◌≤◌, Bool, true, false, cond, not, ◌&&◌, ◌⊎◌, inl, inr, eqb, refl, sym, ap, ◌∙◌, arith, Option, Some, None, List, [], ◌∷◌, ◌++◌, take, is_some}
 use Rattle.terms.specs.declared.Kind.{Kind}
 use Rattle.terms.specs.declared.Kind.TheVariants.{Initial, Echo, Ready}
 use Rattle.terms.specs.declared.Value.{Value}
@@ -11,7 +10,7 @@ use Rattle.terms.specs.declared.Record.TheVariants.{Said, Decided}
 use Rattle.terms.specs.declared.Size.{Size}
 use Rattle.terms.specs.Count.{count_below, IsEchoQuorum, IsHelpSet, IsAcceptSet}
 use Rattle.terms.specs.Bounds.{IsSize}
-use Rattle.terms.specs.Same.{place_eq, kind_eq, sure, place_of}
+use Rattle.terms.specs.Same.{place_eq, kind_eq, sure, new_place}
 use Rattle.terms.specs.Heard.{got, is_entry, is_foreign, backs, Accepted}
 use Rattle.terms.specs.Next.{Gives}
 use Rattle.terms.specs.Valid.{First, Second, Third, IsValid, IsGiven}
@@ -43,10 +42,10 @@ nothing_accepted size place m a = step a.front a.reached
 nothing_valid : (size : Size) (q round step a : ℕ) (m : Value) → IsValid size (Accepted size []) q round step a m → ⊥
 nothing_valid size q zero step a m h = h
 nothing_valid size q (suc r) zero a m h = h
-nothing_valid size q (suc zero) (suc zero) a m h = nothing_accepted size (place_of q a 1 1) m h
-nothing_valid size q (suc (suc r)) (suc zero) a m h = nothing_accepted size (place_of q a (suc (suc r)) 1) m h.0
-nothing_valid size q (suc r) (suc (suc zero)) a m h = nothing_accepted size (place_of q a (suc r) 2) m h.0
-nothing_valid size q (suc r) (suc (suc (suc zero))) a m h = nothing_accepted size (place_of q a (suc r) 3) m h.0
+nothing_valid size q (suc zero) (suc zero) a m h = nothing_accepted size (new_place q a 1 1) m h
+nothing_valid size q (suc (suc r)) (suc zero) a m h = nothing_accepted size (new_place q a (suc (suc r)) 1) m h.0
+nothing_valid size q (suc r) (suc (suc zero)) a m h = nothing_accepted size (new_place q a (suc r) 2) m h.0
+nothing_valid size q (suc r) (suc (suc (suc zero))) a m h = nothing_accepted size (new_place q a (suc r) 3) m h.0
 nothing_valid size q (suc r) (suc (suc (suc (suc step)))) a m h = h
 
 -- a set of n-t messages has one

@@ -7,7 +7,7 @@ use Rattle.terms.specs.declared.Place.{Place}
 use Rattle.terms.specs.declared.Statement.{Statement}
 use Rattle.terms.specs.Bounds.{FitsStep}
 use Rattle.terms.specs.Count.{count_below, IsEchoQuorum, IsHelpSet}
-use Rattle.terms.specs.Same.{statement_of}
+use Rattle.terms.specs.Same.{new_statement}
 use Rattle.terms.specs.Heard.{got, backs}
 use Rattle.terms.specs.Past.{Past, after_hearing}
 use Rattle.terms.specs.Answer.{MaySay, IsLeast}
@@ -19,7 +19,7 @@ use Rattle.terms.proofs.Same.{value_is-true}
 pub fit_heard : (past : Past) (from : ℕ) (s : Statement) → FitsStep s.place.step s.value → AllFit past → AllFit (after_hearing past from s)
 fit_heard past from s fits all a kind place m h = step (got-hear past.heard (from, s) a kind place m h)
   where
-    step : (got past.heard a kind place ≡ Some m) ⊎ ((from ≡ a) × (s ≡ statement_of kind place m)) → FitsStep place.step m
+    step : (got past.heard a kind place ≡ Some m) ⊎ ((from ≡ a) × (s ≡ new_statement kind place m)) → FitsStep place.step m
     step (inl g) = all a kind place m g
     step (inr g) = subst (λ (t : Statement). FitsStep t.place.step t.value) g.1 fits
 

@@ -1,6 +1,5 @@
 -- The closed formulas on three counts are what the sets say.
-use Rattle.std.proofs.Common.{ℕ, zero, suc, ◌≡◌, ◌+◌, ◌-◌, ◌*◌, ◌/◌, ◌<◌, ◌≤◌, min, Bool, true, false, cond, ◌||◌, ◌⊎◌, inl, inr, refl, sym, ◌∙◌, arith, Option, Some, None}
-use Rattle.std.specs.Prelude.{is_some, ◌↔◌}
+use Rattle.std.proofs.Common.{ℕ, zero, suc, ◌≡◌, ◌+◌, ◌-◌, ◌*◌, ◌/◌, ◌<◌, ◌≤◌, min, Bool, true, false, cond, ◌||◌, ◌⊎◌, inl, inr, refl, sym, ◌∙◌, arith, Option, Some, None, is_some, ◌↔◌}
 use Rattle.std.proofs.lemmas.Bool.{or_cases}
 use Rattle.terms.specs.declared.Value.{Value}
 use Rattle.terms.specs.declared.Value.TheVariants.{Zero, One, SureZero, SureOne, Unsure}

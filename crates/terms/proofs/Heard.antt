@@ -1,6 +1,6 @@
 -- What a longer hearing shows.
-use Rattle.std.proofs.Common.{ℕ, zero, suc, ◌≡◌, ◌+◌, ◌*◌, ◌<◌, ◌≤◌, Bool, true, false, cond, not, ◌&&◌, ◌⊎◌, inl, inr, eqb, refl, sym, ap, ◌∙◌, arith, Option, Some, None, List, [], ◌∷◌, ◌++◌, take, length, take_all}
-use Rattle.std.proofs.lemmas.Bool.{and_parts, eqb-true, cases_lt, cases_order, both_ways}
+use Rattle.std.proofs.Common.{ℕ, zero, suc, ◌≡◌, ◌+◌, ◌*◌, ◌<◌, ◌≤◌, Bool, true, false, cond, not, ◌&&◌, ◌⊎◌, inl, inr, eqb, refl, sym, ap, ◌∙◌, arith, Option, Some, None, List, [], ◌∷◌, ◌++◌, take, length, take_all, eqb-true}
+use Rattle.std.proofs.lemmas.Bool.{and_parts, cases_lt, cases_order, both_ways}
 use Rattle.terms.specs.declared.Kind.{Kind}
 use Rattle.terms.specs.declared.Kind.TheVariants.{Ready}
 use Rattle.terms.specs.declared.Value.{Value}
@@ -10,7 +10,7 @@ use Rattle.terms.specs.declared.Statement.{Statement}
 use Rattle.terms.specs.declared.Size.{Size}
 use Rattle.terms.specs.Count.{count_below, IsAcceptSet}
 use Rattle.terms.specs.Keep.{keep_or, given}
-use Rattle.terms.specs.Same.{statement_of, is_about}
+use Rattle.terms.specs.Same.{new_statement, is_about}
 use Rattle.terms.specs.Heard.{got, is_entry, is_foreign, is_none, hear, backs, Accepted}
 use Rattle.terms.proofs.Same.{is_about-true, value_is-true, value_is-from}
 use Rattle.terms.proofs.Count.{count-mono, Outside, has_outside}
@@ -29,11 +29,11 @@ got-take (suc k) (e ∷ es) a kind place m h =
 -- what entries show is the first one's or the others'
 pub got-cons : (e : ℕ × Statement) (H : List (ℕ × Statement)) (a : ℕ) (kind : Kind) (place : Place) (m : Value)
     → got (e ∷ H) a kind place ≡ Some m
-    → ((e.0 ≡ a) × (e.1 ≡ statement_of kind place m)) ⊎ (got H a kind place ≡ Some m)
+    → ((e.0 ≡ a) × (e.1 ≡ new_statement kind place m)) ⊎ (got H a kind place ≡ Some m)
 got-cons e H a kind place m h = step (is_entry e a kind place) refl h
   where
     step : (b : Bool) → is_entry e a kind place ≡ b → cond b (Some e.1.value) (got H a kind place) ≡ Some m
-        → ((e.0 ≡ a) × (e.1 ≡ statement_of kind place m)) ⊎ (got H a kind place ≡ Some m)
+        → ((e.0 ≡ a) × (e.1 ≡ new_statement kind place m)) ⊎ (got H a kind place ≡ Some m)
     step false f g = inr g
     step true f g =
         let x = and_parts (eqb e.0 a) _ f in
@@ -47,27 +47,27 @@ got-cons e H a kind place m h = step (is_entry e a kind place) refl h
 -- what one more entry shows is its own or was shown before
 pub got-snoc : (H : List (ℕ × Statement)) (e : ℕ × Statement) (a : ℕ) (kind : Kind) (place : Place) (m : Value)
     → got (H ++ e ∷ []) a kind place ≡ Some m
-    → (got H a kind place ≡ Some m) ⊎ ((e.0 ≡ a) × (e.1 ≡ statement_of kind place m))
+    → (got H a kind place ≡ Some m) ⊎ ((e.0 ≡ a) × (e.1 ≡ new_statement kind place m))
 got-snoc [] e a kind place m h = swap (got-cons e [] a kind place m h)
   where
-    swap : ((e.0 ≡ a) × (e.1 ≡ statement_of kind place m)) ⊎ (None ≡ Some m) → (None ≡ Some m) ⊎ ((e.0 ≡ a) × (e.1 ≡ statement_of kind place m))
+    swap : ((e.0 ≡ a) × (e.1 ≡ new_statement kind place m)) ⊎ (None ≡ Some m) → (None ≡ Some m) ⊎ ((e.0 ≡ a) × (e.1 ≡ new_statement kind place m))
     swap (inl g) = inr g
     swap (inr g) = inl g
 got-snoc (d ∷ H) e a kind place m h =
     step (is_entry d a kind place) h (got-snoc H e a kind place m)
   where
     step : (b : Bool) → cond b (Some d.1.value) (got (H ++ e ∷ []) a kind place) ≡ Some m
-        → (got (H ++ e ∷ []) a kind place ≡ Some m → (got H a kind place ≡ Some m) ⊎ ((e.0 ≡ a) × (e.1 ≡ statement_of kind place m)))
-        → (cond b (Some d.1.value) (got H a kind place) ≡ Some m) ⊎ ((e.0 ≡ a) × (e.1 ≡ statement_of kind place m))
+        → (got (H ++ e ∷ []) a kind place ≡ Some m → (got H a kind place ≡ Some m) ⊎ ((e.0 ≡ a) × (e.1 ≡ new_statement kind place m)))
+        → (cond b (Some d.1.value) (got H a kind place) ≡ Some m) ⊎ ((e.0 ≡ a) × (e.1 ≡ new_statement kind place m))
     step true g f = inl g
     step false g f = f g
 
 pub got-hear : (H : List (ℕ × Statement)) (e : ℕ × Statement) (a : ℕ) (kind : Kind) (place : Place) (m : Value)
     → got (hear H e) a kind place ≡ Some m
-    → (got H a kind place ≡ Some m) ⊎ ((e.0 ≡ a) × (e.1 ≡ statement_of kind place m))
+    → (got H a kind place ≡ Some m) ⊎ ((e.0 ≡ a) × (e.1 ≡ new_statement kind place m))
 got-hear H e a kind place m h = step (not (is_foreign e.0 e.1) && is_none (got H e.0 e.1.kind e.1.place)) h
   where
-    step : (b : Bool) → got (cond b (H ++ e ∷ []) H) a kind place ≡ Some m → (got H a kind place ≡ Some m) ⊎ ((e.0 ≡ a) × (e.1 ≡ statement_of kind place m))
+    step : (b : Bool) → got (cond b (H ++ e ∷ []) H) a kind place ≡ Some m → (got H a kind place ≡ Some m) ⊎ ((e.0 ≡ a) × (e.1 ≡ new_statement kind place m))
     step true g = got-snoc H e a kind place m g
     step false g = inl g
 
@@ -120,13 +120,13 @@ module _ (size : Size) (H : List (ℕ × Statement)) (place : Place) where
 
 -- a value that one more entry gives a backer is the value of that entry
 newly_backed : (size : Size) (H : List (ℕ × Statement)) (e : ℕ × Statement) (kind : Kind) (place : Place) (m : Value)
-    → count_below size.n (backs H kind place m) < count_below size.n (backs (H ++ e ∷ []) kind place m) → e.1 ≡ statement_of kind place m
+    → count_below size.n (backs H kind place m) < count_below size.n (backs (H ++ e ∷ []) kind place m) → e.1 ≡ new_statement kind place m
 newly_backed size H e kind place m h = step (got-snoc H e o.member kind place m (value_is-true (got (H ++ e ∷ []) o.member kind place) m o.passes))
   where
     o : Outside size.n (backs (H ++ e ∷ []) kind place m) (backs H kind place m)
     o = has_outside size.n (backs (H ++ e ∷ []) kind place m) (backs H kind place m) h
 
-    step : (got H o.member kind place ≡ Some m) ⊎ ((e.0 ≡ o.member) × (e.1 ≡ statement_of kind place m)) → e.1 ≡ statement_of kind place m
+    step : (got H o.member kind place ≡ Some m) ⊎ ((e.0 ≡ o.member) × (e.1 ≡ new_statement kind place m)) → e.1 ≡ new_statement kind place m
     step (inl g) = absurd (both_ways (backs H kind place m o.member) o.not_in (value_is-from (got H o.member kind place) m g))
     step (inr g) = g.1
 

@@ -8,7 +8,7 @@ use Rattle.terms.specs.declared.Place.{Place}
 use Rattle.terms.specs.declared.Statement.{Statement}
 use Rattle.terms.specs.declared.Record.{Record}
 use Rattle.terms.specs.declared.Record.TheVariants.{Said, Decided}
-use Rattle.terms.specs.Same.{statement_of, statement_eq, is_about, value_eq}
+use Rattle.terms.specs.Same.{new_statement, statement_eq, is_about, value_eq}
 use Rattle.terms.specs.Keep.{keep_or, given}
 use Rattle.terms.specs.Journal.{said, decided, has_said, has_decided}
 use Rattle.terms.proofs.Same.{statement_eq-true, value_eq-same}
@@ -29,23 +29,23 @@ has_decided-append (Decided q2 r2 b2 ∷ xs) ys q r b =
     rw (has_decided-append xs ys q r b) (or_assoc ((eqb q2 q) && ((eqb r2 r) && beq b2 b)) (has_decided xs q r b) (has_decided ys q r b))
 
 -- what was not said at the place is not among the records
-pub said-none : (xs : List Record) (kind : Kind) (place : Place) (m : Value) → said xs kind place ≡ None → has_said xs (statement_of kind place m) ≡ false
+pub said-none : (xs : List Record) (kind : Kind) (place : Place) (m : Value) → said xs kind place ≡ None → has_said xs (new_statement kind place m) ≡ false
 said-none [] kind place m h = refl
 said-none (Said x ∷ xs) kind place m h = step (is_about x kind place) h (said-none xs kind place m)
   where
-    step : (b : Bool) → cond b (Some x.value) (said xs kind place) ≡ None → (said xs kind place ≡ None → has_said xs (statement_of kind place m) ≡ false)
-        → ((b && value_eq x.value m) || has_said xs (statement_of kind place m)) ≡ false
+    step : (b : Bool) → cond b (Some x.value) (said xs kind place) ≡ None → (said xs kind place ≡ None → has_said xs (new_statement kind place m) ≡ false)
+        → ((b && value_eq x.value m) || has_said xs (new_statement kind place m)) ≡ false
     step true g f = cc
     step false g f = f g
 said-none (Decided q r b ∷ xs) kind place m h = said-none xs kind place m h
 
 -- what was said first is among the records
-pub said-has : (xs : List Record) (kind : Kind) (place : Place) (m : Value) → said xs kind place ≡ Some m → has_said xs (statement_of kind place m) ≡ true
+pub said-has : (xs : List Record) (kind : Kind) (place : Place) (m : Value) → said xs kind place ≡ Some m → has_said xs (new_statement kind place m) ≡ true
 said-has [] kind place m h = cc
 said-has (Said x ∷ xs) kind place m h = step (is_about x kind place) h (said-has xs kind place m)
   where
-    step : (b : Bool) → cond b (Some x.value) (said xs kind place) ≡ Some m → (said xs kind place ≡ Some m → has_said xs (statement_of kind place m) ≡ true)
-        → ((b && value_eq x.value m) || has_said xs (statement_of kind place m)) ≡ true
+    step : (b : Bool) → cond b (Some x.value) (said xs kind place) ≡ Some m → (said xs kind place ≡ Some m → has_said xs (new_statement kind place m) ≡ true)
+        → ((b && value_eq x.value m) || has_said xs (new_statement kind place m)) ≡ true
     step true g f = let e : x.value ≡ m = cc in rw (e, value_eq-same m)
     step false g f = f g
 said-has (Decided q r b ∷ xs) kind place m h = said-has xs kind place m h

@@ -1,6 +1,6 @@
 -- What is lawful is the first of its kind, and stays lawful as more is heard.
-use Rattle.std.proofs.Common.{length, ℕ, ◌≡◌, ◌<◌, ◌≤◌, Bool, true, false, cond, ◌⊎◌, inl, inr, arith, Some, None, List, [], ◌∷◌, ◌++◌, take, append-nil, append_assoc, length-append}
-use Rattle.std.proofs.lemmas.List.{take-append-le, take_all}
+use Rattle.std.proofs.Common.{length, ℕ, ◌≡◌, ◌<◌, ◌≤◌, Bool, true, false, cond, ◌⊎◌, inl, inr, arith, Some, None, List, [], ◌∷◌, ◌++◌, take, append-nil, append_assoc, length-append, take_all}
+use Rattle.std.proofs.lemmas.List.{take-append-le}
 use Rattle.terms.specs.declared.Kind.{Kind}
 use Rattle.terms.specs.declared.Kind.TheVariants.{Initial, Echo, Ready}
 use Rattle.terms.specs.declared.Value.{Value}

@@ -1,10 +1,10 @@
 -- Masks of members, bit a for member a: who sent each value of a step. The crates that keep such masks write the words
 -- `has_bit`, `with_bit`, `value_at` and `fits` into their own specs; these are the same terms.
-use Rattle.std.proofs.Common.{ℕ, zero, suc, ◌≡◌, ◌+◌, ◌-◌, ◌*◌, ◌%◌, ◌^◌, ◌<◌, ◌≤◌, Bool, true, false, cond, ◌&&◌, ◌||◌, ◌⊎◌, inl, inr, eqb, refl, sym, ap, subst, ◌∙◌, arith, max, Option, Some, None, bit_and, bit_or, bit_xor, count_ones, w32}
-use Rattle.std.proofs.lemmas.Nat.{mod-pow-add, ones_cat, ones_le_self, zero_from_ones, pow_pos, and_mask}
+use Rattle.std.proofs.Common.{ℕ, zero, suc, ◌≡◌, ◌+◌, ◌-◌, ◌*◌, ◌%◌, ◌^◌, ◌<◌, ◌≤◌, Bool, true, false, cond, ◌&&◌, ◌||◌, ◌⊎◌, inl, inr, eqb, refl, sym, ap, subst, ◌∙◌, arith, max, Option, Some, None, bit_and, bit_or, bit_xor, count_ones, w32, pow_pos, eqb-true, eq-eqb, ne_eqb}
+use Rattle.std.proofs.lemmas.Nat.{mod-pow-add, ones_cat, ones_le_self, zero_from_ones, and_mask}
 use Rattle.std.proofs.Math.Nat.{mod-lt}
 use Rattle.std.proofs.lemmas.Nat.Bits.{bit_at_set_same, bit_at_set_other, bit_at_or, bit_at_xor, bit_at-lt, bit_at-zero}
-use Rattle.std.proofs.lemmas.Bool.{eqb-true, eq-eqb, ne_eqb, cases_eq, false≢true}
+use Rattle.std.proofs.lemmas.Bool.{cases_eq, false≢true}
 use Rattle.std.specs.Int.{bit_at}
 use Rattle.terms.specs.declared.Value.{Value}
 use Rattle.terms.specs.declared.Value.TheVariants.{Zero, One, SureZero, SureOne, Unsure}

@@ -72,14 +72,14 @@ impl Model for Place {
 }
 
 impl Place {
-    ghost use Rattle.terms.specs.Same.{place_of};
+    ghost use Rattle.terms.specs.Same.{new_place};
     ghost use Rattle.terms.specs.Bounds.{IsPlace};
 
     /// The place, or none where the round isn't 1 to 32 or the step isn't 1 to 3. Whether there are such a question
     /// and such an origin depends on the cluster's size, and isn't looked at.
     pub fn new(question: u16, origin: u8, round: u8, step: u8) -> Option<Place>
-        ensures some { IfSome result (λ place. place ≡ place_of question origin round step) }
-        ensures exact { IsSome result ↔ IsPlace (place_of question origin round step) }
+        ensures some { IfSome result (λ place. place ≡ new_place question origin round step) }
+        ensures exact { IsSome result ↔ IsPlace (new_place question origin round step) }
     {
         if round == 0 || round > LAST_ROUND || step == 0 || step > LAST_STEP {
             return None;
@@ -145,13 +145,13 @@ impl Model for Statement {
 }
 
 impl Statement {
-    ghost use Rattle.terms.specs.Same.{statement_of};
+    ghost use Rattle.terms.specs.Same.{new_statement};
     ghost use Rattle.terms.specs.Bounds.{FitsStep};
 
     /// The statement, or none where the value doesn't fit the place's step: Zero and One are of steps 1 and 2, the
     /// other values of step 3.
     pub fn new(kind: Kind, place: Place, value: Value) -> Option<Statement>
-        ensures some { IfSome result (λ s. s ≡ statement_of kind place value) }
+        ensures some { IfSome result (λ s. s ≡ new_statement kind place value) }
         ensures exact { IsSome result ↔ FitsStep place.step value }
     {
         let fits = match value {
@@ -260,11 +260,11 @@ impl Model for Size {
 impl Size {
     ghost use Rattle.std.specs.Prelude.{MatchResult, None, Some};
     ghost use Rattle.terms.specs.Bounds.{IsSize};
-    ghost use Rattle.terms.specs.Sizes.{size_of, size_fault, IsLeastQuorum};
+    ghost use Rattle.terms.specs.Sizes.{new_size, size_fault, IsLeastQuorum};
 
     /// The size, or the first thing that is wrong with the numbers, in the order of [`SizeFault`].
     pub fn new(n: u8, t: u8, questions: u16) -> Result<Size, SizeFault>
-        ensures ok { IfOk result (λ size. size ≡ size_of n t questions) }
+        ensures ok { IfOk result (λ size. size ≡ new_size n t questions) }
         ensures exact { MatchResult result (λ _. size_fault n t questions ≡ None) (λ fault. size_fault n t questions ≡ Some fault) }
     {
         if n == 0 {
@@ -361,11 +361,11 @@ impl Model for Header {
 }
 
 impl Header {
-    ghost use Rattle.terms.specs.Headers.{header_of};
+    ghost use Rattle.terms.specs.Headers.{new_header};
 
     /// The header, or none where there is no such member: `me` isn't below n.
     pub fn new(cluster: u64, size: Size, me: u8) -> Option<Header>
-        ensures some { IfSome result (λ header. header ≡ header_of cluster size me) }
+        ensures some { IfSome result (λ header. header ≡ new_header cluster size me) }
         ensures exact { IsSome result ↔ (me < size.n) }
     {
         if me < size.n() {

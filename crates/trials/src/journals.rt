@@ -3,14 +3,7 @@
 //! Where `rt try --test --fail-alloc N` refuses an allocation, a row that comes out otherwise is played again, and is
 //! then to come out as with ample memory. A journal that was refused memory itself appends the same batch at once.
 ghost use Rattle.std.specs.Prelude.{◌≡◌, ℕ, ◌≤◌, List, IfOk, OnOk, OnErr, true, false, length};
-ghost use Rattle.terms.specs.declared.Kind.TheVariants.{Echo};
-ghost use Rattle.terms.specs.declared.Value.TheVariants.{One};
-ghost use Rattle.terms.specs.declared.Record.{Record};
-ghost use Rattle.terms.specs.declared.Record.TheVariants.{Said};
-ghost use Rattle.terms.specs.declared.Header.{Header};
-ghost use Rattle.terms.specs.Same.{place_of, statement_of};
-ghost use Rattle.terms.specs.Sizes.{size_of};
-ghost use Rattle.terms.specs.Headers.{header_of};
+ghost use Rattle.vocabulary.specs.Terms.{Echo, One, Record, Said, Header, new_place, new_statement, new_size, new_header};
 
 use disk::{Disk, MemDisk, Pick};
 use journal::{Journal, JournalFault, create, peek};
@@ -31,14 +24,14 @@ const AND_DECIDED: [u8; 42] =
     *b"BRACHAJ1\0\0\0\0\0\0\0\x07\x04\x01\0\x01\x01\0\0\0\x01\0\x02\x02\0\0\0\x01\x01\x01\x04\0\0\0\x01\0\x01\0";
 
 fn header(me: u8) -> Result<Header, Fail>
-    ensures { IfOk result (λ h. h ≡ header_of 7 (size_of 4 1 1) me) }
+    ensures { IfOk result (λ h. h ≡ new_header 7 (new_size 4 1 1) me) }
 {
     let size = Size::new(4, 1, 1)?;
     Ok(Header::new(7, size, me).ok_or("a header")?)
 }
 
 fn echo() -> Result<Record, Fail>
-    ensures { IfOk result (λ r. r ≡ Said (statement_of Echo (place_of 0 0 1 1) One)) }
+    ensures { IfOk result (λ r. r ≡ Said (new_statement Echo (new_place 0 0 1 1) One)) }
 {
     let place = Place::new(0, 0, 1, 1).ok_or("a place")?;
     let statement = Statement::new(Kind::Echo, place, Value::One).ok_or("a statement")?;
@@ -70,8 +63,8 @@ fn after_a_crash(
     calls: u64,
     pick: Pick,
 ) -> Result<(Result<(), JournalFault>, usize), JournalFault>
-    requires header { header ≡ header_of 7 (size_of 4 1 1) 1 }
-    requires echo { echo ≡ Said (statement_of Echo (place_of 0 0 1 1) One) }
+    requires header { header ≡ new_header 7 (new_size 4 1 1) 1 }
+    requires echo { echo ≡ Said (new_statement Echo (new_place 0 0 1 1) One) }
 {
     let disk = disk_of(alloc, &EMPTY)?;
     let (mut journal, _) = Journal::open(alloc, disk, &header)?;
@@ -308,8 +301,8 @@ type Answers = (
 );
 
 fn stopped(alloc: Global, header: Header, echo: Record) -> Result<Answers, JournalFault>
-    requires header { header ≡ header_of 7 (size_of 4 1 1) 1 }
-    requires echo { echo ≡ Said (statement_of Echo (place_of 0 0 1 1) One) }
+    requires header { header ≡ new_header 7 (new_size 4 1 1) 1 }
+    requires echo { echo ≡ Said (new_statement Echo (new_place 0 0 1 1) One) }
 {
     let (mut journal, _) = Journal::open(alloc, disk_of(alloc, &EMPTY)?, &header)?;
     journal.fuse(Some(0));
@@ -340,8 +333,8 @@ fn a_stopped_journal_stays_so(rt: HostRuntime) -> Result<(), Fail> {
 
 /// The file after a creation and an append of the echo. Memory that the journal itself is refused leaves it as it was.
 fn one_echo_file(alloc: Global, header: Header, echo: Record) -> Result<Vec<u8>, JournalFault>
-    requires header { header ≡ header_of 7 (size_of 4 1 1) 1 }
-    requires echo { echo ≡ Said (statement_of Echo (place_of 0 0 1 1) One) }
+    requires header { header ≡ new_header 7 (new_size 4 1 1) 1 }
+    requires echo { echo ≡ Said (new_statement Echo (new_place 0 0 1 1) One) }
 {
     let mut disk = MemDisk::new(alloc);
     create(&mut disk, &header)?;
@@ -375,8 +368,8 @@ fn one_echo(rt: HostRuntime) -> Result<(), Fail> {
 
 /// How many records there are after a batch of two. It is played once: with ample memory nothing is refused.
 fn two_at_once(alloc: Global, header: Header, echo: Record) -> Result<usize, JournalFault>
-    requires header { header ≡ header_of 7 (size_of 4 1 1) 1 }
-    requires echo { echo ≡ Said (statement_of Echo (place_of 0 0 1 1) One) }
+    requires header { header ≡ new_header 7 (new_size 4 1 1) 1 }
+    requires echo { echo ≡ Said (new_statement Echo (new_place 0 0 1 1) One) }
 {
     let (mut journal, _) = Journal::open(alloc, disk_of(alloc, &EMPTY)?, &header)?;
     journal.append(&[echo, echo])?;

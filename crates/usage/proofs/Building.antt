@@ -1,12 +1,11 @@
 -- What `arg` and `subcommand` make of a command, by what is known of its parts.
-use Rattle.std.proofs.Common.{arith, ◌≡◌, ◌∙◌, ap, ap₂, Bool, true, false, refl}
+use Rattle.std.proofs.Common.{arith, ◌≡◌, ◌∙◌, ap, ap₂, Bool, true, false, refl, IsTrue}
 use Rattle.std.proofs.Common.{not}
 use Rattle.std.proofs.lemmas.Bool.{and_parts}
 use Rattle.clap.specs.Walk.{Rule, rule_of, is_simple_arg}
 use Rattle.clap.specs.Simple.{App, Shape, app_of, shape_of, with_rule, with_subcommand}
 use Rattle.clap.specs.Built.{AddsArg, AddsSubcommand}
 use Rattle.std.proofs.Common.{Some}
-use Rattle.std.specs.Prelude.{IsTrue}
 use Rattle.usage.specs.Usage.{verbose_rule}
 use Rattle.clap.specs.declared.builder.arg.Arg.{Arg}
 use Rattle.clap.specs.declared.builder.value_parser.ValueParser.{ValueParser}

@@ -1,11 +1,10 @@
 -- Words in which the kit finds no fault ask for a task: the parser has demanded each of its values.
-use Rattle.std.proofs.Common.{◌≡◌, ◌∙◌, ◌↔◌, ◌<◌, ◌^◌, ◌&&◌, ◌==◌, ℕ, Bool, cond, not, true, false, refl, ap, sym, subst, inl, inr, arith, List, [], ◌∷◌, drop, codes, is_some, Option, Some, None, true≢false, ◌||◌}
-use Rattle.std.specs.Prelude.{IfSome, find, option_map, pos, unwrap_or, ⊤}
+use Rattle.std.proofs.Common.{◌≡◌, ◌∙◌, ◌↔◌, ◌<◌, ◌^◌, ◌&&◌, ◌==◌, ℕ, Bool, cond, not, true, false, refl, ap, sym, subst, inl, inr, arith, List, [], ◌∷◌, drop, codes, is_some, Option, Some, None, true≢false, ◌||◌, IfSome, find, option_map, pos, unwrap_or, ne_eqb}
+use Rattle.std.specs.Prelude.{⊤}
 use Rattle.std.specs.Option.{option_map_or}
 use Rattle.std.specs.Borrow.{Bor}
 use Rattle.std.specs.Str.{bytes_eq}
 use Rattle.std.specs.Str.Parse.{IsNumeral, digits_value, starts_with_minus, without_leading_plus}
-use Rattle.std.proofs.lemmas.Bool.{ne_eqb}
 use Rattle.std.proofs.lemmas.Int.{ints}
 use Rattle.std.specs.Bool.{Decides}
 use Rattle.std.proofs.lemmas.Str.Parse.{digit_from_value}
@@ -21,7 +20,7 @@ use Rattle.clap.proofs.ValueTestLemmas.{accepts-Accepts}
 use Rattle.clap.specs.declared.error.kind.ErrorKind.TheVariants.{DisplayHelp, InvalidSubcommand}
 use Rattle.clap.specs.declared.builder.value_parser.ValueParser.TheVariants as parser
 use Rattle.usage.specs.Usage.{program_app, init_app, check_app, run_app, propose_app, ask_app, status_app, dump_app, simulate_app, hear_app}
-use Rattle.usage.specs.Tasks.{AreFaultless, AskFor, HasFlag, HasNumber, IsAskedFor, MayHaveText, Names as NamesTask, Writes}
+use Rattle.usage.specs.Tasks.{AreFaultless, AskFor, HasFlag, HasNumberOption, IsAskedFor, MayHaveText, Names as NamesTask, WritesNumber}
 use Rattle.usage.specs.declared.command_line.Task.{Task}
 use Rattle.usage.specs.declared.command_line.Task.TheVariants.{Hear, Init, Check, Run, Propose, Ask, Status, Simulate, Dump}
 use Rattle.usage.proofs.Walking.{StopOk, left_of, not_some, right_of, same_under, walk_ok}
@@ -44,10 +43,10 @@ minus_dropped (x ∷ xs) = go (x == 45)
     go false = refl
 
 -- a text that passes as a number up to `most` writes one
-writes_one : (bits most : ℕ) (t : Text) → most < 2 ^ bits → IsSignedIn (pos 0) (pos most) t → (n : ℕ) × Writes bits (without_minus t) n
-writes_one bits most t fits passed = subst (λ (u : Text). (n : ℕ) × Writes bits u n) (sym (minus_dropped t)) (go (starts_with_minus t) refl)
+writes_one : (bits most : ℕ) (t : Text) → most < 2 ^ bits → IsSignedIn (pos 0) (pos most) t → (n : ℕ) × WritesNumber bits (without_minus t) n
+writes_one bits most t fits passed = subst (λ (u : Text). (n : ℕ) × WritesNumber bits u n) (sym (minus_dropped t)) (go (starts_with_minus t) refl)
   where
-    go : (b : Bool) → starts_with_minus t ≡ b → (n : ℕ) × Writes bits (cond b (drop 1 t) t) n
+    go : (b : Bool) → starts_with_minus t ≡ b → (n : ℕ) × WritesNumber bits (cond b (drop 1 t) t) n
     go true minus =
         let low_ok = rw minus at passed.2 in
         let numeral : IsNumeral 10 (drop 1 t) = rw minus at passed.0 in
@@ -62,7 +61,7 @@ writes_one bits most t fits passed = subst (λ (u : Text). (n : ℕ) × Writes b
 
 has_number : (bits most : ℕ) (id : Text) (rows : List Row) → most < 2 ^ bits
     → (v : Text) × (first_of id rows ≡ Some v) × (one_of id rows ≡ Some (without_minus v)) × (is_signed_in (pos 0) (pos most) v ≡ true)
-    → (n : ℕ) × HasNumber bits id rows n
+    → (n : ℕ) × HasNumberOption bits id rows n
 has_number bits most id rows fits given =
     let n = writes_one bits most given.0 fits (accepts-Accepts false (parser.Signed (pos 0) (pos most)) given.0 given.3) in
     (n.0, (without_minus given.0, given.2, n.1))

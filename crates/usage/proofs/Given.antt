@@ -1,10 +1,10 @@
 -- What stands in the rows of words in which the kit finds no fault: each argument that is required has a value that passes.
-use Rattle.std.proofs.Common.{◌≡◌, ◌∙◌, ◌<◌, ◌++◌, ◌&&◌, ◌||◌, ◌==◌, ℕ, Bool, cond, not, true, false, refl, ap, sym, subst, inl, inr, arith, List, [], ◌∷◌, length, Option, Some, None, fold}
-use Rattle.std.specs.Prelude.{slice_get, find, nat_lt, option_and_then, option_map, ⊤}
+use Rattle.std.proofs.Common.{◌≡◌, ◌∙◌, ◌<◌, ◌++◌, ◌&&◌, ◌||◌, ◌==◌, ℕ, Bool, cond, not, true, false, refl, ap, sym, subst, inl, inr, arith, List, [], ◌∷◌, length, Option, Some, None, fold, slice_get, find, nat_lt, option_and_then, option_map, ne_eqb}
+use Rattle.std.specs.Prelude.{⊤}
 use Rattle.std.specs.List.{list_all, list_any}
 use Rattle.std.specs.Option.{option_map_or}
 use Rattle.std.specs.Str.{bytes_eq}
-use Rattle.std.proofs.lemmas.Bool.{and_parts, and_from, ne_eqb}
+use Rattle.std.proofs.lemmas.Bool.{and_parts, and_from}
 use Rattle.std.proofs.lemmas.Slice.Eq.{bytes_eq-Decides}
 use Rattle.clap.specs.Values.{is_request, read_as, refused_kind}
 use Rattle.clap.specs.declared.error.kind.ErrorKind.{ErrorKind}

@@ -1,6 +1,5 @@
 -- Which tasks a command of one name can ask for.
-use Rattle.std.proofs.Common.{◌≡◌, ℕ, Bool, List, Option, true, false, codes, refl, ap, ap₂, sym, subst, ◌∙◌, Some, None}
-use Rattle.std.specs.Prelude.{IfSome, option_map}
+use Rattle.std.proofs.Common.{◌≡◌, ℕ, Bool, List, Option, true, false, codes, refl, ap, ap₂, sym, subst, ◌∙◌, Some, None, IfSome, option_map}
 use Rattle.std.specs.Str.{bytes_eq}
 use Rattle.std.proofs.lemmas.Slice.Eq.{bytes_eq-Decides}
 use Rattle.std.specs.Borrow.{Bor}

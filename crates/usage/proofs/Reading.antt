@@ -1,12 +1,11 @@
 -- What the readers of the matches give, by the rows.
-use Rattle.std.proofs.Common.{◌≡◌, ◌∙◌, ◌<◌, ◌^◌, ◌↔◌, ap, sym, subst, refl, ℕ, Bool, true, false, Option, Some, None, codes}
-use Rattle.std.specs.Prelude.{Ok, Err, Result, unwrap_or}
+use Rattle.std.proofs.Common.{◌≡◌, ◌∙◌, ◌<◌, ◌^◌, ◌↔◌, ap, sym, subst, refl, ℕ, Bool, true, false, Option, Some, None, codes, Ok, Err, Result, unwrap_or}
 use Rattle.std.specs.Str.Parse.{ParsesUnsigned, ParsesBool}
 use Rattle.clap.specs.Walk.{Text, one_of, rows_of}
 use Rattle.clap.specs.Matches.{ReadsOne, one_text}
 use Rattle.clap.specs.declared.parser.matches.Found.{Found}
 use Rattle.clap.proofs.WalkLemmas.{one_text-rows}
-use Rattle.usage.specs.Tasks.{Writes, HasNumber, HasFlag}
+use Rattle.usage.specs.Tasks.{WritesNumber, HasNumberOption, HasFlag}
 
 -- what stands under two `Some`
 pub some_is : {X : Type 0} (d x y : X) → Some x ≡ Some y → x ≡ y
@@ -18,7 +17,7 @@ not_none x e = cc
 number_from : (E : Type 0) (G : Text → Result ℕ E → Type 0) (bits : ℕ) (met : Option Text) (o : Option ℕ)
     → (met ≡ None → o ≡ None) → ((t : Text) → met ≡ Some t → ReadsOne G t o)
     → ((u : Text) (x : Result ℕ E) → G u x → ParsesUnsigned bits 10 u x)
-    → (n : ℕ) → o ≡ Some n → (t : Text) × (met ≡ Some t) × Writes bits t n
+    → (n : ℕ) → o ≡ Some n → (t : Text) × (met ≡ Some t) × WritesNumber bits t n
 number_from E G bits None o none reads only n is = absurd (not_none n (sym (none refl) ∙ is))
 number_from E G bits (Some t) None none reads only n is = absurd (not_none n is)
 number_from E G bits (Some t) (Some v) none reads only n is =
@@ -29,7 +28,7 @@ number_from E G bits (Some t) (Some v) none reads only n is =
 number_to : (E : Type 0) (G : Text → Result ℕ E → Type 0) (bits : ℕ) (met : Option Text) (o : Option ℕ)
     → ((t : Text) → met ≡ Some t → ReadsOne G t o)
     → ((u : Text) (x : Result ℕ E) → G u x → ParsesUnsigned bits 10 u x)
-    → (n : ℕ) (t : Text) → met ≡ Some t → Writes bits t n → o ≡ Some n
+    → (n : ℕ) (t : Text) → met ≡ Some t → WritesNumber bits t n → o ≡ Some n
 number_to E G bits met None reads only n t is written =
     let failed = reads t is in
     absurd (only t (Err failed.0) failed.1 (written.0, subst (λ m. m < 2 ^ bits) written.1 written.2))
@@ -41,7 +40,7 @@ number_to E G bits met (Some v) reads only n t is written =
 pub number_read : (E : Type 0) (G : Text → Result ℕ E → Type 0) (bits : ℕ) (f : Found) (id : Text) (o : Option ℕ)
     → (one_text f id ≡ None → o ≡ None) → ((t : Text) → one_text f id ≡ Some t → ReadsOne G t o)
     → ((u : Text) (x : Result ℕ E) → G u x → ParsesUnsigned bits 10 u x)
-    → (n : ℕ) → (o ≡ Some n) ↔ HasNumber bits id (rows_of f) n
+    → (n : ℕ) → (o ≡ Some n) ↔ HasNumberOption bits id (rows_of f) n
 number_read E G bits f id o none reads only n =
     let same = one_text-rows f id in
     let reads_row : (t : Text) → one_of id (rows_of f) ≡ Some t → ReadsOne G t o = λ t is. reads t (same ∙ is) in (

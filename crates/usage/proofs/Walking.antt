@@ -1,6 +1,6 @@
 -- What a walk over words keeps in which the kit finds no fault, where each use of an argument keeps it.
-use Rattle.std.proofs.Common.{◌≡◌, ◌⊎◌, ℕ, Bool, cond, true, false, zero, suc, refl, ap, subst, inl, inr, List, [], ◌∷◌, length, drop, Option, Some, None, is_some, fold}
-use Rattle.std.specs.Prelude.{encode_utf8, slice_get, unwrap_or, find, ⊤, ◌&&◌}
+use Rattle.std.proofs.Common.{◌≡◌, ◌⊎◌, ℕ, Bool, cond, true, false, zero, suc, refl, ap, subst, inl, inr, List, [], ◌∷◌, length, drop, Option, Some, None, is_some, fold, encode_utf8, slice_get, unwrap_or, find, ◌&&◌}
+use Rattle.std.specs.Prelude.{⊤}
 use Rattle.std.specs.Option.{option_map_or}
 use Rattle.std.specs.Str.{bytes_eq, chars}
 use Rattle.clap.specs.Lexer.{long_of, short_of}

@@ -11,8 +11,8 @@ use Rattle.usage.specs.declared.command_line.Task.{Task}
 use Rattle.usage.specs.declared.command_line.Task.TheVariants.{Hear, Init, Check, Run, Propose, Ask, Status, Simulate, Dump}
 
 -- the text writes the number in decimal digits, behind a plus or none, and it has at most that many bits
-abbrev pub Writes : ℕ → Text → ℕ → Type 0
-Writes bits text n = IsNumeral 10 (without_leading_plus text) × (n ≡ digits_value 10 (without_leading_plus text)) × (n < 2 ^ bits)
+abbrev pub WritesNumber : ℕ → Text → ℕ → Type 0
+WritesNumber bits text n = IsNumeral 10 (without_leading_plus text) × (n ≡ digits_value 10 (without_leading_plus text)) × (n < 2 ^ bits)
 
 -- the text that was given for the id
 abbrev pub HasText : Text → List Row → Text → Type 0
@@ -23,8 +23,8 @@ abbrev pub MayHaveText : Text → List Row → Option Text → Type 0
 MayHaveText id rows text = first_of id rows ≡ text
 
 -- the number that was given for the id
-abbrev pub HasNumber : ℕ → Text → List Row → ℕ → Type 0
-HasNumber bits id rows n = (text : Text) × (one_of id rows ≡ Some text) × Writes bits text n
+abbrev pub HasNumberOption : ℕ → Text → List Row → ℕ → Type 0
+HasNumberOption bits id rows n = (text : Text) × (one_of id rows ≡ Some text) × WritesNumber bits text n
 
 -- whether the flag was given
 abbrev pub HasFlag : Text → List Row → Bool → Type 0
@@ -32,18 +32,18 @@ HasFlag id rows given = IsTrue given ↔ (one_of id rows ≡ Some (codes "true")
 
 -- the values of the command's words are those of the task
 abbrev pub Names : Text → List Row → Task → Type 0
-Names name rows (Hear n t questions me) = (name ≡ codes "hear") × HasNumber 16 (codes "n") rows n
-    × HasNumber 16 (codes "t") rows t × HasNumber 16 (codes "questions") rows questions
-    × HasNumber 8 (codes "me") rows me
+Names name rows (Hear n t questions me) = (name ≡ codes "hear") × HasNumberOption 16 (codes "n") rows n
+    × HasNumberOption 16 (codes "t") rows t × HasNumberOption 16 (codes "questions") rows questions
+    × HasNumberOption 8 (codes "me") rows me
 Names name rows (Init settings) = (name ≡ codes "init") × HasText (codes "settings") rows settings.now
 Names name rows (Check settings) = (name ≡ codes "check") × HasText (codes "settings") rows settings.now
 Names name rows (Run settings stay log) = (name ≡ codes "run") × HasText (codes "settings") rows settings.now
     × HasFlag (codes "stay") rows stay × HasFlag (codes "log") rows log
 Names name rows (Propose address question bit) = (name ≡ codes "propose")
-    × HasText (codes "address") rows address.now × HasNumber 16 (codes "question") rows question
-    × HasNumber 8 (codes "bit") rows bit
+    × HasText (codes "address") rows address.now × HasNumberOption 16 (codes "question") rows question
+    × HasNumberOption 8 (codes "bit") rows bit
 Names name rows (Ask address question) = (name ≡ codes "ask") × HasText (codes "address") rows address.now
-    × HasNumber 16 (codes "question") rows question
+    × HasNumberOption 16 (codes "question") rows question
 Names name rows (Status address) = (name ≡ codes "status") × HasText (codes "address") rows address.now
 Names name rows (Simulate script trace chart) = (name ≡ codes "simulate") × HasText (codes "script") rows script.now
     × MayHaveText (codes "trace") rows (option_map (λ path. path.now) trace)

@@ -1,6 +1,6 @@
 //! The words of the command line.
 
-ghost use Rattle.usage.specs.Tasks.{AreVerbose, AskFor, HasFlag, HasNumber, IsAskedFor, IsVerbose, Names, SaysVerbose, rows_in};
+ghost use Rattle.usage.specs.Tasks.{AreVerbose, AskFor, HasFlag, HasNumberOption, IsAskedFor, IsVerbose, Names, SaysVerbose, rows_in};
 ghost use Rattle.usage.specs.Usage.{address_rule, ask_app, bare_app, check_app, dump_app, file_rule, flag_rule, hear_app, init_app, number_rule, program_app};
 ghost use Rattle.usage.specs.Usage.{propose_app, run_app, simulate_app, size_rules, status_app, desk_rules, verbose_rule, word_rule, with_rules};
 ghost use Rattle.clap.specs.Words.{FailsBy, app_of, fault_of, first_of, new_app, rule_of, subcommand_rows_of, with_rule, with_subcommand};
@@ -310,14 +310,14 @@ fn text_of<'a>(options: &ArgMatches<'a>, id: &str) -> Option<&'a str>
 
 /// The number that was given for the id.
 fn u16_of(options: &ArgMatches<'_>, id: &str) -> Option<u16>
-    ensures { (n : ℕ) → (result ≡ Some n) ↔ HasNumber 16 id.now (rows_in options.now) n }
+    ensures { (n : ℕ) → (result ≡ Some n) ↔ HasNumberOption 16 id.now (rows_in options.now) n }
 {
     options.get_one::<u16>(id)
 }
 
 /// The number that was given for the id, of a byte.
 fn u8_of(options: &ArgMatches<'_>, id: &str) -> Option<u8>
-    ensures { (n : ℕ) → (result ≡ Some n) ↔ HasNumber 8 id.now (rows_in options.now) n }
+    ensures { (n : ℕ) → (result ≡ Some n) ↔ HasNumberOption 8 id.now (rows_in options.now) n }
 {
     options.get_one::<u8>(id)
 }

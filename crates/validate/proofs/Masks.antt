@@ -1,19 +1,14 @@
 -- The masks of the steps, and the places that they stand for.
-use Rattle.std.proofs.Common.{ℕ, zero, suc, ◌≡◌, ◌+◌, ◌-◌, ◌*◌, ◌%◌, ◌<◌, ◌≤◌, Bool, true, false, cond, ◌&&◌, ◌||◌, eqb, leb, ltb, refl, sym, ap, subst, ◌∙◌, arith, Option, Some, None}
-use Rattle.std.proofs.lemmas.Bool.{and_parts, and_from, eqb-true, eq-eqb, leb-true, le-leb, ltb-true, lt-ltb, false≢true}
+use Rattle.std.proofs.Common.{ℕ, zero, suc, ◌≡◌, ◌+◌, ◌-◌, ◌*◌, ◌%◌, ◌<◌, ◌≤◌, Bool, true, false, cond, ◌&&◌, ◌||◌, eqb, leb, ltb, refl, sym, ap, subst, ◌∙◌, arith, Option, Some, None, eqb-true, eq-eqb, leb-true, le-leb, ltb-true, lt-ltb}
+use Rattle.std.proofs.lemmas.Bool.{and_parts, and_from, false≢true}
 use Rattle.std.proofs.lemmas.Nat.Bits.{bit_at-zero}
-use Rattle.terms.specs.declared.Value.{Value}
-use Rattle.terms.specs.declared.Value.TheVariants.{Zero, One, SureZero, SureOne, Unsure}
-use Rattle.terms.specs.declared.Place.{Place}
-use Rattle.terms.specs.Bounds.{IsPlace, FitsStep}
-use Rattle.terms.specs.Keep.{keep_or, given}
-use Rattle.terms.specs.Same.{place_eq, place_of}
+use Rattle.vocabulary.specs.Terms.{Value, Zero, One, SureZero, SureOne, Unsure, Place, IsPlace, FitsStep, keep_or, given, place_eq, new_place}
 use Rattle.terms.proofs.Same.{place_eq-true}
 use Rattle.terms.proofs.Votes.{bit_more, fits, value_fits, voted, keep_None}
 use Rattle.validate.specs.declared.rows.Votes.{Votes}
 use Rattle.validate.specs.declared.rows.Row.{Row}
 use Rattle.validate.specs.Follow.{zero_of, one_of}
-use Rattle.validate.specs.Rows.{no_row, value_at, has_bit, with_bit, zero_value, one_value, value_of, with_vote, number_of, is_third, is_here}
+use Rattle.validate.specs.Rows.{no_row, value_at, has_bit, with_bit, zero_value, one_value, value_of, with_vote, number_of, is_third_step, has_row}
 
 -- the member that had sent none has sent this one, and every other what it had sent
 pub voted_of : (third : Bool) (votes : Votes) (a b : ℕ) (v : Value) → a < 32 → fits third v ≡ true → value_of third votes a ≡ None
@@ -95,10 +90,10 @@ pub step_number : (p : Place) → IsPlace p → number_of p % 3 + 1 ≡ p.step
 step_number p at = let a = at.from_one in let b = at.first in let c = at.third in omega (arith, a, b, c)
 
 -- what a place's values fit
-pub number_fits : (p : Place) → IsPlace p → (v : Value) → fits (is_third (number_of p)) v ≡ true → FitsStep p.step v
+pub number_fits : (p : Place) → IsPlace p → (v : Value) → fits (is_third_step (number_of p)) v ≡ true → FitsStep p.step v
 number_fits p at v f = subst (λ (s : ℕ). FitsStep s v) (step_number p at) (fits_from (number_of p % 3) v (omega arith) f)
 
-pub fits_number : (p : Place) → IsPlace p → (v : Value) → FitsStep p.step v → fits (is_third (number_of p)) v ≡ true
+pub fits_number : (p : Place) → IsPlace p → (v : Value) → FitsStep p.step v → fits (is_third_step (number_of p)) v ≡ true
 fits_number p at v f = from_fits (number_of p % 3) v (omega arith) (subst (λ (s : ℕ). FitsStep s v) (sym (step_number p at)) f)
 
 -- what passes with true passes
@@ -112,7 +107,7 @@ pub record IsHere (n q : ℕ) (p : Place) : Type 0 where
   pub origin : p.origin < n
   pub place : IsPlace p
 
-pub here_parts : (n question : ℕ) (p : Place) → is_here n question p ≡ true → IsHere n question p
+pub here_parts : (n question : ℕ) (p : Place) → has_row n question p ≡ true → IsHere n question p
 here_parts n question p h =
     let a = and_parts (eqb p.question question) _ h in
     let b = and_parts (ltb p.origin n) _ a.1 in
@@ -125,7 +120,7 @@ here_parts n question p h =
       place = record { from_one = leb-true _ _ d.0; to_last = leb-true _ _ d.1; first = leb-true _ _ e.0; third = leb-true _ _ e.1 };
     }
 
-pub here_from : (n question : ℕ) (p : Place) → IsHere n question p → is_here n question p ≡ true
+pub here_from : (n question : ℕ) (p : Place) → IsHere n question p → has_row n question p ≡ true
 here_from n question p h =
     and_from _ _ (eq-eqb _ _ h.question) (and_from _ _ (lt-ltb _ _ h.origin)
     (and_from _ _ (and_from _ _ (le-leb _ _ h.place.from_one) (le-leb _ _ h.place.to_last))
@@ -140,40 +135,40 @@ number_one p q h k e =
 -- the value at a place
 abbrev pub value_by : ℕ → ℕ → (ℕ → Row) → Place → Option Value
 value_by n question rows p =
-    cond (is_here n question p) (value_of (is_third (number_of p)) (rows (number_of p)).votes p.origin) None
+    cond (has_row n question p) (value_of (is_third_step (number_of p)) (rows (number_of p)).votes p.origin) None
 
 -- a value that is found is at a place of the question, and fits it
 pub found : (n question : ℕ) (rows : ℕ → Row) (p : Place) (v : Value) → value_by n question rows p ≡ Some v
     → IsHere n question p × FitsStep p.step v
-found n question rows p v e = step (is_here n question p) refl e
+found n question rows p v e = step (has_row n question p) refl e
   where
-    step : (t : Bool) → is_here n question p ≡ t
-        → cond t (value_of (is_third (number_of p)) (rows (number_of p)).votes p.origin) None ≡ Some v
+    step : (t : Bool) → has_row n question p ≡ t
+        → cond t (value_of (is_third_step (number_of p)) (rows (number_of p)).votes p.origin) None ≡ Some v
         → IsHere n question p × FitsStep p.step v
     step true h e =
         let here = here_parts n question p h in
         let votes = (rows (number_of p)).votes in
-        (here, number_fits p here.place v (value_fits (is_third (number_of p)) (has_bit votes.zero p.origin) (has_bit votes.one p.origin) (has_bit votes.unsure p.origin) v e))
+        (here, number_fits p here.place v (value_fits (is_third_step (number_of p)) (has_bit votes.zero p.origin) (has_bit votes.one p.origin) (has_bit votes.unsure p.origin) v e))
     step false h e = cc
 
 -- and is the member's in the step of that number
 pub there : (n question : ℕ) (rows : ℕ → Row) (i a round step : ℕ) → i < 96 → 1 ≤ round → 1 ≤ step → step ≤ 3 → 3 * round + step ≡ i + 4 → a < n
-    → value_by n question rows (place_of question a round step) ≡ value_of (is_third i) (rows i).votes a
+    → value_by n question rows (new_place question a round step) ≡ value_of (is_third_step i) (rows i).votes a
 there n question rows i a round step l one first third e k =
-    let h : is_here n question (place_of question a round step) ≡ true =
-    here_from n question (place_of question a round step)
+    let h : has_row n question (new_place question a round step) ≡ true =
+    here_from n question (new_place question a round step)
     (record { question = refl; origin = k; place = record { from_one = one; to_last = omega (arith, l, e, first); first = first; third = third } }) in
     let m : 3 * round + step - 4 ≡ i = omega (arith, e) in
-    λ j. cond (h j) (value_of (is_third (m j)) (rows (m j)).votes a) None
+    λ j. cond (h j) (value_of (is_third_step (m j)) (rows (m j)).votes a) None
 
 -- the values after one more vote at a place that had none
 module _ (n : ℕ) (place : Place) (value : Value) (old new : ℕ → Row) (few : n ≤ 32) (at : IsPlace place) (origin : place.origin < n)
     (fit : FitsStep place.step value)
-    (none : value_of (is_third (number_of place)) (old (number_of place)).votes place.origin ≡ None)
+    (none : value_of (is_third_step (number_of place)) (old (number_of place)).votes place.origin ≡ None)
     (here : (new (number_of place)).votes ≡ with_vote (old (number_of place)).votes place.origin value)
     (others : (i : ℕ) → (i ≡ number_of place → ⊥) → (new i).votes ≡ (old i).votes) where
   pub taken_more : (p : Place) → value_by n place.question new p ≡ keep_or (value_by n place.question old p) (given (place_eq place p) value)
-  taken_more p = step (is_here n place.question p) refl (eqb (number_of p) (number_of place)) refl
+  taken_more p = step (has_row n place.question p) refl (eqb (number_of p) (number_of place)) refl
     where
       off : (place_eq place p ≡ true → ⊥) → (x : Option Value) → x ≡ keep_or x (given (place_eq place p) value)
       off apart x = go (place_eq place p) refl
@@ -185,25 +180,25 @@ module _ (n : ℕ) (place : Place) (value : Value) (old new : ℕ → Row) (few 
       same : place_eq place p ≡ true → place ≡ p
       same e = place_eq-true place p e
 
-      step : (t : Bool) → is_here n place.question p ≡ t → (u : Bool) → eqb (number_of p) (number_of place) ≡ u
-          → cond t (value_of (is_third (number_of p)) (new (number_of p)).votes p.origin) None
-          ≡ keep_or (cond t (value_of (is_third (number_of p)) (old (number_of p)).votes p.origin) None) (given (place_eq place p) value)
-      step false h u g = off (λ e. false≢true (sym h ∙ ap (λ (x : Place). is_here n place.question x) (sym (same e))
+      step : (t : Bool) → has_row n place.question p ≡ t → (u : Bool) → eqb (number_of p) (number_of place) ≡ u
+          → cond t (value_of (is_third_step (number_of p)) (new (number_of p)).votes p.origin) None
+          ≡ keep_or (cond t (value_of (is_third_step (number_of p)) (old (number_of p)).votes p.origin) None) (given (place_eq place p) value)
+      step false h u g = off (λ e. false≢true (sym h ∙ ap (λ (x : Place). has_row n place.question x) (sym (same e))
           ∙ here_from n place.question place (record { question = refl; origin = origin; place = at }))) None
       step true h false g =
           let apart : number_of p ≡ number_of place → ⊥ = λ e. false≢true (sym g ∙ eq-eqb _ _ e) in
-          ap (λ (x : Votes). value_of (is_third (number_of p)) x p.origin) (others (number_of p) apart)
-          ∙ off (λ e. apart (ap (λ (x : Place). number_of x) (sym (same e)))) (value_of (is_third (number_of p)) (old (number_of p)).votes p.origin)
+          ap (λ (x : Votes). value_of (is_third_step (number_of p)) x p.origin) (others (number_of p) apart)
+          ∙ off (λ e. apart (ap (λ (x : Place). number_of x) (sym (same e)))) (value_of (is_third_step (number_of p)) (old (number_of p)).votes p.origin)
       step true h true g =
           let e : number_of p ≡ number_of place = eqb-true _ _ g in
           let there = here_parts n place.question p h in
           let one = number_one p place there.place at e in
-          let f : fits (is_third (number_of place)) value ≡ true = fits_number place at value fit in
+          let f : fits (is_third_step (number_of place)) value ≡ true = fits_number place at value fit in
           let tests : place_eq place p ≡ eqb place.origin p.origin = place_by p there.question one.0 one.1 in
-          (λ i. value_of (is_third (e i)) (new (e i)).votes p.origin)
-          ∙ ap (λ (x : Votes). value_of (is_third (number_of place)) x p.origin) here
-          ∙ voted_of (is_third (number_of place)) (old (number_of place)).votes place.origin p.origin value (omega (arith, few, origin)) f none
-          ∙ (λ i. keep_or (value_of (is_third (sym e i)) (old (sym e i)).votes p.origin) (given (sym tests i) value))
+          (λ i. value_of (is_third_step (e i)) (new (e i)).votes p.origin)
+          ∙ ap (λ (x : Votes). value_of (is_third_step (number_of place)) x p.origin) here
+          ∙ voted_of (is_third_step (number_of place)) (old (number_of place)).votes place.origin p.origin value (omega (arith, few, origin)) f none
+          ∙ (λ i. keep_or (value_of (is_third_step (sym e i)) (old (sym e i)).votes p.origin) (given (sym tests i) value))
         where
           place_by : (p : Place) → p.question ≡ place.question → p.round ≡ place.round → p.step ≡ place.step → place_eq place p ≡ eqb place.origin p.origin
           place_by p a b c =

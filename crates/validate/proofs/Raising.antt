@@ -1,21 +1,14 @@
 -- Tallies are brought up to date one after the other.
-use Rattle.std.proofs.Common.{ℕ, zero, suc, ◌≡◌, ◌+◌, ◌<◌, ◌≤◌, Bool, true, false, ◌&&◌, ◌⊎◌, inl, inr, eqb, refl, sym, ap, subst, ◌∙◌, arith, Option, Some, None, List, length, set, is_some, get_or-set_same, get_or-set_other}
-use Rattle.std.proofs.lemmas.Bool.{and_parts, eqb-true, cases_eq, false≢true}
-use Rattle.terms.specs.declared.Value.{Value}
-use Rattle.terms.specs.declared.Value.TheVariants.{Zero, One, SureZero, SureOne, Unsure}
-use Rattle.terms.specs.declared.Place.{Place}
-use Rattle.terms.specs.declared.Size.{Size}
-use Rattle.terms.specs.Bounds.{IsPlace, FitsStep}
-use Rattle.terms.specs.Keep.{keep_or, given}
-use Rattle.terms.specs.Count.{count_below}
-use Rattle.terms.specs.Same.{value_is, place_eq}
+use Rattle.std.proofs.Common.{ℕ, zero, suc, ◌≡◌, ◌+◌, ◌<◌, ◌≤◌, Bool, true, false, ◌&&◌, ◌⊎◌, inl, inr, eqb, refl, sym, ap, subst, ◌∙◌, arith, Option, Some, None, List, length, set, is_some, get_or-set_same, get_or-set_other, eqb-true}
+use Rattle.std.proofs.lemmas.Bool.{and_parts, cases_eq, false≢true}
+use Rattle.vocabulary.specs.Terms.{Value, Zero, One, SureZero, SureOne, Unsure, Place, Size, IsPlace, FitsStep, keep_or, given, count_below, value_is, place_eq}
 use Rattle.terms.proofs.Count.{count-ext}
 use Rattle.terms.proofs.Votes.{fits, value_fits, zero_bit, one_bit_of, unsure_bit}
 use Rattle.validate.specs.declared.follow.Tally.{Tally}
 use Rattle.validate.specs.declared.rows.Votes.{Votes}
 use Rattle.validate.specs.declared.rows.Row.{Row}
 use Rattle.validate.specs.Tallies.{no_tally}
-use Rattle.validate.specs.Rows.{has_bit, value_of, zero_value, one_value, ones_of, unsures_of, is_third, no_row, row_at, number_of, value_in, with_vote}
+use Rattle.validate.specs.Rows.{has_bit, value_of, zero_value, one_value, ones_of, unsures_of, is_third_step, no_row, row_at, number_of, row_value, with_vote}
 use Rattle.validate.specs.Running.{Passes, IsCounted, IsFresh, values_at, tally_before, IsRowFresh, AreFresh}
 use Rattle.validate.proofs.Counting.{count-nobody}
 use Rattle.validate.proofs.Masks.{no_value, taken_more}
@@ -45,21 +38,21 @@ follows_of z o u Unsure = u
 
 -- the tally that is counted so is right
 pub fresh_from : (size : Size) (i : ℕ) (votes : Votes) (before tally : Tally)
-    → IsCounted size i votes.zero before (zero_value (is_third i)) tally.zero
-    → IsCounted size i (ones_of votes.zero votes.one) before (one_value (is_third i)) tally.one
-    → IsCounted size i (unsures_of (is_third i) votes.zero votes.one votes.unsure) before Unsure tally.unsure
+    → IsCounted size i votes.zero before (zero_value (is_third_step i)) tally.zero
+    → IsCounted size i (ones_of votes.zero votes.one) before (one_value (is_third_step i)) tally.one
+    → IsCounted size i (unsures_of (is_third_step i) votes.zero votes.one votes.unsure) before Unsure tally.unsure
     → IsFresh size i (values_at i votes) before tally
 fresh_from size i votes before tally z o u =
     record {
       follows = follows;
-      right = λ a m e. right_at (is_third i) z.right o.right m
-          (value_fits (is_third i) (has_bit votes.zero a) (has_bit votes.one a) (has_bit votes.unsure a) m e);
-      zeros = z.count ∙ count-ext size.n (λ a. z.passes && has_bit votes.zero a) (λ a. follows (zero_value (is_third i)) && value_is (values_at i votes a) (zero_value (is_third i)))
-          (λ a l j. zero_same (is_third i) j && zero_bit (is_third i) votes.zero votes.one votes.unsure a j);
-      ones = o.count ∙ count-ext size.n (λ a. o.passes && has_bit (ones_of votes.zero votes.one) a) (λ a. follows (one_value (is_third i)) && value_is (values_at i votes a) (one_value (is_third i)))
-          (λ a l j. one_same (is_third i) j && one_bit_of (is_third i) votes.zero votes.one votes.unsure a j);
-      unsures = u.count ∙ count-ext size.n (λ a. u.passes && has_bit (unsures_of (is_third i) votes.zero votes.one votes.unsure) a) (λ a. follows Unsure && value_is (values_at i votes a) Unsure)
-          (λ a l j. u.passes && unsure_bit (is_third i) votes.zero votes.one votes.unsure a j);
+      right = λ a m e. right_at (is_third_step i) z.right o.right m
+          (value_fits (is_third_step i) (has_bit votes.zero a) (has_bit votes.one a) (has_bit votes.unsure a) m e);
+      zeros = z.count ∙ count-ext size.n (λ a. z.passes && has_bit votes.zero a) (λ a. follows (zero_value (is_third_step i)) && value_is (values_at i votes a) (zero_value (is_third_step i)))
+          (λ a l j. zero_same (is_third_step i) j && zero_bit (is_third_step i) votes.zero votes.one votes.unsure a j);
+      ones = o.count ∙ count-ext size.n (λ a. o.passes && has_bit (ones_of votes.zero votes.one) a) (λ a. follows (one_value (is_third_step i)) && value_is (values_at i votes a) (one_value (is_third_step i)))
+          (λ a l j. one_same (is_third_step i) j && one_bit_of (is_third_step i) votes.zero votes.one votes.unsure a j);
+      unsures = u.count ∙ count-ext size.n (λ a. u.passes && has_bit (unsures_of (is_third_step i) votes.zero votes.one votes.unsure) a) (λ a. follows Unsure && value_is (values_at i votes a) Unsure)
+          (λ a l j. u.passes && unsure_bit (is_third_step i) votes.zero votes.one votes.unsure a j);
     }
   where
     follows : Value → Bool
@@ -92,16 +85,16 @@ fresh_empty size i before =
     record {
       follows = λ m. true;
       right = λ a m e. absurd (nothing a m e);
-      zeros = none (zero_value (is_third i));
-      ones = none (one_value (is_third i));
+      zeros = none (zero_value (is_third_step i));
+      ones = none (one_value (is_third_step i));
       unsures = none Unsure;
     }
   where
     nothing : (a : ℕ) (m : Value) → values_at i no_row.votes a ≡ Some m → ⊥
-    nothing a m e = let f : ◌≡◌ {A = Option Value} None (Some m) = sym (no_value (is_third i) a) ∙ e in cc
+    nothing a m e = let f : ◌≡◌ {A = Option Value} None (Some m) = sym (no_value (is_third_step i) a) ∙ e in cc
 
     none : (m : Value) → 0 ≡ count_below size.n (λ a. value_is (values_at i no_row.votes a) m)
-    none m = sym (count-ext size.n (λ a. value_is (values_at i no_row.votes a) m) (λ a. value_is None m) (λ a l. ap (λ o. value_is o m) (no_value (is_third i) a))
+    none m = sym (count-ext size.n (λ a. value_is (values_at i no_row.votes a) m) (λ a. value_is None m) (λ a l. ap (λ o. value_is o m) (no_value (is_third_step i) a))
         ∙ count-nobody size.n m)
 
 -- a step that stays, with the tally before it, stays right
@@ -196,9 +189,9 @@ votes_kept items k row within e i = step (cases_eq i k)
 pub taken_raised : (n : ℕ) (place : Place) (value : Value) (old reached final : List Row) (k : ℕ) (row : Row) (votes : Votes)
     → n ≤ 32 → IsPlace place → place.origin < n → FitsStep place.step value → k ≡ number_of place → k < length reached
     → ((i : ℕ) → row_at reached i ≡ row_at old i) → row ≡ row_at reached k
-    → value_of (is_third k) row.votes place.origin ≡ None → votes ≡ with_vote row.votes place.origin value
+    → value_of (is_third_step k) row.votes place.origin ≡ None → votes ≡ with_vote row.votes place.origin value
     → ((i : ℕ) → (row_at final i).votes ≡ (row_at (set reached k (record { votes = votes; tally = row.tally })) i).votes)
-    → (p : Place) → value_in n place.question final p ≡ keep_or (value_in n place.question old p) (given (place_eq place p) value)
+    → (p : Place) → row_value n place.question final p ≡ keep_or (row_value n place.question old p) (given (place_eq place p) value)
 taken_raised n place value old reached final k row votes few at origin fit e within same is none more raised =
     taken_more n place value (row_at old) (row_at final) few at origin fit none_old here others
   where
@@ -208,9 +201,9 @@ taken_raised n place value old reached final k row votes few at origin fit e wit
     was : row ≡ row_at old k
     was = is ∙ same k
 
-    none_old : value_of (is_third (number_of place)) (row_at old (number_of place)).votes place.origin ≡ None
-    none_old = (λ i. value_of (is_third (sym e i)) (row_at old (sym e i)).votes place.origin)
-        ∙ ap (λ (x : Row). value_of (is_third k) x.votes place.origin) (sym was) ∙ none
+    none_old : value_of (is_third_step (number_of place)) (row_at old (number_of place)).votes place.origin ≡ None
+    none_old = (λ i. value_of (is_third_step (sym e i)) (row_at old (sym e i)).votes place.origin)
+        ∙ ap (λ (x : Row). value_of (is_third_step k) x.votes place.origin) (sym was) ∙ none
 
     here : (row_at final (number_of place)).votes ≡ with_vote (row_at old (number_of place)).votes place.origin value
     here = ap (λ (j : ℕ). (row_at final j).votes) (sym e) ∙ raised k

@@ -1,23 +1,14 @@
 -- Tallies that are each right by the one before it are those of the valid messages.
-use Rattle.std.proofs.Common.{ℕ, zero, suc, ◌≡◌, ◌+◌, ◌-◌, ◌*◌, ◌/◌, ◌%◌, ◌<◌, ◌≤◌, Bool, true, false, cond, ◌&&◌, refl, sym, ap, subst, ◌∙◌, arith, Option, Some, None}
-use Rattle.std.specs.Prelude.{◌↔◌, IsTrue}
+use Rattle.std.proofs.Common.{ℕ, zero, suc, ◌≡◌, ◌+◌, ◌-◌, ◌*◌, ◌/◌, ◌%◌, ◌<◌, ◌≤◌, Bool, true, false, cond, ◌&&◌, refl, sym, ap, subst, ◌∙◌, arith, Option, Some, None, ◌↔◌, IsTrue}
 use Rattle.std.proofs.lemmas.Bool.{false≢true}
-use Rattle.terms.specs.declared.Value.{Value}
-use Rattle.terms.specs.declared.Value.TheVariants.{Unsure}
-use Rattle.terms.specs.declared.Place.{Place}
-use Rattle.terms.specs.declared.Size.{Size}
-use Rattle.terms.specs.Bounds.{IsSize, IsPlace, FitsStep}
-use Rattle.terms.specs.Count.{count_below}
-use Rattle.terms.specs.Lawful.{step_before}
-use Rattle.terms.specs.Same.{value_is, value_eq, place_of}
-use Rattle.terms.specs.Valid.{IsValid}
+use Rattle.vocabulary.specs.Terms.{Value, Unsure, Place, Size, IsSize, IsPlace, FitsStep, count_below, step_before, value_is, value_eq, new_place, IsValid}
 use Rattle.terms.proofs.Count.{count-ext}
 use Rattle.terms.proofs.Same.{value_eq-true}
 use Rattle.terms.proofs.Votes.{value_fits}
 use Rattle.validate.specs.declared.rows.Row.{Row}
 use Rattle.validate.specs.Follow.{Counts, CanFollow}
 use Rattle.validate.specs.Tallies.{IsTally, IsTallyBefore}
-use Rattle.validate.specs.Rows.{has_bit, zero_value, one_value, is_third, number_of}
+use Rattle.validate.specs.Rows.{has_bit, zero_value, one_value, is_third_step, number_of}
 use Rattle.validate.specs.Running.{step_at, Passes, values_at, tally_before, AreFresh}
 use Rattle.validate.proofs.Validity.{valid_first, later_iff, moved, first_valid, valid_when, invalid_when}
 use Rattle.validate.proofs.Masks.{value_by, there, zero_from, one_from, fits_from}
@@ -82,7 +73,7 @@ module _ (size : Size) (ok : IsSize size) (q : ℕ) (rows : ℕ → Row) (fresh 
   fits : (i a : ℕ) (v : Value) → values i a ≡ Some v → FitsStep (step_at i) v
   fits i a v e =
       fits_from (i % 3) v (omega arith)
-      (value_fits (is_third i) (has_bit (rows i).votes.zero a) (has_bit (rows i).votes.one a) (has_bit (rows i).votes.unsure a) v e)
+      (value_fits (is_third_step i) (has_bit (rows i).votes.zero a) (has_bit (rows i).votes.one a) (has_bit (rows i).votes.unsure a) v e)
 
   -- the values that count
   abbrev set_at : ℕ → ℕ → Option Value
@@ -94,9 +85,9 @@ module _ (size : Size) (ok : IsSize size) (q : ℕ) (rows : ℕ → Row) (fresh 
       record {
         fits = λ a v l e. fits i a v (passing_Some (fresh i).follows (values i a) v e).0;
         zeros = ap (λ m. count_below size.n (λ a. value_is (set_at i a) m)) (zero_from (i % 3) (omega arith))
-            ∙ same (zero_value (is_third i)) ∙ sym (fresh i).zeros;
+            ∙ same (zero_value (is_third_step i)) ∙ sym (fresh i).zeros;
         ones = ap (λ m. count_below size.n (λ a. value_is (set_at i a) m)) (one_from (i % 3) (omega arith))
-            ∙ same (one_value (is_third i)) ∙ sym (fresh i).ones;
+            ∙ same (one_value (is_third_step i)) ∙ sym (fresh i).ones;
         unsures = same Unsure ∙ sym (fresh i).unsures;
       }
     where
@@ -105,9 +96,9 @@ module _ (size : Size) (ok : IsSize size) (q : ℕ) (rows : ℕ → Row) (fresh 
 
   -- they are the valid messages, if what follows from the step before is what the valid messages there give
   tally_at : (i round step : ℕ) → i < 96 → 1 ≤ round → 1 ≤ step → step ≤ 3 → 3 * round + step ≡ i + 4
-      → ((a : ℕ) (v : Value) → IsTaken (place_of q a round step) v → Passes size i (tally_before rows i) v ((fresh i).follows v)
+      → ((a : ℕ) (v : Value) → IsTaken (new_place q a round step) v → Passes size i (tally_before rows i) v ((fresh i).follows v)
       → ((fresh i).follows v ≡ true) ↔ IsValid size IsTaken q round step a v)
-      → ((a : ℕ) (v : Value) → IsValid size IsTaken q round step a v → IsTaken (place_of q a round step) v)
+      → ((a : ℕ) (v : Value) → IsValid size IsTaken q round step a v → IsTaken (new_place q a round step) v)
       → IsTally size.n step (IsValid size IsTaken q round step) (rows i).tally
   tally_at i round step few one first third e iff was =
       let s : step_at i ≡ step = omega (arith, e, first, third) in
@@ -120,7 +111,7 @@ module _ (size : Size) (ok : IsSize size) (q : ℕ) (rows : ℕ → Row) (fresh 
         counts = subst (λ (k : ℕ). Counts size.n k (set_at i) (rows i).tally) s (counts_at i);
       }
     where
-      here : (a : ℕ) → a < size.n → value_by size.n q rows (place_of q a round step) ≡ values i a
+      here : (a : ℕ) → a < size.n → value_by size.n q rows (new_place q a round step) ≡ values i a
       here a l = there size.n q rows i a round step few one first third e l
 
   -- the tally before is that of the step before, if it is that of its step

@@ -1,9 +1,7 @@
 -- What was accepted in each step, as masks of members. The words on bits and values are those of `Rattle.terms.proofs.Votes`.
 use Rattle.std.specs.Prelude.{ℕ, ◌≡◌, ◌+◌, ◌-◌, ◌*◌, ◌%◌, ◌^◌, Bool, cond, ◌&&◌, ◌==◌, nat_le, nat_lt, List, get_or, Option, Some, None, bit_or, bit_xor}
 use Rattle.std.specs.Int.{bit_at}
-use Rattle.terms.specs.declared.Value.{Value}
-use Rattle.terms.specs.declared.Value.TheVariants.{Zero, One, SureZero, SureOne, Unsure}
-use Rattle.terms.specs.declared.Place.{Place}
+use Rattle.vocabulary.specs.Terms.{Value, Zero, One, SureZero, SureOne, Unsure, Place}
 use Rattle.validate.specs.declared.rows.Votes.{Votes}
 use Rattle.validate.specs.declared.rows.Row.{Row}
 
@@ -59,21 +57,21 @@ abbrev pub number_of : Place → ℕ
 number_of place = 3 * place.round + place.step - 4
 
 -- it is a step 3
-abbrev pub is_third : ℕ → Bool
-is_third i = i % 3 == 2
+abbrev pub is_third_step : ℕ → Bool
+is_third_step i = i % 3 == 2
 
 -- the place is one of the question
-abbrev pub is_here : ℕ → ℕ → Place → Bool
-is_here n question place =
+abbrev pub has_row : ℕ → ℕ → Place → Bool
+has_row n question place =
     (place.question == question) && (nat_lt place.origin n
     && ((nat_le 1 place.round && nat_le place.round 32) && (nat_le 1 place.step && nat_le place.step 3)))
 
 -- the value that was accepted at the place
-abbrev pub value_in : ℕ → ℕ → List Row → Place → Option Value
-value_in n question rows place =
-    cond (is_here n question place)
-    (value_of (is_third (number_of place)) (row_at rows (number_of place)).votes place.origin) None
+abbrev pub row_value : ℕ → ℕ → List Row → Place → Option Value
+row_value n question rows place =
+    cond (has_row n question place)
+    (value_of (is_third_step (number_of place)) (row_at rows (number_of place)).votes place.origin) None
 
 -- the value was accepted at the place
 abbrev pub IsIn : ℕ → ℕ → List Row → Place → Value → Type 0
-IsIn n question rows place m = value_in n question rows place ≡ Some m
+IsIn n question rows place m = row_value n question rows place ≡ Some m

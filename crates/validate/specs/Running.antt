@@ -1,16 +1,12 @@
 -- Tallies that are kept step by step, each brought up to date from the one before it.
 use Rattle.std.specs.Prelude.{ℕ, zero, suc, ◌≡◌, ◌+◌, ◌%◌, Bool, true, ◌&&◌, ◌↔◌, IsTrue, Option, Some}
-use Rattle.terms.specs.declared.Value.{Value}
-use Rattle.terms.specs.declared.Value.TheVariants.{Unsure}
-use Rattle.terms.specs.declared.Size.{Size}
-use Rattle.terms.specs.Count.{count_below}
-use Rattle.terms.specs.Same.{value_is}
+use Rattle.vocabulary.specs.Terms.{Value, Unsure, Size, count_below, value_is}
 use Rattle.validate.specs.declared.follow.Tally.{Tally}
 use Rattle.validate.specs.declared.rows.Votes.{Votes}
 use Rattle.validate.specs.declared.rows.Row.{Row}
 use Rattle.validate.specs.Follow.{CanFollow}
 use Rattle.validate.specs.Tallies.{no_tally}
-use Rattle.validate.specs.Rows.{has_bit, value_of, zero_value, one_value, is_third}
+use Rattle.validate.specs.Rows.{has_bit, value_of, zero_value, one_value, is_third_step}
 
 -- the step of that number
 abbrev pub step_at : ℕ → ℕ
@@ -31,13 +27,13 @@ pub record IsCounted (size : Size) (i senders : ℕ) (before : Tally) (m : Value
 pub record IsFresh (size : Size) (i : ℕ) (values : ℕ → Option Value) (before tally : Tally) : Type 0 where
   pub follows : Value → Bool
   pub right : (a : ℕ) (m : Value) → values a ≡ Some m → Passes size i before m (follows m)
-  pub zeros : tally.zero ≡ count_below size.n (λ a. follows (zero_value (is_third i)) && value_is (values a) (zero_value (is_third i)))
-  pub ones : tally.one ≡ count_below size.n (λ a. follows (one_value (is_third i)) && value_is (values a) (one_value (is_third i)))
+  pub zeros : tally.zero ≡ count_below size.n (λ a. follows (zero_value (is_third_step i)) && value_is (values a) (zero_value (is_third_step i)))
+  pub ones : tally.one ≡ count_below size.n (λ a. follows (one_value (is_third_step i)) && value_is (values a) (one_value (is_third_step i)))
   pub unsures : tally.unsure ≡ count_below size.n (λ a. follows Unsure && value_is (values a) Unsure)
 
 -- the values of the votes
 abbrev pub values_at : ℕ → Votes → ℕ → Option Value
-values_at i votes a = value_of (is_third i) votes a
+values_at i votes a = value_of (is_third_step i) votes a
 
 -- the tally before: of no message before the first step of all
 abbrev pub tally_before : (ℕ → Row) → ℕ → Tally

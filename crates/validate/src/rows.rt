@@ -1,9 +1,8 @@
 //! What was accepted in each step of a question, as masks of members, and how much of it is valid. The steps are
 //! numbered through all rounds: step s of round r is number 3r + s - 4, from 0 on.
 ghost use Rattle.std.specs.Prelude.{◌≡◌, ◌<◌, ◌^◌, ◌-◌, ℕ, IsTrue, IsOk, OnOk, OnErr, length};
-ghost use Rattle.terms.specs.Bounds.{IsPlace};
-ghost use Rattle.terms.specs.Count.{count_below};
-ghost use Rattle.validate.specs.Rows.{no_row, row_at, has_bit, value_of, with_vote, number_of, is_here, value_in, ones_of, unsures_of};
+ghost use Rattle.vocabulary.specs.Terms.{IsPlace, count_below};
+ghost use Rattle.validate.specs.Rows.{no_row, row_at, has_bit, value_of, with_vote, number_of, has_row, row_value, ones_of, unsures_of};
 
 use super::follow::Tally;
 use std::alloc::AllocError;
@@ -126,7 +125,7 @@ pub fn with_vote(votes: Votes, origin: u8, value: Value) -> Votes
 
 /// Whether the place is of the question, and its origin a member.
 fn is_here(size: Size, question: u16, place: Place) -> bool
-    ensures value { result ≡ is_here size.n question place }
+    ensures value { result ≡ has_row size.n question place }
     ensures member { IsTrue result → place.origin < 32 }
 {
     let _members = size.n();
@@ -137,7 +136,7 @@ fn is_here(size: Size, question: u16, place: Place) -> bool
 
 /// The value that was accepted at the place.
 pub fn value_in(rows: &[Row], size: Size, question: u16, place: Place) -> Option<Value>
-    ensures { result ≡ value_in size.n question rows.now place }
+    ensures { result ≡ row_value size.n question rows.now place }
 {
     if !is_here(size, question, place) {
         return None;

@@ -1,13 +1,11 @@
 -- Feeding pieces in turn gives the reading of all of them joined, and what was written is read.
-use Rattle.std.proofs.Common.{ℕ, ◌≡◌, List, [], ◌∷◌, ◌++◌, refl, sym, ap, subst, ◌∙◌, append_assoc}
+use Rattle.std.proofs.Common.{ℕ, ◌≡◌, List, [], ◌∷◌, ◌++◌, refl, sym, ap, subst, ◌∙◌, append_assoc, append-nil}
 use Rattle.std.specs.List.{concat, flat_map, AllByRecursion}
-use Rattle.std.proofs.lemmas.List.{append-nil}
-use Rattle.terms.specs.declared.Size.{Size}
-use Rattle.terms.specs.Bounds.{IsSize}
+use Rattle.vocabulary.specs.Terms.{Size, IsSize}
 use Rattle.wire.specs.declared.message.Message.{Message}
 use Rattle.wire.specs.declared.message.WireFault.{WireFault}
-use Rattle.wire.specs.Texts.{text, Fits}
-use Rattle.wire.specs.Reading.{AreBytes, IsPartial, End, Rest, Broken, Ends, Reads}
+use Rattle.wire.specs.Texts.{frame_bytes, Fits}
+use Rattle.wire.specs.Reading.{AreBytes, IsPartial, End, Rest, Broken, Ends, ReadsMessages}
 use Rattle.wire.specs.Feeding.{Took, FeedsAll}
 use Rattle.wire.proofs.Telling.{bytes_back, bytes_front}
 use Rattle.wire.proofs.Frames.{partial0}
@@ -23,7 +21,7 @@ breaks_still size bytes more old new fault t = (
   record {
     each = t.1.each;
     others = t.1.others ++ more;
-    whole = ap (λ (b : List ℕ). b ++ more) t.1.whole ∙ append_assoc (flat_map text t.0) t.1.others more;
+    whole = ap (λ (b : List ℕ). b ++ more) t.1.whole ∙ append_assoc (flat_map frame_bytes t.0) t.1.others more;
     ends = breaks_behind size t.1.others more fault t.1.ends;
   },
   t.2,
@@ -91,17 +89,17 @@ drops_all size (piece ∷ pieces) old fault =
 -- pieces behind a rest are fed, by how the first of them ends
 feeds_after : (size : Size) (rest piece : List ℕ) (pieces : List (List ℕ)) (old : List Message) (messages : List Message) (next : End)
     → AreBytes ((rest ++ piece) ++ concat pieces)
-    → Reads size (rest ++ piece) messages next
+    → ReadsMessages size (rest ++ piece) messages next
     → ((r : List ℕ) (mid : List Message) → AreBytes (r ++ concat pieces) → HasFeeding size (Rest r) pieces mid)
     → HasFeeding size (Rest rest) (piece ∷ pieces) old
 feeds_after size rest piece pieces old messages (Rest r) are p on =
-    let whole : rest ++ piece ≡ flat_map text messages ++ r = p.whole
-    ∙ ap (λ (t : List ℕ). flat_map text messages ++ t) p.ends.0 in
-    let all : (rest ++ piece) ++ concat pieces ≡ flat_map text messages ++ (r ++ concat pieces) =
-    ap (λ (t : List ℕ). t ++ concat pieces) whole ∙ append_assoc (flat_map text messages) r (concat pieces) in
+    let whole : rest ++ piece ≡ flat_map frame_bytes messages ++ r = p.whole
+    ∙ ap (λ (t : List ℕ). flat_map frame_bytes messages ++ t) p.ends.0 in
+    let all : (rest ++ piece) ++ concat pieces ≡ flat_map frame_bytes messages ++ (r ++ concat pieces) =
+    ap (λ (t : List ℕ). t ++ concat pieces) whole ∙ append_assoc (flat_map frame_bytes messages) r (concat pieces) in
     let P : List ℕ → Type 0 = AreBytes in
     let g =
-    on r (old ++ messages) (bytes_back (flat_map text messages) (r ++ concat pieces) (subst P all are)) in
+    on r (old ++ messages) (bytes_back (flat_map frame_bytes messages) (r ++ concat pieces) (subst P all are)) in
     (g.0, g.1, (old ++ messages, Rest r, (messages, p, refl), g.2))
 feeds_after size rest piece pieces old messages (Broken fault) are p on =
     let g = drops_all size pieces (old ++ messages) fault in
@@ -145,15 +143,15 @@ read_is_fed size pieces old new end lawful are t =
 
 -- the texts of messages read as these messages
 pub written_reads : (size : Size) (messages : List Message) → AllByRecursion (Fits size) messages
-    → Reads size (flat_map text messages) messages (Rest [])
+    → ReadsMessages size (flat_map frame_bytes messages) messages (Rest [])
 written_reads size messages fits =
-    record { each = fits; others = []; whole = sym (append-nil (flat_map text messages)); ends = (refl, partial0 size) }
+    record { each = fits; others = []; whole = sym (append-nil (flat_map frame_bytes messages)); ends = (refl, partial0 size) }
 
 -- the texts of messages, fed in any pieces, give these messages and leave no rest
 pub written_is_fed : (size : Size) (messages old new : List Message) (pieces : List (List ℕ)) (end : End)
     → IsSize size → AllByRecursion (Fits size) messages
-    → concat pieces ≡ flat_map text messages → FeedsAll size (Rest []) pieces old new end → (new ≡ old ++ messages) × (end ≡ Rest [])
+    → concat pieces ≡ flat_map frame_bytes messages → FeedsAll size (Rest []) pieces old new end → (new ≡ old ++ messages) × (end ≡ Rest [])
 written_is_fed size messages old new pieces end lawful fits e f =
     let P : List ℕ → Type 0 = λ b. Took size b old new end in
-    took_once size (flat_map text messages) old new (old ++ messages) end (Rest []) lawful
+    took_once size (flat_map frame_bytes messages) old new (old ++ messages) end (Rest []) lawful
     (subst P e (fed_is_read size pieces old new end f)) (messages, written_reads size messages fits, refl)

@@ -1,21 +1,20 @@
 -- What the reader of a frame answers is true of the bytes.
-use Rattle.std.proofs.Common.{ℕ, zero, suc, ◌≡◌, ◌<◌, ◌≤◌, Bool, true, false, cond, ◌||◌, eqb, List, [], ◌∷◌, ◌++◌, length, get_or, Result, Ok, Err, refl, sym, ap, subst, ◌∙◌, ◌⊎◌, inl, inr, arith}
-use Rattle.std.proofs.lemmas.Bool.{eqb-true, or_cases, true≢false}
-use Rattle.terms.specs.declared.Size.{Size}
-use Rattle.terms.specs.Bounds.{IsSize}
+use Rattle.std.proofs.Common.{ℕ, zero, suc, ◌≡◌, ◌<◌, ◌≤◌, Bool, true, false, cond, ◌||◌, eqb, List, [], ◌∷◌, ◌++◌, length, get_or, Result, Ok, Err, refl, sym, ap, subst, ◌∙◌, ◌⊎◌, inl, inr, arith, eqb-true, true≢false}
+use Rattle.std.proofs.lemmas.Bool.{or_cases}
+use Rattle.vocabulary.specs.Terms.{Size, IsSize}
 use Rattle.wire.specs.declared.message.Message.{Message}
 use Rattle.wire.specs.declared.message.Message.TheVariants as message
 use Rattle.wire.specs.declared.message.Stop.{Stop}
 use Rattle.wire.specs.declared.message.WireFault.TheVariants.{BadLength}
-use Rattle.wire.specs.Texts.{text, body, Fits}
-use Rattle.wire.specs.Reading.{AreBytes, Begins, IsPartial, Breaks}
+use Rattle.wire.specs.Texts.{frame_bytes, frame_body, Fits}
+use Rattle.wire.specs.Reading.{AreBytes, BeginsFrame, IsPartial, BreaksFrame}
 use Rattle.wire.specs.Looking.{◌>>=◌, byte_at, is_length, length_at, body_at, frame_at}
 use Rattle.wire.proofs.Telling.{Tells, chosen, step_one}
 use Rattle.wire.proofs.Statements.{statement_tells}
 use Rattle.wire.proofs.Hellos.{idle_tells, welcome_tells, hello_tells}
 
 -- each text begins with the length of its body, in two bytes, which is one of the lengths that bodies have
-pub begins_with : (m : Message) → (text m ≡ 0 ∷ length (body m) ∷ body m) × (is_length (length (body m)) ≡ true)
+pub begins_with : (m : Message) → (frame_bytes m ≡ 0 ∷ length (frame_body m) ∷ frame_body m) × (is_length (length (frame_body m)) ≡ true)
 begins_with message.Idle = (refl, refl)
 begins_with (message.Hello cluster its from to) = (refl, refl)
 begins_with (message.Welcome next) = (refl, refl)
@@ -75,7 +74,7 @@ length_tells size (b ∷ rest) lawful fits =
       whole = refl;
       partial = partial1 size;
       none = λ h. let w = begins_with h.message in
-          let e2 : length (body h.message) ≡ b = cell 1 _ _ (sym w.0 ∙ h.whole) in
+          let e2 : length (frame_body h.message) ≡ b = cell 1 _ _ (sym w.0 ∙ h.whole) in
           true≢false (sym w.1 ∙ ap is_length e2 ∙ e);
       fault_is = refl;
     })

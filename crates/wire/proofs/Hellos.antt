@@ -1,17 +1,15 @@
 -- What the readers of an idle, a welcome and a hello answer is true of the bytes.
-use Rattle.std.proofs.Common.{ℕ, zero, suc, ◌≡◌, ◌+◌, ◌-◌, ◌*◌, ◌/◌, ◌%◌, ◌^◌, ◌<◌, ◌≤◌, List, [], ◌∷◌, ◌++◌, length, get_or, drop, Result, Ok, Err, refl, sym, ap, subst, ◌∙◌, append_assoc, arith}
+use Rattle.std.proofs.Common.{ℕ, zero, suc, ◌≡◌, ◌+◌, ◌-◌, ◌*◌, ◌/◌, ◌%◌, ◌^◌, ◌<◌, ◌≤◌, List, [], ◌∷◌, ◌++◌, length, get_or, drop, Result, Ok, Err, refl, sym, ap, subst, ◌∙◌, append_assoc, arith, append-nil, drop_at}
 use Rattle.std.specs.Int.{w64, to_be_bytes, from_be_bytes}
-use Rattle.std.proofs.lemmas.List.{append-nil, drop_at}
-use Rattle.terms.specs.declared.Size.{Size}
-use Rattle.terms.specs.Bounds.{IsSize}
+use Rattle.vocabulary.specs.Terms.{Size, IsSize}
 use Rattle.wire.specs.declared.message.Message.{Message}
 use Rattle.wire.specs.declared.message.Message.TheVariants as message
 use Rattle.wire.specs.declared.message.Stop.{Stop}
 use Rattle.wire.specs.declared.message.WireFault.{WireFault}
 use Rattle.wire.specs.declared.message.WireFault.TheVariants.{BadType, BadHello}
-use Rattle.wire.specs.Texts.{text, Fits}
-use Rattle.wire.specs.Reading.{AreBytes, Begins, IsPartial, Breaks, fault_after}
-use Rattle.wire.specs.Looking.{◌>>=◌, byte_at, number_at, idle_at, welcome_at, hello_at}
+use Rattle.wire.specs.Texts.{frame_bytes, Fits}
+use Rattle.wire.specs.Reading.{AreBytes, BeginsFrame, IsPartial, BreaksFrame, fault_after}
+use Rattle.wire.specs.Looking.{◌>>=◌, byte_at, read_number, idle_at, welcome_at, hello_at}
 use Rattle.wire.proofs.Telling.{Tells, In, step, step_one, step_number, number_back, number_below}
 
 -- the second bytes of equal lists
@@ -23,7 +21,7 @@ cell : (i : ℕ) (x y : List ℕ) → x ≡ y → get_or x i 0 ≡ get_or y i 0
 cell i x y e = ap (λ (t : List ℕ). get_or t i 0) e
 
 -- a text of that length has the type of an idle
-idle_only : (m : Message) (b : ℕ) (more : List ℕ) → text m ≡ 0 ∷ 1 ∷ b ∷ more → b ≡ 0
+idle_only : (m : Message) (b : ℕ) (more : List ℕ) → frame_bytes m ≡ 0 ∷ 1 ∷ b ∷ more → b ≡ 0
 idle_only message.Idle b more e = sym (cell 2 _ _ e)
 idle_only (message.Hello cluster its from to) b more e = let n = second _ _ _ _ _ _ e in absurd (omega arith)
 idle_only (message.Welcome next) b more e = let n = second _ _ _ _ _ _ e in absurd (omega arith)
@@ -38,7 +36,7 @@ idle_tells size bytes fits =
     (λ b h. idle_only h.message b h.more h.whole) refl fits (λ rest fits1. (tt, refl))
 
 -- a text of that length has the type of a welcome
-welcome_only : (m : Message) (b : ℕ) (more : List ℕ) → text m ≡ 0 ∷ 9 ∷ b ∷ more → b ≡ 2
+welcome_only : (m : Message) (b : ℕ) (more : List ℕ) → frame_bytes m ≡ 0 ∷ 9 ∷ b ∷ more → b ≡ 2
 welcome_only message.Idle b more e = let n = second _ _ _ _ _ _ e in absurd (omega arith)
 welcome_only (message.Hello cluster its from to) b more e = let n = second _ _ _ _ _ _ e in absurd (omega arith)
 welcome_only (message.Welcome next) b more e = sym (cell 2 _ _ e)
@@ -70,7 +68,7 @@ made size c from to = message.Hello (from_be_bytes w64 c) size from to
 
 -- its text is these bytes
 made_text : (size : Size) (c : List ℕ) (from to : ℕ) → IsSize size → length c ≡ 8 → AreBytes c
-    → text (made size c from to) ≡ 0 ∷ 16 ∷ 1 ∷ 1 ∷ (c ++ tail_of size from to)
+    → frame_bytes (made size c from to) ≡ 0 ∷ 16 ∷ 1 ∷ 1 ∷ (c ++ tail_of size from to)
 made_text size c from to lawful len are =
     let few : size.questions ≤ 256 = lawful.few in
     let high : size.questions / 256 % 256 ≡ size.questions / 256 = omega arith in
@@ -99,7 +97,7 @@ record Hello (size : Size) (c : List ℕ) : Type 0 where
   whole : 1 ∷ 1 ∷ (to_be_bytes w64 cluster ++ tail_of size from to) ≡ c
 
 -- the text of that length is a hello's
-is_hello : (size : Size) (m : Message) (c : List ℕ) → IsSize size → Fits size m → text m ≡ 0 ∷ 16 ∷ c → Hello size c
+is_hello : (size : Size) (m : Message) (c : List ℕ) → IsSize size → Fits size m → frame_bytes m ≡ 0 ∷ 16 ∷ c → Hello size c
 is_hello size message.Idle c lawful fits e = let n = second _ _ _ _ _ _ e in absurd (omega arith)
 is_hello size (message.Hello cluster its from to) c lawful fits e =
     let few : size.questions ≤ 256 = lawful.few in
@@ -118,7 +116,7 @@ is_hello size (message.Welcome next) c lawful fits e = let n = second _ _ _ _ _ 
 is_hello size (message.Statement s) c lawful fits e = let n = second _ _ _ _ _ _ e in absurd (omega arith)
 
 -- its bytes behind the number
-tail_is : (size : Size) (c tail : List ℕ) (lawful : IsSize size) (len : length c ≡ 8) (b : Begins size (0 ∷ 16 ∷ 1 ∷ 1 ∷ (c ++ tail)))
+tail_is : (size : Size) (c tail : List ℕ) (lawful : IsSize size) (len : length c ≡ 8) (b : BeginsFrame size (0 ∷ 16 ∷ 1 ∷ 1 ∷ (c ++ tail)))
     → (from : ℕ) × (to : ℕ) × (from < size.n) × (to < size.n) × (tail_of size from to ≡ tail ++ b.more)
 tail_is size c tail lawful len b =
     let h = is_hello size b.message (1 ∷ 1 ∷ ((c ++ tail) ++ b.more)) lawful b.fits b.whole in
@@ -128,12 +126,12 @@ tail_is size c tail lawful len b =
 
 -- one byte further behind the number
 step_tail : (size : Size) (c tail : List ℕ) (least most : ℕ) (k : ℕ × List ℕ → Result (Message × List ℕ) Stop) (bytes : List ℕ)
-    → IsPartial size (0 ∷ 16 ∷ 1 ∷ 1 ∷ (c ++ tail)) → ((b : ℕ) → Begins size (0 ∷ 16 ∷ 1 ∷ 1 ∷ (c ++ (tail ++ b ∷ []))) → In least b most) → AreBytes bytes
+    → IsPartial size (0 ∷ 16 ∷ 1 ∷ 1 ∷ (c ++ tail)) → ((b : ℕ) → BeginsFrame size (0 ∷ 16 ∷ 1 ∷ 1 ∷ (c ++ (tail ++ b ∷ []))) → In least b most) → AreBytes bytes
     → ((b : ℕ) (rest : List ℕ) → In least b most → AreBytes rest → Tells size (0 ∷ 16 ∷ 1 ∷ 1 ∷ (c ++ ((tail ++ b ∷ []) ++ rest))) (k (b, rest)))
     → Tells size (0 ∷ 16 ∷ 1 ∷ 1 ∷ (c ++ (tail ++ bytes))) (byte_at least most BadHello bytes >>= k)
 step_tail size c tail least most k bytes partial range fits next =
     let W : List ℕ → Type 0 = λ t. Tells size (0 ∷ 16 ∷ 1 ∷ 1 ∷ t) (byte_at least most BadHello bytes >>= k) in
-    let B : List ℕ → Type 0 = λ t. Begins size (0 ∷ 16 ∷ 1 ∷ 1 ∷ t) in
+    let B : List ℕ → Type 0 = λ t. BeginsFrame size (0 ∷ 16 ∷ 1 ∷ 1 ∷ t) in
     subst W (append_assoc c tail bytes) (step size (0 ∷ 16 ∷ 1 ∷ 1 ∷ (c ++ tail)) least most BadHello k bytes partial
     (λ b h. range b (subst B (append_assoc c tail (b ∷ [])) h)) refl fits
     (λ b rest i are. let N : List ℕ → Type 0 = λ t. Tells size (0 ∷ 16 ∷ 1 ∷ 1 ∷ t) (k (b, rest)) in
@@ -141,7 +139,7 @@ step_tail size c tail least most k bytes partial range fits next =
 
 -- the same where there is one choice
 step_tail_one : (size : Size) (c tail : List ℕ) (x : ℕ) (k : ℕ × List ℕ → Result (Message × List ℕ) Stop) (bytes : List ℕ)
-    → IsPartial size (0 ∷ 16 ∷ 1 ∷ 1 ∷ (c ++ tail)) → ((b : ℕ) → Begins size (0 ∷ 16 ∷ 1 ∷ 1 ∷ (c ++ (tail ++ b ∷ []))) → x ≡ b) → AreBytes bytes
+    → IsPartial size (0 ∷ 16 ∷ 1 ∷ 1 ∷ (c ++ tail)) → ((b : ℕ) → BeginsFrame size (0 ∷ 16 ∷ 1 ∷ 1 ∷ (c ++ (tail ++ b ∷ []))) → x ≡ b) → AreBytes bytes
     → ((rest : List ℕ) → AreBytes rest → Tells size (0 ∷ 16 ∷ 1 ∷ 1 ∷ (c ++ ((tail ++ x ∷ []) ++ rest))) (k (x, rest)))
     → Tells size (0 ∷ 16 ∷ 1 ∷ 1 ∷ (c ++ (tail ++ bytes))) (byte_at x x BadHello bytes >>= k)
 step_tail_one size c tail x k bytes partial one fits next =

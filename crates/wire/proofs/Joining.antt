@@ -1,18 +1,14 @@
 -- The bytes that are held and those of a piece, in a buffer of the length of the longest frame.
-use Rattle.std.proofs.Common.{ℕ, zero, suc, ◌≡◌, ◌+◌, ◌-◌, ◌<◌, ◌≤◌, min, List, [], ◌∷◌, ◌++◌, length, take, drop, refl, sym, ap, subst, ◌∙◌, inl, inr, append_assoc, arith}
-use Rattle.std.proofs.lemmas.List.{append-nil, length-append, take-append-drop, length-take, length-drop, drop_at}
+use Rattle.std.proofs.Common.{ℕ, zero, suc, ◌≡◌, ◌+◌, ◌-◌, ◌<◌, ◌≤◌, min, List, [], ◌∷◌, ◌++◌, length, take, drop, refl, sym, ap, subst, ◌∙◌, inl, inr, append_assoc, arith, append-nil, length-append, take-append-drop, length-take, length-drop, drop_at, take_at, IfOk}
 use Rattle.std.proofs.lemmas.Bool.{cases_lt}
 use Rattle.std.proofs.lemmas.Slice.{take-put_mid}
-use Rattle.std.proofs.lemmas.List.{take_at}
 use borrow.Rule.Slice.PartMut.{put_mid}
-use Rattle.terms.specs.declared.Size.{Size}
+use Rattle.vocabulary.specs.Terms.{Size, Memory}
 use Rattle.wire.specs.declared.message.Message.{Message}
 use Rattle.wire.specs.declared.message.WireFault.{WireFault}
-use Rattle.wire.specs.Texts.{text, Fits}
-use Rattle.wire.specs.Reading.{IsPartial, Breaks, End, Ends}
+use Rattle.wire.specs.Texts.{frame_bytes, Fits}
+use Rattle.wire.specs.Reading.{IsPartial, BreaksFrame, End, Ends}
 use Rattle.std.proofs.Common.{Result, Ok, Err}
-use Rattle.std.specs.Prelude.{IfOk}
-use Rattle.terms.specs.declared.Memory.{Memory}
 use Rattle.wire.specs.declared.feeder.Tail.{Tail}
 use Rattle.wire.specs.declared.held.TheConstants.{LONGEST_FRAME}
 use Rattle.wire.specs.Feeding.{Took, end_of}
@@ -50,24 +46,24 @@ joined_is x p n le e =
 -- a message that begins what is held and the piece ends within the piece
 pub record Split (size : Size) (r p : List ℕ) (m : Message) (used : ℕ) : Type 0 where
   pub within : used ≤ length p
-  pub whole : r ++ p ≡ text m ++ drop used p
+  pub whole : r ++ p ≡ frame_bytes m ++ drop used p
 
 -- a message that is read from the buffer ends in the piece
 pub splits : (size : Size) (r p after : List ℕ) (m : Message) → IsPartial size r
-    → take LONGEST_FRAME (r ++ p) ≡ text m ++ after
-    → (used : ℕ) × (length r + used ≡ length (text m)) × Split size r p m used
+    → take LONGEST_FRAME (r ++ p) ≡ frame_bytes m ++ after
+    → (used : ℕ) × (length r + used ≡ length (frame_bytes m)) × Split size r p m used
 splits size r p after m partial e =
     let y : List ℕ = after ++ drop LONGEST_FRAME (r ++ p) in
-    let all : r ++ p ≡ text m ++ y = sym (take-append-drop LONGEST_FRAME (r ++ p))
+    let all : r ++ p ≡ frame_bytes m ++ y = sym (take-append-drop LONGEST_FRAME (r ++ p))
     ∙ ap (λ (t : List ℕ). t ++ drop LONGEST_FRAME (r ++ p)) e
-    ∙ append_assoc (text m) after (drop LONGEST_FRAME (r ++ p)) in
-    elim (compare r p (text m) y all) [
+    ∙ append_assoc (frame_bytes m) after (drop LONGEST_FRAME (r ++ p)) in
+    elim (compare r p (frame_bytes m) y all) [
       | inl l ↦
-          let long : length (text m) ≡ length r + length l.0 = ap length l.1 ∙ length-append r l.0 in
+          let long : length (frame_bytes m) ≡ length r + length l.0 = ap length l.1 ∙ length-append r l.0 in
           let piece : length p ≡ length l.0 + length y = ap length l.2 ∙ length-append l.0 y in
           let rest : drop (length l.0) p ≡ y = ap (λ (t : List ℕ). drop (length l.0) t) l.2
           ∙ drop_at l.0 y (length l.0) refl in
-          (length l.0, omega arith, record { within = omega arith; whole = all ∙ ap (λ (t : List ℕ). text m ++ t) (sym rest) })
+          (length l.0, omega arith, record { within = omega arith; whole = all ∙ ap (λ (t : List ℕ). frame_bytes m ++ t) (sym rest) })
       | inr w ↦ absurd (not_within size r (w.0 ∷ w.1) m partial w.2)
     ]
 
@@ -77,8 +73,8 @@ whole_short size x p =
     let s : length (take LONGEST_FRAME x) < LONGEST_FRAME = partial_short size (take LONGEST_FRAME x) p in take_whole x LONGEST_FRAME (omega (arith, length-take LONGEST_FRAME x))
 
 -- bytes behind a fault change nothing
-pub breaks_behind : (size : Size) (bytes more : List ℕ) (f : WireFault) → Breaks size bytes f
-    → Breaks size (bytes ++ more) f
+pub breaks_behind : (size : Size) (bytes more : List ℕ) (f : WireFault) → BreaksFrame size bytes f
+    → BreaksFrame size (bytes ++ more) f
 breaks_behind size bytes more f b = record {
   front = b.front;
   byte = b.byte;
@@ -90,10 +86,10 @@ breaks_behind size bytes more f b = record {
 }
 
 -- a fault in the buffer is one in all the bytes
-pub breaks_on : (size : Size) (x : List ℕ) (f : WireFault) → Breaks size (take LONGEST_FRAME x) f
-    → Breaks size x f
+pub breaks_on : (size : Size) (x : List ℕ) (f : WireFault) → BreaksFrame size (take LONGEST_FRAME x) f
+    → BreaksFrame size x f
 breaks_on size x f b =
-    let P : List ℕ → Type 0 = λ t. Breaks size t f in
+    let P : List ℕ → Type 0 = λ t. BreaksFrame size t f in
     subst P (take-append-drop LONGEST_FRAME x) (breaks_behind size (take LONGEST_FRAME x) (drop LONGEST_FRAME x) f b)
 
 -- no message, and the end
@@ -104,14 +100,14 @@ took_end size bytes old end h =
 
 -- one message, and then what the bytes behind it give
 pub took_more : (size : Size) (bytes rest : List ℕ) (old mid new : List Message) (m : Message) (end : End)
-    → Fits size m → bytes ≡ text m ++ rest → mid ≡ old ++ m ∷ []
+    → Fits size m → bytes ≡ frame_bytes m ++ rest → mid ≡ old ++ m ∷ []
     → Took size rest mid new end → Took size bytes old new end
 took_more size bytes rest old mid new m end fits e added t = (
   m ∷ t.0,
   record {
     each = (fits, t.1.each);
     others = t.1.others;
-    whole = e ∙ ap (λ (b : List ℕ). text m ++ b) t.1.whole ∙ sym (append_assoc (text m) _ t.1.others);
+    whole = e ∙ ap (λ (b : List ℕ). frame_bytes m ++ b) t.1.whole ∙ sym (append_assoc (frame_bytes m) _ t.1.others);
     ends = t.1.ends;
   },
   t.2 ∙ ap (λ (l : List Message). l ++ t.0) added ∙ append_assoc old (m ∷ []) t.0,
@@ -119,24 +115,24 @@ took_more size bytes rest old mid new m end fits e added t = (
 
 -- how many bytes of the piece the message takes
 pub split_used : (size : Size) (r p after : List ℕ) (m : Message) (n : ℕ) → IsPartial size r
-    → take LONGEST_FRAME (r ++ p) ≡ text m ++ after → n ≡ min LONGEST_FRAME (length r + length p)
-    → (length after ≤ n - length r) × (r ++ p ≡ text m ++ take (length p - (n - length r - length after)) (drop (n - length r - length after) p))
+    → take LONGEST_FRAME (r ++ p) ≡ frame_bytes m ++ after → n ≡ min LONGEST_FRAME (length r + length p)
+    → (length after ≤ n - length r) × (r ++ p ≡ frame_bytes m ++ take (length p - (n - length r - length after)) (drop (n - length r - length after) p))
 split_used size r p after m n partial e len =
     let short : length r < LONGEST_FRAME = partial_short size r partial in
     let s = splits size r p after m partial e in
-    let all : length (take LONGEST_FRAME (r ++ p)) ≡ length (text m ++ after) = ap length e in
-    let k : length r + s.0 ≡ length (text m) = s.1 in
-    let total : n ≡ length (text m) + length after =
-    omega (arith, length-take LONGEST_FRAME (r ++ p), length-append r p, length-append (text m) after) in
+    let all : length (take LONGEST_FRAME (r ++ p)) ≡ length (frame_bytes m ++ after) = ap length e in
+    let k : length r + s.0 ≡ length (frame_bytes m) = s.1 in
+    let total : n ≡ length (frame_bytes m) + length after =
+    omega (arith, length-take LONGEST_FRAME (r ++ p), length-append r p, length-append (frame_bytes m) after) in
     let used : n - length r - length after ≡ s.0 = omega arith in
     let i = n - length r - length after in
     let rest : take (length p - i) (drop i p) ≡ drop i p =
     take_whole (drop i p) (length p - i) (omega (arith, length-drop i p)) in
-    (omega arith, s.2.whole ∙ ap (λ (i : ℕ). text m ++ drop i p) (sym used) ∙ ap (λ (t : List ℕ). text m ++ t) (sym rest))
+    (omega arith, s.2.whole ∙ ap (λ (i : ℕ). frame_bytes m ++ drop i p) (sym used) ∙ ap (λ (t : List ℕ). frame_bytes m ++ t) (sym rest))
 
 -- the same where the call succeeded
 pub took_more_if : (size : Size) (bytes rest : List ℕ) (old mid new : List Message) (m : Message) (r : Result Tail Memory)
-    → Fits size m → bytes ≡ text m ++ rest → mid ≡ old ++ m ∷ []
+    → Fits size m → bytes ≡ frame_bytes m ++ rest → mid ≡ old ++ m ∷ []
     → IfOk r (λ tail. Took size rest mid new (end_of tail)) → IfOk r (λ tail. Took size bytes old new (end_of tail))
 took_more_if size bytes rest old mid new m (Ok tail) fits e added t =
     took_more size bytes rest old mid new m (end_of tail) fits e added t

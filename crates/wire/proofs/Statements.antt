@@ -1,23 +1,14 @@
 -- The frame of a statement.
-use Rattle.std.proofs.Common.{ℕ, zero, suc, ◌≡◌, ◌+◌, ◌-◌, ◌*◌, ◌/◌, ◌%◌, ◌<◌, ◌≤◌, true, false, cond, eqb, List, [], ◌∷◌, ◌++◌, get_or, take, drop, refl, sym, ap, subst, ◌∙◌, arith}
-use Rattle.std.proofs.lemmas.List.{take-append-drop}
+use Rattle.std.proofs.Common.{ℕ, zero, suc, ◌≡◌, ◌+◌, ◌-◌, ◌*◌, ◌/◌, ◌%◌, ◌<◌, ◌≤◌, true, false, cond, eqb, List, [], ◌∷◌, ◌++◌, get_or, take, drop, refl, sym, ap, subst, ◌∙◌, arith, take-append-drop, eqb-true}
 use Rattle.std.proofs.Math.Seq.{drop-cons}
-use Rattle.std.proofs.lemmas.Bool.{cond_both, eqb-true, eqb-false}
-use Rattle.terms.specs.declared.Kind.{Kind}
-use Rattle.terms.specs.declared.Kind.TheVariants.{Initial, Echo, Ready}
-use Rattle.terms.specs.declared.Value.{Value}
-use Rattle.terms.specs.declared.Value.TheVariants.{Zero, One, SureZero, SureOne, Unsure}
-use Rattle.terms.specs.declared.Size.{Size}
-use Rattle.terms.specs.declared.Statement.{Statement}
-use Rattle.terms.specs.Bounds.{IsSize, FitsStep}
-use Rattle.terms.specs.Same.{value_code, place_of, statement_of}
-use Rattle.terms.specs.WellFormed.{IsWellFormed}
+use Rattle.std.proofs.lemmas.Bool.{cond_both, eqb-false}
+use Rattle.vocabulary.specs.Terms.{Kind, Initial, Echo, Ready, Value, Zero, One, SureZero, SureOne, Unsure, Size, Statement, IsSize, FitsStep, value_code, new_place, new_statement, IsWellFormed}
 use Rattle.wire.specs.declared.message.Message.{Message}
 use Rattle.wire.specs.declared.message.Message.TheVariants as message
 use Rattle.wire.specs.declared.message.WireFault.TheVariants.{BadType, BadKind, BadPlace, BadValue}
-use Rattle.wire.specs.Texts.{text, Fits}
-use Rattle.spelling.specs.Statements.{kind_byte, statement_bytes, kind_of, value_of}
-use Rattle.wire.specs.Reading.{AreBytes, Begins, IsPartial}
+use Rattle.wire.specs.Texts.{frame_bytes, Fits}
+use Rattle.spelling.specs.Statements.{kind_byte, statement_bytes, kind_from, value_from}
+use Rattle.wire.specs.Reading.{AreBytes, BeginsFrame, IsPartial}
 use Rattle.wire.specs.Looking.{most_low, least_value, most_value, statement_at}
 use Rattle.wire.proofs.Values.{value_fits}
 use Rattle.wire.proofs.Telling.{Tells, In, step, step_one}
@@ -34,10 +25,10 @@ pub record Cells (size : Size) (k h l o r s v : ℕ) : Type 0 where
 
 -- the message of these bytes
 abbrev pub made : (k h l o r s v : ℕ) → Message
-made k h l o r s v = message.Statement (statement_of (kind_of k) (place_of (256 * h + l) o r s) (value_of v))
+made k h l o r s v = message.Statement (new_statement (kind_from k) (new_place (256 * h + l) o r s) (value_from v))
 
 -- the byte of the kind of a byte
-kind_back : (k : ℕ) → In 1 k 3 → kind_byte (kind_of k) ≡ k
+kind_back : (k : ℕ) → In 1 k 3 → kind_byte (kind_from k) ≡ k
 kind_back zero h = absurd (omega arith)
 kind_back (suc zero) h = refl
 kind_back (suc (suc zero)) h = refl
@@ -45,7 +36,7 @@ kind_back (suc (suc (suc zero))) h = refl
 kind_back (suc (suc (suc (suc k)))) h = absurd (omega arith)
 
 -- the byte of the value of a byte
-value_back : (v : ℕ) → v ≤ 4 → value_code (value_of v) ≡ v
+value_back : (v : ℕ) → v ≤ 4 → value_code (value_from v) ≡ v
 value_back zero h = refl
 value_back (suc zero) h = refl
 value_back (suc (suc zero)) h = refl
@@ -85,7 +76,7 @@ made_fits size k h l o r s v lawful cells = record {
 
 -- its text is these bytes
 pub made_text : (size : Size) (k h l o r s v : ℕ) → IsSize size → Cells size k h l o r s v
-    → text (made k h l o r s v) ≡ 0 ∷ 8 ∷ 3 ∷ k ∷ h ∷ l ∷ o ∷ r ∷ s ∷ v ∷ []
+    → frame_bytes (made k h l o r s v) ≡ 0 ∷ 8 ∷ 3 ∷ k ∷ h ∷ l ∷ o ∷ r ∷ s ∷ v ∷ []
 made_text size k h l o r s v lawful cells =
     let few : size.questions ≤ 256 = lawful.few in
     let one : 1 ≤ size.questions = lawful.asks in
@@ -170,7 +161,7 @@ second : (a b : ℕ) (c : List ℕ) (x y : ℕ) (z : List ℕ) → a ∷ b ∷ c
 second a b c x y z e = ap (λ (t : List ℕ). get_or t 1 0) e
 
 -- the statement of a text of that length
-is_statement : (size : Size) (m : Message) (c : List ℕ) → Fits size m → text m ≡ 0 ∷ 8 ∷ c
+is_statement : (size : Size) (m : Message) (c : List ℕ) → Fits size m → frame_bytes m ≡ 0 ∷ 8 ∷ c
     → (s : Statement) × IsWellFormed size s × (3 ∷ statement_bytes s ≡ c)
 is_statement size message.Idle c fits e = let n = second _ _ _ _ _ _ e in absurd (omega arith)
 is_statement size (message.Hello cluster its from to) c fits e =
@@ -179,13 +170,13 @@ is_statement size (message.Welcome next) c fits e = let n = second _ _ _ _ _ _ e
 is_statement size (message.Statement s) c fits e = (s, fits, ap (λ (t : List ℕ). drop 2 t) e)
 
 -- what begins a text of that length has the type of a statement
-type_begun : (size : Size) (b : ℕ) → Begins size (0 ∷ 8 ∷ b ∷ []) → b ≡ 3
+type_begun : (size : Size) (b : ℕ) → BeginsFrame size (0 ∷ 8 ∷ b ∷ []) → b ≡ 3
 type_begun size b begun =
     let i = is_statement size begun.message (b ∷ begun.more) begun.fits begun.whole in
     sym (ap (λ (t : List ℕ). get_or t 0 0) i.2)
 
 -- what begins a statement's text is each in range, with the bytes that follow
-begun : (size : Size) (c : List ℕ) → IsSize size → (b : Begins size (0 ∷ 8 ∷ 3 ∷ c))
+begun : (size : Size) (c : List ℕ) → IsSize size → (b : BeginsFrame size (0 ∷ 8 ∷ 3 ∷ c))
     → CellsOf size (c ++ b.more)
 begun size c lawful b =
     let i = is_statement size b.message (3 ∷ (c ++ b.more)) b.fits b.whole in

@@ -1,17 +1,17 @@
 -- That what a reader answers is true of the bytes, byte by byte along a frame.
-use Rattle.std.proofs.Common.{ℕ, zero, suc, ◌≡◌, ◌-◌, ◌^◌, ◌<◌, ◌≤◌, Bool, true, false, cond, List, [], ◌∷◌, ◌++◌, length, get_or, take, drop, replicate, Result, Ok, Err, refl, sym, subst, ◌∙◌, append_assoc, arith}
+use Rattle.std.proofs.Common.{ℕ, zero, suc, ◌≡◌, ◌-◌, ◌^◌, ◌<◌, ◌≤◌, Bool, true, false, cond, List, [], ◌∷◌, ◌++◌, length, get_or, take, drop, replicate, Result, Ok, Err, refl, sym, subst, ◌∙◌, append_assoc, arith, leb-true, le-leb, ltb-false, ltb-true, true≢false, append-nil, take-append-drop, length-append, length-take}
 use Rattle.std.specs.Int.{w64, from_be_bytes, to_be_bytes}
-use Rattle.std.proofs.lemmas.Bool.{leb-true, le-leb, and_parts, and_from, ltb-false, ltb-true, true≢false}
-use Rattle.std.proofs.lemmas.List.{append-nil, take-append-drop, length-append, length-take, length-replicate}
+use Rattle.std.proofs.lemmas.Bool.{and_parts, and_from}
+use Rattle.std.proofs.lemmas.List.{length-replicate}
 use Rattle.std.proofs.lemmas.Nat.{be_bytes_8}
-use Rattle.terms.specs.declared.Size.{Size}
+use Rattle.vocabulary.specs.Terms.{Size}
 use Rattle.wire.specs.declared.message.Message.{Message}
 use Rattle.wire.specs.declared.message.Stop.{Stop}
 use Rattle.wire.specs.declared.message.Stop.TheVariants.{Partial, Fault}
 use Rattle.wire.specs.declared.message.WireFault.{WireFault}
-use Rattle.wire.specs.Texts.{text, Fits}
-use Rattle.wire.specs.Reading.{AreBytes, Begins, IsPartial, Breaks, fault_after}
-use Rattle.wire.specs.Looking.{◌>>=◌, within, byte_at, number_at}
+use Rattle.wire.specs.Texts.{frame_bytes, Fits}
+use Rattle.wire.specs.Reading.{AreBytes, BeginsFrame, IsPartial, BreaksFrame, fault_after}
+use Rattle.wire.specs.Looking.{◌>>=◌, within, byte_at, read_number}
 
 -- a list whose places all have bytes is bytes
 pub from_places : (bytes : List ℕ) → ((i : ℕ) → get_or bytes i 0 < 256) → AreBytes bytes
@@ -30,9 +30,9 @@ bytes_back (x ∷ a) b h = bytes_back a b h.1
 
 -- the answer is true of the bytes
 abbrev pub Tells : Size → List ℕ → Result (Message × List ℕ) Stop → Type 0
-Tells size bytes (Ok x) = Fits size x.0 × (bytes ≡ text x.0 ++ x.1)
+Tells size bytes (Ok x) = Fits size x.0 × (bytes ≡ frame_bytes x.0 ++ x.1)
 Tells size bytes (Err Partial) = IsPartial size bytes
-Tells size bytes (Err (Fault f)) = Breaks size bytes f
+Tells size bytes (Err (Fault f)) = BreaksFrame size bytes f
 
 -- the byte is in the range
 abbrev pub In : ℕ → ℕ → ℕ → Type 0
@@ -49,14 +49,14 @@ within_from least b most h = and_from _ _ (le-leb least b h.0) (le-leb b most h.
 
 -- by a test: the next byte is read, or it is the fault
 pub chosen : (size : Size) (whole : List ℕ) (v : Bool) (x : ℕ × List ℕ) (f : WireFault) (k : ℕ × List ℕ → Result (Message × List ℕ) Stop)
-    → (v ≡ true → Tells size whole (k x)) → (v ≡ false → Breaks size whole f) → Tells size whole (cond v (Ok x) (Err (Fault f)) >>= k)
+    → (v ≡ true → Tells size whole (k x)) → (v ≡ false → BreaksFrame size whole f) → Tells size whole (cond v (Ok x) (Err (Fault f)) >>= k)
 chosen size whole true x f k good bad = good refl
 chosen size whole false x f k good bad = bad refl
 
 -- one byte further: behind a front of a text comes a byte with which it still begins one, and the fault is
 -- that of the position
 pub step : (size : Size) (front : List ℕ) (least most : ℕ) (f : WireFault) (k : ℕ × List ℕ → Result (Message × List ℕ) Stop) (bytes : List ℕ)
-    → IsPartial size front → ((b : ℕ) → Begins size (front ++ b ∷ []) → In least b most) → f ≡ fault_after front → AreBytes bytes
+    → IsPartial size front → ((b : ℕ) → BeginsFrame size (front ++ b ∷ []) → In least b most) → f ≡ fault_after front → AreBytes bytes
     → ((b : ℕ) (rest : List ℕ) → In least b most → AreBytes rest → Tells size ((front ++ b ∷ []) ++ rest) (k (b, rest)))
     → Tells size (front ++ bytes) (byte_at least most f bytes >>= k)
 step size front least most f k [] partial range is fits next =
@@ -68,7 +68,7 @@ step size front least most f k (b ∷ rest) partial range is fits next =
 
 -- one byte further, where there is one choice
 pub step_one : (size : Size) (front : List ℕ) (x : ℕ) (f : WireFault) (k : ℕ × List ℕ → Result (Message × List ℕ) Stop) (bytes : List ℕ)
-    → IsPartial size front → ((b : ℕ) → Begins size (front ++ b ∷ []) → b ≡ x) → f ≡ fault_after front → AreBytes bytes
+    → IsPartial size front → ((b : ℕ) → BeginsFrame size (front ++ b ∷ []) → b ≡ x) → f ≡ fault_after front → AreBytes bytes
     → ((rest : List ℕ) → AreBytes rest → Tells size ((front ++ x ∷ []) ++ rest) (k (x, rest)))
     → Tells size (front ++ bytes) (byte_at x x f bytes >>= k)
 step_one size front x f k bytes partial one is fits next =
@@ -107,9 +107,9 @@ choice P false x y good bad = bad refl
 
 -- eight bytes further, whichever they are
 pub step_number : (size : Size) (front : List ℕ) (k : ℕ × List ℕ → Result (Message × List ℕ) Stop) (bytes : List ℕ) → AreBytes bytes
-    → ((c : List ℕ) → length c ≡ 8 → AreBytes c → Begins size (front ++ c))
+    → ((c : List ℕ) → length c ≡ 8 → AreBytes c → BeginsFrame size (front ++ c))
     → ((c rest : List ℕ) → length c ≡ 8 → AreBytes c → AreBytes rest → Tells size (front ++ (c ++ rest)) (k (from_be_bytes w64 c, rest)))
-    → Tells size (front ++ bytes) (number_at bytes >>= k)
+    → Tells size (front ++ bytes) (read_number bytes >>= k)
 step_number size front k bytes fits begins next =
     choice (λ (r : Result (ℕ × List ℕ) Stop). Tells size (front ++ bytes) (r >>= k)) _ (Err Partial) (Ok (from_be_bytes w64 (take 8 bytes), drop 8 bytes))
     (λ e. let short : length bytes < 8 = ltb-true _ _ e in

@@ -2,24 +2,23 @@
 use Rattle.std.proofs.Common.{ℕ, zero, suc, ◌≡◌, ◌<◌, ◌≤◌, List, [], ◌∷◌, ◌++◌, length, Result, Ok, Err, refl, sym, ap, subst, ◌∙◌, append_assoc, arith}
 use Rattle.std.specs.List.{flat_map, AllByRecursion}
 use Rattle.std.proofs.lemmas.List.Concat.{flat_map-append}
-use Rattle.terms.specs.declared.Size.{Size}
-use Rattle.terms.specs.Bounds.{IsSize}
+use Rattle.vocabulary.specs.Terms.{Size, IsSize}
 use Rattle.wire.specs.declared.message.Message.{Message}
 use Rattle.wire.specs.declared.message.Stop.{Stop}
 use Rattle.wire.specs.declared.message.Stop.TheVariants.{Partial, Fault}
-use Rattle.wire.specs.Texts.{text, Fits}
+use Rattle.wire.specs.Texts.{frame_bytes, Fits}
 use Rattle.wire.specs.Looking.{frame_at}
-use Rattle.wire.specs.Reading.{AreBytes, End, Rest, Broken, Reads}
+use Rattle.wire.specs.Reading.{AreBytes, End, Rest, Broken, ReadsMessages}
 use Rattle.wire.proofs.Telling.{Tells, bytes_back}
 use Rattle.wire.proofs.Frames.{frame_tells, partial0}
 use Rattle.wire.proofs.Taking.{left_shorter}
 
 -- some reading
 abbrev pub HasReading : Size → List ℕ → Type 0
-HasReading size bytes = (messages : List Message) × (end : End) × Reads size bytes messages end
+HasReading size bytes = (messages : List Message) × (end : End) × ReadsMessages size bytes messages end
 
 -- one message, and a reading of what follows it
-goes_on : (size : Size) (bytes rest : List ℕ) (m : Message) → Fits size m → bytes ≡ text m ++ rest
+goes_on : (size : Size) (bytes rest : List ℕ) (m : Message) → Fits size m → bytes ≡ frame_bytes m ++ rest
     → HasReading size rest → HasReading size bytes
 goes_on size bytes rest m fits e r = (
   m ∷ r.0,
@@ -27,8 +26,8 @@ goes_on size bytes rest m fits e r = (
   record {
     each = (fits, r.2.each);
     others = r.2.others;
-    whole = e ∙ ap (λ (t : List ℕ). text m ++ t) r.2.whole
-        ∙ sym (append_assoc (text m) (flat_map text r.0) r.2.others);
+    whole = e ∙ ap (λ (t : List ℕ). frame_bytes m ++ t) r.2.whole
+        ∙ sym (append_assoc (frame_bytes m) (flat_map frame_bytes r.0) r.2.others);
     ends = r.2.ends;
   },
 )
@@ -40,7 +39,7 @@ by_answer : (size : Size) (n : ℕ) (bytes : List ℕ) (r : Result (Message × L
 by_answer size n bytes (Ok x) told are le next =
     let P : List ℕ → Type 0 = AreBytes in
     let shorter : length x.1 < length bytes = left_shorter bytes x.1 x.0 told.1 in
-    goes_on size bytes x.1 x.0 told.0 told.1 (next x.1 (omega arith) (bytes_back (text x.0) x.1 (subst P told.1 are)))
+    goes_on size bytes x.1 x.0 told.0 told.1 (next x.1 (omega arith) (bytes_back (frame_bytes x.0) x.1 (subst P told.1 are)))
 by_answer size n bytes (Err Partial) told are le next =
     ([], Rest bytes, record { each = tt; others = bytes; whole = refl; ends = (refl, told) })
 by_answer size n bytes (Err (Fault f)) told are le next =
@@ -71,15 +70,15 @@ all_both size [] ns a b = b
 all_both size (m ∷ ms) ns a b = (a.0, all_both size ms ns a.1 b)
 
 -- readings of a piece, and of its rest with the next piece, join
-pub joins : (size : Size) (a b rest : List ℕ) (ms ns : List Message) (end : End) → Reads size a ms (Rest rest)
-    → Reads size (rest ++ b) ns end → Reads size (a ++ b) (ms ++ ns) end
+pub joins : (size : Size) (a b rest : List ℕ) (ms ns : List Message) (end : End) → ReadsMessages size a ms (Rest rest)
+    → ReadsMessages size (rest ++ b) ns end → ReadsMessages size (a ++ b) (ms ++ ns) end
 joins size a b rest ms ns end p q = record {
   each = all_both size ms ns p.each q.each;
   others = q.others;
-  whole = ap (λ (t : List ℕ). t ++ b) (p.whole ∙ ap (λ (t : List ℕ). flat_map text ms ++ t) p.ends.0)
-      ∙ append_assoc (flat_map text ms) rest b
-      ∙ ap (λ (t : List ℕ). flat_map text ms ++ t) q.whole
-      ∙ sym (append_assoc (flat_map text ms) (flat_map text ns) q.others)
-      ∙ ap (λ (t : List ℕ). t ++ q.others) (sym (flat_map-append text ms ns));
+  whole = ap (λ (t : List ℕ). t ++ b) (p.whole ∙ ap (λ (t : List ℕ). flat_map frame_bytes ms ++ t) p.ends.0)
+      ∙ append_assoc (flat_map frame_bytes ms) rest b
+      ∙ ap (λ (t : List ℕ). flat_map frame_bytes ms ++ t) q.whole
+      ∙ sym (append_assoc (flat_map frame_bytes ms) (flat_map frame_bytes ns) q.others)
+      ∙ ap (λ (t : List ℕ). t ++ q.others) (sym (flat_map-append frame_bytes ms ns));
   ends = q.ends;
 }

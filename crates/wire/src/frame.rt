@@ -1,11 +1,11 @@
 //! The message at the front of some bytes: the frame of a statement in one piece, and all else byte by byte.
 
 ghost use Rattle.std.specs.Prelude.{◌≡◌, ◌≤◌, ◌++◌, IfOk, IfErr, IfSome};
-ghost use Rattle.wire.specs.Texts.{text, Fits};
-ghost use Rattle.wire.specs.Feeding.{Stops};
-ghost use Rattle.wire.specs.Looking.{least_value, most_value, most_low, Gives, byte_at, number_at, length_at, idle_at, welcome_at, hello_at, statement_at, body_at, frame_at};
-ghost use Rattle.spelling.specs.Statements.{kind_of, statement_bytes, value_of};
-ghost use Rattle.terms.specs.WellFormed.{IsWellFormed};
+ghost use Rattle.wire.specs.Texts.{frame_bytes, Fits};
+ghost use Rattle.wire.specs.Feeding.{StopsReading};
+ghost use Rattle.wire.specs.Looking.{least_value, most_value, most_low, IsReadAs, byte_at, read_number, length_at, idle_at, welcome_at, hello_at, statement_at, body_at, frame_at};
+ghost use Rattle.spelling.specs.Statements.{kind_from, statement_bytes, value_from};
+ghost use Rattle.vocabulary.specs.Terms.{IsWellFormed};
 ghost use Rattle.wire.specs.declared.message.Message.TheVariants as Message;
 
 use crate::message::{Message, Stop, WireFault};
@@ -14,7 +14,7 @@ use terms::{Kind, Place, Size, Statement, Value};
 
 /// The first byte, which is to be in that range, and the bytes behind it.
 fn byte_between(bytes: &[u8], least: u8, most: u8, fault: WireFault) -> Result<(u8, &[u8]), Stop>
-    ensures reads { Gives (λ x. (x.0, x.1.now)) result (byte_at least most fault bytes.now) }
+    ensures reads { IsReadAs (λ x. (x.0, x.1.now)) result (byte_at least most fault bytes.now) }
     ensures range { IfOk result (λ x. (least ≤ x.0) × (x.0 ≤ most)) }
 {
     match bytes {
@@ -31,7 +31,7 @@ fn byte_between(bytes: &[u8], least: u8, most: u8, fault: WireFault) -> Result<(
 
 /// The number in the first eight bytes, and the bytes behind them.
 fn number(bytes: &[u8]) -> Result<(u64, &[u8]), Stop>
-    ensures { Gives (λ x. (x.0, x.1.now)) result (number_at bytes.now) }
+    ensures { IsReadAs (λ x. (x.0, x.1.now)) result (read_number bytes.now) }
 {
     if bytes.len() < 8 {
         return Err(Stop::Partial);
@@ -45,7 +45,7 @@ fn number(bytes: &[u8]) -> Result<(u64, &[u8]), Stop>
 
 /// The low byte of a body's length, and the bytes behind it.
 fn length_of_body(bytes: &[u8]) -> Result<(u8, &[u8]), Stop>
-    ensures { Gives (λ x. (x.0, x.1.now)) result (length_at bytes.now) }
+    ensures { IsReadAs (λ x. (x.0, x.1.now)) result (length_at bytes.now) }
 {
     match bytes {
         [] => Err(Stop::Partial),
@@ -62,7 +62,7 @@ fn length_of_body(bytes: &[u8]) -> Result<(u8, &[u8]), Stop>
 /// The idle whose body the bytes begin with, and the bytes behind it.
 #[tactic(auto, unfolding(crate::specs::Looking::idle_at))]
 fn idle(bytes: &[u8]) -> Result<(Message, &[u8]), Stop>
-    ensures { Gives (λ x. (x.0, x.1.now)) result (idle_at bytes.now) }
+    ensures { IsReadAs (λ x. (x.0, x.1.now)) result (idle_at bytes.now) }
 {
     let (_, rest) = byte_between(bytes, 0, 0, WireFault::BadType)?;
     Ok((Message::Idle, rest))
@@ -71,7 +71,7 @@ fn idle(bytes: &[u8]) -> Result<(Message, &[u8]), Stop>
 /// The welcome whose body the bytes begin with, and the bytes behind it.
 #[tactic(auto, unfolding(crate::specs::Looking::welcome_at))]
 fn welcome(bytes: &[u8]) -> Result<(Message, &[u8]), Stop>
-    ensures { Gives (λ x. (x.0, x.1.now)) result (welcome_at bytes.now) }
+    ensures { IsReadAs (λ x. (x.0, x.1.now)) result (welcome_at bytes.now) }
 {
     let (_, rest) = byte_between(bytes, 2, 2, WireFault::BadType)?;
     let (next, rest) = number(rest)?;
@@ -81,7 +81,7 @@ fn welcome(bytes: &[u8]) -> Result<(Message, &[u8]), Stop>
 /// The hello whose body the bytes begin with, and the bytes behind it.
 #[tactic(auto, unfolding(crate::specs::Looking::hello_at))]
 fn hello(size: Size, bytes: &[u8]) -> Result<(Message, &[u8]), Stop>
-    ensures { Gives (λ x. (x.0, x.1.now)) result (hello_at size bytes.now) }
+    ensures { IsReadAs (λ x. (x.0, x.1.now)) result (hello_at size bytes.now) }
 {
     let high = (size.questions() / 256) as u8;
     let low = (size.questions() % 256) as u8;
@@ -108,7 +108,7 @@ fn hello(size: Size, bytes: &[u8]) -> Result<(Message, &[u8]), Stop>
 
 /// The kind of that number, 1 to 3.
 fn kind_numbered(number: u8) -> Kind
-    ensures { result ≡ kind_of number }
+    ensures { result ≡ kind_from number }
 {
     match number {
         1 => Kind::Initial,
@@ -119,7 +119,7 @@ fn kind_numbered(number: u8) -> Kind
 
 /// The value of that number, 0 to 4.
 fn value_numbered(number: u8) -> Value
-    ensures { result ≡ value_of number }
+    ensures { result ≡ value_from number }
 {
     match number {
         0 => Value::Zero,
@@ -158,7 +158,7 @@ fn most_value_of(step: u8) -> u8
 /// The statement whose body the bytes begin with, and the bytes behind it.
 #[tactic(auto, unfolding(crate::specs::Looking::statement_at))]
 fn statement(size: Size, bytes: &[u8]) -> Result<(Message, &[u8]), Stop>
-    ensures { Gives (λ x. (x.0, x.1.now)) result (statement_at size bytes.now) }
+    ensures { IsReadAs (λ x. (x.0, x.1.now)) result (statement_at size bytes.now) }
 {
     let last = size.questions() - 1;
     let (_, rest) = byte_between(bytes, 3, 3, WireFault::BadType)?;
@@ -184,7 +184,7 @@ fn statement(size: Size, bytes: &[u8]) -> Result<(Message, &[u8]), Stop>
 /// The message whose body, of that length, the bytes begin with, and the bytes behind it.
 #[tactic(auto, unfolding(crate::specs::Looking::body_at))]
 fn body(size: Size, length: u8, bytes: &[u8]) -> Result<(Message, &[u8]), Stop>
-    ensures { Gives (λ x. (x.0, x.1.now)) result (body_at size length bytes.now) }
+    ensures { IsReadAs (λ x. (x.0, x.1.now)) result (body_at size length bytes.now) }
 {
     match length {
         1 => idle(bytes),
@@ -197,7 +197,7 @@ fn body(size: Size, length: u8, bytes: &[u8]) -> Result<(Message, &[u8]), Stop>
 /// The message whose frame the bytes begin with, and the bytes behind it.
 #[tactic(auto, unfolding(crate::specs::Looking::frame_at))]
 fn frame_by_bytes(size: Size, bytes: &[u8]) -> Result<(Message, &[u8]), Stop>
-    ensures { Gives (λ x. (x.0, x.1.now)) result (frame_at size bytes.now) }
+    ensures { IsReadAs (λ x. (x.0, x.1.now)) result (frame_at size bytes.now) }
 {
     let (_, rest) = byte_between(bytes, 0, 0, WireFault::BadLength)?;
     let (length, rest) = length_of_body(rest)?;
@@ -206,8 +206,8 @@ fn frame_by_bytes(size: Size, bytes: &[u8]) -> Result<(Message, &[u8]), Stop>
 
 /// The message whose frame the bytes begin with, and the bytes behind it.
 fn any_frame(size: Size, bytes: &[u8]) -> Result<(Message, &[u8]), Stop>
-    ensures whole { IfOk result (λ x. Fits size x.0 × (bytes.now ≡ text x.0 ++ x.1.now)) }
-    ensures stops { IfErr result (λ stop. Stops size bytes.now stop) }
+    ensures whole { IfOk result (λ x. Fits size x.0 × (bytes.now ≡ frame_bytes x.0 ++ x.1.now)) }
+    ensures stops { IfErr result (λ stop. StopsReading size bytes.now stop) }
 {
     // The bounds of a size are known where it is read.
     let _members = size.n();
@@ -231,7 +231,7 @@ fn statement_of(size: Size, bytes: [u8; 7]) -> Option<Statement>
 /// The statement whose frame the bytes begin with, and the bytes behind it. Nearly all frames are such, and are read here.
 fn statement_frame(size: Size, bytes: &[u8]) -> Option<(Statement, &[u8])>
     ensures whole { IfSome result (λ x.
-        IsWellFormed size x.0 × (bytes.now ≡ text (Message.Statement x.0) ++ x.1.now)) }
+        IsWellFormed size x.0 × (bytes.now ≡ frame_bytes (Message.Statement x.0) ++ x.1.now)) }
 {
     match bytes {
         [
@@ -259,8 +259,8 @@ fn statement_frame(size: Size, bytes: &[u8]) -> Option<(Statement, &[u8])>
 
 /// The message whose frame the bytes begin with, and the bytes behind it.
 pub(crate) fn frame(size: Size, bytes: &[u8]) -> Result<(Message, &[u8]), Stop>
-    ensures whole { IfOk result (λ x. Fits size x.0 × (bytes.now ≡ text x.0 ++ x.1.now)) }
-    ensures stops { IfErr result (λ stop. Stops size bytes.now stop) }
+    ensures whole { IfOk result (λ x. Fits size x.0 × (bytes.now ≡ frame_bytes x.0 ++ x.1.now)) }
+    ensures stops { IfErr result (λ stop. StopsReading size bytes.now stop) }
 {
     match statement_frame(size, bytes) {
         Some((statement, rest)) => Ok((Message::Statement(statement), rest)),

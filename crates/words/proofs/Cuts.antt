@@ -1,9 +1,8 @@
 -- A line is cut at its first space in one way only.
-use Rattle.std.proofs.Common.{ℕ, suc, ◌≡◌, ◌+◌, ◌<◌, Bool, true, false, cond, refl, sym, ap, ◌∙◌, subst, arith, Some, None, List, [], ◌∷◌, ◌++◌, take, drop, length, take_all, length-drop, ◌-◌}
+use Rattle.std.proofs.Common.{ℕ, suc, ◌≡◌, ◌+◌, ◌<◌, Bool, true, false, cond, refl, sym, ap, ◌∙◌, subst, arith, Some, None, List, [], ◌∷◌, ◌++◌, take, drop, length, take_all, length-drop, ◌-◌, eqb-true}
 use Rattle.std.specs.List.{position_from}
 use Rattle.std.specs.Str.Parse.{AllDigits}
 use Rattle.std.specs.Char.{digit_value}
-use Rattle.std.proofs.lemmas.Bool.{eqb-true}
 use Rattle.words.specs.Spaces.{is_space, NoSpace}
 
 -- a line cut at its first space

@@ -14,6 +14,6 @@ pub record IsBelow (bits : ℕ) (digits : List ℕ) (number : ℕ) : Type 0 wher
   pub below : number < 2 ^ bits
 
 -- hexadecimal digits of either case, an even count of them and at least two, that write the bytes
-pub record AreBytes (digits bytes : List ℕ) : Type 0 where
+pub record IsHexOf (digits bytes : List ℕ) : Type 0 where
   pub decoded : decode_of digits ≡ Ok bytes
   pub some : 0 < length bytes

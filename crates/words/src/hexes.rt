@@ -1,7 +1,7 @@
 //! Bytes in hexadecimal digits.
 
 ghost use Rattle.std.specs.Prelude.{◌≡◌, ◌↔◌, ℕ, List, [], ◌∷◌, Some, IfOk, IfSome, IsTrue, MatchOption};
-ghost use Rattle.words.specs.Numbers.{AreBytes};
+ghost use Rattle.words.specs.Numbers.{IsHexOf};
 
 use hex::FromHexError;
 use std::alloc::Global;
@@ -16,8 +16,8 @@ fn is_refusal(error: &FromHexError) -> bool
 
 /// The bytes, at least one, that the word writes in hexadecimal digits of either case. [`Memory`]: no room for them.
 pub fn bytes(alloc: Global, word: &[u8]) -> Result<Option<Vec<u8>>, Memory>
-    ensures some { IfOk result (λ found. IfSome found (λ bytes. AreBytes word.now bytes.items)) }
-    ensures exact { (bytes : List ℕ) → AreBytes word.now bytes → IfOk result (λ found. MatchOption found ⊥ (λ found. found.items ≡ bytes)) }
+    ensures some { IfOk result (λ found. IfSome found (λ bytes. IsHexOf word.now bytes.items)) }
+    ensures exact { (bytes : List ℕ) → IsHexOf word.now bytes → IfOk result (λ found. MatchOption found ⊥ (λ found. found.items ≡ bytes)) }
 {
     match hex::decode(alloc, word) {
         Ok(bytes) if bytes.is_empty() => Ok(None),
@@ -29,8 +29,8 @@ pub fn bytes(alloc: Global, word: &[u8]) -> Result<Option<Vec<u8>>, Memory>
 
 /// The byte that the word writes in two hexadecimal digits. [`Memory`]: no room to read it.
 pub fn byte(alloc: Global, word: &[u8]) -> Result<Option<u8>, Memory>
-    ensures some { IfOk result (λ found. IfSome found (λ byte. AreBytes word.now (byte ∷ []))) }
-    ensures exact { (byte : ℕ) → AreBytes word.now (byte ∷ []) → IfOk result (λ found. found ≡ Some byte) }
+    ensures some { IfOk result (λ found. IfSome found (λ byte. IsHexOf word.now (byte ∷ []))) }
+    ensures exact { (byte : ℕ) → IsHexOf word.now (byte ∷ []) → IfOk result (λ found. found ≡ Some byte) }
 {
     match bytes(alloc, word)? {
         Some(bytes) => match bytes.as_slice() {

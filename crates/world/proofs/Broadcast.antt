@@ -1,15 +1,7 @@
 -- What the broadcasts promise of a world that is as every run leaves it.
 use Rattle.std.proofs.Common.{ℕ, ◌≡◌, ◌≤◌, Bool, true, ◌&&◌}
 use Rattle.std.proofs.lemmas.Bool.{and_parts}
-use Rattle.terms.specs.declared.Kind.{Kind}
-use Rattle.terms.specs.declared.Kind.TheVariants.{Echo, Ready}
-use Rattle.terms.specs.declared.Value.{Value}
-use Rattle.terms.specs.declared.Place.{Place}
-use Rattle.terms.specs.declared.Size.{Size}
-use Rattle.terms.specs.Count.{count_below, IsEchoQuorum}
-use Rattle.terms.specs.Bounds.{IsSize}
-use Rattle.terms.specs.Same.{statement_of}
-use Rattle.terms.specs.Heard.{Accepted}
+use Rattle.vocabulary.specs.Terms.{Kind, Echo, Ready, Value, Place, Size, count_below, IsEchoQuorum, IsSize, new_statement, Accepted}
 use Rattle.terms.proofs.Valid.{IsValid-mono}
 use Rattle.world.specs.World.{World, has_sent, IsCorrect}
 use Rattle.world.specs.Sent.{sends, Backed}
@@ -21,9 +13,9 @@ use Rattle.world.proofs.Invariant.{WorldOk, member_good, sent_said, has_echos}
 module _ (size : Size) (liars : ℕ → Bool) (ok : IsSize size) (few : count_below size.n liars ≤ size.t) (w : World) (wok : WorldOk size liars w) where
   -- a correct member says one value of a kind at a place
   pub says_one : (a : ℕ) → IsCorrect size liars a → (kind : Kind) (place : Place) (m k : Value)
-      → has_sent w.sent a (statement_of kind place m) ≡ true → has_sent w.sent a (statement_of kind place k) ≡ true → m ≡ k
+      → has_sent w.sent a (new_statement kind place m) ≡ true → has_sent w.sent a (new_statement kind place k) ≡ true → m ≡ k
   says_one a c kind place m k h i =
-      (member_good size liars w wok a c).one kind place m k (sent_said size liars w wok a c (statement_of kind place m) h) (sent_said size liars w wok a c (statement_of kind place k) i)
+      (member_good size liars w wok a c).one kind place m k (sent_said size liars w wok a c (new_statement kind place m) h) (sent_said size liars w wok a c (new_statement kind place k) i)
 
   -- what is backed has an echo quorum
   pub backed_echos : (place : Place) (m : Value) → Backed size w.sent place m → IsEchoQuorum size (sends w.sent Echo place m)

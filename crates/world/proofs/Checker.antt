@@ -1,26 +1,9 @@
 -- Steps of four members, one of whom lies, in which each of the others hears all that was ever sent, and what
 -- it then says is lawful by a test of the journals alone.
-use Rattle.std.proofs.Common.{ℕ, zero, suc, ◌≡◌, ◌+◌, ◌<◌, ◌≤◌, Bool, true, false, cond, not, ◌&&◌, ◌||◌, ◌⊎◌, inl, inr, eqb, eq-eqb, refl, sym, ap, ◌∙◌, arith, Option, Some, None, List, [], ◌∷◌, ◌++◌}
-use Rattle.std.specs.Prelude.{nat_lt, nat_le, is_some}
+use Rattle.std.proofs.Common.{ℕ, zero, suc, ◌≡◌, ◌+◌, ◌<◌, ◌≤◌, Bool, true, false, cond, not, ◌&&◌, ◌||◌, ◌⊎◌, inl, inr, eqb, eq-eqb, refl, sym, ap, ◌∙◌, arith, Option, Some, None, List, [], ◌∷◌, ◌++◌, nat_lt, nat_le, is_some, eqb-true, ltb-true, leb-true, ne_eqb}
 use Rattle.std.specs.Bool.{beq}
-use Rattle.std.proofs.lemmas.Bool.{and_parts, or_cases, or_right, eqb-true, ltb-true, leb-true, ne_eqb}
-use Rattle.terms.specs.declared.Kind.{Kind}
-use Rattle.terms.specs.declared.Kind.TheVariants.{Initial, Echo, Ready}
-use Rattle.terms.specs.declared.Value.{Value}
-use Rattle.terms.specs.declared.Value.TheVariants.{One, SureOne}
-use Rattle.terms.specs.declared.Place.{Place}
-use Rattle.terms.specs.declared.Statement.{Statement}
-use Rattle.terms.specs.declared.Record.{Record}
-use Rattle.terms.specs.declared.Record.TheVariants.{Said, Decided}
-use Rattle.terms.specs.declared.Size.{Size}
-use Rattle.terms.specs.Count.{count_below, AtLeast}
-use Rattle.terms.specs.Bounds.{IsSize}
-use Rattle.terms.specs.Same.{statement_of, statement_eq, place_of, value_eq}
-use Rattle.terms.specs.Heard.{got, backs, Accepted, hear, hear_all, is_none, is_foreign, is_entry}
-use Rattle.terms.specs.Next.{Gives, Next}
-use Rattle.terms.specs.Valid.{First, Second, Third, IsGiven, IsValid}
-use Rattle.terms.specs.Journal.{said, decided, has_said}
-use Rattle.terms.specs.Lawful.{IsLawful, IsLawfulStatement, IsLawfulBatch, before}
+use Rattle.std.proofs.lemmas.Bool.{and_parts, or_cases, or_right}
+use Rattle.vocabulary.specs.Terms.{Kind, Initial, Echo, Ready, Value, One, SureOne, Place, Statement, Record, Said, Decided, Size, count_below, AtLeast, IsSize, new_statement, statement_eq, new_place, value_eq, got, backs, Accepted, hear, hear_all, is_none, is_foreign, is_entry, Gives, Next, First, Second, Third, IsGiven, IsValid, said, decided, has_said, IsLawful, IsLawfulStatement, IsLawfulBatch, before}
 use Rattle.terms.proofs.Count.{Outside, count-mono, count-and}
 use Rattle.terms.proofs.Same.{value_is-true, value_is-from, value_eq-true, statement_eq-true, is_about-same}
 use Rattle.terms.proofs.Heard.{got-append_one, some_accepted, accepted_in}
@@ -101,11 +84,11 @@ all_got H (e ∷ es) a s f h = step (or_cases (eqb e.0 a && statement_eq e.1 s) 
 
 -- the three correct members have said it
 abbrev pub all_said : (ℕ → List Record) → Kind → Place → Value → Bool
-all_said js kind place m = has_said (js 0) (statement_of kind place m) && (has_said (js 1) (statement_of kind place m) && has_said (js 2) (statement_of kind place m))
+all_said js kind place m = has_said (js 0) (new_statement kind place m) && (has_said (js 1) (new_statement kind place m) && has_said (js 2) (new_statement kind place m))
 
 -- they have said the Readys of the three places of the round and step
 abbrev pub all_ready : (ℕ → List Record) → ℕ → ℕ → Value → Bool
-all_ready js round step m = all_said js Ready (place_of 0 0 round step) m && (all_said js Ready (place_of 0 1 round step) m && all_said js Ready (place_of 0 2 round step) m)
+all_ready js round step m = all_said js Ready (new_place 0 0 round step) m && (all_said js Ready (new_place 0 1 round step) m && all_said js Ready (new_place 0 2 round step) m)
 
 -- the Readys of step 2 too, where b says it of step 1
 abbrev pub seconds_of : (ℕ → List Record) → ℕ → Bool → Bool
@@ -140,7 +123,7 @@ abbrev pub may_say : (ℕ → List Record) → ℕ → List Record → Kind → 
 may_say js p records Initial place m =
     eqb place.origin p && (is_none (said records Initial place) && (is_some (said records Initial (before place))
     && (eqb place.question 0 && (may_follow js place.round place.step m && (nat_le place.round 32 && within (decided records place.question) place.round)))))
-may_say js p records Echo place m = is_none (said records Echo place) && (nat_lt place.origin 3 && has_said (js place.origin) (statement_of Initial place m))
+may_say js p records Echo place m = is_none (said records Echo place) && (nat_lt place.origin 3 && has_said (js place.origin) (new_statement Initial place m))
 may_say js p records Ready place m = is_none (said records Ready place) && all_said js Echo place m
 
 -- the Readys of that round have been said
@@ -180,13 +163,13 @@ below_three P x y z (suc (suc zero)) l = z
 below_three P x y z (suc (suc (suc a))) l = absurd (omega arith)
 
 module _ (js : ℕ → List Record) (H : List (ℕ × Statement))
-    (knows : (a : ℕ) → a < 3 → (kind : Kind) (place : Place) (m : Value) → has_said (js a) (statement_of kind place m) ≡ true → got H a kind place ≡ Some m) where
+    (knows : (a : ℕ) → a < 3 → (kind : Kind) (place : Place) (m : Value) → has_said (js a) (new_statement kind place m) ≡ true → got H a kind place ≡ Some m) where
   -- what the three have said was got of each
   three_got : (kind : Kind) (place : Place) (m : Value) → all_said js kind place m ≡ true → (a : ℕ) → a < 3 → got H a kind place ≡ Some m
   three_got kind place m h a l =
-      let x = and_parts (has_said (js 0) (statement_of kind place m)) _ h in
-      let y = and_parts (has_said (js 1) (statement_of kind place m)) (has_said (js 2) (statement_of kind place m)) x.1 in
-      knows a l kind place m (below_three (λ b. has_said (js b) (statement_of kind place m) ≡ true) x.0 y.0 y.1 a l)
+      let x = and_parts (has_said (js 0) (new_statement kind place m)) _ h in
+      let y = and_parts (has_said (js 1) (new_statement kind place m)) (has_said (js 2) (new_statement kind place m)) x.1 in
+      knows a l kind place m (below_three (λ b. has_said (js b) (new_statement kind place m) ≡ true) x.0 y.0 y.1 a l)
 
   -- so three back it
   three_back : (kind : Kind) (place : Place) (m : Value) → all_said js kind place m ≡ true → 3 ≤ count_below 4 (backs H kind place m)
@@ -210,11 +193,11 @@ module _ (js : ℕ → List Record) (H : List (ℕ × Statement))
       rw f at x.1
 
   -- so at the three places of a round and step
-  all_accepted : (round step : ℕ) (m : Value) → all_ready js round step m ≡ true → (o : ℕ) → o < 3 → Accepted four H (place_of 0 o round step) m
+  all_accepted : (round step : ℕ) (m : Value) → all_ready js round step m ≡ true → (o : ℕ) → o < 3 → Accepted four H (new_place 0 o round step) m
   all_accepted round step m h o l =
-      let x = and_parts (all_said js Ready (place_of 0 0 round step) m) _ h in
-      let y = and_parts (all_said js Ready (place_of 0 1 round step) m) (all_said js Ready (place_of 0 2 round step) m) x.1 in
-      accepted (place_of 0 o round step) m (below_three (λ b. all_said js Ready (place_of 0 b round step) m ≡ true) x.0 y.0 y.1 o l)
+      let x = and_parts (all_said js Ready (new_place 0 0 round step) m) _ h in
+      let y = and_parts (all_said js Ready (new_place 0 1 round step) m) (all_said js Ready (new_place 0 2 round step) m) x.1 in
+      accepted (new_place 0 o round step) m (below_three (λ b. all_said js Ready (new_place 0 b round step) m ≡ true) x.0 y.0 y.1 o l)
 
   -- one message of each correct member is a set that gives the next value
   gives : (step : ℕ) (P : ℕ → Value → Type 0) (v m : Value) → ((o : ℕ) → o < 3 → P o v) → Next four step (λ a. cond (nat_lt a 3) (Some v) None) m → Gives four step P m
@@ -349,18 +332,18 @@ sent_sent w = all_sent w.sent w.sent (λ a s h. h)
 
 -- who hears all that was sent has got what the correct members said
 pub knows_all : (lies : List (ℕ × Statement)) (w : World) (js : ℕ → List Record) → Follows lies w js → (p : ℕ) → p < 3 → (a : ℕ) → a < 3
-    → (kind : Kind) (place : Place) (m : Value) → has_said (js a) (statement_of kind place m) ≡ true → got (hear_all (w.heard p) w.sent) a kind place ≡ Some m
+    → (kind : Kind) (place : Place) (m : Value) → has_said (js a) (new_statement kind place m) ≡ true → got (hear_all (w.heard p) w.sent) a kind place ≡ Some m
 knows_all lies w js f p l a k kind place m h =
     let c = honest a k in
     let e = f.saved a k in
-    let j : has_said (w.journal a) (statement_of kind place m) ≡ true = rw e h in
-    let s : has_sent w.sent a (statement_of kind place m) ≡ true = said_sent four liar w f.ok a c (statement_of kind place m) j in
-    let x = all_got (w.heard p) w.sent a (statement_of kind place m) (own kind place m j) s in
-    let y : has_sent w.sent a (statement_of kind place x.0) ≡ true = all_shows w.sent (w.heard p) w.sent (f.ok.each p (honest p l)).shows (sent_sent w) a kind place x.0 x.1 in
+    let j : has_said (w.journal a) (new_statement kind place m) ≡ true = rw e h in
+    let s : has_sent w.sent a (new_statement kind place m) ≡ true = said_sent four liar w f.ok a c (new_statement kind place m) j in
+    let x = all_got (w.heard p) w.sent a (new_statement kind place m) (own kind place m j) s in
+    let y : has_sent w.sent a (new_statement kind place x.0) ≡ true = all_shows w.sent (w.heard p) w.sent (f.ok.each p (honest p l)).shows (sent_sent w) a kind place x.0 x.1 in
     let z : x.0 ≡ m = says_one four liar four_ok four_few w f.ok a c kind place x.0 m y s in
     x.1 ∙ ap (λ v. Some v) z
   where
-    own : (kind : Kind) (place : Place) (m : Value) → has_said (w.journal a) (statement_of kind place m) ≡ true → is_foreign a (statement_of kind place m) ≡ false
+    own : (kind : Kind) (place : Place) (m : Value) → has_said (w.journal a) (new_statement kind place m) ≡ true → is_foreign a (new_statement kind place m) ≡ false
     own Initial place m j = let o : place.origin ≡ a = ((member_good four liar w f.ok a (honest a k)).sound Initial place m j).0 in rw (eq-eqb a place.origin (sym o))
     own Echo place m j = refl
     own Ready place m j = refl

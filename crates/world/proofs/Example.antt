@@ -1,19 +1,6 @@
 -- A run in which a member decides, so that the promises are not about nothing: one member, no liars.
 use Rattle.std.proofs.Common.{ℕ, ◌≡◌, ◌+◌, ◌*◌, ◌≤◌, Bool, true, false, inl, inr, refl, ap, arith, Option, Some, List, [], ◌∷◌, ◌++◌}
-use Rattle.terms.specs.declared.Kind.{Kind}
-use Rattle.terms.specs.declared.Kind.TheVariants.{Initial, Echo, Ready}
-use Rattle.terms.specs.declared.Value.{Value}
-use Rattle.terms.specs.declared.Value.TheVariants.{One, SureOne}
-use Rattle.terms.specs.declared.Statement.{Statement}
-use Rattle.terms.specs.declared.Record.{Record}
-use Rattle.terms.specs.declared.Record.TheVariants.{Said, Decided}
-use Rattle.terms.specs.declared.Size.{Size}
-use Rattle.terms.specs.Count.{AtLeast}
-use Rattle.terms.specs.Bounds.{IsSize}
-use Rattle.terms.specs.Same.{statement_of, place_of}
-use Rattle.terms.specs.Heard.{Accepted}
-use Rattle.terms.specs.Next.{Gives, Next}
-use Rattle.terms.specs.Valid.{First, Second, Third}
+use Rattle.vocabulary.specs.Terms.{Kind, Initial, Echo, Ready, Value, One, SureOne, Statement, Record, Said, Decided, Size, AtLeast, IsSize, new_statement, new_place, Accepted, Gives, Next, First, Second, Third}
 use Rattle.terms.proofs.Lawful.{Accepted-last, Accepted-more}
 use Rattle.world.specs.World.{Step, IsCorrect, IsRun, start}
 use Rattle.world.specs.World.Step.{Hears, Proposes}
@@ -27,13 +14,13 @@ nobody a = false
 
 -- what member 0 says of question 0 in round 1
 abbrev says : Kind → ℕ → Value → Statement
-says kind step m = statement_of kind (place_of 0 0 1 step) m
+says kind step m = new_statement kind (new_place 0 0 1 step) m
 
 abbrev hears : Kind → ℕ → Value → Record → Step
 hears kind step m x = Hears 0 ((0, says kind step m) ∷ []) (x ∷ []) true
 
 abbrev next_round : Record
-next_round = Said (statement_of Initial (place_of 0 0 2 1) One)
+next_round = Said (new_statement Initial (new_place 0 0 2 1) One)
 
 abbrev steps : List Step
 steps =
@@ -62,14 +49,14 @@ of_step step m = (0, says Initial step m) ∷ (0, says Echo step m) ∷ []
 abbrev whole : ℕ → Value → List (ℕ × Statement)
 whole step m = of_step step m ++ (0, says Ready step m) ∷ []
 
-first_accepted : Accepted one (whole 1 One) (place_of 0 0 1 1) One
-first_accepted = Accepted-last one (of_step 1 One) (0, says Ready 1 One) (place_of 0 0 1 1) One (λ v h. absurd (omega arith)) (omega arith)
+first_accepted : Accepted one (whole 1 One) (new_place 0 0 1 1) One
+first_accepted = Accepted-last one (of_step 1 One) (0, says Ready 1 One) (new_place 0 0 1 1) One (λ v h. absurd (omega arith)) (omega arith)
 
-second_accepted : Accepted one (whole 1 One ++ whole 2 One) (place_of 0 0 1 2) One
-second_accepted = Accepted-last one (whole 1 One ++ of_step 2 One) (0, says Ready 2 One) (place_of 0 0 1 2) One (λ v h. absurd (omega arith)) (omega arith)
+second_accepted : Accepted one (whole 1 One ++ whole 2 One) (new_place 0 0 1 2) One
+second_accepted = Accepted-last one (whole 1 One ++ of_step 2 One) (0, says Ready 2 One) (new_place 0 0 1 2) One (λ v h. absurd (omega arith)) (omega arith)
 
-third_accepted : Accepted one (whole 1 One ++ whole 2 One ++ whole 3 SureOne) (place_of 0 0 1 3) SureOne
-third_accepted = Accepted-last one (whole 1 One ++ whole 2 One ++ of_step 3 SureOne) (0, says Ready 3 SureOne) (place_of 0 0 1 3) SureOne (λ v h. absurd (omega arith)) (omega arith)
+third_accepted : Accepted one (whole 1 One ++ whole 2 One ++ whole 3 SureOne) (new_place 0 0 1 3) SureOne
+third_accepted = Accepted-last one (whole 1 One ++ whole 2 One ++ of_step 3 SureOne) (0, says Ready 3 SureOne) (new_place 0 0 1 3) SureOne (λ v h. absurd (omega arith)) (omega arith)
 
 -- the one message of a step is a set that gives the next value
 gives : (step : ℕ) (P : ℕ → Value → Type 0) (v m : Value) → P 0 v → Next one step (λ a. Some v) m → Gives one step P m
@@ -82,7 +69,7 @@ second_given = gives 1 (First one (Accepted one (whole 1 One)) 0 0) One One firs
 second_valid : Second one (Accepted one (whole 1 One ++ whole 2 One)) 0 0 0 One
 second_valid = (
   second_accepted,
-  gives 1 (First one (Accepted one (whole 1 One ++ whole 2 One)) 0 0) One One (Accepted-more one (whole 1 One) (whole 2 One) (place_of 0 0 1 1) One first_accepted) (omega arith),
+  gives 1 (First one (Accepted one (whole 1 One ++ whole 2 One)) 0 0) One One (Accepted-more one (whole 1 One) (whole 2 One) (new_place 0 0 1 1) One first_accepted) (omega arith),
 )
 
 third_given : Gives one 2 (Second one (Accepted one (whole 1 One ++ whole 2 One)) 0 0) SureOne
@@ -92,11 +79,11 @@ abbrev all_heard : List (ℕ × Statement)
 all_heard = whole 1 One ++ whole 2 One ++ whole 3 SureOne
 
 first_valid_then : First one (Accepted one all_heard) 0 0 0 One
-first_valid_then = Accepted-more one (whole 1 One) (whole 2 One ++ whole 3 SureOne) (place_of 0 0 1 1) One first_accepted
+first_valid_then = Accepted-more one (whole 1 One) (whole 2 One ++ whole 3 SureOne) (new_place 0 0 1 1) One first_accepted
 
 second_valid_then : Second one (Accepted one all_heard) 0 0 0 One
 second_valid_then = (
-  Accepted-more one (whole 1 One ++ whole 2 One) (whole 3 SureOne) (place_of 0 0 1 2) One second_accepted,
+  Accepted-more one (whole 1 One ++ whole 2 One) (whole 3 SureOne) (new_place 0 0 1 2) One second_accepted,
   gives 1 (First one (Accepted one all_heard) 0 0) One One first_valid_then (omega arith),
 )
 

@@ -1,22 +1,7 @@
 -- A run of four members, one of whom lies, that ends settled, with a decision at each of the other three.
-use Rattle.std.proofs.Common.{ℕ, zero, suc, ◌≡◌, ◌*◌, ◌<◌, ◌≤◌, Bool, true, false, cond, ◌&&◌, ◌||◌, ◌⊎◌, inl, inr, eqb, refl, sym, ap, subst, ◌∙◌, arith, Option, Some, None, List, [], ◌∷◌, ◌++◌, append-nil}
-use Rattle.std.specs.Prelude.{nat_lt, is_some, IsSome}
-use Rattle.std.proofs.lemmas.Bool.{and_parts, and_from, or_cases, both_ways, eqb-true, eqb-false, lt-ltb}
-use Rattle.terms.specs.declared.Kind.{Kind}
-use Rattle.terms.specs.declared.Kind.TheVariants.{Initial, Echo, Ready}
-use Rattle.terms.specs.declared.Value.{Value}
-use Rattle.terms.specs.declared.Value.TheVariants.{Zero, One, SureZero, SureOne, Unsure}
-use Rattle.terms.specs.declared.Place.{Place}
-use Rattle.terms.specs.declared.Statement.{Statement}
-use Rattle.terms.specs.declared.Record.{Record}
-use Rattle.terms.specs.declared.Record.TheVariants.{Said, Decided}
-use Rattle.terms.specs.Count.{count_below, IsEchoQuorum, IsHelpSet}
-use Rattle.terms.specs.Bounds.{FitsStep}
-use Rattle.terms.specs.Same.{statement_of, statement_eq, place_of, place_eq, kind_eq}
-use Rattle.terms.specs.WellFormed.{IsWellFormed}
-use Rattle.terms.specs.Heard.{got, backs}
-use Rattle.terms.specs.Journal.{said, decided, has_said, has_decided}
-use Rattle.terms.specs.Lawful.{IsLawful, IsLawfulStatement}
+use Rattle.std.proofs.Common.{ℕ, zero, suc, ◌≡◌, ◌*◌, ◌<◌, ◌≤◌, Bool, true, false, cond, ◌&&◌, ◌||◌, ◌⊎◌, inl, inr, eqb, refl, sym, ap, subst, ◌∙◌, arith, Option, Some, None, List, [], ◌∷◌, ◌++◌, append-nil, nat_lt, is_some, IsSome, eqb-true, lt-ltb}
+use Rattle.std.proofs.lemmas.Bool.{and_parts, and_from, or_cases, both_ways, eqb-false}
+use Rattle.vocabulary.specs.Terms.{Kind, Initial, Echo, Ready, Value, Zero, One, SureZero, SureOne, Unsure, Place, Statement, Record, Said, Decided, count_below, IsEchoQuorum, IsHelpSet, FitsStep, new_statement, statement_eq, new_place, place_eq, kind_eq, IsWellFormed, got, backs, said, decided, has_said, has_decided, IsLawful, IsLawfulStatement}
 use Rattle.terms.proofs.Count.{Outside, count-mono}
 use Rattle.terms.proofs.Same.{value_is-true, statement_eq-true, place_eq-true}
 use Rattle.world.specs.World.{World, Step, IsCorrect, IsRun, has_sent, first_said, start, after, after_all}
@@ -36,11 +21,11 @@ below {p} c = let l = c.member in let n = eqb-false p 3 c.honest in omega arith
 
 -- the liar's own place of round 1 step 1, and what it says there
 abbrev pub liar_place : Place
-liar_place = place_of 0 3 1 1
+liar_place = new_place 0 3 1 1
 
 -- its Initial there
 abbrev pub lie : Value → Statement
-lie m = statement_of Initial liar_place m
+lie m = new_statement Initial liar_place m
 
 -- it sends two
 abbrev pub lies : List (ℕ × Statement)
@@ -48,7 +33,7 @@ lies = (3, lie One) ∷ (3, lie Zero) ∷ []
 
 -- a member is told one of the two, and echoes it
 abbrev told : ℕ → Value → Step
-told p m = Hears p ((3, lie m) ∷ []) (Said (statement_of Echo liar_place m) ∷ []) true
+told p m = Hears p ((3, lie m) ∷ []) (Said (new_statement Echo liar_place m) ∷ []) true
 
 -- a member is handed One
 abbrev proposes : ℕ → Step
@@ -94,9 +79,9 @@ opened = after_all start opening
 
 -- the journals then
 abbrev pub journals : ℕ → List Record
-journals zero = Said (statement_of Echo liar_place Zero) ∷ Said (first_said 0 0 true) ∷ []
-journals (suc zero) = Said (statement_of Echo liar_place One) ∷ Said (first_said 1 0 true) ∷ []
-journals (suc (suc zero)) = Said (statement_of Echo liar_place One) ∷ Said (first_said 2 0 true) ∷ []
+journals zero = Said (new_statement Echo liar_place Zero) ∷ Said (first_said 0 0 true) ∷ []
+journals (suc zero) = Said (new_statement Echo liar_place One) ∷ Said (first_said 1 0 true) ∷ []
+journals (suc (suc zero)) = Said (new_statement Echo liar_place One) ∷ Said (first_said 2 0 true) ∷ []
 journals (suc (suc (suc a))) = []
 
 -- that world has these journals
@@ -111,9 +96,9 @@ opened_follows = record {
 -- each of three statements of the kind, one for each correct origin
 abbrev of_three : Kind → ℕ → ℕ → Value → List Record
 of_three kind round step m =
-    Said (statement_of kind (place_of 0 0 round step) m)
-    ∷ Said (statement_of kind (place_of 0 1 round step) m)
-    ∷ Said (statement_of kind (place_of 0 2 round step) m)
+    Said (new_statement kind (new_place 0 0 round step) m)
+    ∷ Said (new_statement kind (new_place 0 1 round step) m)
+    ∷ Said (new_statement kind (new_place 0 2 round step) m)
     ∷ []
 
 -- one step of the protocol: all echo, all are ready, and all go on
@@ -132,7 +117,7 @@ stage round step m next =
 
 -- a member's own Initial
 abbrev own : ℕ → ℕ → Value → ℕ → List Record
-own round step m p = Said (statement_of Initial (place_of 0 p round step) m) ∷ []
+own round step m p = Said (new_statement Initial (new_place 0 p round step) m) ∷ []
 
 -- round 1, in which all decide One, and round 2, the last that a member goes through then
 abbrev pub script : List (ℕ × List Record)
@@ -193,10 +178,10 @@ module _ (w : World) (js : ℕ → List Record) (f : Follows lies w js) where
   three_follow = quiet_follows (after_two w) js two_follows 2 (omega arith)
 
   -- each has got all that correct members said
-  got_then : (p : ℕ) → p < 3 → (a : ℕ) → a < 3 → (kind : Kind) (place : Place) (m : Value) → has_said (js a) (statement_of kind place m) ≡ true
+  got_then : (p : ℕ) → p < 3 → (a : ℕ) → a < 3 → (kind : Kind) (place : Place) (m : Value) → has_said (js a) (new_statement kind place m) ≡ true
       → got ((after_three w).heard p) a kind place ≡ Some m
   got_then =
-      below_three (λ p. (a : ℕ) → a < 3 → (kind : Kind) (place : Place) (m : Value) → has_said (js a) (statement_of kind place m) ≡ true → got ((after_three w).heard p) a kind place ≡ Some m)
+      below_three (λ p. (a : ℕ) → a < 3 → (kind : Kind) (place : Place) (m : Value) → has_said (js a) (new_statement kind place m) ≡ true → got ((after_three w).heard p) a kind place ≡ Some m)
       (knows_all lies w js f 0 (omega arith)) (knows_all lies (after_one w) js one_follows 1 (omega arith)) (knows_all lies (after_two w) js two_follows 2 (omega arith))
 
   -- so each has heard all that they sent
@@ -262,11 +247,11 @@ readys_cover =
     (below_three (λ a. ready_cover (ended 2) (ended a) ≡ true) refl refl refl)
 
 -- at the liar's place nobody is ready, and fewer than a quorum have echoed one value
-no_ready : (m : Value) (a : ℕ) → a < 3 → has_said (ended a) (statement_of Ready liar_place m) ≡ false
-no_ready m = below_three (λ a. has_said (ended a) (statement_of Ready liar_place m) ≡ false) refl refl refl
+no_ready : (m : Value) (a : ℕ) → a < 3 → has_said (ended a) (new_statement Ready liar_place m) ≡ false
+no_ready m = below_three (λ a. has_said (ended a) (new_statement Ready liar_place m) ≡ false) refl refl refl
 
 -- and fewer than a quorum have echoed one value there
-few_echos : (m : Value) → count_below 4 (λ a. nat_lt a 3 && has_said (ended a) (statement_of Echo liar_place m)) ≤ 2
+few_echos : (m : Value) → count_below 4 (λ a. nat_lt a 3 && has_said (ended a) (new_statement Echo liar_place m)) ≤ 2
 few_echos Zero = omega arith
 few_echos One = omega arith
 few_echos SureZero = omega arith
@@ -280,23 +265,23 @@ not_none (Some v) n e = cc
 
 -- an own place by its numbers
 at_own_place : (J : List Record) (place : Place) (p : ℕ) → place.question ≡ 0 → place.origin ≡ p → said J Initial place ≡ None
-    → said J Initial (place_of 0 p place.round place.step) ≡ None
+    → said J Initial (new_place 0 p place.round place.step) ≡ None
 at_own_place J place p q o h =
-    let e : place ≡ place_of 0 p place.round place.step = λ i. record { question = q i; origin = o i; round = place.round; step = place.step } in
+    let e : place ≡ new_place 0 p place.round place.step = λ i. record { question = q i; origin = o i; round = place.round; step = place.step } in
     sym (ap (λ (x : Place). said J Initial x) e) ∙ h
 
 -- each has all its Initials of two rounds, and its decision
-all_initials : (p : ℕ) → p < 3 → (round step : ℕ) (m : Value) → 1 ≤ round → round ≤ 2 → FitsStep step m → said (ended p) Initial (place_of 0 p round step) ≡ None → ⊥
+all_initials : (p : ℕ) → p < 3 → (round step : ℕ) (m : Value) → 1 ≤ round → round ≤ 2 → FitsStep step m → said (ended p) Initial (new_place 0 p round step) ≡ None → ⊥
 all_initials p l zero step m h i f n = absurd (omega arith)
 all_initials p l (suc zero) zero m h i f n = absurd f
-all_initials p l (suc zero) (suc zero) m h i f n = below_three (λ p. said (ended p) Initial (place_of 0 p 1 1) ≡ None → ⊥) (λ e. cc) (λ e. cc) (λ e. cc) p l n
-all_initials p l (suc zero) (suc (suc zero)) m h i f n = below_three (λ p. said (ended p) Initial (place_of 0 p 1 2) ≡ None → ⊥) (λ e. cc) (λ e. cc) (λ e. cc) p l n
-all_initials p l (suc zero) (suc (suc (suc zero))) m h i f n = below_three (λ p. said (ended p) Initial (place_of 0 p 1 3) ≡ None → ⊥) (λ e. cc) (λ e. cc) (λ e. cc) p l n
+all_initials p l (suc zero) (suc zero) m h i f n = below_three (λ p. said (ended p) Initial (new_place 0 p 1 1) ≡ None → ⊥) (λ e. cc) (λ e. cc) (λ e. cc) p l n
+all_initials p l (suc zero) (suc (suc zero)) m h i f n = below_three (λ p. said (ended p) Initial (new_place 0 p 1 2) ≡ None → ⊥) (λ e. cc) (λ e. cc) (λ e. cc) p l n
+all_initials p l (suc zero) (suc (suc (suc zero))) m h i f n = below_three (λ p. said (ended p) Initial (new_place 0 p 1 3) ≡ None → ⊥) (λ e. cc) (λ e. cc) (λ e. cc) p l n
 all_initials p l (suc zero) (suc (suc (suc (suc step)))) m h i f n = absurd f
 all_initials p l (suc (suc zero)) zero m h i f n = absurd f
-all_initials p l (suc (suc zero)) (suc zero) m h i f n = below_three (λ p. said (ended p) Initial (place_of 0 p 2 1) ≡ None → ⊥) (λ e. cc) (λ e. cc) (λ e. cc) p l n
-all_initials p l (suc (suc zero)) (suc (suc zero)) m h i f n = below_three (λ p. said (ended p) Initial (place_of 0 p 2 2) ≡ None → ⊥) (λ e. cc) (λ e. cc) (λ e. cc) p l n
-all_initials p l (suc (suc zero)) (suc (suc (suc zero))) m h i f n = below_three (λ p. said (ended p) Initial (place_of 0 p 2 3) ≡ None → ⊥) (λ e. cc) (λ e. cc) (λ e. cc) p l n
+all_initials p l (suc (suc zero)) (suc zero) m h i f n = below_three (λ p. said (ended p) Initial (new_place 0 p 2 1) ≡ None → ⊥) (λ e. cc) (λ e. cc) (λ e. cc) p l n
+all_initials p l (suc (suc zero)) (suc (suc zero)) m h i f n = below_three (λ p. said (ended p) Initial (new_place 0 p 2 2) ≡ None → ⊥) (λ e. cc) (λ e. cc) (λ e. cc) p l n
+all_initials p l (suc (suc zero)) (suc (suc (suc zero))) m h i f n = below_three (λ p. said (ended p) Initial (new_place 0 p 2 3) ≡ None → ⊥) (λ e. cc) (λ e. cc) (λ e. cc) p l n
 all_initials p l (suc (suc zero)) (suc (suc (suc (suc step)))) m h i f n = absurd f
 all_initials p l (suc (suc (suc round))) step m h i f n = absurd (omega arith)
 
@@ -308,10 +293,10 @@ all_decided = below_three (λ p. decided (ended p) 0 ≡ Some (1, true)) refl re
 module _ (w : World) (f : Follows lies w ended) (sent : SentWellFormed four liar w) (p : ℕ) (l : p < 3) where
   -- what was got was said by a correct member, or is one of the lies
   who : (a : ℕ) (kind : Kind) (place : Place) (m : Value) → got (w.heard p) a kind place ≡ Some m
-      → ((a < 3) × (has_said (ended a) (statement_of kind place m) ≡ true)) ⊎ (has_sent lies 3 (statement_of kind place m) ≡ true)
+      → ((a < 3) × (has_said (ended a) (new_statement kind place m) ≡ true)) ⊎ (has_sent lies 3 (new_statement kind place m) ≡ true)
   who a kind place m h =
-      let s : has_sent w.sent a (statement_of kind place m) ≡ true = (f.ok.each p (honest p l)).shows a kind place m h in
-      let b = (sent a (statement_of kind place m) s).0 in
+      let s : has_sent w.sent a (new_statement kind place m) ≡ true = (f.ok.each p (honest p l)).shows a kind place m h in
+      let b = (sent a (new_statement kind place m) s).0 in
       step s b (cases_three a b)
     where
       cases_three : (a : ℕ) → a < 4 → (a < 3) ⊎ (a ≡ 3)
@@ -321,26 +306,26 @@ module _ (w : World) (f : Follows lies w ended) (sent : SentWellFormed four liar
       cases_three (suc (suc (suc zero))) h = inr refl
       cases_three (suc (suc (suc (suc b)))) h = absurd (omega arith)
 
-      step : has_sent w.sent a (statement_of kind place m) ≡ true → a < 4 → (a < 3) ⊎ (a ≡ 3)
-          → ((a < 3) × (has_said (ended a) (statement_of kind place m) ≡ true)) ⊎ (has_sent lies 3 (statement_of kind place m) ≡ true)
+      step : has_sent w.sent a (new_statement kind place m) ≡ true → a < 4 → (a < 3) ⊎ (a ≡ 3)
+          → ((a < 3) × (has_said (ended a) (new_statement kind place m) ≡ true)) ⊎ (has_sent lies 3 (new_statement kind place m) ≡ true)
       step s b (inl k) =
-          let x = sent_said four liar w f.ok a (honest a k) (statement_of kind place m) s in
+          let x = sent_said four liar w f.ok a (honest a k) (new_statement kind place m) s in
           let e = f.saved a k in
           inl (k, rw e at x)
       step s b (inr k) =
-          let x : has_sent w.sent 3 (statement_of kind place m) ≡ true = rw k at s in
-          inr (sym (f.lied (statement_of kind place m)) ∙ x)
+          let x : has_sent w.sent 3 (new_statement kind place m) ≡ true = rw k at s in
+          inr (sym (f.lied (new_statement kind place m)) ∙ x)
 
   -- a lie is an Initial of the liar's place
-  lie_at : (kind : Kind) (place : Place) (m : Value) → has_sent lies 3 (statement_of kind place m) ≡ true → (Initial ≡ kind) × (liar_place ≡ place)
-  lie_at kind place m h = step (or_cases (statement_eq (lie One) (statement_of kind place m)) (statement_eq (lie Zero) (statement_of kind place m) || false) h)
+  lie_at : (kind : Kind) (place : Place) (m : Value) → has_sent lies 3 (new_statement kind place m) ≡ true → (Initial ≡ kind) × (liar_place ≡ place)
+  lie_at kind place m h = step (or_cases (statement_eq (lie One) (new_statement kind place m)) (statement_eq (lie Zero) (new_statement kind place m) || false) h)
     where
-      is : (v : Value) → statement_eq (lie v) (statement_of kind place m) ≡ true → (Initial ≡ kind) × (liar_place ≡ place)
-      is v e = let x = statement_eq-true (lie v) (statement_of kind place m) e in (ap (λ (s : Statement). s.kind) x, ap (λ (s : Statement). s.place) x)
+      is : (v : Value) → statement_eq (lie v) (new_statement kind place m) ≡ true → (Initial ≡ kind) × (liar_place ≡ place)
+      is v e = let x = statement_eq-true (lie v) (new_statement kind place m) e in (ap (λ (s : Statement). s.kind) x, ap (λ (s : Statement). s.place) x)
 
-      step : (statement_eq (lie One) (statement_of kind place m) ≡ true) ⊎ ((statement_eq (lie Zero) (statement_of kind place m) || false) ≡ true) → (Initial ≡ kind) × (liar_place ≡ place)
+      step : (statement_eq (lie One) (new_statement kind place m) ≡ true) ⊎ ((statement_eq (lie Zero) (new_statement kind place m) || false) ≡ true) → (Initial ≡ kind) × (liar_place ≡ place)
       step (inl e) = is One e
-      step (inr e) = is Zero (last (statement_eq (lie Zero) (statement_of kind place m)) e)
+      step (inr e) = is Zero (last (statement_eq (lie Zero) (new_statement kind place m)) e)
         where
           last : (b : Bool) → (b || false) ≡ true → b ≡ true
           last true g = refl
@@ -357,19 +342,19 @@ module _ (w : World) (f : Follows lies w ended) (sent : SentWellFormed four liar
       refuse : is_some (said (ended p) Echo place) ≡ true → ⊥
       refuse e = not_none (said (ended p) Echo place) n e
 
-      step : ((a < 3) × (has_said (ended a) (statement_of kind place m) ≡ true)) ⊎ (has_sent lies 3 (statement_of kind place m) ≡ true) → ⊥
-      step (inl x) = refuse (echo_covered (ended p) (ended a) (statement_of kind place m) (echos_cover p l a x.0) x.1)
+      step : ((a < 3) × (has_said (ended a) (new_statement kind place m) ≡ true)) ⊎ (has_sent lies 3 (new_statement kind place m) ≡ true) → ⊥
+      step (inl x) = refuse (echo_covered (ended p) (ended a) (new_statement kind place m) (echos_cover p l a x.0) x.1)
       step (inr x) = refuse (subst (λ (z : Place). is_some (said (ended p) Echo z) ≡ true) (lie_at kind place m x).1 echo_there)
 
   -- where an Echo or a Ready was got, the Ready is said, or it is the liar's place
   readied : (a : ℕ) (kind : Kind) (place : Place) (m : Value) → kind_eq kind Initial ≡ false → got (w.heard p) a kind place ≡ Some m → said (ended p) Ready place ≡ None
-      → (a < 3) × (has_said (ended a) (statement_of kind place m) ≡ true) × (place ≡ liar_place)
+      → (a < 3) × (has_said (ended a) (new_statement kind place m) ≡ true) × (place ≡ liar_place)
   readied a kind place m k h n = step (who a kind place m h)
     where
       refuse : is_some (said (ended p) Ready place) ≡ true → ⊥
       refuse e = not_none (said (ended p) Ready place) n e
 
-      there : (is_some (said (ended p) Ready place) ≡ true) ⊎ (spared (statement_of kind place m) ≡ true) → place ≡ liar_place
+      there : (is_some (said (ended p) Ready place) ≡ true) ⊎ (spared (new_statement kind place m) ≡ true) → place ≡ liar_place
       there (inl e) = absurd (refuse e)
       there (inr e) = at (or_cases (kind_eq kind Initial) (place_eq place liar_place) e)
         where
@@ -377,10 +362,10 @@ module _ (w : World) (f : Follows lies w ended) (sent : SentWellFormed four liar
           at (inl g) = absurd (both_ways (kind_eq kind Initial) k g)
           at (inr g) = place_eq-true place liar_place g
 
-      step : ((a < 3) × (has_said (ended a) (statement_of kind place m) ≡ true)) ⊎ (has_sent lies 3 (statement_of kind place m) ≡ true)
-          → (a < 3) × (has_said (ended a) (statement_of kind place m) ≡ true) × (place ≡ liar_place)
+      step : ((a < 3) × (has_said (ended a) (new_statement kind place m) ≡ true)) ⊎ (has_sent lies 3 (new_statement kind place m) ≡ true)
+          → (a < 3) × (has_said (ended a) (new_statement kind place m) ≡ true) × (place ≡ liar_place)
       step (inl x) =
-          (x.0, x.1, there (or_cases (is_some (said (ended p) Ready place)) (spared (statement_of kind place m)) (ready_covered (ended p) (ended a) (statement_of kind place m) (readys_cover p l a x.0) x.1)))
+          (x.0, x.1, there (or_cases (is_some (said (ended p) Ready place)) (spared (new_statement kind place m)) (ready_covered (ended p) (ended a) (new_statement kind place m) (readys_cover p l a x.0) x.1)))
       step (inr x) =
           let e = (lie_at kind place m x).0 in
           absurd (both_ways (kind_eq kind Initial) k (rw (← e) refl))
@@ -392,14 +377,14 @@ module _ (w : World) (f : Follows lies w ended) (sent : SentWellFormed four liar
       let x = readied o.member Echo place m refl (value_is-true (got (w.heard p) o.member Echo place) m o.passes) n in
       let e = x.2 in
       let q : 5 < 2 * count_below 4 (backs (w.heard p) Echo liar_place m) = rw e at h in
-      let c = count-mono 4 (backs (w.heard p) Echo liar_place m) (λ a. nat_lt a 3 && has_said (ended a) (statement_of Echo liar_place m))
+      let c = count-mono 4 (backs (w.heard p) Echo liar_place m) (λ a. nat_lt a 3 && has_said (ended a) (new_statement Echo liar_place m))
       (λ a i b. said_there a (who a Echo liar_place m (value_is-true (got (w.heard p) a Echo liar_place) m b))) in
       let few = few_echos m in
       omega arith
     where
-      said_there : (a : ℕ) → ((a < 3) × (has_said (ended a) (statement_of Echo liar_place m) ≡ true)) ⊎ (has_sent lies 3 (statement_of Echo liar_place m) ≡ true)
-          → (nat_lt a 3 && has_said (ended a) (statement_of Echo liar_place m)) ≡ true
-      said_there a (inl x) = and_from (nat_lt a 3) (has_said (ended a) (statement_of Echo liar_place m)) (lt-ltb a 3 x.0) x.1
+      said_there : (a : ℕ) → ((a < 3) × (has_said (ended a) (new_statement Echo liar_place m) ≡ true)) ⊎ (has_sent lies 3 (new_statement Echo liar_place m) ≡ true)
+          → (nat_lt a 3 && has_said (ended a) (new_statement Echo liar_place m)) ≡ true
+      said_there a (inl x) = and_from (nat_lt a 3) (has_said (ended a) (new_statement Echo liar_place m)) (lt-ltb a 3 x.0) x.1
       said_there a (inr x) = let e = (lie_at Echo liar_place m x).0 in cc
 
   -- nor a help set
@@ -407,15 +392,15 @@ module _ (w : World) (f : Follows lies w ended) (sent : SentWellFormed four liar
   help_none place m n h =
       let o : Outside 4 (backs (w.heard p) Ready place m) (λ a. false) = some_member 4 (backs (w.heard p) Ready place m) (omega arith) in
       let x = readied o.member Ready place m refl (value_is-true (got (w.heard p) o.member Ready place) m o.passes) n in
-      let s = subst (λ (z : Place). has_said (ended o.member) (statement_of Ready z m) ≡ true) x.2 x.1 in
-      both_ways (has_said (ended o.member) (statement_of Ready liar_place m)) (no_ready m o.member x.0) s
+      let s = subst (λ (z : Place). has_said (ended o.member) (new_statement Ready z m) ≡ true) x.2 x.1 in
+      both_ways (has_said (ended o.member) (new_statement Ready liar_place m)) (no_ready m o.member x.0) s
 
   -- what was got is well formed
   got_formed_here : GotWellFormed four (w.heard p)
-  got_formed_here a kind place m h = (sent a (statement_of kind place m) ((f.ok.each p (honest p l)).shows a kind place m h)).1
+  got_formed_here a kind place m h = (sent a (new_statement kind place m) ((f.ok.each p (honest p l)).shows a kind place m h)).1
 
   -- no statement is lawful
-  statement_none : (kind : Kind) (place : Place) (m : Value) → IsWellFormed four (statement_of kind place m) → IsLawfulStatement four p (ended p) (w.heard p) kind place m → ⊥
+  statement_none : (kind : Kind) (place : Place) (m : Value) → IsWellFormed four (new_statement kind place m) → IsLawfulStatement four p (ended p) (w.heard p) kind place m → ⊥
   statement_none Initial place m ok h =
       let asked = ok.question in
       let q : place.question ≡ 0 = omega arith in
@@ -496,11 +481,11 @@ has_decided_then w f p c =
     rw e (below_three (λ p. has_decided (ended p) 0 1 true ≡ true) refl refl refl p l)
 
 -- and has gone through round 2 since
-has_gone_on : (w : World) → Follows lies w ended → (p : ℕ) → IsCorrect four liar p → IsSome (said (since_decision (w.journal p) 0) Initial (place_of 0 p 2 3))
+has_gone_on : (w : World) → Follows lies w ended → (p : ℕ) → IsCorrect four liar p → IsSome (said (since_decision (w.journal p) 0) Initial (new_place 0 p 2 3))
 has_gone_on w f p c =
     let l = below c in
     let e = f.saved p l in
-    rw e (below_three (λ p. IsSome (said (since_decision (ended p) 0) Initial (place_of 0 p 2 3))) refl refl refl p l)
+    rw e (below_three (λ p. IsSome (said (since_decision (ended p) 0) Initial (new_place 0 p 2 3))) refl refl refl p l)
 
 -- the run as a whole, from the world after its script
 settled_run : (steps : List Step) → IsRun four liar start steps → Follows lies (after_all start steps) ended → HasSettledRun

@@ -1,22 +1,8 @@
 -- What holds of the records of a correct member, and of its records with the batch in doubt.
-use Rattle.std.proofs.Common.{ℕ, ◌≡◌, ◌+◌, ◌*◌, ◌≤◌, Bool, true, false, ◌&&◌, ◌||◌, ◌⊎◌, inl, inr, eqb, refl, sym, ap, subst, ◌∙◌, arith, Some, None, List, [], ◌∷◌, ◌++◌, append_assoc, append-nil, take}
-use Rattle.std.proofs.lemmas.Bool.{and_parts, eqb-true, or_cases}
+use Rattle.std.proofs.Common.{ℕ, ◌≡◌, ◌+◌, ◌*◌, ◌≤◌, Bool, true, false, ◌&&◌, ◌||◌, ◌⊎◌, inl, inr, eqb, refl, sym, ap, subst, ◌∙◌, arith, Some, None, List, [], ◌∷◌, ◌++◌, append_assoc, append-nil, take, eqb-true}
+use Rattle.std.proofs.lemmas.Bool.{and_parts, or_cases}
 use Rattle.std.specs.Bool.{beq}
-use Rattle.terms.specs.declared.Kind.{Kind}
-use Rattle.terms.specs.declared.Kind.TheVariants.{Initial, Echo, Ready}
-use Rattle.terms.specs.declared.Value.{Value}
-use Rattle.terms.specs.declared.Place.{Place}
-use Rattle.terms.specs.declared.Statement.{Statement}
-use Rattle.terms.specs.declared.Record.{Record}
-use Rattle.terms.specs.declared.Record.TheVariants.{Said, Decided}
-use Rattle.terms.specs.declared.Size.{Size}
-use Rattle.terms.specs.Count.{count_below, IsEchoQuorum, IsHelpSet, AtLeast}
-use Rattle.terms.specs.Bounds.{IsSize}
-use Rattle.terms.specs.Same.{statement_of, place_of, plain, sure}
-use Rattle.terms.specs.Heard.{got, backs, Accepted}
-use Rattle.terms.specs.Valid.{IsGiven, IsValid}
-use Rattle.terms.specs.Journal.{said, decided, has_said, has_decided}
-use Rattle.terms.specs.Lawful.{IsLawful, IsLawfulStatement, IsLawfulBatch}
+use Rattle.vocabulary.specs.Terms.{Kind, Initial, Echo, Ready, Value, Place, Statement, Record, Said, Decided, Size, count_below, IsEchoQuorum, IsHelpSet, AtLeast, IsSize, new_statement, new_place, plain, sure, got, backs, Accepted, IsGiven, IsValid, said, decided, has_said, has_decided, IsLawful, IsLawfulStatement, IsLawfulBatch}
 use Rattle.terms.proofs.Count.{count-mono}
 use Rattle.terms.proofs.Same.{value_is-true}
 use Rattle.terms.proofs.Heard.{got-take}
@@ -37,7 +23,7 @@ SubProposed xs ys = (a q : ℕ) (b : Bool) → has_proposed xs a q b ≡ true �
 -- an own Initial of round 1 step 1 has its proposal
 pub record IsProposed (proposed : List (ℕ × ℕ × Bool)) (me : ℕ) (place : Place) (m : Value) : Type 0 where
   pub bit : Bool
-  pub at : place ≡ place_of place.question me 1 1
+  pub at : place ≡ new_place place.question me 1 1
   pub value : m ≡ plain bit
   pub handed : has_proposed proposed me place.question bit ≡ true
 
@@ -46,18 +32,18 @@ abbrev pub IsSound : Size → (ℕ → Bool) → List (ℕ × Statement) → Lis
 IsSound size liars sent proposed me Initial place m =
     (place.origin ≡ me) × (IsProposed proposed me place m ⊎ IsGiven size (Backed size sent) place.question place.round place.step m)
 IsSound size liars sent proposed me Echo place m =
-    IsCorrect size liars place.origin → has_sent sent place.origin (statement_of Initial place m) ≡ true
+    IsCorrect size liars place.origin → has_sent sent place.origin (new_statement Initial place m) ≡ true
 IsSound size liars sent proposed me Ready place m = IsEchoQuorum size (sends sent Echo place m)
 
 pub record Good (size : Size) (liars : ℕ → Bool) (sent : List (ℕ × Statement)) (proposed : List (ℕ × ℕ × Bool)) (me : ℕ) (records : List Record) : Type 0 where
-  pub one : (kind : Kind) (place : Place) (m k : Value) → has_said records (statement_of kind place m) ≡ true → has_said records (statement_of kind place k) ≡ true → m ≡ k
-  pub sound : (kind : Kind) (place : Place) (m : Value) → has_said records (statement_of kind place m) ≡ true → IsSound size liars sent proposed me kind place m
+  pub one : (kind : Kind) (place : Place) (m k : Value) → has_said records (new_statement kind place m) ≡ true → has_said records (new_statement kind place k) ≡ true → m ≡ k
+  pub sound : (kind : Kind) (place : Place) (m : Value) → has_said records (new_statement kind place m) ≡ true → IsSound size liars sent proposed me kind place m
   pub decision : (q r : ℕ) (b : Bool) → has_decided records q r b ≡ true → DecidableIn size sent q r b
 
 pub Backed-mono : (size : Size) (sent later : List (ℕ × Statement)) → Sub sent later → (place : Place) (m : Value) → Backed size sent place m → Backed size later place m
 Backed-mono size sent later sub place m h =
     let k : count_below size.n (sends sent Ready place m) ≤ count_below size.n (sends later Ready place m) =
-    count-mono size.n (sends sent Ready place m) (sends later Ready place m) (λ a l e. sub a (statement_of Ready place m) e) in
+    count-mono size.n (sends sent Ready place m) (sends later Ready place m) (λ a l e. sub a (new_statement Ready place m) e) in
     omega arith
 
 pub Justified-mono : (size : Size) (sent later : List (ℕ × Statement)) → Sub sent later → (q r s a : ℕ) (m : Value) → Justified size sent q r s a m → Justified size later q r s a m
@@ -74,10 +60,10 @@ IsSound-mono size liars sent later before after me sub subp Initial place m h = 
         → IsProposed after me place m ⊎ IsGiven size (Backed size later) place.question place.round place.step m
     step (inl p) = inl (record { bit = p.bit; at = p.at; value = p.value; handed = subp me place.question p.bit p.handed })
     step (inr g) = inr (IsGiven-mono size (Backed size sent) (Backed size later) place.question (λ p v e. Backed-mono size sent later sub p v) place.round place.step m g)
-IsSound-mono size liars sent later before after me sub subp Echo place m h = λ c. sub place.origin (statement_of Initial place m) (h c)
+IsSound-mono size liars sent later before after me sub subp Echo place m h = λ c. sub place.origin (new_statement Initial place m) (h c)
 IsSound-mono size liars sent later before after me sub subp Ready place m h =
     let k : count_below size.n (sends sent Echo place m) ≤ count_below size.n (sends later Echo place m) =
-    count-mono size.n (sends sent Echo place m) (sends later Echo place m) (λ a l e. sub a (statement_of Echo place m) e) in
+    count-mono size.n (sends sent Echo place m) (sends later Echo place m) (λ a l e. sub a (new_statement Echo place m) e) in
     omega arith
 
 pub Good-mono : (size : Size) (liars : ℕ → Bool) (sent later : List (ℕ × Statement)) (before after : List (ℕ × ℕ × Bool)) (me : ℕ) (records : List Record) → Sub sent later → SubProposed before after
@@ -95,8 +81,8 @@ pub Good-front : (size : Size) (liars : ℕ → Bool) (sent : List (ℕ × State
     → Good size liars sent proposed me (xs ++ ys) → Good size liars sent proposed me xs
 Good-front size liars sent proposed me xs ys g =
     record {
-      one = λ kind place m k h i. g.one kind place m k (more (statement_of kind place m) h) (more (statement_of kind place k) i);
-      sound = λ kind place m h. g.sound kind place m (more (statement_of kind place m) h);
+      one = λ kind place m k h i. g.one kind place m k (more (new_statement kind place m) h) (more (new_statement kind place k) i);
+      sound = λ kind place m h. g.sound kind place m (more (new_statement kind place m) h);
       decision = λ q r b h. g.decision q r b (rw (has_decided-append xs ys q r b, h));
     }
   where
@@ -109,8 +95,8 @@ pub Good-said : (size : Size) (liars : ℕ → Bool) (sent : List (ℕ × Statem
     → Good size liars sent proposed me (xs ++ Said s ∷ [])
 Good-said size liars sent proposed me xs s g none ok =
     record {
-      one = λ kind place m k h i. same kind place m k (has_said-snoc xs (Said s) (statement_of kind place m) h) (has_said-snoc xs (Said s) (statement_of kind place k) i);
-      sound = λ kind place m h. rests kind place m (has_said-snoc xs (Said s) (statement_of kind place m) h);
+      one = λ kind place m k h i. same kind place m k (has_said-snoc xs (Said s) (new_statement kind place m) h) (has_said-snoc xs (Said s) (new_statement kind place k) i);
+      sound = λ kind place m h. rests kind place m (has_said-snoc xs (Said s) (new_statement kind place m) h);
       decision = λ q r b h. g.decision q r b (was (has_decided xs q r b) (rw has_decided-append at h));
     }
   where
@@ -118,28 +104,28 @@ Good-said size liars sent proposed me xs s g none ok =
     was true h = refl
     was false h = h
 
-    clash : (kind : Kind) (place : Place) (m k : Value) → has_said xs (statement_of kind place m) ≡ true → Said s ≡ Said (statement_of kind place k) → ⊥
+    clash : (kind : Kind) (place : Place) (m k : Value) → has_said xs (new_statement kind place m) ≡ true → Said s ≡ Said (new_statement kind place k) → ⊥
     clash kind place m k h e =
-        let f : s ≡ statement_of kind place k = cc in
+        let f : s ≡ new_statement kind place k = cc in
         let n : said xs kind place ≡ None = rw (ap (λ (x : Statement). x.kind) f, ap (λ (x : Statement). x.place) f) at none in
-        let z : has_said xs (statement_of kind place m) ≡ false = said-none xs kind place m n in
+        let z : has_said xs (new_statement kind place m) ≡ false = said-none xs kind place m n in
         let w : true ≡ false = cc in
         cc
 
     same : (kind : Kind) (place : Place) (m k : Value)
-        → (has_said xs (statement_of kind place m) ≡ true) ⊎ (Said s ≡ Said (statement_of kind place m))
-        → (has_said xs (statement_of kind place k) ≡ true) ⊎ (Said s ≡ Said (statement_of kind place k)) → m ≡ k
+        → (has_said xs (new_statement kind place m) ≡ true) ⊎ (Said s ≡ Said (new_statement kind place m))
+        → (has_said xs (new_statement kind place k) ≡ true) ⊎ (Said s ≡ Said (new_statement kind place k)) → m ≡ k
     same kind place m k (inl h) (inl i) = g.one kind place m k h i
     same kind place m k (inl h) (inr i) = absurd (clash kind place m k h i)
     same kind place m k (inr h) (inl i) = absurd (clash kind place k m i h)
-    same kind place m k (inr h) (inr i) = let e : s ≡ statement_of kind place m = cc in let f : s ≡ statement_of kind place k = cc in
+    same kind place m k (inr h) (inr i) = let e : s ≡ new_statement kind place m = cc in let f : s ≡ new_statement kind place k = cc in
         sym (ap (λ (x : Statement). x.value) e) ∙ ap (λ (x : Statement). x.value) f
 
     rests : (kind : Kind) (place : Place) (m : Value)
-        → (has_said xs (statement_of kind place m) ≡ true) ⊎ (Said s ≡ Said (statement_of kind place m)) → IsSound size liars sent proposed me kind place m
+        → (has_said xs (new_statement kind place m) ≡ true) ⊎ (Said s ≡ Said (new_statement kind place m)) → IsSound size liars sent proposed me kind place m
     rests kind place m (inl h) = g.sound kind place m h
     rests kind place m (inr h) =
-        let e : s ≡ statement_of kind place m = cc in
+        let e : s ≡ new_statement kind place m = cc in
         let P : Statement → Type 0 = λ x. IsSound size liars sent proposed me x.kind x.place x.value in
         subst P e ok
 
@@ -155,8 +141,8 @@ pub Good-decided : (size : Size) (liars : ℕ → Bool) (sent : List (ℕ × Sta
     → Good size liars sent proposed me (xs ++ Decided q r b ∷ [])
 Good-decided size liars sent proposed me xs q r b g none ok =
     record {
-      one = λ kind place m k h i. g.one kind place m k (old (statement_of kind place m) h) (old (statement_of kind place k) i);
-      sound = λ kind place m h. g.sound kind place m (old (statement_of kind place m) h);
+      one = λ kind place m k h i. g.one kind place m k (old (new_statement kind place m) h) (old (new_statement kind place k) i);
+      sound = λ kind place m h. g.sound kind place m (old (new_statement kind place m) h);
       decision = λ p s c h. pick p s c (or_cases (has_decided xs p s c) (((eqb q p) && ((eqb r s) && beq b c)) || false) (rw has_decided-append at h));
     }
   where
@@ -179,7 +165,7 @@ Good-decided size liars sent proposed me xs q r b g none ok =
 
 -- what is accepted in a hearing that shows what was sent is backed
 pub shown_backed : (size : Size) (sent heard : List (ℕ × Statement))
-    → ((a : ℕ) (kind : Kind) (place : Place) (m : Value) → got heard a kind place ≡ Some m → has_sent sent a (statement_of kind place m) ≡ true)
+    → ((a : ℕ) (kind : Kind) (place : Place) (m : Value) → got heard a kind place ≡ Some m → has_sent sent a (new_statement kind place m) ≡ true)
     → (place : Place) (m : Value) → Accepted size heard place m → Backed size sent place m
 shown_backed size sent heard shows place m acc =
     let r = acc.reached in
@@ -190,12 +176,12 @@ shown_backed size sent heard shows place m acc =
 
 module _ (size : Size) (liars : ℕ → Bool) (ok : IsSize size) (few : count_below size.n liars ≤ size.t)
     (sent : List (ℕ × Statement)) (proposed : List (ℕ × ℕ × Bool)) (me : ℕ) (heard : List (ℕ × Statement))
-    (shows : (a : ℕ) (kind : Kind) (place : Place) (m : Value) → got heard a kind place ≡ Some m → has_sent sent a (statement_of kind place m) ≡ true)
-    (readys : (a : ℕ) (place : Place) (m : Value) → IsCorrect size liars a → has_sent sent a (statement_of Ready place m) ≡ true → IsEchoQuorum size (sends sent Echo place m))
-    (echos : (a : ℕ) (place : Place) (m : Value) → IsCorrect size liars a → IsCorrect size liars place.origin → has_sent sent a (statement_of Echo place m) ≡ true → has_sent sent place.origin (statement_of Initial place m) ≡ true)
+    (shows : (a : ℕ) (kind : Kind) (place : Place) (m : Value) → got heard a kind place ≡ Some m → has_sent sent a (new_statement kind place m) ≡ true)
+    (readys : (a : ℕ) (place : Place) (m : Value) → IsCorrect size liars a → has_sent sent a (new_statement Ready place m) ≡ true → IsEchoQuorum size (sends sent Echo place m))
+    (echos : (a : ℕ) (place : Place) (m : Value) → IsCorrect size liars a → IsCorrect size liars place.origin → has_sent sent a (new_statement Echo place m) ≡ true → has_sent sent place.origin (new_statement Initial place m) ≡ true)
   where
     -- the backers of a value in what was heard sent it
-    backers_sent : (kind : Kind) (place : Place) (m : Value) (a : ℕ) → backs heard kind place m a ≡ true → has_sent sent a (statement_of kind place m) ≡ true
+    backers_sent : (kind : Kind) (place : Place) (m : Value) (a : ℕ) → backs heard kind place m a ≡ true → has_sent sent a (new_statement kind place m) ≡ true
     backers_sent kind place m a h = shows a kind place m (value_is-true (got heard a kind place) m h)
 
     backers_count : (kind : Kind) (place : Place) (m : Value) → count_below size.n (backs heard kind place m) ≤ count_below size.n (sends sent kind place m)
@@ -212,7 +198,7 @@ module _ (size : Size) (liars : ℕ → Bool) (ok : IsSize size) (few : count_be
         let w : Witness size liars (backs heard Ready place m) = help_has size liars ok few (backs heard Ready place m) q in
         readys w.member place m w.correct (backers_sent Ready place m w.member w.passes)
 
-    echo_sent : (place : Place) (m : Value) → IsEchoQuorum size (sends sent Echo place m) → IsCorrect size liars place.origin → has_sent sent place.origin (statement_of Initial place m) ≡ true
+    echo_sent : (place : Place) (m : Value) → IsEchoQuorum size (sends sent Echo place m) → IsCorrect size liars place.origin → has_sent sent place.origin (new_statement Initial place m) ≡ true
     echo_sent place m q c =
         let w : Witness size liars (sends sent Echo place m) = quorum_has size liars ok few (sends sent Echo place m) q in
         echos w.member place m w.correct c w.passes
@@ -223,7 +209,7 @@ module _ (size : Size) (liars : ℕ → Bool) (ok : IsSize size) (few : count_be
     lawful_sound records Echo place m h = step h.1
       where
         step : (got heard place.origin Initial place ≡ Some m) ⊎ (IsEchoQuorum size (backs heard Echo place m) ⊎ IsHelpSet size (backs heard Ready place m))
-            → IsCorrect size liars place.origin → has_sent sent place.origin (statement_of Initial place m) ≡ true
+            → IsCorrect size liars place.origin → has_sent sent place.origin (new_statement Initial place m) ≡ true
         step (inl g) c = shows place.origin Initial place m g
         step (inr q) c = echo_sent place m (quorum_sent place m q) c
     lawful_sound records Ready place m h = quorum_sent place m h.1

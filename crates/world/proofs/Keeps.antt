@@ -1,19 +1,8 @@
 -- Each step keeps what holds of the world.
-use Rattle.std.proofs.Common.{ℕ, ◌≡◌, ◌≤◌, Bool, true, false, cond, ◌||◌, ◌⊎◌, inl, inr, eqb, eq-eqb, refl, sym, ap, ◌∙◌, Option, Some, None, List, [], ◌∷◌, ◌++◌, append-nil, append_assoc}
+use Rattle.std.proofs.Common.{ℕ, ◌≡◌, ◌≤◌, Bool, true, false, cond, ◌||◌, ◌⊎◌, inl, inr, eqb, eq-eqb, refl, sym, ap, ◌∙◌, Option, Some, None, List, [], ◌∷◌, ◌++◌, append-nil, append_assoc, eqb-true, ne_eqb}
 use Rattle.std.specs.Bool.{beq}
-use Rattle.std.proofs.lemmas.Bool.{eqb-true, or_right, both_ways, ne_eqb}
-use Rattle.terms.specs.declared.Kind.{Kind}
-use Rattle.terms.specs.declared.Value.{Value}
-use Rattle.terms.specs.declared.Place.{Place}
-use Rattle.terms.specs.declared.Statement.{Statement}
-use Rattle.terms.specs.declared.Record.{Record}
-use Rattle.terms.specs.declared.Record.TheVariants.{Said}
-use Rattle.terms.specs.declared.Size.{Size}
-use Rattle.terms.specs.Count.{count_below}
-use Rattle.terms.specs.Bounds.{IsSize}
-use Rattle.terms.specs.Same.{statement_of}
-use Rattle.terms.specs.Heard.{got, hear, hear_all}
-use Rattle.terms.specs.Journal.{has_said}
+use Rattle.std.proofs.lemmas.Bool.{or_right, both_ways}
+use Rattle.vocabulary.specs.Terms.{Kind, Value, Place, Statement, Record, Said, Size, count_below, IsSize, new_statement, got, hear, hear_all, has_said}
 use Rattle.terms.proofs.Heard.{got-hear}
 use Rattle.terms.proofs.Journal.{has_said-append}
 use Rattle.world.specs.World.{World, Step, has_sent, IsCorrect, AllSent, put, statements_of, in_doubt, after, after_batch, IsAllowed, IsProposalBatch, first_said, IsRun, after_all, start}
@@ -38,13 +27,13 @@ or_again false b = refl
 
 -- what was heard after more statements that were sent shows what was sent
 pub all_shows : (sent H : List (ℕ × Statement)) (es : List (ℕ × Statement))
-    → ((a : ℕ) (kind : Kind) (place : Place) (m : Value) → got H a kind place ≡ Some m → has_sent sent a (statement_of kind place m) ≡ true)
+    → ((a : ℕ) (kind : Kind) (place : Place) (m : Value) → got H a kind place ≡ Some m → has_sent sent a (new_statement kind place m) ≡ true)
     → AllSent sent es
-    → (a : ℕ) (kind : Kind) (place : Place) (m : Value) → got (hear_all H es) a kind place ≡ Some m → has_sent sent a (statement_of kind place m) ≡ true
+    → (a : ℕ) (kind : Kind) (place : Place) (m : Value) → got (hear_all H es) a kind place ≡ Some m → has_sent sent a (new_statement kind place m) ≡ true
 all_shows sent H [] shows h = shows
 all_shows sent H (e ∷ es) shows h = all_shows sent (hear H e) es (λ a kind place m g. step a kind place m (got-hear H e a kind place m g)) h.1
   where
-    step : (a : ℕ) (kind : Kind) (place : Place) (m : Value) → (got H a kind place ≡ Some m) ⊎ ((e.0 ≡ a) × (e.1 ≡ statement_of kind place m)) → has_sent sent a (statement_of kind place m) ≡ true
+    step : (a : ℕ) (kind : Kind) (place : Place) (m : Value) → (got H a kind place ≡ Some m) ⊎ ((e.0 ≡ a) × (e.1 ≡ new_statement kind place m)) → has_sent sent a (new_statement kind place m) ≡ true
     step a kind place m (inl g) = shows a kind place m g
     step a kind place m (inr g) = rw (g.0, g.1) at h.0
 
@@ -68,21 +57,21 @@ module _ (size : Size) (liars : ℕ → Bool) (w : World) (p : ℕ) where
 -- the member p keeps a batch, and has heard H by then; proposals may have come
 kept_ok : (size : Size) (liars : ℕ → Bool) (w : World) (proposed : List (ℕ × ℕ × Bool)) (p : ℕ) (H : List (ℕ × Statement)) (batch : List Record)
     → WorldOk size liars w → SubProposed w.proposed proposed → w.doubt p ≡ None
-    → ((a : ℕ) (kind : Kind) (place : Place) (m : Value) → got H a kind place ≡ Some m → has_sent w.sent a (statement_of kind place m) ≡ true)
+    → ((a : ℕ) (kind : Kind) (place : Place) (m : Value) → got H a kind place ≡ Some m → has_sent w.sent a (new_statement kind place m) ≡ true)
     → Good size liars w.sent proposed p (w.journal p ++ batch)
     → IsCorrect size liars p
     → MemberOk size liars (w.sent ++ statements_of p batch) proposed p (w.journal p ++ batch) H (w.doubt p)
 kept_ok size liars w proposed p H batch ok subp up shows good c =
     rw up (record {
       same = λ s. own_sent size liars w p batch s ∙ (ap (λ b. b || has_said batch s) ((ok.each p c).same s) ∙ sym (has_said-append (w.journal p) batch s));
-      shows = λ a kind place m e. more_sent size liars w p batch a (statement_of kind place m) (shows a kind place m e);
+      shows = λ a kind place m e. more_sent size liars w p batch a (new_statement kind place m) (shows a kind place m e);
       good = Good-mono size liars w.sent (w.sent ++ statements_of p batch) proposed proposed p (w.journal p ++ batch) (more_sent size liars w p batch) (λ a q b h. h) good;
     })
 
 -- the member p goes down with a batch in doubt
 down_ok : (size : Size) (liars : ℕ → Bool) (w : World) (proposed : List (ℕ × ℕ × Bool)) (p : ℕ) (H : List (ℕ × Statement)) (batch : List Record)
     → WorldOk size liars w → SubProposed w.proposed proposed
-    → ((a : ℕ) (kind : Kind) (place : Place) (m : Value) → got H a kind place ≡ Some m → has_sent w.sent a (statement_of kind place m) ≡ true)
+    → ((a : ℕ) (kind : Kind) (place : Place) (m : Value) → got H a kind place ≡ Some m → has_sent w.sent a (new_statement kind place m) ≡ true)
     → Good size liars w.sent proposed p (w.journal p ++ batch)
     → IsCorrect size liars p
     → MemberOk size liars w.sent proposed p (w.journal p) H (Some batch)
@@ -93,7 +82,7 @@ down_ok size liars w proposed p H batch ok subp shows good c =
 batch_ok : (size : Size) (liars : ℕ → Bool) (w : World) (proposed : List (ℕ × ℕ × Bool)) (p : ℕ) (heard : ℕ → List (ℕ × Statement)) (batch : List Record) (kept : Bool)
     → WorldOk size liars w → SubProposed w.proposed proposed → w.doubt p ≡ None
     → ((a : ℕ) → eqb a p ≡ false → heard a ≡ w.heard a)
-    → ((a : ℕ) (kind : Kind) (place : Place) (m : Value) → got (heard p) a kind place ≡ Some m → has_sent w.sent a (statement_of kind place m) ≡ true)
+    → ((a : ℕ) (kind : Kind) (place : Place) (m : Value) → got (heard p) a kind place ≡ Some m → has_sent w.sent a (new_statement kind place m) ≡ true)
     → Good size liars w.sent proposed p (w.journal p ++ batch)
     → IsCorrect size liars p
     → WorldOk size liars (after_batch (record w { heard = heard; proposed = proposed }) p batch kept)
@@ -214,7 +203,7 @@ step_ok size liars ok few w (Hears p es batch kept) h wok =
     batch (w.journal p) (member_good size liars w wok p h.0) h.3)
     h.0
   where
-    shows : (a : ℕ) (kind : Kind) (place : Place) (m : Value) → got (hear_all (w.heard p) es) a kind place ≡ Some m → has_sent w.sent a (statement_of kind place m) ≡ true
+    shows : (a : ℕ) (kind : Kind) (place : Place) (m : Value) → got (hear_all (w.heard p) es) a kind place ≡ Some m → has_sent w.sent a (new_statement kind place m) ≡ true
     shows = all_shows w.sent (w.heard p) es (wok.each p h.0).shows h.2
 step_ok size liars ok few w (Proposes p q bit batch kept) h wok =
     batch_ok size liars w ((p, q, bit) ∷ w.proposed) p w.heard batch kept wok (has_proposed-more w.proposed (p, q, bit)) h.1

@@ -1,23 +1,12 @@
 -- What a correct member says over all of its lives, in order, and that it is well formed.
-use Rattle.std.proofs.Common.{ℕ, ◌≡◌, ◌<◌, ◌≤◌, Bool, true, false, cond, ◌&&◌, ◌||◌, ◌⊎◌, inl, inr, eqb, refl, sym, ◌∙◌, arith, Option, Some, None, List, [], ◌∷◌, ◌++◌, append-nil, append_assoc}
-use Rattle.std.proofs.lemmas.Bool.{and_parts, or_cases, or_right, eqb-true}
-use Rattle.terms.specs.declared.Kind.TheVariants.{Initial}
-use Rattle.terms.specs.declared.Statement.{Statement}
-use Rattle.terms.specs.declared.Record.{Record}
-use Rattle.terms.specs.declared.Record.TheVariants.{Said, Decided}
-use Rattle.terms.specs.declared.Size.{Size}
-use Rattle.terms.specs.Count.{count_below}
-use Rattle.terms.specs.Bounds.{IsSize, FitsStep}
-use Rattle.terms.specs.Same.{statement_of, statement_eq, place_of, plain}
-use Rattle.terms.specs.WellFormed.{IsWellFormed}
-use Rattle.terms.specs.Heard.{hear_all}
-use Rattle.terms.specs.Journal.{said, has_said}
-use Rattle.terms.specs.Lawful.{IsLawfulBatch}
+use Rattle.std.proofs.Common.{ℕ, ◌≡◌, ◌<◌, ◌≤◌, Bool, true, false, cond, ◌&&◌, ◌||◌, ◌⊎◌, inl, inr, eqb, refl, sym, ◌∙◌, arith, Option, Some, None, List, [], ◌∷◌, ◌++◌, append-nil, append_assoc, eqb-true}
+use Rattle.std.proofs.lemmas.Bool.{and_parts, or_cases, or_right}
+use Rattle.vocabulary.specs.Terms.{Initial, Statement, Record, Said, Decided, Size, count_below, IsSize, FitsStep, new_statement, statement_eq, new_place, plain, IsWellFormed, hear_all, said, has_said, IsLawfulBatch}
 use Rattle.terms.proofs.Same.{statement_eq-true}
 use Rattle.terms.proofs.Stands.{Stands, lawful_stands}
 use Rattle.world.specs.World.{World, Step, has_sent, IsCorrect, AllSent, put, statements_of, in_doubt, after, after_batch, IsAllowed, IsProposalBatch, first_said, IsRun, after_all, start}
 use Rattle.world.specs.World.Step.{Lie, Hears, Proposes, Crash, Restart}
-use Rattle.world.specs.Laws.{AreWellFormed, SentWellFormed, SavedWellFormed, InitialsStandOn}
+use Rattle.world.specs.Laws.{AreWellFormedRecords, SentWellFormed, SavedWellFormed, InitialsStandOn}
 use Rattle.world.proofs.Sending.{has_sent-append}
 use Rattle.world.proofs.Invariant.{WorldOk, all_of, start_ok}
 use Rattle.world.proofs.Keeps.{all_shows, step_ok}
@@ -56,7 +45,7 @@ batch_stands size me records heard (x ∷ xs) h = (lawful_stands size me records
 
 -- what holds of the records of a member, also with the batch in doubt
 pub record IsKept (size : Size) (me : ℕ) (records : List Record) : Type 0 where
-  pub formed : AreWellFormed size records
+  pub formed : AreWellFormedRecords size records
   pub stand : AllStand me [] records
 
 -- it holds of a front
@@ -74,7 +63,7 @@ IsKept-batch size ok me member records heard batch formed k h =
 
 -- the Initial of a proposal
 IsKept-first : (size : Size) (me q : ℕ) (bit : Bool) (records : List Record) → me < size.n → q < size.questions
-    → said records Initial (place_of q me 1 1) ≡ None → IsKept size me records → IsKept size me (records ++ Said (first_said me q bit) ∷ [])
+    → said records Initial (new_place q me 1 1) ≡ None → IsKept size me records → IsKept size me (records ++ Said (first_said me q bit) ∷ [])
 IsKept-first size me q bit records member asked none k =
     record {
       formed = AreWellFormed-append size records (Said (first_said me q bit) ∷ []) k.formed
@@ -114,7 +103,7 @@ pub record OrderOk (size : Size) (liars : ℕ → Bool) (w : World) : Type 0 whe
   pub kept : (p : ℕ) → IsCorrect size liars p → IsKept size p (all_of (w.journal p) (w.doubt p))
 
 -- a member that sends well-formed records keeps all that was sent so
-sent_more : (size : Size) (liars : ℕ → Bool) (w : World) (p : ℕ) (rs : List Record) → SentWellFormed size liars w → p < size.n → AreWellFormed size rs
+sent_more : (size : Size) (liars : ℕ → Bool) (w : World) (p : ℕ) (rs : List Record) → SentWellFormed size liars w → p < size.n → AreWellFormedRecords size rs
     → (a : ℕ) (s : Statement) → has_sent (w.sent ++ statements_of p rs) a s ≡ true → (a < size.n) × IsWellFormed size s
 sent_more size liars w p rs old member formed a s h =
     let e = has_sent-append w.sent (statements_of p rs) a s in
@@ -130,7 +119,7 @@ kept_saved size me records None k = k
 kept_saved size me records (Some batch) k = IsKept-front size me records batch k
 
 -- the back of well-formed records is well formed
-back_part : (size : Size) (xs ys : List Record) → AreWellFormed size (xs ++ ys) → AreWellFormed size ys
+back_part : (size : Size) (xs ys : List Record) → AreWellFormedRecords size (xs ++ ys) → AreWellFormedRecords size ys
 back_part size [] ys h = h
 back_part size (x ∷ xs) ys h = back_part size xs ys h.1
 
@@ -196,12 +185,12 @@ module _ (size : Size) (ok : IsSize size) (liars : ℕ → Bool) (w : World) (wo
 
   -- what was heard is well formed, also after more that was sent
   pub got_formed : GotWellFormed size (w.heard p)
-  got_formed a kind place m h = (ook.sent a (statement_of kind place m) ((wok.each p c).shows a kind place m h)).1
+  got_formed a kind place m h = (ook.sent a (new_statement kind place m) ((wok.each p c).shows a kind place m h)).1
 
   -- also after more that was sent was heard
   got_formed_then : (es : List (ℕ × Statement)) → AllSent w.sent es → GotWellFormed size (hear_all (w.heard p) es)
   got_formed_then es all a kind place m h =
-      (ook.sent a (statement_of kind place m) (all_shows w.sent (w.heard p) es (wok.each p c).shows all a kind place m h)).1
+      (ook.sent a (new_statement kind place m) (all_shows w.sent (w.heard p) es (wok.each p c).shows all a kind place m h)).1
 
   -- after hearing statements
   hears_order : (es : List (ℕ × Statement)) (batch : List Record) (kept : Bool) → IsAllowed size liars w (Hears p es batch kept) → OrderOk size liars (after w (Hears p es batch kept))
@@ -257,7 +246,7 @@ reached_order size liars ok few xs h = run_order size liars ok few start xs h (s
 pub saved_formed : (size : Size) (liars : ℕ → Bool) (w : World) → OrderOk size liars w → SavedWellFormed size liars w
 saved_formed size liars w ook p c = whole (w.doubt p) (ook.kept p c)
   where
-    whole : (doubt : Option (List Record)) → IsKept size p (all_of (w.journal p) doubt) → AreWellFormed size (w.journal p ++ in_doubt doubt)
+    whole : (doubt : Option (List Record)) → IsKept size p (all_of (w.journal p) doubt) → AreWellFormedRecords size (w.journal p ++ in_doubt doubt)
     whole None k = rw append-nil k.formed
     whole (Some batch) k = k.formed
 

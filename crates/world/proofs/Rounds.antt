@@ -1,23 +1,9 @@
 -- What the rounds promise of a world that is as every run leaves it.
-use Rattle.std.proofs.Common.{ℕ, zero, suc, ◌≡◌, ◌+◌, ◌-◌, ◌*◌, ◌<◌, ◌≤◌, Bool, true, false, cond, not, ◌&&◌, ◌⊎◌, inl, inr, refl, sym, ap, ◌∙◌, arith, Option, Some, None, List, [], ◌∷◌}
-use Rattle.std.specs.Prelude.{is_some}
+use Rattle.std.proofs.Common.{ℕ, zero, suc, ◌≡◌, ◌+◌, ◌-◌, ◌*◌, ◌<◌, ◌≤◌, Bool, true, false, cond, not, ◌&&◌, ◌⊎◌, inl, inr, refl, sym, ap, ◌∙◌, arith, Option, Some, None, List, [], ◌∷◌, is_some}
 use Rattle.std.proofs.lemmas.Bool.{and_parts, not-true, cases_lt, cases_order}
-use Rattle.terms.specs.declared.Kind.{Kind}
-use Rattle.terms.specs.declared.Kind.TheVariants.{Initial, Echo}
-use Rattle.terms.specs.declared.Value.{Value}
-use Rattle.terms.specs.declared.Value.TheVariants.{Zero, One, SureZero, SureOne, Unsure}
-use Rattle.terms.specs.declared.Place.{Place}
-use Rattle.terms.specs.declared.Size.{Size}
-use Rattle.terms.specs.Count.{count_below}
-use Rattle.terms.specs.Bounds.{IsSize}
-use Rattle.terms.specs.Same.{statement_of, place_of, plain, sure, value_is}
-use Rattle.terms.specs.Next.{Gives, votes, Next}
-use Rattle.terms.specs.Valid.{First, Second, Third, IsValid}
-use Rattle.terms.specs.Journal.{has_decided}
+use Rattle.vocabulary.specs.Terms.{Kind, Initial, Echo, Value, Zero, One, SureZero, SureOne, Unsure, Place, Size, count_below, IsSize, new_statement, new_place, plain, sure, value_is, Gives, votes, Next, First, Second, Third, IsValid, has_decided, Statement, got, Accepted}
 use Rattle.terms.proofs.Count.{count-mono, count-and, count-not, Outside, has_outside}
 use Rattle.terms.proofs.Same.{value_is-true, value_is-from}
-use Rattle.terms.specs.declared.Statement.{Statement}
-use Rattle.terms.specs.Heard.{got, Accepted}
 use Rattle.terms.proofs.Heard.{got-cons}
 use Rattle.terms.proofs.Valid.{IsValid-mono}
 use Rattle.world.specs.World.{World, has_sent, IsCorrect, AllSent}
@@ -77,7 +63,7 @@ module _ (size : Size) (liars : ℕ → Bool) (ok : IsSize size) (few : count_be
       let p = and_parts (value_is (g.set o.member) (plain v)) (value_is (j.set o.member) (plain u)) o.passes in
       let m = g.each o.member (plain v) o.below (value_is-true (g.set o.member) (plain v) p.0) in
       let n = j.each o.member (plain u) o.below (value_is-true (j.set o.member) (plain u) p.1) in
-      plain-one v u (one (place_of q o.member (suc r) 2) (plain v) (plain u) m.0 n.0)
+      plain-one v u (one (new_place q o.member (suc r) 2) (plain v) (plain u) m.0 n.0)
 
   pub one_sure : HasOneSure size liars w
   one_sure q zero a b v u h k = absurd h
@@ -209,7 +195,7 @@ module _ (size : Size) (liars : ℕ → Bool) (ok : IsSize size) (few : count_be
       backs g c j e =
           let p = and_parts (is_some (g.set c)) (d.set c) e in
           some_is (g.set c) (sure v)
-          (λ y i. one_backed size liars ok few w wok (place_of q c (suc r) 3) y (sure v) (g.each c y j i).0 (d.each c j p.1).0) p.0
+          (λ y i. one_backed size liars ok few w wok (new_place q c (suc r) 3) y (sure v) (g.each c y j i).0 (d.each c j p.1).0) p.0
 
   correct_first : (r : ℕ) → FirstIs r → CorrectFirstIs r
   correct_first r f a m c h = f a m h
@@ -236,12 +222,12 @@ module _ (size : Size) (liars : ℕ → Bool) (ok : IsSize size) (few : count_be
   -- the first messages of correct members are what they were handed
   first_proposed : AllPropose w q v → CorrectFirstIs 0
   first_proposed all a m c h =
-      let x : Witness size liars (sends w.sent Echo (place_of q a 1 1) m) =
-      quorum_has size liars ok few (sends w.sent Echo (place_of q a 1 1) m) (backed_echos size liars ok few w wok (place_of q a 1 1) m h) in
-      let i = has_initial size liars w wok x.member (place_of q a 1 1) m x.correct c x.passes in
-      step ((member_good size liars w wok a c).sound Initial (place_of q a 1 1) m (sent_said size liars w wok a c (statement_of Initial (place_of q a 1 1) m) i)).1
+      let x : Witness size liars (sends w.sent Echo (new_place q a 1 1) m) =
+      quorum_has size liars ok few (sends w.sent Echo (new_place q a 1 1) m) (backed_echos size liars ok few w wok (new_place q a 1 1) m h) in
+      let i = has_initial size liars w wok x.member (new_place q a 1 1) m x.correct c x.passes in
+      step ((member_good size liars w wok a c).sound Initial (new_place q a 1 1) m (sent_said size liars w wok a c (new_statement Initial (new_place q a 1 1) m) i)).1
     where
-      step : IsProposed w.proposed a (place_of q a 1 1) m ⊎ ⊥ → m ≡ plain v
+      step : IsProposed w.proposed a (new_place q a 1 1) m ⊎ ⊥ → m ≡ plain v
       step (inl p) = p.value ∙ ap plain (all a p.bit p.handed)
       step (inr e) = absurd e
 
@@ -326,13 +312,13 @@ module _ (size : Size) (liars : ℕ → Bool) (ok : IsSize size) (few : count_be
       (decided_in a c q r u h)
     where
       shows : (xs : List (ℕ × Statement)) → AllSent w.sent xs → (b : ℕ) (kind : Kind) (place : Place) (m : Value) → got xs b kind place ≡ Some m
-          → has_sent w.sent b (statement_of kind place m) ≡ true
+          → has_sent w.sent b (new_statement kind place m) ≡ true
       shows [] s b kind place m e = cc
       shows (x ∷ xs) s b kind place m e = pick (got-cons x xs b kind place m e) (shows xs s.1 b kind place m)
         where
-          pick : ((x.0 ≡ b) × (x.1 ≡ statement_of kind place m)) ⊎ (got xs b kind place ≡ Some m)
-              → (got xs b kind place ≡ Some m → has_sent w.sent b (statement_of kind place m) ≡ true)
-              → has_sent w.sent b (statement_of kind place m) ≡ true
+          pick : ((x.0 ≡ b) × (x.1 ≡ new_statement kind place m)) ⊎ (got xs b kind place ≡ Some m)
+              → (got xs b kind place ≡ Some m → has_sent w.sent b (new_statement kind place m) ≡ true)
+              → has_sent w.sent b (new_statement kind place m) ≡ true
           pick (inl g) f = rw (g.0, g.1) at s.0
           pick (inr g) f = f g
 

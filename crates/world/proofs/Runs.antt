@@ -1,15 +1,6 @@
 -- What a simulator needs: runs that go on, and the steps that members' replies are.
-use Rattle.std.proofs.Common.{ℕ, ◌≡◌, ◌<◌, Bool, true, false, cond, inl, inr, eqb, eq-eqb, refl, sym, ap, ◌∙◌, None, List, [], ◌∷◌, ◌++◌, append-nil, append_assoc}
-use Rattle.std.proofs.lemmas.Bool.{eqb-true}
-use Rattle.terms.specs.declared.Statement.{Statement}
-use Rattle.terms.specs.declared.Record.{Record}
-use Rattle.terms.specs.declared.Size.{Size}
-use Rattle.terms.specs.Same.{plain}
-use Rattle.terms.specs.Past.{Past, past_of}
-use Rattle.terms.specs.Answer.{AreProposed}
-use Rattle.terms.specs.Reply.{Reply, on, IsReply, AreReplies, records_of, records_of_all, without_tosses}
-use Rattle.terms.specs.Reply.Reply.{Foreign, Repeat, Have, Taken}
-use Rattle.terms.specs.Reply.Event.{Proposal}
+use Rattle.std.proofs.Common.{ℕ, ◌≡◌, ◌<◌, Bool, true, false, cond, inl, inr, eqb, eq-eqb, refl, sym, ap, ◌∙◌, None, List, [], ◌∷◌, ◌++◌, append-nil, append_assoc, eqb-true}
+use Rattle.vocabulary.specs.Terms.{Statement, Record, Size, plain, Past, past_of, AreProposed, Reply, on, IsReply, AreReplies, records_of, records_of_all, without_tosses, Foreign, Repeat, Have, Taken, Proposal}
 use Rattle.terms.proofs.Answer.{proposed_lawful, group_step}
 use Rattle.world.specs.World.{World, Step, IsCorrect, IsRun, IsAllowed, IsProposalBatch, AllSent, put, in_doubt, after, after_all}
 use Rattle.world.specs.World.Step.{Lie, Hears, Proposes, Crash, Restart}

@@ -1,16 +1,6 @@
 -- Whoever lies, and however many: a correct member saves no kind twice at a place, and no question twice.
-use Rattle.std.proofs.Common.{ℕ, ◌≡◌, ◌≤◌, ◌+◌, Bool, true, false, cond, inl, inr, eqb, refl, arith, Option, Some, None, List, [], ◌∷◌, ◌++◌, append-nil, append_assoc}
-use Rattle.std.proofs.lemmas.Bool.{eqb-true}
-use Rattle.terms.specs.declared.Kind.{Kind}
-use Rattle.terms.specs.declared.Place.{Place}
-use Rattle.terms.specs.declared.Statement.{Statement}
-use Rattle.terms.specs.declared.Record.{Record}
-use Rattle.terms.specs.declared.Record.TheVariants.{Said, Decided}
-use Rattle.terms.specs.declared.Size.{Size}
-use Rattle.terms.specs.Same.{is_about}
-use Rattle.terms.specs.Heard.{hear_all}
-use Rattle.terms.specs.Journal.{said, decided, sayings, decisions}
-use Rattle.terms.specs.Lawful.{IsLawful, IsLawfulBatch}
+use Rattle.std.proofs.Common.{ℕ, ◌≡◌, ◌≤◌, ◌+◌, Bool, true, false, cond, inl, inr, eqb, refl, arith, Option, Some, None, List, [], ◌∷◌, ◌++◌, append-nil, append_assoc, eqb-true}
+use Rattle.vocabulary.specs.Terms.{Kind, Place, Statement, Record, Said, Decided, Size, is_about, hear_all, said, decided, sayings, decisions, IsLawful, IsLawfulBatch}
 use Rattle.terms.proofs.Same.{is_about-true}
 use Rattle.terms.proofs.Lawful.{is_first}
 use Rattle.world.specs.World.{World, Step, IsCorrect, put, in_doubt, after, after_batch, IsAllowed, IsProposalBatch, first_said, IsRun, after_all, start}

@@ -1,18 +1,7 @@
 -- Where nothing was saved and nothing heard, nothing is lawful.
 use Rattle.std.proofs.Common.{ℕ, zero, suc, ◌≡◌, Bool, false, inl, inr, refl, arith, [], take}
 use Rattle.std.proofs.Math.Seq.{take-nil}
-use Rattle.terms.specs.declared.Kind.{Kind}
-use Rattle.terms.specs.declared.Kind.TheVariants.{Initial, Echo, Ready}
-use Rattle.terms.specs.declared.Value.{Value}
-use Rattle.terms.specs.declared.Place.{Place}
-use Rattle.terms.specs.declared.Record.{Record}
-use Rattle.terms.specs.declared.Record.TheVariants.{Said, Decided}
-use Rattle.terms.specs.declared.Size.{Size}
-use Rattle.terms.specs.Count.{count_below}
-use Rattle.terms.specs.Heard.{backs, Accepted}
-use Rattle.terms.specs.Lawful.{IsLawful, IsLawfulStatement}
-use Rattle.terms.specs.Same.{sure}
-use Rattle.terms.specs.Valid.{IsValid}
+use Rattle.vocabulary.specs.Terms.{Kind, Initial, Echo, Ready, Value, Place, Record, Said, Decided, Size, count_below, backs, Accepted, IsLawful, IsLawfulStatement, sure, IsValid}
 use Rattle.terms.proofs.Count.{Outside, has_outside}
 use Rattle.world.specs.World.{start}
 use Rattle.world.specs.Claims.{IsSettled}

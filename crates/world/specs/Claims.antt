@@ -1,22 +1,7 @@
 -- What `safety` promises of the world after every run.
 use Rattle.std.specs.Prelude.{ℕ, zero, suc, ◌≡◌, ◌+◌, ◌*◌, ◌<◌, ◌≤◌, Bool, true, false, cond, ◌&&◌, ◌||◌, ◌==◌, ◌⊎◌, Some, None, IsSome, List, [], ◌∷◌}
 use Rattle.std.specs.Bool.{beq}
-use Rattle.terms.specs.declared.Kind.{Kind}
-use Rattle.terms.specs.declared.Kind.TheVariants.{Initial, Echo, Ready}
-use Rattle.terms.specs.declared.Value.{Value}
-use Rattle.terms.specs.declared.Value.TheVariants.{Zero, One}
-use Rattle.terms.specs.declared.Place.{Place}
-use Rattle.terms.specs.declared.Statement.{Statement}
-use Rattle.terms.specs.declared.Record.{Record}
-use Rattle.terms.specs.declared.Record.TheVariants.{Said, Decided}
-use Rattle.terms.specs.declared.Size.{Size}
-use Rattle.terms.specs.Count.{count_below, IsEchoQuorum, AtLeast}
-use Rattle.terms.specs.Bounds.{IsSize}
-use Rattle.terms.specs.Same.{statement_of, place_of, plain, sure}
-use Rattle.terms.specs.Heard.{Accepted}
-use Rattle.terms.specs.Valid.{IsValid}
-use Rattle.terms.specs.Journal.{sayings, decisions, said, decided, has_decided}
-use Rattle.terms.specs.Lawful.{IsLawful}
+use Rattle.vocabulary.specs.Terms.{Kind, Initial, Echo, Ready, Value, Zero, One, Place, Statement, Record, Said, Decided, Size, count_below, IsEchoQuorum, AtLeast, IsSize, new_statement, new_place, plain, sure, Accepted, IsValid, sayings, decisions, said, decided, has_decided, IsLawful}
 use Rattle.world.specs.World.{World, Step, IsCorrect, has_sent, AllSent, IsRun, start, after_all}
 use Rattle.world.specs.Sent.{sends, Backed, Justified, DecidableIn}
 
@@ -24,7 +9,7 @@ use Rattle.world.specs.Sent.{sends, Backed, Justified, DecidableIn}
 abbrev pub HasEchosOfReady : Size → (ℕ → Bool) → World → Type 0
 HasEchosOfReady size liars w =
     (a : ℕ) (place : Place) (m : Value) → IsCorrect size liars a
-    → has_sent w.sent a (statement_of Ready place m) ≡ true → IsEchoQuorum size (sends w.sent Echo place m)
+    → has_sent w.sent a (new_statement Ready place m) ≡ true → IsEchoQuorum size (sends w.sent Echo place m)
 
 -- consistency: at a place one value at most is backed
 abbrev pub HasOneBacked : Size → (ℕ → Bool) → World → Type 0
@@ -35,8 +20,8 @@ HasOneBacked size liars w =
 abbrev pub HasInitialOfEcho : Size → (ℕ → Bool) → World → Type 0
 HasInitialOfEcho size liars w =
     (a : ℕ) (place : Place) (m : Value) → IsCorrect size liars a → IsCorrect size liars place.origin
-    → has_sent w.sent a (statement_of Echo place m) ≡ true
-    → has_sent w.sent place.origin (statement_of Initial place m) ≡ true
+    → has_sent w.sent a (new_statement Echo place m) ≡ true
+    → has_sent w.sent place.origin (new_statement Initial place m) ≡ true
 
 -- what a correct member accepts is backed
 abbrev pub IsBackedOnceAccepted : Size → (ℕ → Bool) → World → Type 0
@@ -147,19 +132,19 @@ AllDecide size liars w =
 -- each correct member has its Initial of round 1 step 1
 abbrev pub AllBegan : Size → (ℕ → Bool) → World → ℕ → Type 0
 AllBegan size liars w question =
-    (p : ℕ) → IsCorrect size liars p → IsSome (said (w.journal p) Initial (place_of question p 1 1))
+    (p : ℕ) → IsCorrect size liars p → IsSome (said (w.journal p) Initial (new_place question p 1 1))
 
 -- nobody is stuck in between: who has not decided has come to its last Initial
 abbrev pub NoneStuck : Size → (ℕ → Bool) → World → Type 0
 NoneStuck size liars w =
     IsSettled size liars w → (question : ℕ) → AllBegan size liars w question → (p : ℕ) → IsCorrect size liars p
-    → IsSome (decided (w.journal p) question) ⊎ IsSome (said (w.journal p) Initial (place_of question p 32 3))
+    → IsSome (decided (w.journal p) question) ⊎ IsSome (said (w.journal p) Initial (new_place question p 32 3))
 
 -- a correct origin's Initial is accepted by all
 abbrev pub AllAcceptInitials : Size → (ℕ → Bool) → World → Type 0
 AllAcceptInitials size liars w =
     IsSettled size liars w → (p : ℕ) (place : Place) (m : Value) → IsCorrect size liars p
-    → IsCorrect size liars place.origin → has_sent w.sent place.origin (statement_of Initial place m) ≡ true
+    → IsCorrect size liars place.origin → has_sent w.sent place.origin (new_statement Initial place m) ≡ true
     → Accepted size (w.heard p) place m
 
 -- where all proposals are v and all began, all decided v
@@ -204,9 +189,9 @@ pub record HasSettledRun : Type 0 where
   -- the liar sends two Initials of its own place
   pub a : ℕ
   pub lies : liars a ≡ true
-  pub told_zero : has_sent ((after_all start steps).sent) a (statement_of Initial (place_of 0 a 1 1) Zero) ≡ true
-  pub told_one : has_sent ((after_all start steps).sent) a (statement_of Initial (place_of 0 a 1 1) One) ≡ true
+  pub told_zero : has_sent ((after_all start steps).sent) a (new_statement Initial (new_place 0 a 1 1) Zero) ≡ true
+  pub told_one : has_sent ((after_all start steps).sent) a (new_statement Initial (new_place 0 a 1 1) One) ≡ true
   pub settled : IsSettled size liars (after_all start steps)
   pub decided : (p : ℕ) → IsCorrect size liars p → has_decided ((after_all start steps).journal p) 0 1 true ≡ true
   -- each has gone through the round after its decision
-  pub goes_on : (p : ℕ) → IsCorrect size liars p → IsSome (said (since_decision ((after_all start steps).journal p) 0) Initial (place_of 0 p 2 3))
+  pub goes_on : (p : ℕ) → IsCorrect size liars p → IsSome (said (since_decision ((after_all start steps).journal p) 0) Initial (new_place 0 p 2 3))

@@ -1,7 +1,7 @@
 //! A member of a chart, as far as the chart has come.
 
 ghost use Rattle.std.specs.Prelude.{◌≡◌, ◌+◌, ◌-◌, ◌^◌, ◌<◌, ◌++◌, OnOk};
-ghost use Rattle.report.specs.Charts.{member_of, runs_after, place_after, group_count, statements_of, delivered, AreMoved};
+ghost use Rattle.report.specs.Charts.{member_of, runs_after, place_after, group_count, statements_said, delivered, AreMoved};
 
 use super::drawing::Line;
 use sim::{Event, MOST_IN_GROUP, Mark, Which};
@@ -76,7 +76,7 @@ fn move_links(said: usize, event: &Event, mark: Mark, places: &mut [usize])
 
 /// Adds the statements among the records.
 fn add_statements(said: &mut Vec<Statement>, saved: &[Record]) -> Result<(), AllocError>
-    ensures { OnOk result (said.new.items ≡ said.old.items ++ statements_of saved.now) }
+    ensures { OnOk result (said.new.items ≡ said.old.items ++ statements_said saved.now) }
 {
     for record in saved {
         if let Record::Said(statement) = *record {

@@ -1,7 +1,7 @@
 //! A question that keeps nothing but its accepted values and its records, where each call looks at all rounds and
 //! places; and random histories, on which it and the other answer the same.
 ghost use Rattle.std.specs.Prelude.{◌≡◌};
-ghost use Rattle.validate.specs.Words.{size_by, question_by};
+ghost use Rattle.validate.specs.Readers.{steps_size, steps_question};
 
 use super::{Asked, statement};
 use crate::choices::value_for;
@@ -19,8 +19,8 @@ struct Plain {
     size: Size,
     steps: Steps,
     records: Vec<Record>,
-    ghost made_for: { size_by steps ≡ size },
-    ghost first: { question_by steps ≡ 0 },
+    ghost made_for: { steps_size steps ≡ size },
+    ghost first: { steps_question steps ≡ 0 },
 }
 
 impl Plain {

@@ -1,7 +1,7 @@
 //! Broadcasts that keep what was heard and said as lists, and search them anew in each call; and random histories, on
 //! which both kinds answer the same.
 ghost use Rattle.std.specs.Prelude.{◌≡◌, ◌<◌};
-ghost use Rattle.rbc.specs.Words.{size_by};
+ghost use Rattle.rbc.specs.Readers.{broadcasts_size};
 
 use super::*;
 use crate::draws::Draws;
@@ -110,7 +110,7 @@ struct Both {
     size: Size,
     masks: Broadcasts,
     lists: Lists,
-    ghost made_for: { size_by masks ≡ size },
+    ghost made_for: { broadcasts_size masks ≡ size },
 }
 
 impl Both {

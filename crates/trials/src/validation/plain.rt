@@ -1,7 +1,7 @@
 //! Accepted values as a list, of which each call counts the valid ones anew, one step after the other from round 1 on;
 //! and random histories, on which both kinds answer the same.
 ghost use Rattle.std.specs.Prelude.{◌≡◌, ◌<◌};
-ghost use Rattle.validate.specs.Words.{size_by, question_by};
+ghost use Rattle.validate.specs.Readers.{steps_size, steps_question};
 
 use super::*;
 use crate::draws::Draws;

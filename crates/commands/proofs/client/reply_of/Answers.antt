@@ -1,6 +1,5 @@
-use Rattle.std.proofs.Common.{ℕ, ◌≡◌, ◌==◌, ◌∷◌, [], ◌++◌, subst, false, rules}
+use Rattle.std.proofs.Common.{ℕ, ◌≡◌, ◌==◌, ◌∷◌, [], ◌++◌, subst, false, rules, tests}
 use Rattle.std.specs.Io.KnownBytes.{Consumes}
-use borrow.Author.Tests.{tests}
 use Rattle.commands.proofs.Reading.{reads_more, reads_nothing, none_more}
 use Rattle.commands.proofs.client.reply_of.Goals as goal
 

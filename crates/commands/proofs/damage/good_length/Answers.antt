@@ -1,5 +1,4 @@
-use Rattle.std.proofs.Common.{rules, ◌≡◌, ◌∙◌, ℕ, List, ap, sym, ◌++◌, length}
-use Rattle.std.specs.Prelude.{min}
+use Rattle.std.proofs.Common.{rules, ◌≡◌, ◌∙◌, ℕ, List, ap, sym, ◌++◌, length, min}
 use Rattle.journal.specs.File.{HasHeader}
 use Rattle.journal.specs.Texts.{header_text}
 use Rattle.commands.proofs.Batches.{good_up_to, header_front}

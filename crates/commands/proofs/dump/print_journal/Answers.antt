@@ -1,6 +1,6 @@
 use Rattle.std.proofs.Common.{◌≡◌, rules, sym, subst}
 use Rattle.disk.specs.Model.{State}
-use Rattle.journal.specs.File.{Refuses}
+use Rattle.journal.specs.File.{RefusesFile}
 use Rattle.commands.specs.declared.fault.DumpFault.TheVariants as dump
 use Rattle.commands.specs.Faults.{of_opening}
 use Rattle.commands.proofs.Dumping.{unreadable}
@@ -13,6 +13,6 @@ returns-in_err-_journal-clause-fault g c = λ keeps named is.
     let gives : dump.Journal named ≡ of_opening c.in_err-_journal.field-0.0 = search (rules, gave, is) in
     unreadable c.in_ok-header.header c.in_err-_journal.field-0.0 named (g.D.Disk.state c.args.disk).seen
     (c.in_ok-header.ensures.header keeps)
-    (λ of. subst (λ (s : State). Refuses c.in_ok-header.header c.in_err-_journal.field-0.0 s.seen) (c.in_ok-header.ensures.same keeps)
+    (λ of. subst (λ (s : State). RefusesFile c.in_ok-header.header c.in_err-_journal.field-0.0 s.seen) (c.in_ok-header.ensures.same keeps)
     (c.in_err-_journal.ensures.refused (c.in_ok-header.ensures.kept.0 keeps) of))
     c.in_err-_journal.ensures.only (sym gives)

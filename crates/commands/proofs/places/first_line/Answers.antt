@@ -1,5 +1,4 @@
-use Rattle.std.proofs.Common.{rules, get_or, List, [], ℕ}
-use denote.Ref.{Bor}
+use Rattle.std.proofs.Common.{rules, get_or, List, [], ℕ, Bor}
 use Rattle.commands.specs.Places.{SaysKey}
 use Rattle.commands.proofs.Finding.{first_at, none_more}
 use Rattle.commands.proofs.places.first_line.Goals as goal

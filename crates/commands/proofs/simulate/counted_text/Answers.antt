@@ -1,9 +1,9 @@
 use Rattle.std.proofs.Common.{◌≡◌, ◌<◌, ◌^◌, ◌++◌, ◌∙◌, ℕ, Bool, false, List, length, string_bytes, sym, ap, subst, arith}
 use Rattle.std.specs.List.{flat_map}
-use Rattle.terms.specs.declared.Size.{Size}
+use Rattle.vocabulary.specs.Terms.{Size}
 use Rattle.sim.specs.declared.cluster.Cluster.{Cluster}
 use Rattle.sim.specs.Outcomes.{AreLiars, AreDisks, Verdict, among, fused_in}
-use Rattle.sim.specs.Plays.{Stands, played, unplayed}
+use Rattle.sim.specs.Plays.{ClusterStandsFor, played, unplayed}
 use Rattle.commands.specs.Simulations.{verdict_line, line_of_counts}
 use Rattle.commands.proofs.Running.{unread_ends, unrun_ends, memory_ends, same_table, both_ways}
 use Rattle.commands.proofs.Counted.{told_whole}
@@ -11,11 +11,11 @@ use Rattle.commands.proofs.simulate.counted_text.Goals as goal
 
 -- the cluster that was opened, of what the source says
 stood : (size said : Size) (liars listed : List ℕ) (fused : ℕ → Bool) (cluster : Cluster) → size ≡ said → liars ≡ listed → ((p : ℕ) → fused p ≡ false)
-    → Stands (unplayed size (among liars) fused) cluster → Stands (unplayed said (among listed) (λ p. false)) cluster
+    → ClusterStandsFor (unplayed size (among liars) fused) cluster → ClusterStandsFor (unplayed said (among listed) (λ p. false)) cluster
 stood size said liars listed fused cluster e f none stands =
-    subst (λ (s : Size). Stands (unplayed s (among listed) (λ p. false)) cluster) e
-    (subst (λ (l : List ℕ). Stands (unplayed size (among l) (λ p. false)) cluster) f
-    (subst (λ (g : ℕ → Bool). Stands (unplayed size (among liars) g) cluster) (same_table fused (λ p. false) none) stands))
+    subst (λ (s : Size). ClusterStandsFor (unplayed s (among listed) (λ p. false)) cluster) e
+    (subst (λ (l : List ℕ). ClusterStandsFor (unplayed size (among l) (λ p. false)) cluster) f
+    (subst (λ (g : ℕ → Bool). ClusterStandsFor (unplayed size (among liars) g) cluster) (same_table fused (λ p. false) none) stands))
 
 pub returns-in_err-source-clause-only : goal.returns-in_err-source-clause-only
 returns-in_err-source-clause-only c =

@@ -1,12 +1,12 @@
 use Rattle.std.proofs.Common.{◌≡◌, ◌+◌, ◌++◌, ◌∷◌, List, drop, map, sym, ap, subst, ◌∙◌, arith}
 use Rattle.std.proofs.lemmas.Result.{err_from_is_err_and}
 use Rattle.sim.specs.declared.events.Event.{Event}
-use Rattle.script.specs.Acts.{told}
+use Rattle.script.specs.Acts.{tossed_act}
 use Rattle.script.proofs.Counting.{next_of}
 use Rattle.words.specs.Sentences.{bit_digit}
 use Rattle.report.specs.Traces.{is_skipped}
 use Rattle.report.proofs.Wording.{bit_of}
-use Rattle.commands.specs.Counts.{IsCounted}
+use Rattle.commands.specs.Counts.{CountsPlayed}
 use Rattle.commands.proofs.Simulating.{bit_small}
 use Rattle.commands.proofs.Counted.{one_counted}
 use Rattle.commands.proofs.simulate.play_batch.Goals as goal
@@ -24,9 +24,9 @@ loop-event-preserved c =
       count = let h = c.loop-event.invariant.count in omega (arith, h);
       fewer = let h = c.loop-event.invariant.fewer in omega (arith, h, digit, small);
       counted = λ size liars all left so.
-          one_counted c.args.alloc size liars all (map told (drop (i + 1) events) ++ left) c.loop-event.cluster c.play.new.self c.event-item.result c.in_ok-mark.mark c.loop-event.played c.loop-event.skipped
+          one_counted c.args.alloc size liars all (map tossed_act (drop (i + 1) events) ++ left) c.loop-event.cluster c.play.new.self c.event-item.result c.in_ok-mark.mark c.loop-event.played c.loop-event.skipped
           c.from-skipped.result c.in_ok-mark.ensures.stands c.in_ok-mark.ensures.room digit
-          (subst (λ (l : List Event). IsCounted size liars all (map told l ++ left) c.loop-event.cluster c.loop-event.played c.loop-event.skipped) split
+          (subst (λ (l : List Event). CountsPlayed size liars all (map tossed_act l ++ left) c.loop-event.cluster c.loop-event.played c.loop-event.skipped) split
           (c.loop-event.invariant.counted size liars all left so));
     }
 

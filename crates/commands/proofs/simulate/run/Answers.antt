@@ -1,5 +1,5 @@
 use Rattle.std.proofs.Common.{◌≡◌, map, sym, subst, ℕ, Bool, false, List}
-use Rattle.script.specs.Acts.{told}
+use Rattle.script.specs.Acts.{tossed_act}
 use Rattle.sim.specs.Outcomes.{AreLiars, IsSimulation, among, fused_in}
 use Rattle.sim.specs.declared.events.Event.{Event}
 use Rattle.sim.specs.declared.cluster.Outcome.{Outcome}
@@ -14,7 +14,7 @@ pub returns-in_err-outcome-clause-only : goal.returns-in_err-outcome-clause-only
 returns-in_err-outcome-clause-only c =
     let script = c.in_ok-script.script in
     let faults = c.in_err-outcome.ensures in
-    unrun_ends {B = Outcome} c.args.text.now script.size script.liars.items (map told script.events.items) c.from_residual-in_err-outcome.result c.in_err-outcome.field-0.0 c.from_residual-in_err-outcome.ensures.1
+    unrun_ends {B = Outcome} c.args.text.now script.size script.liars.items (map tossed_act script.events.items) c.from_residual-in_err-outcome.result c.in_err-outcome.field-0.0 c.from_residual-in_err-outcome.ensures.1
     c.in_ok-script.ensures.says
     (λ is liars. faults.bad_liars.0 is (subst (λ (l : List ℕ). AreLiars script.size l) (sym c.deref.ensures.value) liars))
     (λ is. (faults.bad_disks.0 is).1 c.in_ok-disks.ensures.empty)

@@ -1,12 +1,11 @@
-use Rattle.std.proofs.Common.{◌≡◌, refl, sym, ap, ◌∙◌, subst, ℕ, Bool, Option, Some, List, Result, Ok, Err, length, arith}
-use Rattle.terms.specs.declared.Size.{Size}
+use Rattle.std.proofs.Common.{◌≡◌, refl, sym, ap, ◌∙◌, subst, ℕ, Bool, Option, Some, List, Result, Ok, Err, length, arith, IfSome}
+use Rattle.vocabulary.specs.Terms.{Size}
 use Rattle.hearing.specs.declared.fault.HearFault.{HearFault}
 use Rattle.hearing.specs.declared.fault.HearFault.TheVariants as fault
 use Rattle.hearing.specs.Pieces.{IsNoPiece}
-use Rattle.std.specs.Prelude.{IfSome}
 use Rattle.hearing.specs.Replies.{AnswersLine}
-use Rattle.hearing.specs.Keeping.{IsSound}
-use Rattle.hearing.specs.Hears.{Writes}
+use Rattle.hearing.specs.Keeping.{IsWhole}
+use Rattle.hearing.specs.Hears.{WritesReplies}
 use Rattle.hearing.proofs.Lines.{nothing_heard, ended, bad_line, one_line, was_read, AreHeard}
 use Rattle.hearing.proofs.hear.hear_lines.Goals as goal
 
@@ -40,7 +39,7 @@ returns-then-not-branch-clause-line g c = λ number same.
     let bad = answer.no_piece (ap (λ (b : Bool). Ok b) c.if-not-branch.true) in
     let kept = answer.nothing (ap (λ (b : Bool). Ok b) c.if-not-branch.true) in
     let is : c.loop-number.number ≡ number = line_number c.loop-number.number number same in
-    subst (λ k. Writes c.args.size c.args.me (g.R.Read.remaining c.args.input.now) (Some k) (g.W.Write.contents c.args.output.now) (g.W.Write.contents c.answer.new.output)) is
+    subst (λ k. WritesReplies c.args.size c.args.me (g.R.Read.remaining c.args.input.now) (Some k) (g.W.Write.contents c.args.output.now) (g.W.Write.contents c.answer.new.output)) is
     (bad_line c.args.size c.args.me c.loop-number.number c.in_ok-read_until.field-0
     (g.R.Read.remaining c.args.input.now) (g.R.Read.remaining c.loop-number.input) (g.R.Read.remaining c.read_until.new.self)
     (g.W.Write.contents c.args.output.now) (g.W.Write.contents c.answer.new.output) c.loop-number.session c.deref.result.now c.without_end.result.now
@@ -62,7 +61,7 @@ loop-number-preserved g c =
     let count = read.ok in
     let len : length c.deref.result.now ≡ c.in_ok-read_until.field-0 = ap (λ (l : List ℕ). length l) c.deref.ensures.value ∙ omega (arith, buffer, cleared, count) in
     let yes = ap (λ (b : Bool). Ok b) c.if-not-branch.false in (
-      subst (λ (z : Size). IsSound z c.answer.new.self) sound.size_is (answer.sound yes),
+      subst (λ (z : Size). IsWhole z c.answer.new.self) sound.size_is (answer.sound yes),
       one_line c.args.size c.args.me c.loop-number.number c.in_ok-read_until.field-0
           (g.R.Read.remaining c.args.input.now) (g.R.Read.remaining c.loop-number.input) (g.R.Read.remaining c.read_until.new.self)
           (g.W.Write.contents c.args.output.now) (g.W.Write.contents c.loop-number.output) (g.W.Write.contents c.answer.new.output)

@@ -1,6 +1,6 @@
 use Rattle.std.proofs.Common.{◌≡◌, refl, sym, ◌∙◌, subst, arith}
 use Rattle.std.proofs.lemmas.Result.{err_from_is_err_and}
-use Rattle.terms.specs.declared.Header.{Header}
+use Rattle.vocabulary.specs.Terms.{Header}
 use Rattle.journal.specs.File.{HasHeader}
 use Rattle.journal.proofs.Headers.{same_by, by_same}
 use Rattle.journal.proofs.Opened.{front_of, header_long, begins_with, held_from, refused_from}

@@ -1,13 +1,13 @@
 use Rattle.std.proofs.Common.{◌≡◌, ◌++◌, List, length}
 use Rattle.std.specs.List.{flat_map}
-use Rattle.terms.specs.declared.Record.{Record}
-use Rattle.journal.specs.Texts.{record_text}
+use Rattle.vocabulary.specs.Terms.{Record}
+use Rattle.journal.specs.Texts.{record_bytes}
 use Rattle.journal.specs.WellFormed.{AreWellFormedFor}
 use Rattle.journal.proofs.read.read_records.Given as goal
 
 abbrev pub invariant-loop-rest : goal.invariant-loop-rest
 invariant-loop-rest l =
-    (added : List Record) × AreWellFormedFor l.header added × (flat_map record_text added ++ l.rest ≡ l.bytes) × (l.records.items ≡ l.fn.records.items ++ added)
+    (added : List Record) × AreWellFormedFor l.header added × (flat_map record_bytes added ++ l.rest ≡ l.bytes) × (l.records.items ≡ l.fn.records.items ++ added)
 
 abbrev pub decreases-loop-rest : goal.decreases-loop-rest
 decreases-loop-rest l = length l.rest

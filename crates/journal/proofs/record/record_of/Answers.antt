@@ -1,10 +1,6 @@
 use Rattle.std.proofs.Common.{◌≡◌, ⊎_elim, ℕ, Bool, List, get_or, sym, ◌∙◌, ap, subst}
-use Rattle.terms.specs.declared.Size.{Size}
-use Rattle.terms.specs.declared.Statement.{Statement}
-use Rattle.terms.specs.declared.Record.{Record}
-use Rattle.terms.specs.declared.Record.TheVariants.{Said, Decided}
-use Rattle.terms.specs.Bounds.{IsSize}
-use Rattle.journal.specs.Texts.{bit_byte, record_text}
+use Rattle.vocabulary.specs.Terms.{Size, Statement, Record, Said, Decided, IsSize}
+use Rattle.journal.specs.Texts.{bit_byte, record_bytes}
 use Rattle.journal.specs.WellFormed.{IsStatementFor, IsDecisionFor, IsWellFormedFor}
 use Rattle.journal.specs.Reading.{HasBytes}
 use Rattle.journal.proofs.Records.{if_some_more, kind_below, said_from, decided_from, no_record}
@@ -15,10 +11,10 @@ returns-then-kind-ne-DECIDED-clause-some c =
     let b : List ℕ = c.args.bytes.now in
     if_some_more
     (λ r. (s : Statement) × (r ≡ Said s) × IsStatementFor c.args.header.now s × HasBytes s (get_or b 0 0) c.from_be_bytes-question.result (get_or b 3 0) (get_or b 4 0) (get_or b 5 0) (get_or b 6 0))
-    (λ r. IsWellFormedFor c.args.header.now r × (b ≡ record_text r))
+    (λ r. IsWellFormedFor c.args.header.now r × (b ≡ record_bytes r))
     (λ r has. (
       subst (λ (x : Record). IsWellFormedFor c.args.header.now x) (sym has.1) has.2,
-      said_from b c.told-bytes c.fits-bytes has.0 (subst (λ (q : ℕ). HasBytes has.0 (get_or b 0 0) q (get_or b 3 0) (get_or b 4 0) (get_or b 5 0) (get_or b 6 0)) c.from_be_bytes-question.ensures has.3) ∙ ap (λ (x : Record). record_text x) (sym has.1),
+      said_from b c.told-bytes c.fits-bytes has.0 (subst (λ (q : ℕ). HasBytes has.0 (get_or b 0 0) q (get_or b 3 0) (get_or b 4 0) (get_or b 5 0) (get_or b 6 0)) c.from_be_bytes-question.ensures has.3) ∙ ap (λ (x : Record). record_bytes x) (sym has.1),
     ))
     c.said_of.result c.said_of.ensures.some
 
@@ -40,11 +36,11 @@ returns-clause-some c =
     let b : List ℕ = c.args.bytes.now in
     if_some_more
     (λ r. (bit : Bool) × (r ≡ Decided c.from_be_bytes-question.result (get_or b 4 0) bit) × IsDecisionFor c.args.header.now c.from_be_bytes-question.result (get_or b 4 0) × (get_or b 6 0 ≡ bit_byte bit))
-    (λ r. IsWellFormedFor c.args.header.now r × (b ≡ record_text r))
+    (λ r. IsWellFormedFor c.args.header.now r × (b ≡ record_bytes r))
     (λ r has. (
       subst (λ (x : Record). IsWellFormedFor c.args.header.now x) (sym has.1) has.2,
       decided_from b c.told-bytes c.fits-bytes has.0 c.if-kind-ne-DECIDED.false c.if-origin-ne0.false c.if-step-ne0.false has.3
-          ∙ ap (λ (q : ℕ). record_text (Decided q (get_or b 4 0) has.0)) (sym c.from_be_bytes-question.ensures) ∙ ap (λ (x : Record). record_text x) (sym has.1),
+          ∙ ap (λ (q : ℕ). record_bytes (Decided q (get_or b 4 0) has.0)) (sym c.from_be_bytes-question.ensures) ∙ ap (λ (x : Record). record_bytes x) (sym has.1),
     ))
     c.decided_of.result c.decided_of.ensures.some
 

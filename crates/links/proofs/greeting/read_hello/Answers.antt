@@ -1,8 +1,7 @@
 use Rattle.std.proofs.Common.{rules, ◌≡◌, ℕ, ap, sym, ◌∙◌}
-use Rattle.wire.specs.Texts.{text}
+use Rattle.wire.specs.Texts.{frame_bytes}
 use Rattle.wire.specs.declared.message.Message.TheVariants as message
-use Rattle.terms.specs.declared.Header.{Header}
-use Rattle.terms.specs.declared.Size.{Size}
+use Rattle.vocabulary.specs.Terms.{Header, Size}
 use Rattle.links.specs.Told.{has_read}
 use Rattle.links.specs.Greeting.{Rebuffs}
 use Rattle.links.proofs.Greetings.{hello_alone, unheard}
@@ -15,8 +14,8 @@ returns-else-not-is_meant-clause-ok g c =
     let cluster : c.in-Ok-Hello.cluster ≡ h.cluster = meant.0 in
     let me : c.in-Ok-Hello.to ≡ h.me = meant.1 in
     (hello_alone h.size _ _ c.in-Ok-Hello.cluster c.in-Ok-Hello.from c.in-Ok-Hello.to c.in-Ok-Hello.field-0-1 (search (rules, c.in-Ok-Hello.ensures.ok, c.size.ensures))).0
-    ∙ ap (λ (n : ℕ). has_read (g.S.Stream.told c.args.stream.now) (text (message.Hello n h.size c.in-Ok-Hello.from c.in-Ok-Hello.to))) cluster
-    ∙ ap (λ (n : ℕ). has_read (g.S.Stream.told c.args.stream.now) (text (message.Hello h.cluster h.size c.in-Ok-Hello.from n))) me
+    ∙ ap (λ (n : ℕ). has_read (g.S.Stream.told c.args.stream.now) (frame_bytes (message.Hello n h.size c.in-Ok-Hello.from c.in-Ok-Hello.to))) cluster
+    ∙ ap (λ (n : ℕ). has_read (g.S.Stream.told c.args.stream.now) (frame_bytes (message.Hello h.cluster h.size c.in-Ok-Hello.from n))) me
 
 pub returns-in-Err-clause-err : goal.returns-in-Err-clause-err
 returns-in-Err-clause-err g c = unheard c.args.header.now _ _ c.in-Err.why (search (rules, c.in-Err.ensures.err, c.size.ensures))

@@ -1,8 +1,6 @@
 use Rattle.std.proofs.Common.{rules, ◌≡◌, inr, ◌∙◌, ap, subst}
-use Rattle.terms.specs.declared.Header.{Header}
-use Rattle.terms.specs.declared.Size.{Size}
-use Rattle.terms.specs.Bounds.{IsSize}
-use Rattle.wire.specs.Texts.{text}
+use Rattle.vocabulary.specs.Terms.{Header, Size, IsSize}
+use Rattle.wire.specs.Texts.{frame_bytes}
 use Rattle.wire.specs.declared.message.Message.TheVariants as message
 use Rattle.wire.proofs.Frames.{partial0}
 use Rattle.links.specs.Told.{Told, has_written}
@@ -18,7 +16,7 @@ loop-init g c =
 
 pub returns-in-Err-turn : goal.returns-in-Err-turn
 returns-in-Err-turn g c =
-    let wrote : g.S.Stream.told c.write_message.new.stream ≡ has_written (g.S.Stream.told c.args.stream.now) (text (message.Welcome c.args.seat.next)) = search (rules, c.in-Ok.ensures.ok, c.next.ensures) in
+    let wrote : g.S.Stream.told c.write_message.new.stream ≡ has_written (g.S.Stream.told c.args.stream.now) (frame_bytes (message.Welcome c.args.seat.next)) = search (rules, c.in-Ok.ensures.ok, c.next.ensures) in
     let w = waits c.args.hub.now.size (g.S.Stream.told c.write_message.new.stream) (g.S.Stream.told c.loop.stream) c.loop.feeder c.args.seat c.loop.seat c.loop.invariant in
     inr (subst (λ (t : Told). ReadsUntil c.args.hub.now.size t (g.S.Stream.told c.turn.new.stream) c.args.seat c.turn.new.seat c.in-Err-turn.why) wrote
     (so_far_off c.args.hub.now.size (g.S.Stream.told c.write_message.new.stream) (g.S.Stream.told c.loop.stream) (g.S.Stream.told c.turn.new.stream) c.loop.feeder c.args.seat c.loop.seat c.turn.new.seat c.in-Err-turn.why

@@ -1,5 +1,5 @@
 use Rattle.std.proofs.Common.{◌∙◌, ap}
-use Rattle.terms.specs.declared.Header.{Header}
+use Rattle.vocabulary.specs.Terms.{Header}
 use Rattle.links.specs.Writing.{hello_to}
 use Rattle.links.proofs.Sessions.{ungreeted, unwelcomed, welcomed}
 use Rattle.links.proofs.writer.write_session.Goals as goal

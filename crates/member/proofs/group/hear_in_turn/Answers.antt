@@ -1,5 +1,5 @@
 use Rattle.std.proofs.Common.{rules, ◌≡◌, ◌<◌, length, ◌++◌, ◌∷◌, []}
-use Rattle.terms.specs.Reply.{records_of}
+use Rattle.vocabulary.specs.Terms.{records_of}
 use Rattle.questions.specs.Replies.{reply_of}
 use Rattle.member.proofs.Turns.{turn_as}
 use Rattle.member.proofs.group.hear_in_turn.Goals as goal

@@ -1,6 +1,6 @@
 use Rattle.std.proofs.Common.{◌≡◌, ◌++◌, ◌∙◌, ap, refl, List, rules, length}
 use Rattle.member.specs.declared.sealed.Sealed.{Sealed}
-use Rattle.journal.specs.Words.{header_by}
+use Rattle.journal.specs.Readers.{journal_header}
 use Rattle.member.specs.Sealed.{sealed_from}
 use Rattle.member.proofs.Sealing.{goes_on}
 use Rattle.member.proofs.Standing.{still}
@@ -8,11 +8,11 @@ use Rattle.member.proofs.save.save.Goals as goal
 
 pub returns-then-is_empty-clause-any_moment : goal.returns-then-is_empty-clause-any_moment
 returns-then-is_empty-clause-any_moment g c keeps =
-    still g.D.Disk g.met.D.Disk.only_now (header_by c.args.journal.now) c.args.records.now.items c.args.batch.now c.args.journal.now keeps (c.requires.settled keeps)
+    still g.D.Disk g.met.D.Disk.only_now (journal_header c.args.journal.now) c.args.records.now.items c.args.batch.now c.args.journal.now keeps (c.requires.settled keeps)
 
 pub returns-in_err-make_room-clause-any_moment : goal.returns-in_err-make_room-clause-any_moment
 returns-in_err-make_room-clause-any_moment g c keeps =
-    still g.D.Disk g.met.D.Disk.only_now (header_by c.args.journal.now) c.args.records.now.items c.args.batch.now c.args.journal.now keeps (c.requires.settled keeps)
+    still g.D.Disk g.met.D.Disk.only_now (journal_header c.args.journal.now) c.args.records.now.items c.args.batch.now c.args.journal.now keeps (c.requires.settled keeps)
 
 pub returns-clause-sealed : goal.returns-clause-sealed
 returns-clause-sealed g c =

@@ -1,5 +1,5 @@
 use Rattle.std.proofs.Common.{◌≡◌}
-use Rattle.member.specs.Words.{saved_of}
+use Rattle.member.specs.Readers.{member_saved}
 use Rattle.node.specs.Keeps.{AreDecided}
 use Rattle.node.specs.Verdicts.{KnowsMore}
 use Rattle.node.proofs.book.publish_all.Given as goal
@@ -7,6 +7,6 @@ use Rattle.node.proofs.book.publish_all.Given as goal
 abbrev pub invariant-loop-answer : goal.invariant-loop-answer
 invariant-loop-answer g l = record {
   cells : l.notes.cells ≡ l.initial.notes.cells;
-  decided : AreDecided (saved_of l.member) l.notes.known;
+  decided : AreDecided (member_saved l.member) l.notes.known;
   more : KnowsMore l.initial.notes.known l.notes.known;
 }

@@ -1,5 +1,4 @@
-use Rattle.std.proofs.Common.{◌≡◌, ◌+◌, ◌≤◌, length, drop, map}
-use Rattle.std.specs.Prelude.{vec_len, vec_capacity}
+use Rattle.std.proofs.Common.{◌≡◌, ◌+◌, ◌≤◌, length, drop, map, vec_len, vec_capacity}
 use Rattle.member.specs.Groups.{hearings, replies_of}
 use Rattle.node.specs.Entries.{noted}
 use Rattle.node.specs.Groups.{lengthened_all}

@@ -1,5 +1,4 @@
-use Rattle.std.proofs.Common.{◌≡◌, ◌+◌, ◌≤◌, length, drop}
-use Rattle.std.specs.Prelude.{vec_len, vec_capacity}
+use Rattle.std.proofs.Common.{◌≡◌, ◌+◌, ◌≤◌, length, drop, vec_len, vec_capacity}
 use Rattle.node.specs.Firsts.{grown}
 use Rattle.node.specs.Groups.{said_in}
 use Rattle.node.specs.Marks.{AreMarked}

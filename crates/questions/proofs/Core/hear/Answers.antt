@@ -1,10 +1,7 @@
-use Rattle.std.proofs.Common.{◌≡◌, Some, sym, ap, ◌∙◌, [], ◌∷◌}
-use Rattle.std.specs.Prelude.{slice_get}
-use Rattle.terms.specs.declared.Place.{Place}
-use Rattle.terms.specs.Past.{past_of}
-use Rattle.terms.specs.Reply.Event.{Hearing}
+use Rattle.std.proofs.Common.{◌≡◌, Some, sym, ap, ◌∙◌, [], ◌∷◌, slice_get}
+use Rattle.vocabulary.specs.Terms.{Place, past_of, Hearing}
 use Rattle.questions.specs.Replies.{reply_of}
-use Rattle.questions.specs.Cores.{size_of, me_of}
+use Rattle.questions.specs.Readers.{core_size, core_me}
 use Rattle.questions.proofs.Knowing.{found_at, stood, event_known}
 use Rattle.questions.proofs.Slots.{are_still}
 use Rattle.questions.proofs.Core.hear.Goals as goal
@@ -43,7 +40,7 @@ returns-in-Ok-clause-reply c records heard knows =
     let there : slice_get i.instances.items c.from.result ≡ Some one =
     found_at i.size i.me i.instances.items i.failed c.args.self.now c.from.result c.question-question.result (c.args.from ∷ c.origin.result ∷ []) one c.self.view_is c.self.invariant c.in_default.ensures c.from.ensures c.index_mut.ensures.value in
     let asked : c.from.result ≡ c.args.s.now.place.question = c.from.ensures ∙ c.question-question.ensures ∙ ap (λ (p : Place). p.question) c.place.ensures in
-    c.in-Ok.ensures.reply (past_of (size_of c.args.self.now) (me_of c.args.self.now) c.args.s.now.place.question records heard)
+    c.in-Ok.ensures.reply (past_of (core_size c.args.self.now) (core_me c.args.self.now) c.args.s.now.place.question records heard)
     (stood c.args.self.now i.size i.me i.instances.items i.failed c.from.result c.args.s.now.place.question one records heard c.self.view_is there asked knows)
 
 pub returns-in-Ok-clause-knows : goal.returns-in-Ok-clause-knows
@@ -63,5 +60,5 @@ returns-in-Err-clause-memory_only_at_news c is records heard knows =
     let there : slice_get i.instances.items c.from.result ≡ Some one =
     found_at i.size i.me i.instances.items i.failed c.args.self.now c.from.result c.question-question.result (c.args.from ∷ c.origin.result ∷ []) one c.self.view_is c.self.invariant c.in_default.ensures c.from.ensures c.index_mut.ensures.value in
     let asked : c.from.result ≡ c.args.s.now.place.question = c.from.ensures ∙ c.question-question.ensures ∙ ap (λ (p : Place). p.question) c.place.ensures in
-    c.in-Err.ensures.err_only_at_news (past_of (size_of c.args.self.now) (me_of c.args.self.now) c.args.s.now.place.question records heard)
+    c.in-Err.ensures.err_only_at_news (past_of (core_size c.args.self.now) (core_me c.args.self.now) c.args.s.now.place.question records heard)
     (stood c.args.self.now i.size i.me i.instances.items i.failed c.from.result c.args.s.now.place.question one records heard c.self.view_is there asked knows)

@@ -1,14 +1,8 @@
-use Rattle.std.proofs.Common.{◌≡◌, Some, None, sym, ◌∙◌, subst, []}
-use Rattle.std.specs.Prelude.{slice_get}
-use Rattle.terms.specs.Past.{past_of}
-use Rattle.terms.specs.Reply.{IsReply}
-use Rattle.terms.specs.Reply.Event.{Proposal}
-use Rattle.terms.specs.Same.{place_of}
-use Rattle.terms.specs.Journal.{said}
-use Rattle.terms.specs.declared.Kind.TheVariants.{Initial}
-use Rattle.questions.specs.Instances.{question_at}
+use Rattle.std.proofs.Common.{◌≡◌, Some, None, sym, ◌∙◌, subst, [], slice_get}
+use Rattle.vocabulary.specs.Terms.{past_of, IsReply, Proposal, new_place, said, Initial}
+use Rattle.questions.specs.Instances.{instance_question}
 use Rattle.questions.specs.Replies.{reply_of}
-use Rattle.questions.specs.Cores.{size_of, me_of}
+use Rattle.questions.specs.Readers.{core_size, core_me}
 use Rattle.questions.proofs.Knowing.{found_at, stood, event_known}
 use Rattle.questions.proofs.Slots.{are_still}
 use Rattle.questions.proofs.Core.propose.Goals as goal
@@ -38,8 +32,8 @@ returns-in-Ok-clause-reply c records heard knows =
     let there : slice_get i.instances.items c.from.result ≡ Some one =
     found_at i.size i.me i.instances.items i.failed c.args.self.now c.from.result c.args.question [] one c.self.view_is c.self.invariant c.in_default.ensures c.from.ensures c.index_mut.ensures.value in
     let asked = (c.self.invariant.each c.from.result one there).its_question ∙ c.from.ensures in
-    subst (λ q. IsReply (past_of (size_of c.args.self.now) (me_of c.args.self.now) c.args.question records heard) c.args.toss.0 (Proposal q c.args.bit) (reply_of c.in-Ok.answer)) asked
-    (c.in-Ok.ensures.reply (past_of (size_of c.args.self.now) (me_of c.args.self.now) c.args.question records heard)
+    subst (λ q. IsReply (past_of (core_size c.args.self.now) (core_me c.args.self.now) c.args.question records heard) c.args.toss.0 (Proposal q c.args.bit) (reply_of c.in-Ok.answer)) asked
+    (c.in-Ok.ensures.reply (past_of (core_size c.args.self.now) (core_me c.args.self.now) c.args.question records heard)
     (stood c.args.self.now i.size i.me i.instances.items i.failed c.from.result c.args.question one records heard c.self.view_is there c.from.ensures knows))
 
 pub returns-in-Ok-clause-knows : goal.returns-in-Ok-clause-knows
@@ -50,7 +44,7 @@ returns-in-Ok-clause-knows c records heard knows =
     found_at i.size i.me i.instances.items i.failed c.args.self.now c.from.result c.args.question [] one c.self.view_is c.self.invariant c.in_default.ensures c.from.ensures c.index_mut.ensures.value in
     let its = (c.self.invariant.each c.from.result one there).its_question in
     event_known c.args.self.now i.size i.me i.instances.items i.failed c.from.result one c.propose.new.self records heard
-    c.args.toss.0 (Proposal (question_at one) c.args.bit) (reply_of c.in-Ok.answer) c.self.view_is there (sym its) c.in-Ok.ensures.reply c.in-Ok.ensures.stands knows
+    c.args.toss.0 (Proposal (instance_question one) c.args.bit) (reply_of c.in-Ok.answer) c.self.view_is there (sym its) c.in-Ok.ensures.reply c.in-Ok.ensures.stands knows
 
 pub returns-in-Err-clause-memory_only_at_first : goal.returns-in-Err-clause-memory_only_at_first
 returns-in-Err-clause-memory_only_at_first c is records heard knows =
@@ -59,6 +53,6 @@ returns-in-Err-clause-memory_only_at_first c is records heard knows =
     let there : slice_get i.instances.items c.from.result ≡ Some one =
     found_at i.size i.me i.instances.items i.failed c.args.self.now c.from.result c.args.question [] one c.self.view_is c.self.invariant c.in_default.ensures c.from.ensures c.index_mut.ensures.value in
     let asked = (c.self.invariant.each c.from.result one there).its_question ∙ c.from.ensures in
-    subst (λ q. said records Initial (place_of q (me_of c.args.self.now) 1 1) ≡ None) asked
-    (c.in-Err.ensures.err_only_at_first (past_of (size_of c.args.self.now) (me_of c.args.self.now) c.args.question records heard)
+    subst (λ q. said records Initial (new_place q (core_me c.args.self.now) 1 1) ≡ None) asked
+    (c.in-Err.ensures.err_only_at_first (past_of (core_size c.args.self.now) (core_me c.args.self.now) c.args.question records heard)
     (stood c.args.self.now i.size i.me i.instances.items i.failed c.from.result c.args.question one records heard c.self.view_is there c.from.ensures knows))

@@ -1,8 +1,7 @@
-use Rattle.std.proofs.Common.{◌≡◌, Some, ap, ◌∙◌}
-use Rattle.std.specs.Prelude.{slice_get}
-use Rattle.terms.specs.Past.{past_of}
+use Rattle.std.proofs.Common.{◌≡◌, Some, ap, ◌∙◌, slice_get}
+use Rattle.vocabulary.specs.Terms.{past_of}
 use Rattle.questions.specs.Fields.{CoreFields}
-use Rattle.questions.specs.Cores.{size_of, me_of, AreStanding}
+use Rattle.questions.specs.Readers.{core_size, core_me, AreStanding}
 use Rattle.questions.proofs.Slots.{read_at}
 use Rattle.questions.proofs.Core.verdict.Goals as goal
 
@@ -14,4 +13,4 @@ returns-clause-known c records heard knows below =
     let found : slice_get c.args.self.now.instances c.args.question ≡ Some one =
     read_at c.deref.result.now c.args.self.now.instances c.from.result c.args.question one
     (c.deref.ensures.value ∙ ap (λ (core : CoreFields). core.instances) c.self.view_is) c.from.ensures l.3.0 l.1 in
-    c.verdict.ensures (past_of (size_of c.args.self.now) (me_of c.args.self.now) c.args.question records heard) (knows.standing c.args.question one found)
+    c.verdict.ensures (past_of (core_size c.args.self.now) (core_me c.args.self.now) c.args.question records heard) (knows.standing c.args.question one found)

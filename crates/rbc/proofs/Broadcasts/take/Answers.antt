@@ -1,13 +1,12 @@
 use Rattle.std.proofs.Common.{◌≡◌, ◌<◌, true, false, cond, is_some, None, refl, sym, ap, ◌∙◌, arith}
 use Rattle.std.proofs.lemmas.Bool.{false≢true}
 use Rattle.std.proofs.lemmas.Result.{err_from_is_err_and}
-use Rattle.terms.specs.Heard.{is_foreign}
+use Rattle.vocabulary.specs.Terms.{is_foreign, Past}
 use Rattle.rbc.specs.Known.{heard_known}
-use Rattle.rbc.specs.Stands.{Stands}
+use Rattle.rbc.specs.Stands.{BroadcastsStandFor}
 use Rattle.rbc.specs.Table.{known_in}
-use Rattle.terms.specs.Past.{Past}
 use Rattle.rbc.proofs.Changes.{is_None}
-use Rattle.rbc.specs.Words.{size_by, got_by}
+use Rattle.rbc.specs.Readers.{broadcasts_size, broadcasts_got}
 use Rattle.rbc.proofs.Changes.{nothing_more, one_heard}
 use Rattle.rbc.proofs.Hearing.{news_heard, repeat_heard}
 use Rattle.rbc.proofs.Saying.{same_stands, touched}
@@ -16,11 +15,11 @@ use Rattle.rbc.proofs.Broadcasts.take.Goals as goal
 use Rattle.rbc.proofs.Broadcasts.take.Goals.{After-brought}
 
 pub returns-then-is_some-clause-ok : goal.returns-then-is_some-clause-ok
-unfolding size_by got_by
+unfolding broadcasts_size broadcasts_got
 returns-then-is_some-clause-ok c = λ past stands asked.
     let before : c.known_at-before.result ≡ known_in c.args.self.now.cells.items c.args.self.now.size.n c.args.s.now.place =
     cc (c.deref.ensures.value, c.known_at-before.ensures, c.place-place.ensures) in
-    let there : is_some (got_by c.args.self.now c.args.from c.args.s.now.kind c.args.s.now.place) ≡ true = cc in
+    let there : is_some (broadcasts_got c.args.self.now c.args.from c.args.s.now.kind c.args.s.now.place) ≡ true = cc in
     repeat_heard c.args.self.now past c.args.from c.args.s.now stands asked there
 
 pub returns-in_err-after-clause-err : goal.returns-in_err-after-clause-err
@@ -29,16 +28,16 @@ returns-in_err-after-clause-err c =
     rw (p.1) (same_stands c.args.self.now _ (nothing_more c.args.self.now _ refl refl c.in_err-after.ensures.err))
 
 pub returns-in_err-after-clause-no_memory : goal.returns-in_err-after-clause-no_memory
-unfolding size_by
+unfolding broadcasts_size
 returns-in_err-after-clause-no_memory c = λ past stands asked there.
     let l = touched c.args.self.now past c.args.s.now.place stands asked there in
     absurd (false≢true (c.in_err-after.ensures.reached l))
 
 pub returns-clause-ok : goal.returns-clause-ok
-unfolding size_by got_by
+unfolding broadcasts_size broadcasts_got
 returns-clause-ok c = λ past stands asked.
     let own : is_foreign c.args.from c.args.s.now ≡ false = cc in
-    let fresh : is_some (got_by c.args.self.now c.args.from c.args.s.now.kind c.args.s.now.place) ≡ false = cc in
+    let fresh : is_some (broadcasts_got c.args.self.now c.args.from c.args.s.now.kind c.args.s.now.place) ≡ false = cc in
     let within : c.args.from < 32 = omega (arith, c.requires.from, c.n-members.ensures.bounds.most) in
     let before : c.known_at-before.result ≡ known_in c.args.self.now.cells.items c.args.self.now.size.n c.args.s.now.place =
     cc (c.deref.ensures.value, c.known_at-before.ensures, c.place-place.ensures) in
@@ -47,10 +46,10 @@ returns-clause-ok c = λ past stands asked.
     asked own fresh
 
 -- it counts
-pub is_first : (c : After-brought) (past : Past) → Stands c.args.self.now past → c.args.s.now.place.question ≡ past.question → IsFirst past c.args.from c.args.s.now
-unfolding size_by got_by
+pub is_first : (c : After-brought) (past : Past) → BroadcastsStandFor c.args.self.now past → c.args.s.now.place.question ≡ past.question → IsFirst past c.args.from c.args.s.now
+unfolding broadcasts_size broadcasts_got
 is_first c past stands asked =
-    let fresh : is_some (got_by c.args.self.now c.args.from c.args.s.now.kind c.args.s.now.place) ≡ false = cc in
+    let fresh : is_some (broadcasts_got c.args.self.now c.args.from c.args.s.now.kind c.args.s.now.place) ≡ false = cc in
     record {
       own = cc;
       first = sym (stands.facts.heard c.args.from c.args.s.now.kind c.args.s.now.place asked) ∙ is_None _ fresh;
@@ -61,7 +60,7 @@ known_before : (c : After-brought) → known_in c.args.self.now.cells.items c.ar
 known_before c = cc (c.deref.ensures.value, c.known_at-before.ensures, c.place-place.ensures)
 
 known_now : (c : After-brought) → known_in c.hear.new.cells.items c.args.self.now.size.n c.args.s.now.place ≡ c.in_ok-after.after
-unfolding size_by
+unfolding broadcasts_size
 known_now c =
     c.in_ok-after.ensures.ok c.args.s.now.place
     ∙ ap (λ b. cond b (heard_known c.args.s.now.place (known_in c.args.self.now.cells.items c.args.self.now.size.n c.args.s.now.place) c.args.self.now.size c.args.from c.args.s.now.kind c.args.s.now.value)

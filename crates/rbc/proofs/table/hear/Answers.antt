@@ -1,7 +1,6 @@
 use Rattle.std.proofs.Common.{◌≡◌, ◌<◌, get_or, sym, ap, subst, ◌∙◌, arith, length, slice_set}
 use Rattle.std.proofs.lemmas.List.{get_or_default}
-use Rattle.terms.specs.declared.Place.{Place}
-use Rattle.terms.specs.Bounds.{IsPlace}
+use Rattle.vocabulary.specs.Terms.{Place, IsPlace}
 use Rattle.rbc.specs.declared.known.Known.{Known}
 use Rattle.rbc.specs.Known.{no_known, heard_known}
 use Rattle.rbc.specs.Table.{spot_of, known_in}

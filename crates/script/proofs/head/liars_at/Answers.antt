@@ -1,12 +1,12 @@
 use Rattle.std.proofs.Common.{◌∙◌, ap, inr, Bor, List, ℕ}
 use Rattle.script.specs.Untossed.{texts}
-use Rattle.script.specs.Scripts.{AreLiars}
+use Rattle.script.specs.Scripts.{AreListedLiars}
 use Rattle.script.proofs.Heads.{lacks}
 use Rattle.script.proofs.head.liars_at.Goals as goal
 
 pub returns-clause-err : goal.returns-clause-err
 returns-clause-err c =
-    inr (lacks c.args.lines.now c.args.place AreLiars c.fault.result c.in_ok-line.line.number c.in_ok-line.line.text.now
+    inr (lacks c.args.lines.now c.args.place AreListedLiars c.fault.result c.in_ok-line.line.number c.in_ok-line.line.text.now
     (texts c.deref.result.now) c.in_ok-line.ensures.ok
     (ap (λ (ws : List (Bor (List ℕ))). texts ws) c.deref.ensures.value ∙ c.in_ok-words.ensures)
     (λ x h. rw c.in-None.is at (c.in_ok-liars.ensures.exact x h))

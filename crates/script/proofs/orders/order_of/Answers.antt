@@ -1,5 +1,5 @@
 use Rattle.std.proofs.Common.{sym, ap, ◌∙◌, subst, inr, Bor, List, ℕ}
-use Rattle.script.specs.Steps.{Says}
+use Rattle.script.specs.Steps.{SaysStep}
 use Rattle.script.specs.Untossed.{texts}
 use Rattle.script.proofs.orders.order_of.Goals as goal
 
@@ -7,6 +7,6 @@ pub returns-clause-err : goal.returns-clause-err
 returns-clause-err c =
     let words_are = ap (λ (ws : List (Bor (List ℕ))). texts ws) c.deref.ensures.value ∙ c.in_ok-words.ensures in
     inr (
-      λ step says. rw c.in-None.is at (c.in_ok-order.ensures.exact step (subst (λ (ws : List (List ℕ)). Says ws step) (sym words_are) says)),
+      λ step says. rw c.in-None.is at (c.in_ok-order.ensures.exact step (subst (λ (ws : List (List ℕ)). SaysStep ws step) (sym words_are) says)),
       c.fault.ensures,
     )

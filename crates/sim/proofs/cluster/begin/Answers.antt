@@ -1,7 +1,7 @@
 use Rattle.std.proofs.Common.{◌≡◌, ◌<◌, length, get_or, arith}
 use Rattle.std.proofs.lemmas.List.{get_or_default}
 use Rattle.sim.specs.declared.posts.Post.{Post}
-use Rattle.sim.specs.Posts.{Opens}
+use Rattle.sim.specs.Posts.{OpensPost}
 use Rattle.sim.proofs.Opening.{opens_more, rest_more}
 use Rattle.sim.proofs.cluster.begin.Goals as goal
 
@@ -11,7 +11,7 @@ loop-post-preserved c =
     let x : Post = get_or c.loop-post.posts c.loop-post.post-index c.post-item.result in
     let at : get_or c.loop-post.posts c.loop-post.post-index c.post-item.result ≡ get_or c.loop-post.posts c.loop-post.post-index x =
     get_or_default c.loop-post.posts c.loop-post.post-index c.post-item.result x l in
-    let one : Opens x c.begin.new.self = record { ready = c.begin.ensures.ready; header = c.begin.ensures.header; opened = c.in_ok-begin.ensures.opened } in
+    let one : OpensPost x c.begin.new.self = record { ready = c.begin.ensures.ready; header = c.begin.ensures.header; opened = c.in_ok-begin.ensures.opened } in
     record {
       done = opens_more _ c.loop-post.posts c.loop-post.post-index x c.begin.new.self l at one c.loop-post.invariant.done c.loop-post.invariant.rest;
       rest = rest_more _ c.loop-post.posts c.loop-post.post-index x c.begin.new.self l at one c.loop-post.invariant.done c.loop-post.invariant.rest;

@@ -1,17 +1,17 @@
-use Rattle.std.proofs.Common.{◌≡◌, ◌+◌, ◌++◌, ◌∷◌, [], List, take, ◌∙◌, ap, sym, subst}
-use Rattle.std.proofs.lemmas.List.{take_all, take_more}
+use Rattle.std.proofs.Common.{◌≡◌, ◌+◌, ◌++◌, ◌∷◌, [], List, take, ◌∙◌, ap, sym, subst, take_all}
+use Rattle.std.proofs.lemmas.List.{take_more}
 use Rattle.std.proofs.lemmas.Result.{err_from_is_err_and}
 use Rattle.std.specs.Global.{Vec}
-use Rattle.terms.specs.declared.Record.{Record}
+use Rattle.vocabulary.specs.Terms.{Record}
 use Rattle.sim.specs.declared.events.Event.{Event}
 use Rattle.sim.specs.declared.events.Mark.{Mark}
-use Rattle.sim.specs.Plays.{Stands, played}
+use Rattle.sim.specs.Plays.{ClusterStandsFor, played}
 use Rattle.sim.proofs.cluster.follow.Goals as goal
 
 pub loop-event-init : goal.loop-event-init
 loop-event-init c size liars fused at =
-    subst (λ (l : List Mark). Stands (played size liars fused [] l c.in_ok-saved.saved.items) c.args.cluster.now) (sym c.in_ok-marks.ensures.items)
-    (subst (λ (l : List (Vec Record)). Stands (played size liars fused [] [] l) c.args.cluster.now) (sym c.in_ok-saved.ensures.items) at)
+    subst (λ (l : List Mark). ClusterStandsFor (played size liars fused [] l c.in_ok-saved.saved.items) c.args.cluster.now) (sym c.in_ok-marks.ensures.items)
+    (subst (λ (l : List (Vec Record)). ClusterStandsFor (played size liars fused [] [] l) c.args.cluster.now) (sym c.in_ok-saved.ensures.items) at)
 
 pub loop-event-preserved : goal.loop-event-preserved
 loop-event-preserved c size liars fused at =
@@ -25,13 +25,13 @@ loop-event-preserved c size liars fused at =
     ∙ ap (λ (e : Event). take c.loop-event.event-index c.args.script.now ++ e ∷ []) (sym c.event-item.is) in
     let marked : c.push.new.self.items ≡ marks ++ c.in_ok-play.field-0 ∷ [] = c.in_ok-push.ensures.items in
     let saved : c.push-in-loop-event.new.self.items ≡ records ++ c.in_ok-records.records ∷ [] = c.in_ok-push-2.ensures.items in
-    subst (λ (l : List Event). Stands (played size liars fused l c.push.new.self.items c.push-in-loop-event.new.self.items) c.play.new.self) (sym front)
-    (subst (λ (l : List Mark). Stands (played size liars fused (events ++ c.event-item.result ∷ []) l c.push-in-loop-event.new.self.items) c.play.new.self) (sym marked)
-    (subst (λ (l : List (Vec Record)). Stands (played size liars fused (events ++ c.event-item.result ∷ []) (marks ++ c.in_ok-play.field-0 ∷ []) l) c.play.new.self) (sym saved) more))
+    subst (λ (l : List Event). ClusterStandsFor (played size liars fused l c.push.new.self.items c.push-in-loop-event.new.self.items) c.play.new.self) (sym front)
+    (subst (λ (l : List Mark). ClusterStandsFor (played size liars fused (events ++ c.event-item.result ∷ []) l c.push-in-loop-event.new.self.items) c.play.new.self) (sym marked)
+    (subst (λ (l : List (Vec Record)). ClusterStandsFor (played size liars fused (events ++ c.event-item.result ∷ []) (marks ++ c.in_ok-play.field-0 ∷ []) l) c.play.new.self) (sym saved) more))
 
 pub returns-clause-stands : goal.returns-clause-stands
 returns-clause-stands c size liars fused at =
-    subst (λ (l : List Event). Stands (played size liars fused l c.loop-event.marks.items c.loop-event.saved.items) c.loop-event.cluster)
+    subst (λ (l : List Event). ClusterStandsFor (played size liars fused l c.loop-event.marks.items c.loop-event.saved.items) c.loop-event.cluster)
     (take_all c.loop-event.event-index c.args.script.now c.loop-event-test.false)
     (c.loop-event.invariant size liars fused at)
 

@@ -1,9 +1,8 @@
-use Rattle.std.proofs.Common.{◌≡◌, ◌<◌, List, length, get_or, drop, sym, ap, subst, arith, rules, Err, IsErrOf}
-use Rattle.std.proofs.lemmas.List.{take_at}
+use Rattle.std.proofs.Common.{◌≡◌, ◌<◌, List, length, get_or, drop, sym, ap, subst, arith, rules, Err, IsErrOf, take_at}
 use Rattle.sim.specs.declared.posts.Post.{Post}
 use Rattle.sim.specs.declared.faults.SimFault.TheVariants as faults
 use Rattle.sim.specs.Scene.{opening}
-use Rattle.sim.specs.Posts.{IsCluster, Opens}
+use Rattle.sim.specs.Posts.{IsCluster, OpensPost}
 use Rattle.sim.specs.Outcomes.{among, fused_in}
 use Rattle.sim.proofs.Opening.{opens_post, fuse_there}
 use Rattle.sim.proofs.cluster.opened.Goals as goal
@@ -14,7 +13,7 @@ returns-clause-cluster c =
     let same = ap (λ (l : List Post). length l) slice in
     let cluster : IsCluster c.args.size (among c.args.liars.now) (opening (fused_in c.args.disks.items)) c.begin.new.posts = λ p d l.
     let within : p < length c.in_ok-posts.posts.items = omega (arith, c.in_ok-posts.ensures.count, c.requires.count, l) in
-    let opens = subst (λ (x : List Post). Opens (get_or x p d) (get_or c.begin.new.posts p d)) slice (c.in_ok-begin.ensures.opened p d (omega (arith, same, within))) in
+    let opens = subst (λ (x : List Post). OpensPost (get_or x p d) (get_or c.begin.new.posts p d)) slice (c.in_ok-begin.ensures.opened p d (omega (arith, same, within))) in
     opens_post c.args.size (among c.args.liars.now) (fused_in c.args.disks.items) p _ _ (c.in_ok-posts.ensures.each p d within).1 opens in
     let len : length c.begin.new.posts ≡ c.in_ok-posts.posts.len = omega (arith, c.begin.ensures.count, c.as_mut_slice.ensures.len) in
     subst (λ (l : List Post). IsCluster c.args.size (among c.args.liars.now) (opening (fused_in c.args.disks.items)) l)

@@ -1,6 +1,6 @@
 use Rattle.std.proofs.Common.{◌∙◌, ◌<◌, ◌^◌, arith, ℕ, refl, sym, ap, subst, List, length, drop, get_or}
 use Rattle.std.proofs.lemmas.Result.{err_from_is_err_and}
-use Rattle.terms.specs.declared.Record.{Record}
+use Rattle.vocabulary.specs.Terms.{Record}
 use Rattle.sim.specs.Seats.{saved_in}
 use Rattle.sim.specs.Posts.{IsPost}
 use Rattle.sim.proofs.Planned.{plan_right}

@@ -1,7 +1,6 @@
-use Rattle.std.proofs.Common.{◌++◌, ◌∷◌, [], take, List, sym, ap, ◌∙◌}
-use Rattle.std.proofs.lemmas.List.{take_all}
+use Rattle.std.proofs.Common.{◌++◌, ◌∷◌, [], take, List, sym, ap, ◌∙◌, take_all}
 use Rattle.wire.specs.declared.message.Message.{Message}
-use Rattle.terms.specs.declared.Statement.{Statement}
+use Rattle.vocabulary.specs.Terms.{Statement}
 use Rattle.sim.specs.Links.{statements_in}
 use Rattle.sim.proofs.Reading.{statements_more, not_statement}
 use Rattle.sim.proofs.links.statements_among.Goals.{in-Statement+in_ok-push, in_default}

@@ -1,5 +1,5 @@
 use Rattle.std.proofs.Common.{ℕ, List, sym, ap, ◌∙◌}
-use Rattle.terms.specs.declared.Record.{Record}
+use Rattle.vocabulary.specs.Terms.{Record}
 use Rattle.sim.specs.Scene.{to_group}
 use Rattle.sim.specs.Seats.{group_from}
 use Rattle.sim.proofs.Planned.{told_of, open_plan, closed_plan}

@@ -1,6 +1,5 @@
 -- What a set gives, and what is chosen over all valid messages.
-use Rattle.std.proofs.Common.{ℕ, zero, suc, ◌≡◌, ◌+◌, ◌*◌, ◌<◌, ◌≤◌, refl, arith, Option}
-use Rattle.std.specs.Prelude.{is_some}
+use Rattle.std.proofs.Common.{ℕ, zero, suc, ◌≡◌, ◌+◌, ◌*◌, ◌<◌, ◌≤◌, refl, arith, Option, is_some}
 use Rattle.terms.specs.declared.Value.{Value}
 use Rattle.terms.specs.declared.Value.TheVariants.{Zero, One, SureZero, SureOne, Unsure}
 use Rattle.terms.specs.declared.Size.{Size}

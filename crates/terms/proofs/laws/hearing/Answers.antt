@@ -1,6 +1,6 @@
 -- What was heard first counts, and more changes nothing of it.
-use Rattle.std.proofs.Common.{ℕ, ◌≡◌, Bool, true, false, cond, not, ◌&&◌, eqb, refl, sym, ap, ◌∙◌, Some, List, [], ◌∷◌}
-use Rattle.std.proofs.lemmas.Bool.{and_parts, eqb-true}
+use Rattle.std.proofs.Common.{ℕ, ◌≡◌, Bool, true, false, cond, not, ◌&&◌, eqb, refl, sym, ap, ◌∙◌, Some, List, [], ◌∷◌, eqb-true}
+use Rattle.std.proofs.lemmas.Bool.{and_parts}
 use Rattle.terms.specs.declared.Kind.TheVariants.{Initial}
 use Rattle.terms.specs.declared.Value.{Value}
 use Rattle.terms.specs.declared.Place.{Place}

@@ -1,5 +1,4 @@
-use Rattle.std.proofs.Common.{sym, subst}
-use Rattle.std.specs.Prelude.{◌↔◌, ◌≡◌, IsTrue, Option, List, true, false}
+use Rattle.std.proofs.Common.{sym, subst, ◌↔◌, ◌≡◌, IsTrue, Option, List, true, false}
 use Rattle.clap.specs.Walk.{Row, Text}
 use Rattle.usage.specs.Tasks.{SaysVerbose, rows_in}
 use Rattle.usage.proofs.Naming.{met_in, nothing_said}

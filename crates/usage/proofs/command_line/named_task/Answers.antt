@@ -1,5 +1,4 @@
-use Rattle.std.proofs.Common.{sym, subst}
-use Rattle.std.specs.Prelude.{IfSome}
+use Rattle.std.proofs.Common.{sym, subst, IfSome}
 use Rattle.clap.specs.Walk.{Text}
 use Rattle.usage.specs.Tasks.{Names, rows_in}
 use Rattle.usage.proofs.command_line.named_task.Goals as goal

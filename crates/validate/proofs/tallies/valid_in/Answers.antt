@@ -1,6 +1,6 @@
 use Rattle.std.proofs.Common.{◌≡◌, ◌∙◌, sym, subst, true, false, Bool, Some}
 use Rattle.validate.specs.declared.follow.Tally.{Tally}
-use Rattle.validate.specs.Rows.{row_at, value_in}
+use Rattle.validate.specs.Rows.{row_at, row_value}
 use Rattle.validate.specs.Running.{Passes}
 use Rattle.validate.proofs.Masks.{found, value_by}
 use Rattle.validate.proofs.Validity.{none_valid}
@@ -14,7 +14,7 @@ returns-in_err-value c =
 
 pub returns-then-passes : goal.returns-then-passes
 returns-then-passes c =
-    let has : value_in c.args.size.n c.args.question c.args.rows.now c.args.place ≡ Some c.in_ok-value.value = sym c.value_in.ensures ∙ c.in_ok-value.was in
+    let has : row_value c.args.size.n c.args.question c.args.rows.now c.args.place ≡ Some c.in_ok-value.value = sym c.value_in.ensures ∙ c.in_ok-value.was in
     let here = found c.args.size.n c.args.question (row_at c.args.rows.now) c.args.place c.in_ok-value.value has in
     passing_valid c.args.size c.n-members.ensures.bounds c.args.question (row_at c.args.rows.now) c.requires c.args.place c.number_of-number.ensures.place
     here.0.question c.in_ok-value.value has c.number_of-number.result (sym c.number_of-number.ensures.value)
@@ -23,7 +23,7 @@ returns-then-passes c =
 
 pub returns-else-passes : goal.returns-else-passes
 returns-else-passes c =
-    let has : value_in c.args.size.n c.args.question c.args.rows.now c.args.place ≡ Some c.in_ok-value.value = sym c.value_in.ensures ∙ c.in_ok-value.was in
+    let has : row_value c.args.size.n c.args.question c.args.rows.now c.args.place ≡ Some c.in_ok-value.value = sym c.value_in.ensures ∙ c.in_ok-value.was in
     let here = found c.args.size.n c.args.question (row_at c.args.rows.now) c.args.place c.in_ok-value.value has in
     failing_valid c.args.size c.n-members.ensures.bounds c.args.question (row_at c.args.rows.now) c.requires c.args.place c.number_of-number.ensures.place
     here.0.question c.in_ok-value.value has c.number_of-number.result (sym c.number_of-number.ensures.value)

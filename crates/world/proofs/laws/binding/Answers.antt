@@ -1,10 +1,7 @@
 -- What correct members show each other, from the clauses of `safety`.
 use Rattle.std.proofs.Common.{ℕ, ◌≡◌, ◌≤◌, Bool, true, ◌&&◌}
 use Rattle.std.proofs.lemmas.Bool.{and_parts}
-use Rattle.terms.specs.declared.Kind.TheVariants.{Echo}
-use Rattle.terms.specs.declared.Size.{Size}
-use Rattle.terms.specs.Count.{count_below}
-use Rattle.terms.specs.Bounds.{IsSize}
+use Rattle.vocabulary.specs.Terms.{Echo, Size, count_below, IsSize}
 use Rattle.world.specs.World.{World, start, after_all}
 use Rattle.world.specs.Sent.{sends}
 use Rattle.world.specs.Claims.{HasEchosOfReady}

@@ -1,14 +1,6 @@
 -- Every step keeps the first two; in a settled world a help set makes an Echo and a Ready lawful.
-use Rattle.std.proofs.Common.{ℕ, ◌≡◌, ◌≤◌, Bool, inr, refl, arith, Option, Some, None}
-use Rattle.std.specs.Prelude.{IsSome}
-use Rattle.terms.specs.declared.Kind.TheVariants.{Echo, Ready}
-use Rattle.terms.specs.declared.Record.TheVariants.{Said}
-use Rattle.terms.specs.declared.Size.{Size}
-use Rattle.terms.specs.Count.{count_below, IsHelpSet}
-use Rattle.terms.specs.Bounds.{IsSize}
-use Rattle.terms.specs.Same.{statement_of}
-use Rattle.terms.specs.Heard.{backs}
-use Rattle.terms.specs.Journal.{said}
+use Rattle.std.proofs.Common.{ℕ, ◌≡◌, ◌≤◌, Bool, inr, refl, arith, Option, Some, None, IsSome}
+use Rattle.vocabulary.specs.Terms.{Echo, Ready, Said, Size, count_below, IsHelpSet, IsSize, new_statement, backs, said}
 use Rattle.terms.proofs.Heard.{accepted_in}
 use Rattle.world.specs.World.{World, start, after_all}
 use Rattle.world.specs.Laws.{AllSay}
@@ -28,8 +20,8 @@ all_say : (size : Size) (liars : ℕ → Bool) → IsSize size → count_below s
 all_say size liars ok few w wok s p o place m c d acc =
     let a = accepted_in size (w.heard o) place m (all_accept size liars ok few w wok s p o place m c d acc) in
     let help : IsHelpSet size (backs (w.heard o) Ready place m) = omega arith in (
-      some_or (said (w.journal o) Echo place) (λ e. s.done o (Said (statement_of Echo place m)) d (e, inr (inr help))),
-      some_or (said (w.journal o) Ready place) (λ e. s.done o (Said (statement_of Ready place m)) d (e, inr help)),
+      some_or (said (w.journal o) Echo place) (λ e. s.done o (Said (new_statement Echo place m)) d (e, inr (inr help))),
+      some_or (said (w.journal o) Ready place) (λ e. s.done o (Said (new_statement Ready place m)) d (e, inr help)),
     )
 
 pub returns-clause-sent_is_saved : goal.returns-clause-sent_is_saved

@@ -1,6 +1,6 @@
 -- One member alone goes down with its proposal's Initial in doubt.
 use Rattle.std.proofs.Common.{true, false, inl, inr, refl, arith, List, [], ◌∷◌}
-use Rattle.terms.specs.declared.Record.TheVariants.{Said}
+use Rattle.vocabulary.specs.Terms.{Said}
 use Rattle.world.specs.World.{Step, first_said}
 use Rattle.world.specs.World.Step.{Proposes}
 use Rattle.world.proofs.Example.{one, nobody, me, size_ok}

@@ -1,39 +1,29 @@
 -- What is lawful is well formed, and so is what every run sends and saves.
 use Rattle.std.proofs.Common.{ℕ, ◌≡◌, ◌<◌, Bool, true, false, ◌⊎◌, inl, inr, arith, Some, List}
-use Rattle.terms.specs.declared.Statement.{Statement}
-use Rattle.terms.specs.declared.Size.{Size}
-use Rattle.terms.specs.Bounds.{IsSize, FitsStep}
-use Rattle.terms.specs.Same.{statement_of, plain}
-use Rattle.terms.specs.WellFormed.{IsWellFormed}
-use Rattle.terms.specs.Heard.{got, hear}
-use Rattle.terms.specs.Past.{Past}
-use Rattle.terms.specs.Reply.{Reply, IsReply, on, records_of}
-use Rattle.terms.specs.Reply.Reply.{Foreign, Repeat, Have, Taken}
-use Rattle.terms.specs.Reply.Event.{Proposal}
-use Rattle.terms.specs.Answer.{AreProposed}
+use Rattle.vocabulary.specs.Terms.{Statement, Size, IsSize, FitsStep, new_statement, plain, IsWellFormed, got, hear, Past, Reply, IsReply, on, records_of, Foreign, Repeat, Have, Taken, Proposal, AreProposed}
 use Rattle.terms.proofs.Heard.{got-hear}
 use Rattle.terms.proofs.Answer.{hearing_step, proposed_lawful}
 use Rattle.world.specs.World.{start, after_all}
-use Rattle.world.specs.Laws.{HeardWellFormed, AreWellFormed}
+use Rattle.world.specs.Laws.{HeardWellFormed, AreWellFormedRecords}
 use Rattle.world.proofs.Formed.{GotWellFormed, got_heard, lawful_formed, batch_formed}
 use Rattle.world.proofs.Order.{reached_order, saved_formed}
 use Rattle.world.proofs.laws.well_formed.Goals as goal
 
 -- where all that was heard is well formed, so is what counts of it
 all_got : (size : Size) (heard : List (ℕ × Statement)) → HeardWellFormed size heard → GotWellFormed size heard
-all_got size heard f a kind place m h = f a (statement_of kind place m) (got_heard heard a kind place m h)
+all_got size heard f a kind place m h = f a (new_statement kind place m) (got_heard heard a kind place m h)
 
 -- also after one more statement that is well formed
 got_then : (size : Size) (heard : List (ℕ × Statement)) (a : ℕ) (s : Statement) → GotWellFormed size heard → IsWellFormed size s → GotWellFormed size (hear heard (a, s))
 got_then size heard a s f g b kind place m h = step (got-hear heard (a, s) b kind place m h)
   where
-    step : (got heard b kind place ≡ Some m) ⊎ ((a ≡ b) × (s ≡ statement_of kind place m)) → IsWellFormed size (statement_of kind place m)
+    step : (got heard b kind place ≡ Some m) ⊎ ((a ≡ b) × (s ≡ new_statement kind place m)) → IsWellFormed size (new_statement kind place m)
     step (inl e) = f b kind place m e
     step (inr e) = let x = e.1 in rw x at g
 
 -- the records of the answer to a proposal are well formed
 proposal_formed : (past : Past) (toss question : ℕ) (bit : Bool) (r : Reply) → IsSize past.size → past.me < past.size.n
-    → HeardWellFormed past.size past.heard → question < past.size.questions → IsReply past toss (Proposal question bit) r → AreWellFormed past.size (records_of r)
+    → HeardWellFormed past.size past.heard → question < past.size.questions → IsReply past toss (Proposal question bit) r → AreWellFormedRecords past.size (records_of r)
 proposal_formed past toss question bit Foreign ok member f asked h = absurd h
 proposal_formed past toss question bit Repeat ok member f asked h = absurd h
 proposal_formed past toss question bit (Have first) ok member f asked h = tt

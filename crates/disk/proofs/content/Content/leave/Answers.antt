@@ -1,6 +1,6 @@
 -- A fill keeps the length, and the file was as long at the last sync as is kept.
-use Rattle.std.proofs.Common.{ℕ, sym, ◌∙◌, ap, length}
-use Rattle.std.proofs.lemmas.List.{with_items_is, length-take-le}
+use Rattle.std.proofs.Common.{ℕ, sym, ◌∙◌, ap, length, length-take-le}
+use Rattle.std.proofs.lemmas.List.{with_items_is}
 use Rattle.disk.specs.Crash.{filled_from, left}
 use Rattle.disk.specs.Content.{content_state}
 use Rattle.disk.specs.declared.crash.Pick.{Pick}

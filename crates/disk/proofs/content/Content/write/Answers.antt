@@ -1,7 +1,7 @@
 -- The bytes are put, their range is listed, and what lay under them is kept.
 use Rattle.std.proofs.Common.{◌≡◌, ℕ, List, ◌++◌, ◌∷◌, [], ◌+◌, ◌-◌, min, length, take, drop, ◌∙◌, ap, rules}
 use Rattle.std.proofs.lemmas.List.{with_items_is, take_rest}
-use Rattle.disk.specs.Model.{put}
+use Rattle.disk.specs.Model.{overwritten}
 use Rattle.disk.specs.System.{placed}
 use Rattle.disk.specs.Under.{laid_back}
 use Rattle.disk.proofs.Under.{grown, still_under, kept_is}
@@ -16,8 +16,8 @@ returns-clause-ok c =
     let covered : c.min-covered.result ≡ min (length bytes) (old.synced - at) = search (rules, c.min-covered.ensures, c.saturating_sub.ensures) in
     let longer : c.extend_from_slice.new.self.items ≡ old.seen.items ++ drop c.min-inside.result bytes =
     c.in_ok-extend_from_slice.ensures.items ∙ ap (λ (l : List ℕ). old.seen.items ++ l) (take_rest bytes c.min-inside.result) in
-    let put_is : c.put_over.new.file ≡ put old.seen.items at bytes =
-    c.put_over.ensures ∙ (λ i. put ((c.deref_mut.ensures.value ∙ longer) i) at (take c.min-inside.result bytes)) ∙ grown old.seen.items bytes at c.min-inside.result c.requires inside in
+    let put_is : c.put_over.new.file ≡ overwritten old.seen.items at bytes =
+    c.put_over.ensures ∙ (λ i. overwritten ((c.deref_mut.ensures.value ∙ longer) i) at (take c.min-inside.result bytes)) ∙ grown old.seen.items bytes at c.min-inside.result c.requires inside in
     let seen = with_items_is c.extend_from_slice.new.self c.put_over.new.file (search (rules, c.put_over.ensures)) ∙ put_is in
     let under : c.keep.new.under.items ≡ old.under.items ++ placed at (take (at + c.min-covered.result - at) (drop at (old.seen.items ++ drop c.min-inside.result bytes))) =
     c.keep.ensures ∙ (λ i. c.in_ok-reserve.ensures.items i ++ placed at (take (at + c.min-covered.result - at) (drop at ((c.deref.ensures.value ∙ longer) i)))) in

@@ -1,6 +1,6 @@
 use Rattle.std.proofs.Common.{rules, ℕ, refl, ◌≡◌, subst, Option, Some, None, IsSome, List}
-use Rattle.words.specs.Numbers.{AreBytes}
-use Rattle.hearing.specs.Pieces.{IsMember}
+use Rattle.words.specs.Numbers.{IsHexOf}
+use Rattle.hearing.specs.Pieces.{IsMemberBelow}
 use Rattle.words.proofs.Cuts.{no_cut}
 use Rattle.hearing.proofs.Cuts.{parts_of}
 use Rattle.hearing.proofs.piece.Piece.parse.Goals as goal
@@ -13,7 +13,7 @@ returns-in_default c = λ sender piece p. no_cut c.args.line.now p.digits p.hexe
 pub returns-in_default-sender : goal.returns-in_default-sender
 returns-in_default-sender c = λ sender piece p.
     let e = parts_of c.args.n c.args.line.now c.in-Some.digits.now c.in-Some.hexes.now sender piece c.in-Some.ensures.0 c.in-Some.ensures.1 p in
-    some_is c.sender.result (c.sender.ensures.exact sender (subst (λ ds. IsMember c.args.n ds sender) e.0 p.member)) c.in_default-sender.not-Some
+    some_is c.sender.result (c.sender.ensures.exact sender (subst (λ ds. IsMemberBelow c.args.n ds sender) e.0 p.member)) c.in_default-sender.not-Some
   where
     some_is : {A : Type 0} (o : Option A) → IsSome o → ((x : A) → o ≡ Some x → ⊥) → ⊥
     some_is None h f = cc
@@ -23,4 +23,4 @@ returns-in_default-sender c = λ sender piece p.
 pub returns-in-None : goal.returns-in-None
 returns-in-None c = λ sender piece p.
     let e = parts_of c.args.n c.args.line.now c.in-Some.digits.now c.in-Some.hexes.now sender piece c.in-Some.ensures.0 c.in-Some.ensures.1 p in
-    rw c.in-None.is at (c.in_ok-bytes.ensures.exact piece (subst (λ h. AreBytes h piece) e.1 p.bytes))
+    rw c.in-None.is at (c.in_ok-bytes.ensures.exact piece (subst (λ h. IsHexOf h piece) e.1 p.bytes))

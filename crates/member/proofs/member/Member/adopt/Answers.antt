@@ -1,11 +1,11 @@
 use Rattle.std.proofs.Common.{◌≡◌, None, List, [], refl, sym, subst, rules}
-use Rattle.questions.specs.Cores.{Knows}
+use Rattle.questions.specs.Readers.{CoreStandsFor}
 use Rattle.questions.specs.Faults.{records_fault}
-use Rattle.terms.specs.declared.Record.{Record}
+use Rattle.vocabulary.specs.Terms.{Record}
 use Rattle.journal.specs.Faults.{IsOfFile}
-use Rattle.journal.specs.Words.{disk_by}
-use Rattle.member.specs.Words.{disk_of, header_of, gate_of, saved_of, outbox_of, is_stopped_of, StandsFor}
-use Rattle.member.specs.Stands.{Stands}
+use Rattle.journal.specs.Readers.{journal_disk}
+use Rattle.member.specs.Readers.{member_disk, member_header, member_gate, member_saved, member_outbox, member_is_stopped, MemberStandsFor}
+use Rattle.member.specs.Stands.{Endures}
 use Rattle.member.proofs.Asked.{held_asked}
 use Rattle.member.proofs.Opened.{restarts, begins_run}
 use Rattle.disk.specs.Model.{MayLeave}
@@ -14,11 +14,11 @@ use Rattle.member.proofs.member.Member.adopt.Given.{Over}
 use Rattle.member.proofs.member.Member.adopt.Goals as goal
 
 -- the core of the records that were read
-knows : (g : Over) (c : goal.In-Ok-begin g) → Knows c.in-Ok-begin.core c.in-Ok.records.items []
-knows g c = subst (λ (l : List Record). Knows c.in-Ok-begin.core l []) c.deref.ensures.value c.in-Ok-begin.ensures.knows
+knows : (g : Over) (c : goal.In-Ok-begin g) → CoreStandsFor c.in-Ok-begin.core c.in-Ok.records.items []
+knows g c = subst (λ (l : List Record). CoreStandsFor c.in-Ok-begin.core l []) c.deref.ensures.value c.in-Ok-begin.ensures.knows
 
 pub returns-in-Ok-begin-clause-opened : goal.returns-in-Ok-begin-clause-opened
-unfolding disk_of header_of gate_of saved_of outbox_of is_stopped_of StandsFor
+unfolding member_disk member_header member_gate member_saved member_outbox member_is_stopped MemberStandsFor
 returns-in-Ok-begin-clause-opened g c =
     let o = c.in-Ok.ensures in
     record {
@@ -36,7 +36,7 @@ returns-in-Ok-begin-clause-opened g c =
       three_calls = o.three_calls;
       any_moment = o.any_moment;
       stands = λ keeps moment front le stands. (
-        stands_opened g.D.Disk g.met.D.Disk.counts_now c.args.header.now c.args.disk (disk_by c.in-Ok.journal) moment front keeps le (o.any_moment keeps) stands,
+        stands_opened g.D.Disk g.met.D.Disk.counts_now c.args.header.now c.args.disk (journal_disk c.in-Ok.journal) moment front keeps le (o.any_moment keeps) stands,
         begins g.D.Disk g.met.D.Disk.counts_now g.met.D.Disk.may_leave_seen c.args.header.now c.args.disk c.in-Ok.records.items moment front keeps (o.held keeps) le stands,
       );
       acknowledged = λ keeps. stands_settled g.D.Disk g.met.D.Disk.only_now c.args.header.now c.in-Ok.records.items c.in-Ok.journal (o.kept.0 keeps) (o.settled keeps);
@@ -45,7 +45,7 @@ returns-in-Ok-begin-clause-opened g c =
     }
 
 pub returns-in-Ok-begin-clause-restart : goal.returns-in-Ok-begin-clause-restart
-unfolding disk_of header_of saved_of is_stopped_of StandsFor
+unfolding member_disk member_header member_saved member_is_stopped MemberStandsFor
 returns-in-Ok-begin-clause-restart g c =
     let o = c.in-Ok.ensures in
     record {
@@ -68,11 +68,11 @@ returns-in-Err-begin-clause-fault g c =
       same = search rules;
       any_moment = search rules;
       left = λ keeps saved doubt left file may.
-          left file (left_opened g.D.Disk g.met.D.Disk.counts_now c.args.disk (disk_by c.in-Ok.journal) (o.kept.0 keeps) (o.any_moment keeps) file
+          left file (left_opened g.D.Disk g.met.D.Disk.counts_now c.args.disk (journal_disk c.in-Ok.journal) (o.kept.0 keeps) (o.any_moment keeps) file
           (subst (λ d. MayLeave (g.D.Disk.state d) file) c.into_disk.ensures may));
       stands = λ keeps moment front le stands.
-          subst (λ d. Stands (g.D.Disk.since d) c.args.header.now moment front) (sym c.into_disk.ensures)
-          (stands_opened g.D.Disk g.met.D.Disk.counts_now c.args.header.now c.args.disk (disk_by c.in-Ok.journal) moment front keeps le (o.any_moment keeps) stands);
+          subst (λ d. Endures (g.D.Disk.since d) c.args.header.now moment front) (sym c.into_disk.ensures)
+          (stands_opened g.D.Disk g.met.D.Disk.counts_now c.args.header.now c.args.disk (journal_disk c.in-Ok.journal) moment front keeps le (o.any_moment keeps) stands);
       device = search rules;
       quiet = search rules;
       failures = search rules;

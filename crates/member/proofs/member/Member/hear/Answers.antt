@@ -1,5 +1,5 @@
-use Rattle.terms.specs.Reply.Event.{Hearing}
-use Rattle.member.specs.Words.{disk_of, header_of, gate_of, saved_of, is_stopped_of}
+use Rattle.vocabulary.specs.Terms.{Hearing}
+use Rattle.member.specs.Readers.{member_disk, member_header, member_gate, member_saved, member_is_stopped}
 use Rattle.member.proofs.Calls.{Called, Kept, well_formed, sounds, news}
 use Rattle.member.proofs.Formed.{comes_formed}
 use Rattle.member.proofs.Outcomes.{answers_to, has_saved, has_failed, stays_on, one_event}
@@ -14,7 +14,7 @@ called g c =
 
 -- what was kept of it
 kept : (g : Over) (c : goal.After-keep g) → Kept g.D.Disk c.args.self.now c.hear-answer.new.self c.hear-answer.result c.keep.result c.keep.new.self
-unfolding disk_of header_of gate_of saved_of is_stopped_of
+unfolding member_disk member_header member_gate member_saved member_is_stopped
 kept g c =
     let k = c.keep.ensures in
     record {
@@ -43,50 +43,50 @@ kept g c =
     }
 
 pub keep-requires-clause-well_formed : goal.keep-requires-clause-well_formed
-unfolding header_of is_stopped_of
+unfolding member_header member_is_stopped
 keep-requires-clause-well_formed g c =
     let k = c.hear-answer.ensures in
     well_formed g.D.Disk c.args.toss.0 (Hearing c.args.from c.args.s.now) c.args.self.now c.hear-answer.new.self c.hear-answer.result c.requires.sound c.if-self.false
-    (record { ok = k.ok; few = k.few; reply = k.reply; knows = k.knows; err = k.err; refused = k.refused; news = k.memory_only_at_news; size = k.size; me = k.me }) (comes_formed (header_of c.args.self.now).size c.args.from c.args.s.now c.place.result c.place.ensures c.round-round.ensures.bounds c.value-value.ensures.fits)
+    (record { ok = k.ok; few = k.few; reply = k.reply; knows = k.knows; err = k.err; refused = k.refused; news = k.memory_only_at_news; size = k.size; me = k.me }) (comes_formed (member_header c.args.self.now).size c.args.from c.args.s.now c.place.result c.place.ensures c.round-round.ensures.bounds c.value-value.ensures.fits)
 
 pub returns-clause-sound : goal.returns-clause-sound
-unfolding is_stopped_of
+unfolding member_is_stopped
 returns-clause-sound g c =
-    sounds g.D.Disk c.args.toss.0 (Hearing c.args.from c.args.s.now) c.args.self.now c.hear-answer.new.self c.hear-answer.result c.requires.sound c.if-self.false (called g c) (comes_formed (header_of c.args.self.now).size c.args.from c.args.s.now c.place.result c.place.ensures c.round-round.ensures.bounds c.value-value.ensures.fits)
+    sounds g.D.Disk c.args.toss.0 (Hearing c.args.from c.args.s.now) c.args.self.now c.hear-answer.new.self c.hear-answer.result c.requires.sound c.if-self.false (called g c) (comes_formed (member_header c.args.self.now).size c.args.from c.args.s.now c.place.result c.place.ensures c.round-round.ensures.bounds c.value-value.ensures.fits)
     c.keep.new.self c.keep.result (kept g c)
 
 pub returns-clause-answer : goal.returns-clause-answer
-unfolding is_stopped_of
+unfolding member_is_stopped
 returns-clause-answer g c =
-    answers_to g.D.Disk g.met.D.Disk.counts_now g.met.D.Disk.only_now g.met.D.Disk.may_leave_seen c.args.toss.0 (Hearing c.args.from c.args.s.now) c.args.self.now c.hear-answer.new.self c.hear-answer.result c.requires.sound c.if-self.false (called g c) (comes_formed (header_of c.args.self.now).size c.args.from c.args.s.now c.place.result c.place.ensures c.round-round.ensures.bounds c.value-value.ensures.fits)
+    answers_to g.D.Disk g.met.D.Disk.counts_now g.met.D.Disk.only_now g.met.D.Disk.may_leave_seen c.args.toss.0 (Hearing c.args.from c.args.s.now) c.args.self.now c.hear-answer.new.self c.hear-answer.result c.requires.sound c.if-self.false (called g c) (comes_formed (member_header c.args.self.now).size c.args.from c.args.s.now c.place.result c.place.ensures c.round-round.ensures.bounds c.value-value.ensures.fits)
     c.keep.new.self c.keep.result (kept g c)
 
 pub returns-clause-saved : goal.returns-clause-saved
-unfolding is_stopped_of
+unfolding member_is_stopped
 returns-clause-saved g c =
-    has_saved g.D.Disk g.met.D.Disk.counts_now g.met.D.Disk.only_now g.met.D.Disk.may_leave_seen c.args.toss.0 (Hearing c.args.from c.args.s.now) c.args.self.now c.hear-answer.new.self c.hear-answer.result c.requires.sound c.if-self.false (called g c) (comes_formed (header_of c.args.self.now).size c.args.from c.args.s.now c.place.result c.place.ensures c.round-round.ensures.bounds c.value-value.ensures.fits)
+    has_saved g.D.Disk g.met.D.Disk.counts_now g.met.D.Disk.only_now g.met.D.Disk.may_leave_seen c.args.toss.0 (Hearing c.args.from c.args.s.now) c.args.self.now c.hear-answer.new.self c.hear-answer.result c.requires.sound c.if-self.false (called g c) (comes_formed (member_header c.args.self.now).size c.args.from c.args.s.now c.place.result c.place.ensures c.round-round.ensures.bounds c.value-value.ensures.fits)
     c.keep.new.self c.keep.result (kept g c)
 
 pub returns-clause-event : goal.returns-clause-event
-unfolding is_stopped_of
+unfolding member_is_stopped
 returns-clause-event g c =
-    one_event g.D.Disk g.met.D.Disk.counts_now g.met.D.Disk.only_now g.met.D.Disk.may_leave_seen c.args.toss.0 (Hearing c.args.from c.args.s.now) c.args.self.now c.hear-answer.new.self c.hear-answer.result c.requires.sound c.if-self.false (called g c) (comes_formed (header_of c.args.self.now).size c.args.from c.args.s.now c.place.result c.place.ensures c.round-round.ensures.bounds c.value-value.ensures.fits)
+    one_event g.D.Disk g.met.D.Disk.counts_now g.met.D.Disk.only_now g.met.D.Disk.may_leave_seen c.args.toss.0 (Hearing c.args.from c.args.s.now) c.args.self.now c.hear-answer.new.self c.hear-answer.result c.requires.sound c.if-self.false (called g c) (comes_formed (member_header c.args.self.now).size c.args.from c.args.s.now c.place.result c.place.ensures c.round-round.ensures.bounds c.value-value.ensures.fits)
     c.keep.new.self c.keep.result (kept g c)
 
 pub returns-clause-fault : goal.returns-clause-fault
-unfolding is_stopped_of
+unfolding member_is_stopped
 returns-clause-fault g c =
-    has_failed g.D.Disk g.met.D.Disk.counts_now g.met.D.Disk.only_now g.met.D.Disk.may_leave_seen c.args.toss.0 (Hearing c.args.from c.args.s.now) c.args.self.now c.hear-answer.new.self c.hear-answer.result c.requires.sound c.if-self.false (called g c) (comes_formed (header_of c.args.self.now).size c.args.from c.args.s.now c.place.result c.place.ensures c.round-round.ensures.bounds c.value-value.ensures.fits)
+    has_failed g.D.Disk g.met.D.Disk.counts_now g.met.D.Disk.only_now g.met.D.Disk.may_leave_seen c.args.toss.0 (Hearing c.args.from c.args.s.now) c.args.self.now c.hear-answer.new.self c.hear-answer.result c.requires.sound c.if-self.false (called g c) (comes_formed (member_header c.args.self.now).size c.args.from c.args.s.now c.place.result c.place.ensures c.round-round.ensures.bounds c.value-value.ensures.fits)
     c.keep.new.self c.keep.result (kept g c)
 
 pub returns-clause-stays : goal.returns-clause-stays
-unfolding is_stopped_of
+unfolding member_is_stopped
 returns-clause-stays g c =
-    stays_on g.D.Disk g.met.D.Disk.counts_now g.met.D.Disk.only_now g.met.D.Disk.may_leave_seen c.args.toss.0 (Hearing c.args.from c.args.s.now) c.args.self.now c.hear-answer.new.self c.hear-answer.result c.requires.sound c.if-self.false (called g c) (comes_formed (header_of c.args.self.now).size c.args.from c.args.s.now c.place.result c.place.ensures c.round-round.ensures.bounds c.value-value.ensures.fits)
+    stays_on g.D.Disk g.met.D.Disk.counts_now g.met.D.Disk.only_now g.met.D.Disk.may_leave_seen c.args.toss.0 (Hearing c.args.from c.args.s.now) c.args.self.now c.hear-answer.new.self c.hear-answer.result c.requires.sound c.if-self.false (called g c) (comes_formed (member_header c.args.self.now).size c.args.from c.args.s.now c.place.result c.place.ensures c.round-round.ensures.bounds c.value-value.ensures.fits)
     c.keep.new.self c.keep.result (kept g c)
 
 pub returns-clause-memory_only_at_news : goal.returns-clause-memory_only_at_news
-unfolding is_stopped_of
+unfolding member_is_stopped
 returns-clause-memory_only_at_news g c =
-    news g.D.Disk c.args.toss.0 (Hearing c.args.from c.args.s.now) c.args.self.now c.hear-answer.new.self c.hear-answer.result c.requires.sound c.if-self.false (called g c) (comes_formed (header_of c.args.self.now).size c.args.from c.args.s.now c.place.result c.place.ensures c.round-round.ensures.bounds c.value-value.ensures.fits)
+    news g.D.Disk c.args.toss.0 (Hearing c.args.from c.args.s.now) c.args.self.now c.hear-answer.new.self c.hear-answer.result c.requires.sound c.if-self.false (called g c) (comes_formed (member_header c.args.self.now).size c.args.from c.args.s.now c.place.result c.place.ensures c.round-round.ensures.bounds c.value-value.ensures.fits)
     c.keep.new.self c.keep.result (kept g c)

@@ -1,15 +1,12 @@
-use Rattle.std.proofs.Common.{refl, ℕ, List, [], ◌∷◌, sym, ap, ◌∙◌, subst, map, inl, inr}
-use Rattle.std.specs.Prelude.{Ok, Err}
-use Rattle.terms.specs.Reply.{records_of}
-use Rattle.terms.specs.Reply.Event.{Hearing}
-use Rattle.terms.specs.declared.Statement.{Statement}
+use Rattle.std.proofs.Common.{refl, ℕ, List, [], ◌∷◌, sym, ap, ◌∙◌, subst, map, inl, inr, Ok, Err}
+use Rattle.vocabulary.specs.Terms.{records_of, Hearing, Statement}
 use Rattle.questions.specs.Replay.{Entry as Event}
 use Rattle.questions.specs.Replay.Entry.{Heard}
 use Rattle.questions.specs.Replies.{reply_of}
 use Rattle.member.specs.declared.member.Member.{Member}
 use Rattle.member.specs.Answers.{IsFull}
-use Rattle.member.specs.Life.{IsAt}
-use Rattle.member.specs.Words.{saved_of}
+use Rattle.member.specs.Life.{MemberIsAt}
+use Rattle.member.specs.Readers.{member_saved}
 use Rattle.node.specs.declared.entry.Entry.{Entry}
 use Rattle.node.specs.Books.{Applies, lengthened}
 use Rattle.node.specs.Entries.{noted}
@@ -22,7 +19,7 @@ use Rattle.node.proofs.book.Book.apply.Goals as goal
 
 pub publish-requires-clause-decided : goal.publish-requires-clause-decided
 publish-requires-clause-decided g c =
-    decided_more (saved_of c.self.inside.member) (saved_of c.hear.new.self) (records_of (reply_of c.in-Ok.answer)) c.self.inside.notes.known c.in-Ok.ensures.saved.grows c.self.invariant.decided
+    decided_more (member_saved c.self.inside.member) (member_saved c.hear.new.self) (records_of (reply_of c.in-Ok.answer)) c.self.inside.notes.known c.in-Ok.ensures.saved.grows c.self.invariant.decided
 
 pub invariant_of-self-in-Ok : goal.invariant_of-self-in-Ok
 invariant_of-self-in-Ok g c =
@@ -65,12 +62,11 @@ returns-then-is_stopped-clause-life g c = λ header liars w correct at comes. in
 
 pub returns-then-not-make_room_for_both-clause-life : goal.returns-then-not-make_room_for_both-clause-life
 returns-then-not-make_room_for_both-clause-life g c = λ header liars w correct at comes.
-    inr (refl, c.stop.ensures.life header liars w correct (subst (λ (n : Member g.row.D.Denot). IsAt g.D.Disk header w n) (sym (ap (λ (v : BookView g.row.D.Denot). v.member) c.self.view_is)) at) (sym c.is_stopped.ensures ∙ c.if-is_stopped.false))
+    inr (refl, c.stop.ensures.life header liars w correct (subst (λ (n : Member g.row.D.Denot). MemberIsAt g.D.Disk header w n) (sym (ap (λ (v : BookView g.row.D.Denot). v.member) c.self.view_is)) at) (sym c.is_stopped.ensures ∙ c.if-is_stopped.false))
 
 pub returns-in-Ok-clause-life : goal.returns-in-Ok-clause-life
 returns-in-Ok-clause-life g c =
     lives_by g.D.Disk c.self.inside.member c.args.self.now.member c.hear.new.self (Hearing c.seat.inside.peer c.args.statement.now) (Hearing c.args.seat.now.peer c.args.statement.now) c.args.toss.0 (Ok c.in-Ok.answer) (ap (λ (v : BookView g.row.D.Denot). v.member) c.self.view_is) (ap (λ (v : SeatView). Hearing v.peer c.args.statement.now) c.seat.view_is) c.in-Ok.ensures.event.life
-
 
 pub returns-in-Err-clause-life : goal.returns-in-Err-clause-life
 returns-in-Err-clause-life g c =

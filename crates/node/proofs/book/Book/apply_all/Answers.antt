@@ -1,12 +1,10 @@
-use Rattle.std.proofs.Common.{rules, refl, ◌≡◌, ℕ, List, sym, ap, ◌∙◌, subst, map, inr, length}
-use Rattle.std.specs.Prelude.{Ok}
-use Rattle.terms.specs.Reply.{records_of_all}
-use Rattle.terms.specs.declared.Statement.{Statement}
+use Rattle.std.proofs.Common.{rules, refl, ◌≡◌, ℕ, List, sym, ap, ◌∙◌, subst, map, inr, length, Ok}
+use Rattle.vocabulary.specs.Terms.{records_of_all, Statement}
 use Rattle.rounds.specs.declared.tosses.Toss.{Toss}
 use Rattle.member.specs.declared.member.Member.{Member}
 use Rattle.member.specs.Groups.{hearings, replies_of, IsFullOfAll}
-use Rattle.member.specs.Life.{IsAt}
-use Rattle.member.specs.Words.{saved_of}
+use Rattle.member.specs.Life.{MemberIsAt}
+use Rattle.member.specs.Readers.{member_saved}
 use Rattle.node.specs.Entries.{noted}
 use Rattle.node.specs.Firsts.{SeatView, HandsIn, grown, counted}
 use Rattle.node.specs.Groups.{heard_from, said_in, lengthened_all, AppliesAll}
@@ -19,11 +17,11 @@ use Rattle.node.proofs.book.Book.apply_all.Goals as goal
 
 pub returns-in_default-clause-life : goal.returns-in_default-clause-life
 returns-in_default-clause-life g c = λ header liars w correct at comes.
-    inr (refl, c.stop.ensures.life header liars w correct (subst (λ (n : Member g.row.D.Denot). IsAt g.D.Disk header w n) (sym (ap (λ (v : BookView g.row.D.Denot). v.member) c.self.view_is)) at) (sym c.is_stopped.ensures ∙ c.if-is_stopped.false))
+    inr (refl, c.stop.ensures.life header liars w correct (subst (λ (n : Member g.row.D.Denot). MemberIsAt g.D.Disk header w n) (sym (ap (λ (v : BookView g.row.D.Denot). v.member) c.self.view_is)) at) (sym c.is_stopped.ensures ∙ c.if-is_stopped.false))
 
 pub publish_all-requires-clause-decided : goal.publish_all-requires-clause-decided
 publish_all-requires-clause-decided g c =
-    decided_more (saved_of c.self.inside.member) (saved_of c.hear_all.new.self) (records_of_all (replies_of c.in-Ok.answers.items)) c.self.inside.notes.known c.in-Ok.ensures.saved.grows c.self.invariant.decided
+    decided_more (member_saved c.self.inside.member) (member_saved c.hear_all.new.self) (records_of_all (replies_of c.in-Ok.answers.items)) c.self.inside.notes.known c.in-Ok.ensures.saved.grows c.self.invariant.decided
 
 pub invariant_of-self-in-Ok : goal.invariant_of-self-in-Ok
 invariant_of-self-in-Ok g c =

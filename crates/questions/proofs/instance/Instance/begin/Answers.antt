@@ -1,11 +1,8 @@
 use Rattle.std.proofs.Common.{◌≡◌, ◌∙◌, sym, ap, subst, arith, List, [], ◌∷◌, ◌++◌, length, length-append, Some}
 use Rattle.rbc.specs.declared.Broadcasts.{Broadcasts}
-use Rattle.rbc.specs.Stands.{Stands}
-use Rattle.rbc.specs.Words.{size_by}
-use Rattle.terms.specs.declared.Record.{Record}
-use Rattle.terms.specs.declared.Record.TheVariants.{Said}
-use Rattle.terms.specs.Past.{after_record}
-use Rattle.terms.specs.Answer.{IsNextInitial, after_records}
+use Rattle.rbc.specs.Stands.{BroadcastsStandFor}
+use Rattle.rbc.specs.Readers.{broadcasts_size}
+use Rattle.vocabulary.specs.Terms.{Record, Said, after_record, IsNextInitial, after_records}
 use Rattle.questions.proofs.Keeping.{broadcasts-initial}
 use Rattle.questions.proofs.Beginning.{BeginsSoFar, begun_more}
 use Rattle.questions.proofs.instance.Instance.begin.Goals as goal
@@ -22,11 +19,11 @@ loop-turn-preserved c =
           (begun_more past c.args.toss.0 c.loop-turn.records.items c.in-Some.statement _ _ so next
           (record {
             broadcasts =
-                subst (λ (b : Broadcasts). Stands b (after_record (after_records past c.loop-turn.records.items) (Said c.in-Some.statement))) (sym c.note_own.ensures.broadcasts)
+                subst (λ (b : Broadcasts). BroadcastsStandFor b (after_record (after_records past c.loop-turn.records.items) (Said c.in-Some.statement))) (sym c.note_own.ensures.broadcasts)
                 (broadcasts-initial _ (after_records past c.loop-turn.records.items) c.in-Some.statement next.0.0 so.has.broadcasts);
             own = c.note_own.ensures.own (after_records past c.loop-turn.records.items) so.has.own;
           }));
-      size = ap size_by c.note_own.ensures.broadcasts ∙ c.loop-turn.invariant.size;
+      size = ap broadcasts_size c.note_own.ensures.broadcasts ∙ c.loop-turn.invariant.size;
       me = c.note_own.ensures.me ∙ c.loop-turn.invariant.me;
       question = c.note_own.ensures.question ∙ c.loop-turn.invariant.question;
     }

@@ -1,18 +1,10 @@
 use Rattle.std.proofs.Common.{ℕ, ◌≡◌, ◌∙◌, sym, ap, subst, Option}
 use Rattle.std.proofs.lemmas.Result.{err_from_is_err_and}
-use Rattle.terms.specs.declared.Place.{Place}
-use Rattle.terms.specs.declared.Kind.TheVariants.{Echo, Ready}
-use Rattle.terms.specs.declared.Record.TheVariants.{Said}
-use Rattle.terms.specs.Same.{statement_of}
-use Rattle.terms.specs.Past.{Past, after_hearing}
-use Rattle.terms.specs.declared.Value.{Value}
-use Rattle.terms.specs.Answer.{AreDue, IsLeast, MaySay}
-use Rattle.terms.specs.Reply.{on}
-use Rattle.terms.specs.Fit.{AllFit}
+use Rattle.vocabulary.specs.Terms.{Place, Echo, Ready, Said, new_statement, Past, after_hearing, Value, AreDue, IsLeast, MaySay, on, AllFit}
 use Rattle.terms.proofs.Fit.{fit_heard}
 use Rattle.rbc.specs.Answers.{heard_as, heard_of, IsQuietAt, IsNewlyAccepted}
 use Rattle.rbc.specs.declared.Heard.TheVariants.{News, Repeat}
-use Rattle.questions.specs.Instances.{Has, StandsFor}
+use Rattle.questions.specs.Instances.{Has, InstanceStandsFor}
 use Rattle.questions.specs.Parts.{IsQuietElsewhere}
 use Rattle.questions.proofs.Taking.{IsNews, news_parts, if_news}
 use Rattle.questions.proofs.Waiting.{waiting_heard}
@@ -21,7 +13,7 @@ use Rattle.questions.proofs.Replying.{stands_after, stands_known}
 use Rattle.questions.proofs.instance.Instance.hear.Goals as goal
 use Rattle.questions.proofs.instance.Instance.hear.Goals.{In_ok-records-in-News}
 
-module _ (c : In_ok-records-in-News) (past : Past) (stands : StandsFor c.args.self.now past) where
+module _ (c : In_ok-records-in-News) (past : Past) (stands : InstanceStandsFor c.args.self.now past) where
   asked : c.args.s.now.place.question ≡ past.question
   asked = c.requires.question ∙ stands.has.own.question
 
@@ -40,8 +32,8 @@ module _ (c : In_ok-records-in-News) (past : Past) (stands : StandsFor c.args.se
   quiet_at : IsQuietAt past c.args.s.now.place
   quiet_at =
       record {
-        echo = λ m may. stands.quiet (Said (statement_of Echo c.args.s.now.place m)) asked may;
-        ready = λ m may. stands.quiet (Said (statement_of Ready c.args.s.now.place m)) asked may;
+        echo = λ m may. stands.quiet (Said (new_statement Echo c.args.s.now.place m)) asked may;
+        ready = λ m may. stands.quiet (Said (new_statement Ready c.args.s.now.place m)) asked may;
       }
 
   due : AreDue now c.args.s.now.place c.args.toss.0 c.in_ok-records-in-News.records.items

@@ -1,5 +1,5 @@
 use Rattle.std.proofs.Common.{refl}
-use Rattle.terms.specs.Past.{no_past}
+use Rattle.vocabulary.specs.Terms.{no_past}
 use Rattle.questions.proofs.Keeping.{fresh}
 use Rattle.questions.proofs.instance.Instance.new.Goals as goal
 

@@ -1,34 +1,26 @@
 use Rattle.std.proofs.Common.{ℕ, ◌≡◌, ◌∙◌, sym, ap, subst, None, List, ◌∷◌}
-use Rattle.terms.specs.declared.Kind.TheVariants.{Initial}
-use Rattle.terms.specs.declared.Record.{Record}
-use Rattle.terms.specs.declared.Record.TheVariants.{Said}
-use Rattle.terms.specs.declared.Statement.{Statement}
-use Rattle.terms.specs.Same.{place_of, statement_of, plain}
-use Rattle.terms.specs.Journal.{said}
-use Rattle.terms.specs.Past.{Past, after_record}
-use Rattle.terms.specs.Answer.{AreProposed, after_records}
-use Rattle.terms.specs.Reply.{on}
+use Rattle.vocabulary.specs.Terms.{Initial, Record, Said, Statement, new_place, new_statement, plain, said, Past, after_record, AreProposed, after_records, on}
 use Rattle.rbc.specs.declared.Broadcasts.{Broadcasts}
-use Rattle.rbc.specs.Stands.{Stands as HasBroadcasts}
-use Rattle.questions.specs.Instances.{Has, StandsFor}
-use Rattle.questions.specs.Parts.{Begins, plain_if}
+use Rattle.rbc.specs.Stands.{BroadcastsStandFor as HasBroadcasts}
+use Rattle.questions.specs.Instances.{Has, InstanceStandsFor}
+use Rattle.questions.specs.Parts.{SaysInitials, plain_if}
 use Rattle.questions.proofs.Keeping.{broadcasts-initial}
 use Rattle.questions.proofs.Replying.{stands_after, first_of, proposed}
 use Rattle.questions.proofs.instance.Instance.propose.Goals as goal
 use Rattle.questions.proofs.instance.Instance.propose.Goals.{After-drop-begun-2}
 
-module _ (c : After-drop-begun-2) (past : Past) (stands : StandsFor c.args.self.now past) where
+module _ (c : After-drop-begun-2) (past : Past) (stands : InstanceStandsFor c.args.self.now past) where
   asked : c.args.self.now.question ≡ past.question
   asked = stands.has.own.question
 
-  nothing : said past.records Initial (place_of past.question past.me 1 1) ≡ None
+  nothing : said past.records Initial (new_place past.question past.me 1 1) ≡ None
   nothing = sym stands.has.own.proposed ∙ ap plain_if c.in_default.is
 
   first_is : Said c.first_initial.result ≡ first_of past c.args.bit
   first_is =
       ap Said c.first_initial.ensures
-      ∙ ap (λ q. Said (statement_of Initial (place_of q c.args.self.now.me 1 1) (plain c.args.bit))) asked
-      ∙ ap (λ m. Said (statement_of Initial (place_of past.question m 1 1) (plain c.args.bit))) stands.has.own.me
+      ∙ ap (λ q. Said (new_statement Initial (new_place q c.args.self.now.me 1 1) (plain c.args.bit))) asked
+      ∙ ap (λ m. Said (new_statement Initial (new_place past.question m 1 1) (plain c.args.bit))) stands.has.own.me
 
   has_said : Has c.note_own.new.self (after_record past (Said c.first_initial.result))
   has_said =
@@ -42,7 +34,7 @@ module _ (c : After-drop-begun-2) (past : Past) (stands : StandsFor c.args.self.
   has_first : Has c.note_own.new.self (after_record past (first_of past c.args.bit))
   has_first = subst (λ (x : Record). Has c.note_own.new.self (after_record past x)) first_is has_said
 
-  begins : Begins (after_record past (first_of past c.args.bit)) c.args.toss.0 c.in_ok-begun.begun.items
+  begins : SaysInitials (after_record past (first_of past c.args.bit)) c.args.toss.0 c.in_ok-begun.begun.items
   begins = c.in_ok-begun.ensures.begins (after_record past (first_of past c.args.bit)) has_first
 
   -- the records, in their order
@@ -62,7 +54,7 @@ module _ (c : After-drop-begun-2) (past : Past) (stands : StandsFor c.args.self.
 
 pub returns-clause-reply : goal.returns-clause-reply
 returns-clause-reply c = λ past stands.
-    subst (λ (q : ℕ). (said past.records Initial (place_of q past.me 1 1) ≡ None) × AreProposed (on past q) (plain c.args.bit) c.args.toss.0 c.in_ok-records.records.items)
+    subst (λ (q : ℕ). (said past.records Initial (new_place q past.me 1 1) ≡ None) × AreProposed (on past q) (plain c.args.bit) c.args.toss.0 c.in_ok-records.records.items)
     (sym (asked c past stands)) (nothing c past stands, due c past stands)
 
 pub returns-clause-stands : goal.returns-clause-stands

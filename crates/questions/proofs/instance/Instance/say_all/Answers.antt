@@ -1,9 +1,5 @@
 use Rattle.std.proofs.Common.{◌≡◌, ◌∙◌, refl, sym, ap, subst, List, ◌++◌}
-use Rattle.terms.specs.declared.Kind.TheVariants.{Echo, Ready}
-use Rattle.terms.specs.declared.Record.{Record}
-use Rattle.terms.specs.Past.{Past}
-use Rattle.terms.specs.Fit.{AllFit}
-use Rattle.terms.specs.Answer.{MaySay, IsLeast, after_records, AreDue}
+use Rattle.vocabulary.specs.Terms.{Echo, Ready, Record, Past, AllFit, MaySay, IsLeast, after_records, AreDue}
 use Rattle.questions.specs.Instances.{Has}
 use Rattle.questions.specs.Parts.{IsQuietElsewhere, Decides, if_there}
 use Rattle.questions.proofs.Rows.{rows-four}

@@ -1,7 +1,5 @@
 use Rattle.std.proofs.Common.{◌≡◌, ◌∙◌, refl, sym, ap, subst, Option, Some, None}
-use Rattle.terms.specs.declared.Place.{Place}
-use Rattle.terms.specs.declared.Value.{Value}
-use Rattle.terms.specs.Heard.{Accepted, hear}
+use Rattle.vocabulary.specs.Terms.{Place, Value, Accepted, hear}
 use Rattle.rbc.specs.Answers.{heard_as, heard_of, IsNewlyAccepted}
 use Rattle.rbc.specs.declared.Heard.TheVariants.{News}
 use Rattle.questions.proofs.Taking.{has_heard, has_heard_nothing, if_news}

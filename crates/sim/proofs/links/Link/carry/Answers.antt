@@ -1,9 +1,7 @@
 use Rattle.std.proofs.Common.{◌≡◌, ◌++◌, ◌∙◌, [], sym, ap, subst, List, ℕ}
-use Rattle.terms.specs.declared.Size.{Size}
-use Rattle.terms.specs.Bounds.{IsSize}
-use Rattle.terms.specs.WellFormed.{IsWellFormed}
+use Rattle.vocabulary.specs.Terms.{Size, IsSize, IsWellFormed}
 use Rattle.wire.specs.declared.message.Message.TheVariants as message
-use Rattle.wire.specs.Texts.{text}
+use Rattle.wire.specs.Texts.{frame_bytes}
 use Rattle.wire.specs.Feeding.{Feeds}
 use Rattle.sim.specs.Links.{LinkFields}
 use Rattle.sim.proofs.Reading.{arrives}
@@ -11,8 +9,8 @@ use Rattle.sim.proofs.links.Link.carry.Goals as goal
 
 pub returns-clause-arrives : goal.returns-clause-arrives
 returns-clause-arrives c lawful well at =
-    let bytes : c.deref.result.now ≡ text (message.Statement c.args.statement.now) =
-    c.deref.ensures.value ∙ c.in_ok-encode.ensures.ok ∙ ap (λ (l : List ℕ). l ++ text (message.Statement c.args.statement.now)) c.clear.ensures.items in
+    let bytes : c.deref.result.now ≡ frame_bytes (message.Statement c.args.statement.now) =
+    c.deref.ensures.value ∙ c.in_ok-encode.ensures.ok ∙ ap (λ (l : List ℕ). l ++ frame_bytes (message.Statement c.args.statement.now)) c.clear.ensures.items in
     let feeds = subst (λ (b : List ℕ). Feeds c.self.inside.feeder.size c.self.inside.feeder.end b [] c.read.new.messages.items c.read.new.feeder.end) bytes c.in_ok-self-inside.ensures.reads in
     let size = sym (ap (λ (l : LinkFields). l.size) c.self.view_is) in
     c.statement_alone.ensures c.args.statement.now
@@ -22,8 +20,8 @@ returns-clause-arrives c lawful well at =
 
 pub returns-clause-end : goal.returns-clause-end
 returns-clause-end c lawful well at =
-    let bytes : c.deref.result.now ≡ text (message.Statement c.args.statement.now) =
-    c.deref.ensures.value ∙ c.in_ok-encode.ensures.ok ∙ ap (λ (l : List ℕ). l ++ text (message.Statement c.args.statement.now)) c.clear.ensures.items in
+    let bytes : c.deref.result.now ≡ frame_bytes (message.Statement c.args.statement.now) =
+    c.deref.ensures.value ∙ c.in_ok-encode.ensures.ok ∙ ap (λ (l : List ℕ). l ++ frame_bytes (message.Statement c.args.statement.now)) c.clear.ensures.items in
     let feeds = subst (λ (b : List ℕ). Feeds c.self.inside.feeder.size c.self.inside.feeder.end b [] c.read.new.messages.items c.read.new.feeder.end) bytes c.in_ok-self-inside.ensures.reads in
     let size = sym (ap (λ (l : LinkFields). l.size) c.self.view_is) in
     (arrives c.self.inside.feeder.size c.args.statement.now c.self.inside.feeder.end c.read.new.feeder.end c.read.new.messages.items

@@ -1,10 +1,5 @@
 use Rattle.std.proofs.Common.{◌≡◌, ℕ, [], Some, Option, IfOk, length, get_or, refl, sym, ap, subst, ◌∙◌, true}
-use Rattle.terms.specs.declared.Size.{Size}
-use Rattle.terms.specs.declared.Header.{Header}
-use Rattle.terms.specs.declared.Statement.{Statement}
-use Rattle.terms.specs.Bounds.{IsSize}
-use Rattle.terms.specs.WellFormed.{IsWellFormed}
-use Rattle.terms.specs.Reply.Event.{Hearing}
+use Rattle.vocabulary.specs.Terms.{Size, Header, Statement, IsSize, IsWellFormed, Hearing}
 use Rattle.wire.specs.Reading.{Rest}
 use Rattle.world.specs.World.{has_sent}
 use Rattle.sim.specs.declared.links.Link.{Link}

@@ -1,11 +1,6 @@
-use Rattle.std.proofs.Common.{◌≡◌, ℕ, [], List, length, get_or, refl, sym, ap, subst, ◌∙◌}
-use Rattle.std.specs.Prelude.{map}
+use Rattle.std.proofs.Common.{◌≡◌, ℕ, [], List, length, get_or, refl, sym, ap, subst, ◌∙◌, map}
 use Rattle.std.specs.List.{AllByRecursion}
-use Rattle.terms.specs.declared.Size.{Size}
-use Rattle.terms.specs.declared.Header.{Header}
-use Rattle.terms.specs.declared.Statement.{Statement}
-use Rattle.terms.specs.Bounds.{IsSize}
-use Rattle.terms.specs.WellFormed.{IsWellFormed}
+use Rattle.vocabulary.specs.Terms.{Size, Header, Statement, IsSize, IsWellFormed}
 use Rattle.wire.specs.Reading.{Rest}
 use Rattle.member.specs.Groups.{hearings, AllCome}
 use Rattle.sim.specs.declared.links.Link.{Link}

@@ -1,6 +1,5 @@
 use Rattle.std.proofs.Common.{◌≡◌, ◌<◌, length, get_or, refl, sym, ap, ◌∙◌, subst, arith}
-use Rattle.terms.specs.declared.Header.{Header}
-use Rattle.terms.specs.declared.Size.{Size}
+use Rattle.vocabulary.specs.Terms.{Header, Size}
 use Rattle.sim.specs.declared.seats.Seat.{Seat}
 use Rattle.sim.specs.Seats.{is_liar, IsMove, Reopens}
 use Rattle.sim.specs.Posts.{IsNewLink}

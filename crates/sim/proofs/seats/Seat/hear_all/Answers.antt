@@ -1,5 +1,5 @@
 use Rattle.member.specs.Groups.{hearings}
-use Rattle.member.specs.Life.{IsAt}
+use Rattle.member.specs.Life.{MemberIsAt}
 use Rattle.member.specs.Memory.{memory_disk}
 use Rattle.sim.specs.Seats.{mine}
 use Rattle.member.specs.Sound.{IsSound}
@@ -10,12 +10,12 @@ use Rattle.sim.proofs.seats.Seat.hear_all.Goals as goal
 
 pub returns-clause-moved : goal.returns-clause-moved
 returns-clause-moved c size liars p w correct free at come =
-    let here : IsAt memory_disk (mine size p) w c.in-Here.member = rw c.in-Here.is at at in
+    let here : MemberIsAt memory_disk (mine size p) w c.in-Here.member = rw c.in-Here.is at at in
     told_all_ok size liars p w c.args.fused (hearings c.args.events.now) c.in-Here.member c.hear_all-answers.new.self
     c.hear_all-answers.result c.mark_of.result c.mark_of.ensures.mark (c.hear_all-answers.ensures.event.life (mine size p) liars w correct here come)
 
 pub returns-clause-memory : goal.returns-clause-memory
 returns-clause-memory c size liars p w correct free at come may =
-    let here : IsAt memory_disk (mine size p) w c.in-Here.member = rw c.in-Here.is at at in
+    let here : MemberIsAt memory_disk (mine size p) w c.in-Here.member = rw c.in-Here.is at at in
     let sound : IsSound memory_disk c.in-Here.member = rw c.in-Here.is at c.requires.sound in
     c.mark_of.ensures.memory (λ full. never_full_all size liars p w c.in-Here.member correct free may sound here (hearings c.args.events.now) come (full_of memory_disk c.in-Here.member c.hear_all-answers.new.self _ _ c.hear_all-answers.result c.hear_all-answers.ensures.fault full))

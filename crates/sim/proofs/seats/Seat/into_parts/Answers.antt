@@ -1,4 +1,4 @@
-use Rattle.member.specs.Life.{IsAt}
+use Rattle.member.specs.Life.{MemberIsAt}
 use Rattle.member.specs.Sound.{IsSound}
 use Rattle.member.specs.Memory.{memory_disk}
 use Rattle.sim.proofs.Moves.{parts_of}
@@ -6,6 +6,6 @@ use Rattle.sim.proofs.seats.Seat.into_parts.Goals as goal
 
 pub returns-in-Here-clause-parts : goal.returns-in-Here-clause-parts
 returns-in-Here-clause-parts c header w at =
-    let here : IsAt memory_disk header w c.in-Here.member = rw c.in-Here.is at at in
+    let here : MemberIsAt memory_disk header w c.in-Here.member = rw c.in-Here.is at at in
     let sound : IsSound memory_disk c.in-Here.member = rw c.in-Here.is at c.requires.sound in
     parts_of header w c.in-Here.member c.into_parts.result.0 c.into_parts.result.1.items sound here c.into_parts.ensures.disk c.into_parts.ensures.records

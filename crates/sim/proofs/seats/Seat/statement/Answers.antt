@@ -1,8 +1,8 @@
 use Rattle.std.proofs.Common.{◌≡◌, ◌<◌, ◌≤◌, Some, List, length, get_or, sym, ap, subst, ◌∙◌}
-use Rattle.terms.specs.declared.Statement.{Statement}
+use Rattle.vocabulary.specs.Terms.{Statement}
 use Rattle.member.specs.declared.sealed.Sealed.{Sealed}
 use Rattle.member.specs.Sealed.{sealed_from}
-use Rattle.member.specs.Words.{saved_of}
+use Rattle.member.specs.Readers.{member_saved}
 use Rattle.sim.specs.declared.seats.Seat.{Seat}
 use Rattle.sim.specs.Seats.{nth_said, saved_in}
 use Rattle.sim.proofs.Numbers.{nth_sealed, nth_none}
@@ -10,14 +10,14 @@ use Rattle.sim.proofs.seats.Seat.statement.Goals as goal
 
 pub returns-then-index-outbox-clause-said : goal.returns-then-index-outbox-clause-said
 returns-then-index-outbox-clause-said c =
-    let within : c.args.number < length (sealed_from 0 (saved_of c.in-Here.member)) = subst (λ (l : List Sealed). c.args.number < length l) c.outbox-outbox.ensures c.if-index-outbox.true in
-    let at : c.index-outbox-index.result ≡ get_or (sealed_from 0 (saved_of c.in-Here.member)) c.args.number c.index-outbox-index.result =
+    let within : c.args.number < length (sealed_from 0 (member_saved c.in-Here.member)) = subst (λ (l : List Sealed). c.args.number < length l) c.outbox-outbox.ensures c.if-index-outbox.true in
+    let at : c.index-outbox-index.result ≡ get_or (sealed_from 0 (member_saved c.in-Here.member)) c.args.number c.index-outbox-index.result =
     c.index-outbox-index.is ∙ ap (λ (l : List Sealed). get_or l c.args.number c.index-outbox-index.result) c.outbox-outbox.ensures in
     ap (λ (s : Statement). Some s) (c.statement.ensures ∙ ap (λ (x : Sealed). x.statement) at)
-    ∙ sym (nth_sealed (saved_of c.in-Here.member) 0 c.args.number c.index-outbox-index.result within)
+    ∙ sym (nth_sealed (member_saved c.in-Here.member) 0 c.args.number c.index-outbox-index.result within)
     ∙ ap (λ (x : Seat). nth_said (saved_in x) c.args.number) (sym c.in-Here.is)
 
 pub returns-else-index-outbox-clause-said : goal.returns-else-index-outbox-clause-said
 returns-else-index-outbox-clause-said c =
-    let past : length (sealed_from 0 (saved_of c.in-Here.member)) ≤ c.args.number = subst (λ (l : List Sealed). length l ≤ c.args.number) c.outbox-outbox.ensures c.if-index-outbox.false in
-    sym (nth_none (saved_of c.in-Here.member) 0 c.args.number past) ∙ ap (λ (x : Seat). nth_said (saved_in x) c.args.number) (sym c.in-Here.is)
+    let past : length (sealed_from 0 (member_saved c.in-Here.member)) ≤ c.args.number = subst (λ (l : List Sealed). length l ≤ c.args.number) c.outbox-outbox.ensures c.if-index-outbox.false in
+    sym (nth_none (member_saved c.in-Here.member) 0 c.args.number past) ∙ ap (λ (x : Seat). nth_said (saved_in x) c.args.number) (sym c.in-Here.is)

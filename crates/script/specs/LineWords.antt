@@ -1,7 +1,7 @@
 -- What the words of a line write.
 use Rattle.std.specs.Prelude.{ℕ, ◌≡◌, ◌≤◌, ◌==◌, Bool, Option, Some, None, List, [], ◌∷◌, codes}
 use Rattle.std.specs.List.{slice_split}
-use Rattle.words.specs.Numbers.{IsNumber, IsBelow, AreBytes}
+use Rattle.words.specs.Numbers.{IsNumber, IsBelow, IsHexOf}
 use Rattle.words.specs.Sentences.{bit_digit}
 use Rattle.disk.specs.declared.Pick.{Pick}
 use Rattle.disk.specs.declared.Pick.TheVariants.{Kept, Lost, Fill}
@@ -46,7 +46,7 @@ IsFuse word (Some calls) = IsLong word calls
 abbrev pub ArePick : List (List ℕ) → Pick → Type 0
 ArePick words Kept = words ≡ codes "kept" ∷ []
 ArePick words Lost = words ≡ codes "lost" ∷ []
-ArePick words (Fill byte) = (digits : List ℕ) × (words ≡ codes "fill" ∷ digits ∷ []) × AreBytes digits (byte ∷ [])
+ArePick words (Fill byte) = (digits : List ℕ) × (words ≡ codes "fill" ∷ digits ∷ []) × IsHexOf digits (byte ∷ [])
 
 -- members, one a word
 abbrev pub AreMembers : List (List ℕ) → List ℕ → Type 0
