@@ -1,12 +1,12 @@
 -- The second line of a fault.
 use Rattle.std.specs.Prelude.{ℕ, List, [], ◌++◌, codes, string_bytes}
 use Rattle.std.specs.Fmt.{decimal}
-use Rattle.bracha.specs.declared.trouble.Place.{Place}
-use Rattle.bracha.specs.declared.trouble.Place.TheVariants as place
+use Rattle.bracha.specs.declared.trouble.Whereabouts.{Whereabouts}
+use Rattle.bracha.specs.declared.trouble.Whereabouts.TheVariants as place
 use Rattle.bracha.specs.declared.trouble.Trouble.{Trouble}
 
 -- what stands behind the thing
-abbrev pub place_text : Place → List ℕ
+abbrev pub place_text : Whereabouts → List ℕ
 place_text place.Whole = []
 place_text (place.Line number) = codes ":" ++ decimal number
 place_text (place.Byte at) = codes ": byte " ++ decimal at

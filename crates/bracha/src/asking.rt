@@ -2,7 +2,7 @@
 
 use crate::fault::Fault;
 use crate::live::socket_address;
-use crate::trouble::{Failure, Place};
+use crate::trouble::{Failure, Whereabouts};
 use commands::{TalkFault, ask_line, propose_line, status_line, talk};
 use settings::Address;
 use std::io;
@@ -17,24 +17,41 @@ fn connect(rt: &HostRuntime, address: &Address) -> io::Result<TcpStream> {
     Ok(socket)
 }
 
+/// The failure of a talk over a connection that was made.
+fn talk_failure(rt: &HostRuntime, address: &str, fault: TalkFault) -> Failure {
+    match fault {
+        TalkFault::NoAnswer => {
+            let words = "connected, but no whole reply came";
+            Failure::at(
+                rt.alloc(),
+                Fault::from(fault),
+                address,
+                Whereabouts::Whole,
+                &words,
+            )
+        }
+        _ => Failure::from(Fault::from(fault)),
+    }
+}
+
 /// Sends the line to the desk at the address, and prints the reply.
 fn ask_desk(rt: &HostRuntime, text: &str, line: &str) -> Result<u8, Failure> {
     let Some(address) = Address::parse(text) else {
         let words = "not HOST:PORT";
-        return Err(Failure::at(rt.alloc(), Fault::Address, text, Place::Whole, &words));
+        return Err(Failure::at(rt.alloc(), Fault::Address, text, Whereabouts::Whole, &words));
     };
     let socket = match connect(rt, &address) {
         Ok(socket) => socket,
         Err(error) => {
             let fault = Fault::from(TalkFault::NoAnswer);
-            return Err(Failure::at(rt.alloc(), fault, text, Place::Connect, &error));
+            return Err(Failure::at(rt.alloc(), fault, text, Whereabouts::Connect, &error));
         }
     };
     let mut to = &socket;
     let mut from = &socket;
     match talk(rt.alloc(), line, &mut to, &mut from, &mut io::writer(rt)) {
         Ok(status) => Ok(status),
-        Err(fault) => Err(Failure::from(Fault::from(fault))),
+        Err(fault) => Err(talk_failure(rt, text, fault)),
     }
 }
 

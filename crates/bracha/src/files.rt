@@ -5,7 +5,7 @@ ghost use Rattle.std.specs.Prelude.{◌≡◌};
 use crate::fault::Fault;
 use crate::pages::{fault_at, keep_apart, write_page};
 use crate::telling::{journal_failure, not_text, script_failure, settings_failure};
-use crate::trouble::{Failure, Place};
+use crate::trouble::{Failure, Whereabouts};
 use commands::{
     DumpFault, InitFault, check_journal, dump_count, dump_lines, init_disk, print_settings,
     print_verdicts, simulate_pages, takes_output,
@@ -42,7 +42,13 @@ pub fn read_settings(rt: &HostRuntime, path: &str) -> Result<Settings, Failure> 
 fn read_file(rt: &HostRuntime, path: &str) -> Result<Vec<u8>, Failure> {
     match fs::read(rt, path) {
         Ok(bytes) => Ok(bytes),
-        Err(error) => Err(Failure::of_system(rt.alloc(), Fault::File, path, Place::Read, error)),
+        Err(error) => Err(Failure::of_system(
+            rt.alloc(),
+            Fault::File,
+            path,
+            Whereabouts::Read,
+            error,
+        )),
     }
 }
 
@@ -50,7 +56,18 @@ fn read_file(rt: &HostRuntime, path: &str) -> Result<Vec<u8>, Failure> {
 pub fn open_disk(rt: &HostRuntime, path: &str, make: bool) -> Result<FileDisk, Failure> {
     match FileDisk::open(rt, path, make) {
         Ok(disk) => Ok(disk),
-        Err(error) => Err(Failure::of_system(rt.alloc(), Fault::File, path, Place::Open, error)),
+        // Its lock is held.
+        Err(error) if error.kind() == io::ErrorKind::WouldBlock => {
+            let words = "another process has it";
+            Err(Failure::at(rt.alloc(), Fault::File, path, Whereabouts::Open, &words))
+        }
+        Err(error) => Err(Failure::of_system(
+            rt.alloc(),
+            Fault::File,
+            path,
+            Whereabouts::Open,
+            error,
+        )),
     }
 }
 
@@ -117,7 +134,7 @@ pub fn check_file(rt: &HostRuntime, path: &str) -> Result<u8, Failure> {
             rt.alloc(),
             Fault::File,
             journal,
-            Place::Open,
+            Whereabouts::Open,
             error,
         )),
     };

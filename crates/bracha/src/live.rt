@@ -5,9 +5,9 @@ ghost use Rattle.std.specs.Prelude.{◌≡◌, IfErr, IfOk, Err, Ok};
 
 use crate::fault::Fault;
 use crate::files::{failure_of_journal, open_disk, read_settings};
-use crate::trouble::{Failure, Place, Trouble, trouble_of};
+use crate::trouble::{Failure, Trouble, Whereabouts, trouble_of};
 use member::Member;
-use running::{Addresses, Event, Log, Machine, Operator, RunFault, run_member};
+use running::{Addresses, Log, LogEvent, Machine, Operator, RunFault, run_member};
 use settings::{Address, Settings};
 use std::alloc::{AllocError, Global};
 use std::io::{self, Read, Write};
@@ -85,26 +85,26 @@ impl<'a> Operator for Console<'a> {
         let Ok(text) = format!(in alloc; "{address}") else {
             return;
         };
-        self.trouble = trouble_of(alloc, text.as_str(), Place::Listen, error);
+        self.trouble = trouble_of(alloc, text.as_str(), Whereabouts::Listen, error);
     }
 }
 
 /// A log on the standard error: a line for each event, by one write.
 #[derive(Drop)]
-struct Lines {
+struct ErrorLog {
     alloc: Global,
     errors: Stderr,
 }
 
-impl Lines {
-    fn print(&mut self, event: &Event) -> io::Result<()> {
+impl ErrorLog {
+    fn print(&mut self, event: &LogEvent) -> io::Result<()> {
         let line = format!(in self.alloc; "{event}\n")?;
         self.errors.write_all(line.as_bytes())
     }
 }
 
-impl Log for Lines {
-    fn tell(&mut self, event: &Event) {
+impl Log for ErrorLog {
+    fn tell(&mut self, event: &LogEvent) {
         let _lost = self.print(event).is_err();
     }
 }
@@ -152,7 +152,7 @@ pub fn run_file<R: Machine>(
         stay,
         trouble: None,
     };
-    let lines = Mutex::new(Lines {
+    let lines = Mutex::new(ErrorLog {
         alloc: host.alloc(),
         errors: host.stderr(),
     });

@@ -5,7 +5,7 @@ ghost use Rattle.bracha.specs.declared.fault.Fault.TheVariants as ends;
 ghost use Rattle.std.specs.Prelude.{◌≡◌, ◌≢◌, ◌⊎◌, IfErr, IsOk, IsTrue, None, Some, codes, option_map};
 
 use crate::fault::Fault;
-use crate::trouble::{Failure, Place};
+use crate::trouble::{Failure, Whereabouts};
 use commands::takes_output;
 use std::fs::{self, Metadata};
 use std::io::{self, Write};
@@ -28,7 +28,7 @@ pub fn write_page(
     };
     match write_text(rt, path, page.as_str()) {
         Ok(()) => Ok(()),
-        Err(error) => Err(Failure::of_system(rt.alloc(), fault, path, Place::Write, error)),
+        Err(error) => Err(Failure::of_system(rt.alloc(), fault, path, Whereabouts::Write, error)),
     }
 }
 

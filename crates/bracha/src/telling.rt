@@ -3,17 +3,17 @@
 ghost use Rattle.std.specs.Prelude.{◌≡◌};
 
 use crate::fault::Fault;
-use crate::trouble::{Failure, Place};
+use crate::trouble::{Failure, Whereabouts};
 use commands::{SimulateFault, bytes_at, fault_place, line_at, line_of_key, text_fault};
 use journal::JournalFault;
 use settings::{Key, SettingsFault};
-use std::alloc::Global;
+use std::alloc::{AllocError, Global};
 use terms::SizeFault;
 
 /// The failure of a file of settings whose byte at this place begins no UTF-8.
 pub fn not_text(alloc: Global, path: &str, place: usize) -> Failure {
     let fault = Fault::Settings(SettingsFault::Text);
-    Failure::at(alloc, fault, path, Place::Byte(place), &"not UTF-8")
+    Failure::at(alloc, fault, path, Whereabouts::Byte(place), &"not UTF-8")
 }
 
 /// The key that is to be looked at where the numbers of settings make no size.
@@ -26,10 +26,10 @@ fn key_of(fault: SizeFault) -> Key {
 }
 
 /// The line that gives the key a value, or the whole text where none does.
-fn place_of(alloc: Global, text: &str, key: Key) -> Place {
+fn place_of(alloc: Global, text: &str, key: Key) -> Whereabouts {
     match line_of_key(alloc, text.as_bytes(), key) {
-        Ok(Some(number)) => Place::Line(number),
-        _ => Place::Whole,
+        Ok(Some(number)) => Whereabouts::Line(number),
+        _ => Whereabouts::Whole,
     }
 }
 
@@ -37,7 +37,13 @@ fn place_of(alloc: Global, text: &str, key: Key) -> Place {
 fn text_failure(alloc: Global, path: &str, text: &str) -> Failure {
     let fault = Fault::Settings(SettingsFault::Text);
     match text_fault(alloc, text) {
-        Ok(Some((number, words))) => Failure::at(alloc, fault, path, Place::Line(number), &words),
+        Ok(Some((number, words))) => Failure::at(
+            alloc,
+            fault,
+            path,
+            Whereabouts::Line(number),
+            &words,
+        ),
         _ => Failure::from(fault),
     }
 }
@@ -85,17 +91,33 @@ pub fn journal_failure(
     ensures { result.fault ≡ fault }
 {
     match journal_words(alloc, &fault, found, file) {
-        Some((place, words)) => Failure::at(alloc, fault, path, Place::Byte(place), &words),
+        Some((place, words)) => Failure::at(alloc, fault, path, Whereabouts::Byte(place), &words),
         None => Failure::about(alloc, fault, path),
     }
 }
 
-/// The words for a line of a script: the line.
-fn words_of(line: Option<&[u8]>) -> &str {
-    match line {
-        Some(bytes) => str::from_utf8(bytes).unwrap_or("not UTF-8"),
-        None => "the text ends before this line",
+/// Whether one of the bytes is a control character.
+fn has_control(bytes: &[u8]) -> bool {
+    bytes.iter().any(|byte| byte.is_ascii_control())
+}
+
+/// The words for a line of a script: the line, in quotes and with escapes where it has a control byte, such as the 0D of
+/// another system's line end. An empty line is no fault, so it stands behind the text's last one.
+fn words_of(alloc: Global, line: &[u8]) -> Result<String, AllocError> {
+    if line.is_empty() {
+        return String::from_str(alloc, "the text ends before this line");
     }
+    match str::from_utf8(line) {
+        Ok(text) if has_control(line) => format!(in alloc; "{text:?}"),
+        Ok(text) => String::from_str(alloc, text),
+        Err(_) => String::from_str(alloc, "not UTF-8"),
+    }
+}
+
+/// The words for the line of that number of a script.
+fn words_at(alloc: Global, text: &[u8], number: usize) -> Result<String, AllocError> {
+    let line = line_at(alloc, text, number)?;
+    words_of(alloc, line.unwrap_or(b""))
 }
 
 /// The failure of a script: its text where it is about a line.
@@ -105,8 +127,8 @@ pub fn script_failure(alloc: Global, path: &str, text: &[u8], fault: SimulateFau
     };
     let number = number as usize;
     let fault = Fault::Simulate(fault);
-    match line_at(alloc, text, number) {
-        Ok(line) => Failure::at(alloc, fault, path, Place::Line(number), &words_of(line)),
+    match words_at(alloc, text, number) {
+        Ok(words) => Failure::at(alloc, fault, path, Whereabouts::Line(number), &words),
         Err(_) => Failure::from(fault),
     }
 }

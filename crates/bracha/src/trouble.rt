@@ -9,7 +9,7 @@ use std::{fmt, io};
 
 /// Where a thing went wrong, or what was tried on it.
 #[derive(Clone, Copy, Debug, PartialEq, Eq)]
-pub enum Place {
+pub enum Whereabouts {
     /// All of it.
     Whole,
     /// This line, counted from 1.
@@ -28,7 +28,7 @@ pub enum Place {
     Listen,
 }
 
-impl fmt::Display for Place {
+impl fmt::Display for Whereabouts {
     ghost use Rattle.std.specs.Prelude.{Some};
     ghost use Rattle.bracha.specs.Troubles.{place_text};
 
@@ -36,14 +36,14 @@ impl fmt::Display for Place {
 
     fn fmt<W: fmt::Write>(&self, f: &mut fmt::Formatter<W>) -> fmt::Result {
         match *self {
-            Place::Whole => Ok(()),
-            Place::Line(number) => write!(f, ":{number}"),
-            Place::Byte(at) => write!(f, ": byte {at}"),
-            Place::Open => f.write_str(": open"),
-            Place::Read => f.write_str(": read"),
-            Place::Write => f.write_str(": write"),
-            Place::Connect => f.write_str(": connect"),
-            Place::Listen => f.write_str(": listen"),
+            Whereabouts::Whole => Ok(()),
+            Whereabouts::Line(number) => write!(f, ":{number}"),
+            Whereabouts::Byte(at) => write!(f, ": byte {at}"),
+            Whereabouts::Open => f.write_str(": open"),
+            Whereabouts::Read => f.write_str(": read"),
+            Whereabouts::Write => f.write_str(": write"),
+            Whereabouts::Connect => f.write_str(": connect"),
+            Whereabouts::Listen => f.write_str(": listen"),
         }
     }
 }
@@ -54,7 +54,7 @@ impl fmt::Display for Place {
 pub struct Trouble {
     /// The path of a file, or an address.
     pub thing: String,
-    pub place: Place,
+    pub place: Whereabouts,
     /// What is wrong, in the system's words or the program's own.
     pub words: String,
 }
@@ -95,7 +95,7 @@ impl Failure {
         alloc: Global,
         fault: Fault,
         thing: &str,
-        place: Place,
+        place: Whereabouts,
         words: &T,
     ) -> Failure
         ensures { result.fault ≡ fault }
@@ -110,7 +110,7 @@ impl Failure {
     pub fn about(alloc: Global, fault: Fault, thing: &str) -> Failure
         ensures { result.fault ≡ fault }
     {
-        let trouble = trouble_of(alloc, thing, Place::Whole, &fault);
+        let trouble = trouble_of(alloc, thing, Whereabouts::Whole, &fault);
         Failure { fault, trouble }
     }
 
@@ -119,7 +119,7 @@ impl Failure {
         alloc: Global,
         fault: Fault,
         thing: &str,
-        place: Place,
+        place: Whereabouts,
         error: io::Error,
     ) -> Failure
         ensures meant { IsMeant fault result.fault }
@@ -149,7 +149,7 @@ impl Failure {
 pub fn trouble_of<T: fmt::Display>(
     alloc: Global,
     thing: &str,
-    place: Place,
+    place: Whereabouts,
     words: &T,
 ) -> Option<Trouble> {
     let thing = String::from_str(alloc, thing).ok()?;

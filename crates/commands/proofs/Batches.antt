@@ -5,9 +5,7 @@ use Rattle.std.proofs.lemmas.List.Concat.{flat_map-append}
 use Rattle.std.specs.List.{flat_map}
 use Rattle.vocabulary.specs.Terms.{Header, Record}
 use Rattle.journal.specs.declared.fault.JournalFault.{JournalFault}
-use Rattle.journal.specs.Texts.{Batch, batch_bytes, header_text, record_bytes, batches_bytes}
-use Rattle.journal.specs.WellFormed.{AreBatches, IsBatch, IsHeader}
-use Rattle.journal.specs.File.{HasHeader, Holds, RefusesFile}
+use Rattle.journal.specs.Words.{Batch, batch_bytes, header_text, record_bytes, batches_bytes, AreBatches, IsBatch, IsHeader, HasHeader, Holds, RefusesFile}
 use Rattle.journal.proofs.One.{behind_header, one_header}
 use Rattle.journal.proofs.Refused.{not_refused}
 use Rattle.journal.proofs.Texts.{length-header_text, length-records, same_front}

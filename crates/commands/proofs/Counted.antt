@@ -5,15 +5,13 @@ use Rattle.std.specs.Global.{Vec}
 use Rattle.std.specs.List.{flat_map}
 use Rattle.vocabulary.specs.Terms.{Size, Record}
 use Rattle.script.specs.declared.Script.{Script}
-use Rattle.script.specs.Acts.{TossedAct, tossed_act}
-use Rattle.script.specs.Scripts.{IsTold, IsScript}
+use Rattle.script.specs.Words.{TossedAct, tossed_act, IsTold, IsScript}
 use Rattle.sim.specs.declared.events.Event.{Event}
 use Rattle.sim.specs.declared.events.Mark.{Mark}
 use Rattle.sim.specs.declared.cluster.Cluster.{Cluster}
 use Rattle.sim.specs.declared.cluster.Outcome.{Outcome}
 use Rattle.sim.specs.declared.TheConstants.{MOST_EVENTS}
-use Rattle.sim.specs.Plays.{Played, ClusterStandsFor, played, unplayed, and_then, last_saved}
-use Rattle.sim.specs.Outcomes.{IsSimulation, Verdict, among}
+use Rattle.sim.specs.Words.{Played, ClusterStandsFor, played, unplayed, and_then, last_saved, IsSimulation, Verdict, among}
 use Rattle.words.specs.Sentences.{bit_digit}
 use Rattle.report.specs.Traces.{is_skipped}
 use Rattle.commands.specs.Simulations.{verdict_line, line_of_counts, simulation_text}

@@ -5,8 +5,7 @@ use Rattle.std.proofs.Math.Seq.{take-suc}
 use Rattle.vocabulary.specs.Terms.{Record, Header}
 use Rattle.journal.specs.declared.fault.JournalFault.{JournalFault}
 use Rattle.journal.specs.declared.fault.JournalFault.TheVariants as unheld
-use Rattle.journal.specs.Faults.{IsOfFile, IsFaultOfOpening}
-use Rattle.journal.specs.File.{HasHeader, RefusesFile}
+use Rattle.journal.specs.Words.{IsOfFile, IsFaultOfOpening, HasHeader, RefusesFile}
 use Rattle.journal.proofs.One.{one_header}
 use Rattle.commands.specs.declared.fault.DumpFault.TheVariants as dump
 use Rattle.commands.specs.Faults.{of_opening}

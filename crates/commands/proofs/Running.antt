@@ -6,8 +6,7 @@ use Rattle.commands.specs.declared.fault.SimulateFault.TheVariants as ended
 use Rattle.script.specs.declared.fault.ScriptFault.{ScriptFault}
 use Rattle.script.specs.declared.fault.ScriptFault.TheVariants as unread
 use Rattle.vocabulary.specs.Terms.{Size}
-use Rattle.script.specs.Acts.{TossedAct}
-use Rattle.script.specs.Scripts.{IsTold, IsFirstFault}
+use Rattle.script.specs.Words.{TossedAct, IsTold, IsFirstFault}
 use Rattle.sim.specs.declared.faults.SimFault.{SimFault}
 use Rattle.sim.specs.declared.faults.SimFault.TheVariants as unrun
 use Rattle.sim.specs.Outcomes.{AreLiars}

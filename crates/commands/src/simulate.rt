@@ -30,7 +30,7 @@ use words::is;
 
 /// How many events were played, and how many of them were skipped.
 #[derive(Clone, Copy)]
-struct Counts {
+struct EventCounts {
     events: usize,
     skipped: usize,
 }
@@ -58,10 +58,10 @@ fn skipped(marks: &[Mark]) -> usize
 }
 
 /// The line of so many events, of which so many were skipped.
-fn count_line(alloc: Global, counts: Counts) -> Result<String, AllocError>
+fn count_line(alloc: Global, counts: EventCounts) -> Result<String, AllocError>
     ensures { IfOk result (λ text. string_bytes text ≡ line_of_counts counts.events counts.skipped) }
 {
-    let Counts { events, skipped } = counts;
+    let EventCounts { events, skipped } = counts;
     format!(in alloc; "events {events} skipped {skipped}\n")
 }
 
@@ -80,7 +80,7 @@ fn verdict_lines(alloc: Global, verdicts: &[(u8, u16, u8, bool)]) -> Result<Stri
 fn outcome_text(
     alloc: Global,
     verdicts: &[(u8, u16, u8, bool)],
-    counts: Counts,
+    counts: EventCounts,
 ) -> Result<String, AllocError>
     ensures { IfOk result (λ text.
         string_bytes text ≡ flat_map verdict_line verdicts.now ++ line_of_counts counts.events counts.skipped) }
@@ -94,7 +94,7 @@ fn outcome_text(
 fn simulation_text(alloc: Global, outcome: &Outcome) -> Result<String, AllocError>
     ensures { IfOk result (λ text. string_bytes text ≡ simulation_text outcome.now) }
 {
-    let counts = Counts {
+    let counts = EventCounts {
         events: outcome.marks.len(),
         skipped: skipped(&outcome.marks),
     };
@@ -118,8 +118,8 @@ fn play_batch(
     alloc: Global,
     cluster: &mut Cluster,
     events: &[Event],
-    counts: Counts,
-) -> Result<Counts, SimFault>
+    counts: EventCounts,
+) -> Result<EventCounts, SimFault>
     requires room { counts.events + length events.now ≤ MOST_EVENTS }
     requires fewer { counts.skipped ≤ counts.events }
     ensures room { IfOk result (λ now. now.events ≡ counts.events + length events.now) }
@@ -138,7 +138,7 @@ fn play_batch(
         played += 1;
         skipped += usize::from(is_skipped(&mark));
     }
-    Ok(Counts {
+    Ok(EventCounts {
         events: played,
         skipped,
     })
@@ -149,14 +149,14 @@ fn play_all(
     alloc: Global,
     source: &mut Source,
     cluster: &mut Cluster,
-) -> Result<Counts, SimulateFault>
+) -> Result<EventCounts, SimulateFault>
     requires few { length source.old.left ≤ MOST_EVENTS }
     ensures counted { (size : Size) (liars : List ℕ) → ClusterStandsFor (unplayed size (among liars) (λ p. false)) cluster.old →
         IfOk result (λ counts. CountsPlayed size liars source.old.left [] cluster.new counts.events counts.skipped) }
     ensures memory { (size : Size) (liars : List ℕ) → ClusterStandsFor (unplayed size (among liars) (λ p. false)) cluster.old →
         IfErr result (λ fault. fault ≡ SimulateFault.Memory) }
 {
-    let mut counts = Counts {
+    let mut counts = EventCounts {
         events: 0,
         skipped: 0,
     };

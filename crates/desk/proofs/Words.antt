@@ -3,8 +3,8 @@ use Rattle.std.proofs.Common.{ℕ, ◌≡◌, ◌<◌, ◌≤◌, ◌^◌, ◌++
 use Rattle.std.specs.Str.Parse.{AllDigits, digits_value}
 use Rattle.std.proofs.lemmas.Int.Digits.{digits_value-lt}
 use Rattle.std.proofs.Math.Nat.{pow-le-pow_right}
-use Rattle.desk.specs.declared.line.Line.{Line}
-use Rattle.desk.specs.declared.line.Line.TheVariants.{Propose, Ask, Status}
+use Rattle.desk.specs.declared.line.LineRequest.{LineRequest}
+use Rattle.desk.specs.declared.line.LineRequest.TheVariants.{Propose, Ask, Status}
 use Rattle.words.specs.Numbers.{IsBelow}
 use Rattle.words.specs.Spaces.{NoSpace}
 use Rattle.desk.specs.Lines.{IsQuestion, IsWord, IsBitWord, IsProposal, Asks}
@@ -42,7 +42,7 @@ pub no_proposal : (text : List ℕ) (question : ℕ) (bit : Option Bool) → NoS
 no_proposal text question bit none p = no_cut text p.digits p.word none p.whole
 
 -- where a text begins with `PROPOSE `, it asks what the rest proposes
-pub proposes : (text rest : List ℕ) (asked : Line) → text ≡ codes "PROPOSE " ++ rest → Asks text asked
+pub proposes : (text rest : List ℕ) (asked : LineRequest) → text ≡ codes "PROPOSE " ++ rest → Asks text asked
     → (question : ℕ) × (bit : Option Bool) × (asked ≡ Propose question bit) × IsProposal rest question bit
 proposes text rest (Propose question bit) is (other, whole, p) =
     let e : codes "PROPOSE " ++ other ≡ codes "PROPOSE " ++ rest = sym whole ∙ is in
@@ -63,16 +63,16 @@ no_pair : (r : ℕ) (d : Option Bool) → ◌≡◌ {A = Option (ℕ × Option B
 no_pair r d e = absurd (cc)
 
 -- what the rest proposes is what the text asks
-pub proposed : (text rest : List ℕ) (asked : Line) (q : ℕ) (b : Option Bool) → text ≡ codes "PROPOSE " ++ rest
+pub proposed : (text rest : List ℕ) (asked : LineRequest) (q : ℕ) (b : Option Bool) → text ≡ codes "PROPOSE " ++ rest
     → ((question : ℕ) (bit : Option Bool) → IsProposal rest question bit → ◌≡◌ {A = Option (ℕ × Option Bool)} (Some (q, b)) (Some (question, bit)))
-    → Asks text asked → ◌≡◌ {A = Option Line} (Some (Propose q b)) (Some asked)
+    → Asks text asked → ◌≡◌ {A = Option LineRequest} (Some (Propose q b)) (Some asked)
 proposed text rest asked q b is exact asks =
     let p = proposes text rest asked is asks in
     let same = pair_parts q p.0 b p.1 (exact p.0 p.1 p.3) in
     rw (p.2, same.0, same.1) refl
 
 -- where the rest proposes nothing, the text asks nothing
-pub not_proposed : (text rest : List ℕ) (asked : Line) → text ≡ codes "PROPOSE " ++ rest
+pub not_proposed : (text rest : List ℕ) (asked : LineRequest) → text ≡ codes "PROPOSE " ++ rest
     → ((question : ℕ) (bit : Option Bool) → IsProposal rest question bit → ◌≡◌ {A = Option (ℕ × Option Bool)} None (Some (question, bit)))
     → Asks text asked → ⊥
 not_proposed text rest asked is exact asks =

@@ -2,8 +2,8 @@
 use Rattle.std.specs.Prelude.{ℕ, ◌≡◌, ◌-◌, ◌<◌, ◌≤◌, ◌==◌, Bool, false, true, Option, Some, None, List, [], ◌∷◌, ◌++◌, codes, length, take, slice_get, if◌then◌else◌}
 use Rattle.std.specs.Str.Parse.{IsNumeral, digits_value}
 use Rattle.words.specs.Spaces.{NoSpace}
-use Rattle.desk.specs.declared.line.Line.{Line}
-use Rattle.desk.specs.declared.line.Line.TheVariants.{Propose, Ask, Status}
+use Rattle.desk.specs.declared.line.LineRequest.{LineRequest}
+use Rattle.desk.specs.declared.line.LineRequest.TheVariants.{Propose, Ask, Status}
 
 -- decimal digits alone, one to five of them, that write the number
 pub record IsQuestion (digits : List ℕ) (question : ℕ) : Type 0 where
@@ -32,7 +32,7 @@ pub record IsProposal (text : List ℕ) (question : ℕ) (bit : Option Bool) : T
   pub bit_is : IsBitWord word bit
 
 -- the line asks this
-abbrev pub Asks : List ℕ → Line → Type 0
+abbrev pub Asks : List ℕ → LineRequest → Type 0
 Asks text (Propose question bit) = (rest : List ℕ) × (text ≡ codes "PROPOSE " ++ rest) × IsProposal rest question bit
 Asks text (Ask question) = (digits : List ℕ) × (text ≡ codes "ASK " ++ digits) × IsQuestion digits question
 Asks text Status = text ≡ codes "STATUS"
@@ -47,6 +47,6 @@ abbrev pub trimmed : List ℕ → List ℕ
 trimmed line = if is_return (slice_get line (length line - 1)) then take (length line - 1) line else line
 
 -- a line of a client, which has at most 4,096 bytes, asks this
-pub record LineAsks (line : List ℕ) (asked : Line) : Type 0 where
+pub record LineAsks (line : List ℕ) (asked : LineRequest) : Type 0 where
   pub short : length line ≤ 4096
   pub asks : Asks (trimmed line) asked

@@ -3,10 +3,10 @@
 ghost use Rattle.std.specs.Prelude.{◌≡◌, nat_lt, Ok, Err, if◌then◌else◌};
 ghost use Rattle.desk.specs.Lines.{LineAsks};
 ghost use Rattle.desk.specs.Commands.{command_for, proposal_for, AsksNothing};
-ghost use Rattle.desk.specs.declared.line.Line.{Line};
+ghost use Rattle.desk.specs.declared.line.LineRequest.{LineRequest};
 ghost use Rattle.desk.specs.declared.reply.Reply.TheVariants.{BadLine, BadQuestion};
 
-use crate::line::{Line, read};
+use crate::line::{LineRequest, read};
 use crate::reply::Reply;
 use terms::Size;
 
@@ -41,16 +41,16 @@ fn below(question: u64, questions: u16) -> Result<u16, Reply>
 }
 
 /// The command for what a line asks.
-fn command_for(asked: Line, questions: u16) -> Result<Command, Reply>
+fn command_for(asked: LineRequest, questions: u16) -> Result<Command, Reply>
     ensures { result ≡ command_for questions asked }
 {
     match asked {
-        Line::Status => Ok(Command::Status),
-        Line::Ask { question } => match below(question, questions) {
+        LineRequest::Status => Ok(Command::Status),
+        LineRequest::Ask { question } => match below(question, questions) {
             Ok(question) => Ok(Command::Ask { question }),
             Err(refusal) => Err(refusal),
         },
-        Line::Propose { question, bit } => match below(question, questions) {
+        LineRequest::Propose { question, bit } => match below(question, questions) {
             Ok(question) => match bit {
                 Some(bit) => Ok(Command::Propose { question, bit }),
                 None => Err(Reply::BadBit),
@@ -67,7 +67,7 @@ fn command_for(asked: Line, questions: u16) -> Result<Command, Reply>
 /// `PROPOSE q v`, `ASK q` and `STATUS`, with one space between two words and one to five decimal digits for q;
 /// [`Reply::BadQuestion`], where there is no such question; [`Reply::BadBit`], where v is neither `0` nor `1`.
 pub fn parse(line: &[u8], size: Size) -> Result<Command, Reply>
-    ensures asked { (asked : Line) → LineAsks line.now asked → result ≡ command_for size.questions asked }
+    ensures asked { (asked : LineRequest) → LineAsks line.now asked → result ≡ command_for size.questions asked }
     ensures none { AsksNothing line.now → result ≡ Err BadLine }
 {
     match read(line) {

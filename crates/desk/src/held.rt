@@ -10,13 +10,13 @@ use std::marker::Model;
 /// The bytes of a line so far, at most 4,096. Contracts see these bytes, so that a line is the same in whatever pieces it
 /// came. It takes no memory.
 #[derive(Drop)]
-pub(crate) struct Held {
+pub(crate) struct HeldLine {
     bytes: [u8; LONGEST],
     length: usize,
     ghost within: { length ≤ LONGEST },
 }
 
-impl Model for Held {
+impl Model for HeldLine {
     ghost use Rattle.std.specs.Prelude.{ℕ, List, take};
 
     ghost Value = { List ℕ };
@@ -26,7 +26,7 @@ impl Model for Held {
 
 /// What a byte does to the line.
 #[derive(Clone, Copy, Debug, PartialEq, Eq)]
-pub(crate) enum Step {
+pub(crate) enum LineStep {
     /// It belongs to the line.
     More,
     /// It ends the line.
@@ -35,30 +35,30 @@ pub(crate) enum Step {
     TooLong,
 }
 
-impl Held {
+impl HeldLine {
     /// No bytes.
-    pub(crate) fn new() -> Held
+    pub(crate) fn new() -> HeldLine
         ensures { result ≡ [] }
     {
-        Held {
+        HeldLine {
             bytes: [0; LONGEST],
             length: 0,
         }
     }
 
     /// Takes a byte. The byte 10, and one that is too many, change nothing.
-    pub(crate) fn take(&mut self, byte: u8) -> Step
+    pub(crate) fn take(&mut self, byte: u8) -> LineStep
         ensures { (result, self.new) ≡ taken self.old byte }
     {
         if byte == b'\n' {
-            return Step::Ends;
+            return LineStep::Ends;
         }
         if self.length >= LONGEST {
-            return Step::TooLong;
+            return LineStep::TooLong;
         }
         self.bytes[self.length] = byte;
         self.length += 1;
-        Step::More
+        LineStep::More
     }
 
     /// The bytes.

@@ -2,7 +2,7 @@
 
 ghost use Rattle.std.specs.Prelude.{ℕ, ◌≡◌, ◌-◌, ◌<◌, ◌↔◌, ◌∷◌, ◌++◌, List, Bool, Option, Some, length, slice_get, IfSome, IsTrue, MatchOption};
 ghost use Rattle.desk.specs.Lines.{IsQuestion, IsWord, IsBitWord, IsProposal, Asks, LineAsks, is_return, trimmed};
-ghost use Rattle.desk.specs.declared.line.Line.{Line};
+ghost use Rattle.desk.specs.declared.line.LineRequest.{LineRequest};
 
 use words::{first_space, is, number, split_at_space};
 
@@ -11,7 +11,7 @@ pub(crate) const LONGEST: usize = 4096;
 
 /// What a line asks.
 #[derive(Clone, Copy, Debug, PartialEq, Eq)]
-pub(crate) enum Line {
+pub(crate) enum LineRequest {
     /// A proposal. The bit is none where another word stands in its place.
     Propose { question: u64, bit: Option<bool> },
     /// The verdict of a question.
@@ -96,21 +96,21 @@ fn proposal(text: &[u8]) -> Option<(u64, Option<bool>)>
 }
 
 /// What the text asks.
-fn asked(text: &[u8]) -> Option<Line>
+fn asked(text: &[u8]) -> Option<LineRequest>
     ensures some { IfSome result (Asks text.now) }
-    ensures exact { (asked : Line) → Asks text.now asked → result ≡ Some asked }
+    ensures exact { (asked : LineRequest) → Asks text.now asked → result ≡ Some asked }
 {
     if is(text, "STATUS") {
-        return Some(Line::Status);
+        return Some(LineRequest::Status);
     }
     match behind(text, "ASK ") {
         Some(digits) => match question(digits) {
-            Some(question) => Some(Line::Ask { question }),
+            Some(question) => Some(LineRequest::Ask { question }),
             None => None,
         },
         None => match behind(text, "PROPOSE ") {
             Some(rest) => match proposal(rest) {
-                Some((question, bit)) => Some(Line::Propose { question, bit }),
+                Some((question, bit)) => Some(LineRequest::Propose { question, bit }),
                 None => None,
             },
             None => None,
@@ -140,9 +140,9 @@ fn trimmed(line: &[u8]) -> &[u8]
 }
 
 /// What a line of a client asks.
-pub(crate) fn read(line: &[u8]) -> Option<Line>
+pub(crate) fn read(line: &[u8]) -> Option<LineRequest>
     ensures some { IfSome result (LineAsks line.now) }
-    ensures exact { (asked : Line) → LineAsks line.now asked → result ≡ Some asked }
+    ensures exact { (asked : LineRequest) → LineAsks line.now asked → result ≡ Some asked }
 {
     if line.len() > LONGEST {
         return None;

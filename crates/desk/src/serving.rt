@@ -6,7 +6,7 @@ ghost use Rattle.desk.specs.Replies.{reply_text};
 
 use crate::answering::{answer, verdict_reply};
 use crate::command::{Command, parse};
-use crate::held::{Held, Step};
+use crate::held::{HeldLine, LineStep};
 use crate::reply::Reply;
 use disk::Disk;
 use node::{Board, Hub, Naming, Pass};
@@ -100,7 +100,7 @@ fn answer_held<D: Disk, J: Naming, S: Write, T: Tosser, R: Wait>(
     hub: &Hub<D, J>,
     pass: &mut Pass,
     tosser: &mut T,
-    held: &mut Held,
+    held: &mut HeldLine,
     stream: &mut S,
 ) -> Result<(), DeskEnd>
     requires { pass.old.cells ≡ J.names }
@@ -118,7 +118,7 @@ fn take<D: Disk, J: Naming, S: Write, T: Tosser, R: Wait>(
     hub: &Hub<D, J>,
     pass: &mut Pass,
     tosser: &mut T,
-    held: &mut Held,
+    held: &mut HeldLine,
     stream: &mut S,
     byte: u8,
 ) -> Result<(), DeskEnd>
@@ -126,9 +126,9 @@ fn take<D: Disk, J: Naming, S: Write, T: Tosser, R: Wait>(
     ensures { pass.new.cells ≡ J.names }
 {
     match held.take(byte) {
-        Step::More => Ok(()),
-        Step::Ends => answer_held(rt, alloc, hub, pass, tosser, held, stream),
-        Step::TooLong => {
+        LineStep::More => Ok(()),
+        LineStep::Ends => answer_held(rt, alloc, hub, pass, tosser, held, stream),
+        LineStep::TooLong => {
             say(alloc, stream, Reply::BadLine)?;
             Err(DeskEnd::TooLong)
         }
@@ -142,7 +142,7 @@ fn turn<D: Disk, J: Naming, S: Read + Write, T: Tosser, R: Wait>(
     hub: &Hub<D, J>,
     pass: &mut Pass,
     tosser: &mut T,
-    held: &mut Held,
+    held: &mut HeldLine,
     stream: &mut S,
 ) -> Result<(), DeskEnd>
     requires { pass.old.cells ≡ J.names }
@@ -182,7 +182,7 @@ pub fn serve<D: Disk, J: Naming, S: Read + Write, T: Tosser, R: Wait>(
     requires { pass.old.cells ≡ J.names }
     ensures { pass.new.cells ≡ J.names }
 {
-    let mut held = Held::new();
+    let mut held = HeldLine::new();
     for _ in rt.forever() {
         if let Err(end) = turn(rt, alloc, hub, pass, tosser, &mut held, stream) {
             return end;

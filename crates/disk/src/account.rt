@@ -20,7 +20,7 @@ unsafe impl Send for Account {}
 
 /// What one call of the system did.
 #[derive(Clone, Copy, Drop)]
-pub(crate) enum Deed<'a> {
+pub(crate) enum SystemCall<'a> {
     /// It told this length.
     Told(usize),
     /// It read these bytes from that place on.
@@ -43,7 +43,7 @@ impl Account {
 
     /// The account with one deed more.
     #[inline(always)]
-    pub(crate) fn then(&self, _deed: &Deed<'_>) -> Account
+    pub(crate) fn then(&self, _deed: &SystemCall<'_>) -> Account
         ensures { result.done ≡ done_after self.now.done _deed.now }
     {
         Account {}

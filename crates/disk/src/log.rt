@@ -13,12 +13,12 @@ use std::marker::Model;
 
 /// A file, and each call since its begin. The calls are known to clauses alone.
 #[derive(Drop)]
-pub struct Log {
+pub struct LoggedFile {
     content: Content,
     history: History,
 }
 
-impl Model for Log {
+impl Model for LoggedFile {
     ghost use Rattle.std.specs.Prelude.{◌≡◌};
     ghost use Rattle.disk.specs.Replay.{FilePast, state_of};
     ghost use Rattle.disk.specs.Content.{content_state};
@@ -30,12 +30,12 @@ impl Model for Log {
     ghost invariant = { λ log. content_state log.content ≡ state_of log.history.past };
 }
 
-impl Log {
+impl LoggedFile {
     /// No call yet, on an empty file. It takes no memory.
-    pub(crate) fn empty(alloc: Global) -> Log
+    pub(crate) fn empty(alloc: Global) -> LoggedFile
         ensures { result ≡ begun [] }
     {
-        Log {
+        LoggedFile {
             content: Content::empty(alloc),
             history: History::new(),
         }

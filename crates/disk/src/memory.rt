@@ -6,7 +6,7 @@ ghost use Rattle.disk.specs.Laws.{counts_now, only_now, may_leave_seen};
 ghost use Rattle.disk.specs.Crash.{left};
 
 use crate::failures::Failures;
-use crate::log::Log;
+use crate::log::LoggedFile;
 use crate::{DeviceFault, Disk, Pick};
 use std::alloc::{AllocError, Global};
 
@@ -16,7 +16,7 @@ use std::alloc::{AllocError, Global};
 /// It holds the file's bytes, and what lay under those that were written since the last sync that succeeded.
 #[derive(Drop)]
 pub struct MemDisk {
-    log: Log,
+    log: LoggedFile,
     fuse: Option<u64>,
     failures: Failures,
 }
@@ -31,7 +31,7 @@ impl MemDisk {
         ensures failures { memory_failures result ≡ 0 }
         ensures fuse { fuse_left result ≡ None }
     {
-        MemDisk::of_log(Log::empty(alloc))
+        MemDisk::of_log(LoggedFile::empty(alloc))
     }
 
     /// The next calls of the device pass, as many as this, and all after them fail. None takes the fuse out. This is no
@@ -71,7 +71,7 @@ impl MemDisk {
     }
 
     // A disk with this past, with no fuse in.
-    fn of_log(log: Log) -> MemDisk
+    fn of_log(log: LoggedFile) -> MemDisk
         ensures log { result.log ≡ log }
         ensures fuse { fuse_left result ≡ None }
         ensures failures { memory_failures result ≡ 0 }

@@ -2,7 +2,7 @@
 ghost use Rattle.std.specs.Prelude.{◌≡◌, ◌≤◌, length, take, IfOk, OnOk, OnErr};
 ghost use Rattle.disk.specs.System.{Done, nothing_done, with_told, with_read, with_written, with_synced};
 
-use crate::account::{Account, Deed};
+use crate::account::{Account, SystemCall};
 use std::fs::File;
 use std::io;
 use std::os::unix::fs::FileExt;
@@ -67,25 +67,25 @@ impl SystemFile for RealFile {
 
     fn len(&mut self) -> io::Result<usize> {
         let length = self.file.metadata()?.len() as usize;
-        self.account = self.account.then(&Deed::Told(length));
+        self.account = self.account.then(&SystemCall::Told(length));
         Ok(length)
     }
 
     fn read_at(&mut self, at: usize, buf: &mut [u8]) -> io::Result<usize> {
         let count = self.file.read_at(buf, at as u64)?;
-        self.account = self.account.then(&Deed::Read(at, &buf[..count]));
+        self.account = self.account.then(&SystemCall::Read(at, &buf[..count]));
         Ok(count)
     }
 
     fn write_at(&mut self, at: usize, bytes: &[u8]) -> io::Result<usize> {
         let count = self.file.write_at(bytes, at as u64)?;
-        self.account = self.account.then(&Deed::Wrote(at, &bytes[..count]));
+        self.account = self.account.then(&SystemCall::Wrote(at, &bytes[..count]));
         Ok(count)
     }
 
     fn sync(&mut self) -> io::Result<()> {
         self.file.sync_all()?;
-        self.account = self.account.then(&Deed::Synced);
+        self.account = self.account.then(&SystemCall::Synced);
         Ok(())
     }
 }

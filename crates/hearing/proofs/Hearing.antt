@@ -6,8 +6,7 @@ use Rattle.terms.proofs.Fit.{fit_heard, echo_fits, ready_fits}
 use Rattle.rbc.specs.declared.Heard.{Heard}
 use Rattle.rbc.specs.declared.Heard.TheVariants.{News, Repeat, Foreign}
 use Rattle.rbc.specs.declared.Broadcasts.{Broadcasts}
-use Rattle.rbc.specs.Answers.{heard_as}
-use Rattle.rbc.specs.Stands.{BroadcastsStandFor}
+use Rattle.rbc.specs.Words.{heard_as, BroadcastsStandFor}
 use Rattle.words.specs.Lines.{line}
 use Rattle.hearing.specs.Replies.{frame_line, AnswersAs, AnswersStatement}
 use Rattle.hearing.specs.Sessions.{IsOf}

@@ -15,7 +15,7 @@ ghost use Rattle.words.specs.Lines.{line};
 ghost use Rattle.hearing.specs.Replies.{frame_line, fault_name, broken_line, AnswersStatement, AnswersMessage, AnswersPiece, AnswersLine, Hearing, no_hearing};
 ghost use Rattle.hearing.specs.Pieces.{IsNoPiece};
 ghost use Rattle.hearing.specs.Faults.{IsOfStream};
-ghost use Rattle.hearing.specs.Sessions.{HasFeeders, HasBroadcasts, AreFed, AreStanding};
+ghost use Rattle.hearing.specs.Sessions.{HasFeeders, HasBroadcasts, AreFed, EachStandsFor};
 
 use crate::fault::HearFault;
 use crate::piece::Piece;
@@ -106,9 +106,9 @@ fn hear_message(
     requires has { HasBroadcasts size broadcasts.old.items }
     requires from { from < size.n }
     requires fits { Fits size message.now }
-    ensures answers { OnOk result ((h : Hearing) → AreStanding size broadcasts.old.items h →
+    ensures answers { OnOk result ((h : Hearing) → EachStandsFor size broadcasts.old.items h →
         (after : Hearing) × (others : List ℕ) × AnswersMessage from h message.now after others
-        × AreStanding size broadcasts.new.items after × (text.new.items ≡ text.old.items ++ others)) }
+        × EachStandsFor size broadcasts.new.items after × (text.new.items ≡ text.old.items ++ others)) }
     ensures has { OnOk result (HasBroadcasts size broadcasts.new.items) }
 {
     match *message {
@@ -133,9 +133,9 @@ fn hear_all(
     requires has { HasBroadcasts size broadcasts.old.items }
     requires from { from < size.n }
     requires fits { AllByRecursion (Fits size) messages.now }
-    ensures answers { OnOk result ((h : Hearing) → AreStanding size broadcasts.old.items h →
+    ensures answers { OnOk result ((h : Hearing) → EachStandsFor size broadcasts.old.items h →
         (after : Hearing) × (others : List ℕ) × InTurn (AnswersMessage from) h messages.now after others
-        × AreStanding size broadcasts.new.items after × (text.new.items ≡ text.old.items ++ others)) }
+        × EachStandsFor size broadcasts.new.items after × (text.new.items ≡ text.old.items ++ others)) }
     ensures has { OnOk result (HasBroadcasts size broadcasts.new.items) }
 {
     for message in messages {

@@ -3,8 +3,7 @@ use Rattle.std.proofs.Common.{◌≡◌, ◌⊎◌, inl, inr, ℕ, ◌+◌, ◌<
 use Rattle.std.proofs.lemmas.Bool.Decides.{nat_tests}
 use Rattle.std.proofs.lemmas.List.{drop_more, take_more, take-append-le, same_lists, get_or_default}
 use Rattle.disk.specs.Model.{MayLeave, after_write, at_rest, overwritten, is_touched}
-use Rattle.journal.specs.File.{IsFrontOf}
-use Rattle.journal.specs.Commit.{IsCommit}
+use Rattle.journal.specs.Words.{IsFrontOf, IsCommit}
 
 -- a part that agrees place by place
 same_part : (file c : List ℕ) (from n : ℕ) → from + n ≤ length file → length file ≤ length c → ((k : ℕ) → from ≤ k → k < from + n → get_or c k 0 ≡ get_or file k 0) → take n (drop from c) ≡ take n (drop from file)

@@ -6,8 +6,7 @@ use Rattle.std.proofs.lemmas.Bool.Decides.{nat_tests}
 use Rattle.std.proofs.lemmas.Nat.{from_be_bytes-to_be_bytes_2, from_be_bytes-to_be_bytes_8}
 use Rattle.std.specs.Int.{w16, w64, to_be_bytes, from_be_bytes}
 use Rattle.vocabulary.specs.Terms.{Size, Header, IsSize, new_size, size_fault, new_header}
-use Rattle.journal.specs.Texts.{header_text}
-use Rattle.journal.specs.WellFormed.{IsHeader}
+use Rattle.journal.specs.Words.{header_text, IsHeader}
 
 -- bytes of a part are bytes
 pub part_fits : (b : List ℕ) (from n : ℕ) → ((i : ℕ) → get_or b i 0 < 256) → (i : ℕ) → get_or (take n (drop from b)) i 0 < 256

@@ -4,10 +4,7 @@ use Rattle.std.proofs.lemmas.Bool.{cases_eq}
 use Rattle.std.proofs.lemmas.List.{get_or_at}
 use Rattle.vocabulary.specs.Terms.{Record, Header}
 use Rattle.disk.specs.Model.{State, MayLeave, at_rest}
-use Rattle.journal.specs.Texts.{header_text, batch_body, batches_bytes}
-use Rattle.journal.specs.WellFormed.{AreWellFormedFor}
-use Rattle.journal.specs.File.{IsFrontOf, Holds, IsHeld}
-use Rattle.journal.specs.Commit.{IsShut, IsCommit}
+use Rattle.journal.specs.Words.{header_text, batch_body, batches_bytes, AreWellFormedFor, IsFrontOf, Holds, IsHeld, IsShut, IsCommit}
 use Rattle.journal.proofs.Crash.{begins_kept}
 use Rattle.journal.proofs.Texts.{length-body, batch_of, texts-push, records-push, good-push}
 

@@ -4,6 +4,7 @@ pub mod Headers
 pub mod Held
 pub mod One
 mod Opened
+mod Outcomes
 pub mod Parsed
 pub mod Records
 pub mod Refused

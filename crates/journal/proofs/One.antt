@@ -5,9 +5,7 @@ use Rattle.std.specs.List.{flat_map}
 use Rattle.vocabulary.specs.Terms.{Kind, Initial, Echo, Ready, Record, Said, Decided, Header, IsSize, new_place, new_statement}
 use Rattle.spelling.specs.Statements.{kind_byte, kind_from, value_from}
 use Rattle.spelling.proofs.Statements.{kind_again, value_again}
-use Rattle.journal.specs.Texts.{bit_byte, record_bytes, header_text, Batch, batch_bytes, batches_bytes, batch_records}
-use Rattle.journal.specs.WellFormed.{IsWellFormedFor, AreWellFormedFor, IsBatch, AreBatches}
-use Rattle.journal.specs.File.{HasHeader, Holds, IsCut, IsBad}
+use Rattle.journal.specs.Words.{bit_byte, record_bytes, header_text, Batch, batch_bytes, batches_bytes, batch_records, IsWellFormedFor, AreWellFormedFor, IsBatch, AreBatches, HasHeader, Holds, IsCut, IsBad}
 use Rattle.journal.proofs.Headers.{same_header}
 use Rattle.journal.proofs.Records.{asked, said_back, decided_back}
 use Rattle.journal.proofs.Texts.{length-header_text, length-record_text, length-records, same_front}

@@ -3,13 +3,7 @@ use Rattle.std.proofs.Common.{◌≡◌, ℕ, ◌+◌, ◌≤◌, List, [], ◌�
 use Rattle.std.proofs.lemmas.List.{drop_all}
 use Rattle.vocabulary.specs.Terms.{Record, Header}
 use Rattle.disk.specs.Model.{State, at_rest}
-use Rattle.journal.specs.declared.fault.JournalFault.{JournalFault}
-use Rattle.journal.specs.declared.fault.JournalFault.TheVariants.{NotEmpty, BadHeader, OtherHeader, BadRecord, CutShort, Device, Memory, Stopped, Full}
-use Rattle.journal.specs.Texts.{header_text, batches_bytes}
-use Rattle.journal.specs.WellFormed.{IsHeader}
-use Rattle.journal.specs.File.{HasHeader, GoesWrong, RefusesFile, IsHeld}
-use Rattle.journal.specs.Faults.{IsOfFile}
-use Rattle.journal.specs.Reading.{ReadsBatches, Stumbles, BreaksBatches}
+use Rattle.journal.specs.Words.{JournalFault, NotEmpty, BadHeader, OtherHeader, BadRecord, CutShort, Device, Memory, Stopped, Full, header_text, batches_bytes, IsHeader, HasHeader, GoesWrong, RefusesFile, IsHeld, IsOfFile, ReadsBatches, Stumbles, BreaksBatches}
 use Rattle.journal.proofs.Texts.{length-header_text}
 
 -- a file that begins with a header has its bytes in front

@@ -6,11 +6,7 @@ use Rattle.std.proofs.lemmas.Nat.{be_bytes_2}
 use Rattle.std.specs.List.{flat_map}
 use Rattle.std.specs.Int.{w16, to_be_bytes}
 use Rattle.vocabulary.specs.Terms.{Record, Header, IsSize}
-use Rattle.journal.specs.declared.fault.JournalFault.{JournalFault}
-use Rattle.journal.specs.declared.fault.JournalFault.TheVariants.{BadHeader, OtherHeader, BadRecord, CutShort}
-use Rattle.journal.specs.Texts.{record_bytes, header_text, Batch, batch_body, batches_bytes, batch_records}
-use Rattle.journal.specs.WellFormed.{IsHeader, IsWellFormedFor, AreWellFormedFor, AreBatches}
-use Rattle.journal.specs.File.{AreBytes, HasHeader, Holds, RefusesFile}
+use Rattle.journal.specs.Words.{JournalFault, BadHeader, OtherHeader, BadRecord, CutShort, record_bytes, header_text, Batch, batch_body, batches_bytes, batch_records, IsHeader, IsWellFormedFor, AreWellFormedFor, AreBatches, AreBytes, HasHeader, Holds, RefusesFile}
 use Rattle.journal.proofs.Headers.{two_fit, header_eq, same_by, by_same}
 use Rattle.journal.proofs.One.{Ending, Closed, Cut, Bad, EndsSo}
 use Rattle.journal.proofs.Telling.{is_record, has_header}

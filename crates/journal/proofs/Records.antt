@@ -3,10 +3,8 @@ use Rattle.std.proofs.Common.{◌≡◌, ◌≢◌, ℕ, ◌<◌, Bool, List, []
 use Rattle.std.proofs.lemmas.Nat.{be_bytes_2, from_be_bytes-to_be_bytes_2}
 use Rattle.std.specs.Int.{w16, to_be_bytes, from_be_bytes}
 use Rattle.vocabulary.specs.Terms.{Kind, Initial, Echo, Ready, Statement, Place, Record, Said, Decided, Header, IsSize, new_place, value_code}
-use Rattle.journal.specs.Texts.{bit_byte, record_bytes}
+use Rattle.journal.specs.Words.{bit_byte, record_bytes, IsStatementFor, IsDecisionFor, IsWellFormedFor, HasBytes}
 use Rattle.spelling.specs.Statements.{kind_byte}
-use Rattle.journal.specs.WellFormed.{IsStatementFor, IsDecisionFor, IsWellFormedFor}
-use Rattle.journal.specs.Reading.{HasBytes}
 use Rattle.journal.proofs.Headers.{two_fit}
 
 -- what has P has Q

@@ -1,10 +1,7 @@
 -- A file is refused for one fault at most, and for none where it holds records.
 use Rattle.std.proofs.Common.{◌≡◌, ◌≢◌, ℕ, List, ◌∷◌, ◌++◌, refl, sym, ◌∙◌, ap, append_assoc}
 use Rattle.vocabulary.specs.Terms.{Record, Header}
-use Rattle.journal.specs.declared.fault.JournalFault.{JournalFault}
-use Rattle.journal.specs.declared.fault.JournalFault.TheVariants.{NotEmpty, BadHeader, OtherHeader, BadRecord, CutShort, Device, Memory, Stopped, Full}
-use Rattle.journal.specs.Texts.{header_text, batches_bytes}
-use Rattle.journal.specs.File.{HasHeader, Holds, GoesWrong, RefusesFile}
+use Rattle.journal.specs.Words.{JournalFault, NotEmpty, BadHeader, OtherHeader, BadRecord, CutShort, Device, Memory, Stopped, Full, header_text, batches_bytes, HasHeader, Holds, GoesWrong, RefusesFile}
 use Rattle.journal.proofs.One.{Ending, Closed, Cut, Bad, EndsSo, one_end, one_header, behind_header}
 
 -- the fault of an ending that isn't closed

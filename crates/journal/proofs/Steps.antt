@@ -6,12 +6,7 @@ use Rattle.std.proofs.lemmas.Nat.{be_bytes_2}
 use Rattle.std.specs.List.{flat_map}
 use Rattle.std.specs.Int.{w16, to_be_bytes}
 use Rattle.vocabulary.specs.Terms.{Record, Header}
-use Rattle.journal.specs.declared.fault.JournalFault.{JournalFault}
-use Rattle.journal.specs.declared.fault.JournalFault.TheVariants.{BadRecord, Memory}
-use Rattle.journal.specs.Texts.{record_bytes, Batch, batch_body, batches_bytes, batch_records}
-use Rattle.journal.specs.WellFormed.{IsWellFormedFor, AreWellFormedFor, AreBatches}
-use Rattle.journal.specs.File.{IsBad}
-use Rattle.journal.specs.Reading.{Stumbles, AreText, HasOddRecord, BreaksBatches}
+use Rattle.journal.specs.Words.{JournalFault, BadRecord, Memory, record_bytes, Batch, batch_body, batches_bytes, batch_records, IsWellFormedFor, AreWellFormedFor, AreBatches, IsBad, Stumbles, AreText, HasOddRecord, BreaksBatches}
 use Rattle.journal.proofs.Headers.{two_fit}
 use Rattle.journal.proofs.Texts.{length-records, batch_of, texts-push, records-push, all-push, good-push}
 

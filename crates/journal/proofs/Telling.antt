@@ -2,9 +2,7 @@
 use Rattle.std.proofs.Common.{◌≡◌, ◌≢◌, ◌⊎◌, inl, inr, ℕ, zero, suc, ◌*◌, ◌<◌, ◌≤◌, ◌^◌, List, [], ◌∷◌, take, refl, sym, ◌∙◌, ap, subst, arith}
 use Rattle.std.proofs.lemmas.Bool.{cases_eq, cases_lt}
 use Rattle.vocabulary.specs.Terms.{Kind, Initial, Echo, Ready, Value, Zero, One, SureZero, SureOne, Unsure, Size, Record, Said, Decided, Header, IsSize, IsPlain, IsOfThird, FitsStep}
-use Rattle.journal.specs.Texts.{record_bytes, header_text}
-use Rattle.journal.specs.WellFormed.{IsHeader, IsStatementFor, IsDecisionFor, IsWellFormedFor}
-use Rattle.journal.specs.File.{HasHeader}
+use Rattle.journal.specs.Words.{record_bytes, header_text, IsHeader, IsStatementFor, IsDecisionFor, IsWellFormedFor, HasHeader}
 use Rattle.journal.proofs.Headers.{read_off, read_back}
 use Rattle.journal.proofs.One.{record_at, record_back}
 use Rattle.journal.proofs.Opened.{front_of, begins_with}

@@ -3,8 +3,7 @@ use Rattle.std.proofs.Common.{◌≡◌, ℕ, ◌+◌, ◌*◌, List, [], ◌∷
 use Rattle.std.proofs.lemmas.List.Concat.{flat_map-append}
 use Rattle.std.specs.List.{flat_map, AllByRecursion}
 use Rattle.vocabulary.specs.Terms.{Record, Said, Decided, Header}
-use Rattle.journal.specs.Texts.{record_bytes, header_text, Batch, batch_bytes, batch_body, batches_bytes, batch_records}
-use Rattle.journal.specs.WellFormed.{AreBatches, IsBatch}
+use Rattle.journal.specs.Words.{record_bytes, header_text, Batch, batch_bytes, batch_body, batches_bytes, batch_records, AreBatches, IsBatch}
 
 -- a header has 24 bytes
 pub length-header_text : (h : Header) → length (header_text h) ≡ 24

@@ -1,6 +1,5 @@
 -- What a file holds, and what is wrong with one that holds nothing.
 use Rattle.std.specs.Prelude.{ℕ, ◌≡◌, ◌≢◌, ◌⊎◌, ◌+◌, ◌*◌, ◌<◌, ◌≤◌, List, [], ◌∷◌, ◌++◌, length, take, drop}
-use Rattle.std.specs.List.{AllByRecursion}
 use Rattle.vocabulary.specs.Terms.{Record, Header}
 use Rattle.disk.specs.Model.{State, at_rest}
 use Rattle.journal.specs.declared.fault.JournalFault.{JournalFault}

@@ -5,3 +5,5 @@ pub mod Reading
 pub mod Texts
 pub mod WellFormed
 pub mod Readers
+pub mod Outcomes
+pub mod Words

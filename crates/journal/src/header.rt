@@ -43,8 +43,7 @@ pub(crate) fn header_of(bytes: &[u8; 24]) -> Option<Header>
     let questions = u16::from_be_bytes([bytes[18], bytes[19]]);
     match Size::new(bytes[16], bytes[17], questions) {
         Ok(size) => {
-            // The bounds of a size are known where it is read.
-            let _members = size.n();
+            size.recall();
             Header::new(cluster_of(bytes), size, bytes[20])
         }
         Err(_) => None,

@@ -1,12 +1,10 @@
 //! Batches of records, each whole on the disk or not there.
-ghost use Rattle.std.specs.Prelude.{◌≡◌, ◌↔◌, ◌⊎◌, ℕ, ◌+◌, ◌*◌, ◌<◌, ◌≤◌, ◌^◌, List, [], ◌∷◌, ◌++◌, length, true, false, IsOk, IsErr, IsErrOf, IfOk, IfErr, OnOk};
+ghost use Rattle.std.specs.Prelude.{◌≡◌, ◌≤◌, ℕ, List, [], ◌∷◌, ◌++◌, length, false, IfOk, IfErr, OnOk};
 ghost use Rattle.vocabulary.specs.Terms.{Record, Header};
-ghost use Rattle.disk.specs.Model.{MayLeave, LeavesOnly, at_rest};
 ghost use Rattle.disk.specs.Memory.{memory_state, with_fuse};
 ghost use Rattle.journal.specs.Texts.{batch_body};
 ghost use Rattle.journal.specs.WellFormed.{AreWellFormedFor};
-ghost use Rattle.journal.specs.File.{Holds, RefusesFile};
-ghost use Rattle.journal.specs.Faults.{IsFaultOfOpening, IsFaultOfAppend, IsOfFile};
+ghost use Rattle.journal.specs.Outcomes.{HasAdded, HasNotAdded, AddsAllOrNothing, HasOpened, HandsBack};
 ghost use Rattle.journal.specs.Readers.{journal_disk, journal_header, journal_gate, journal_is_stopped, IsAtRest};
 
 use crate::JournalFault;
@@ -51,37 +49,9 @@ impl<D: Disk> Journal<D> {
         requires settled { D.keeps (journal_disk self.old) → journal_is_stopped self.old ≡ false →
             (header : Header) × (all : List Record) × IsAtRest D.state header all self.old }
 
-        ensures settled { D.keeps (journal_disk self.old) → (header : Header) (all : List Record) →
-            IsAtRest D.state header all self.old → OnOk result (IsAtRest D.state header (all ++ records.now) self.new) }
-        ensures acknowledged { D.keeps (journal_disk self.old) → (header : Header) (all : List Record) →
-            IsAtRest D.state header all self.old → OnOk result ((file : List ℕ) →
-            MayLeave (D.state (journal_disk self.new)) file → Holds header (all ++ records.now) file) }
-
-        // A crash at any moment of the call leaves the records from before it, or those and the whole batch.
-        ensures any_moment { D.keeps (journal_disk self.old) → (header : Header) (all : List Record) →
-            IsAtRest D.state header all self.old → LeavesOnly D.moment D.since (journal_disk self.old) (journal_disk self.new)
-            (λ file. Holds header all file ⊎ Holds header (all ++ records.now) file) }
-
-        ensures four_calls { D.keeps (journal_disk self.old) → 0 < length records.now →
-            OnOk result (D.moment (journal_disk self.new) ≡ D.moment (journal_disk self.old) + 4) }
-        ensures gate { 0 < length records.now →
-            OnOk result (journal_gate self.new ≡ journal_gate self.old + 3 + 7 * length records.now) }
-        ensures empty_is_no_call { length records.now ≡ 0 → self.new ≡ self.old }
-        ensures empty_is_ok { length records.now ≡ 0 → journal_is_stopped self.old ≡ false → IsOk result }
-
-        // Each refusal has its cause, and all but `Device` leave the journal as it was.
-        ensures stopped { IsErrOf result JournalFault.Stopped ↔ (journal_is_stopped self.old ≡ true) }
-        ensures full { journal_is_stopped self.old ≡ false → 0 < length records.now →
-            (IsErrOf result JournalFault.Full ↔ (2 ^ 31 < journal_gate self.old + 3 + 7 * length records.now)) }
-        ensures device { IsErrOf result JournalFault.Device →
-            D.failures (journal_disk self.old) < D.failures (journal_disk self.new) }
-        ensures stops { (journal_is_stopped self.new ≡ true) ↔ ((journal_is_stopped self.old ≡ true) ⊎ IsErrOf result JournalFault.Device) }
-        ensures only { IfErr result IsFaultOfAppend }
-        ensures same { (IsErrOf result JournalFault.Device → ⊥) → IsErr result → self.new ≡ self.old }
-
-        ensures header { journal_header self.new ≡ journal_header self.old }
-        ensures later { D.failures (journal_disk self.old) ≤ D.failures (journal_disk self.new) }
-        ensures kept { D.keeps (journal_disk self.old) ↔ D.keeps (journal_disk self.new) }
+        ensures added { OnOk result (HasAdded D.Disk self.old records.now self.new) }
+        ensures fault { IfErr result (λ fault. HasNotAdded D.Disk self.old records.now fault self.new) }
+        ensures batch { AddsAllOrNothing D.Disk self.old records.now self.new }
     {
         if self.stopped {
             return Err(JournalFault::Stopped);
@@ -112,25 +82,9 @@ impl<D: Disk> Journal<D> {
     ) -> Result<(Journal<D>, Vec<Record>), JournalFault>
     where
         D: Drop,
-        ensures settled { D.keeps disk → IfOk result (λ opened. IsAtRest D.state header.now opened.1.items opened.0) }
-        ensures held { D.keeps disk → IfOk result (λ opened. Holds header.now opened.1.items (D.state disk).seen) }
-        ensures durable { D.keeps disk → IfOk result (λ opened. (file : List ℕ) →
-            MayLeave (D.state (journal_disk opened.0)) file → Holds header.now opened.1.items file) }
-        ensures on_disk { D.keeps disk → IfOk result (λ opened. D.state (journal_disk opened.0) ≡ at_rest (D.state disk).seen) }
-        ensures any_moment { D.keeps disk → IfOk result (λ opened.
-            LeavesOnly D.moment D.since disk (journal_disk opened.0) (MayLeave (D.state disk))) }
-        ensures three_calls { D.keeps disk → IfOk result (λ opened. D.moment (journal_disk opened.0) ≡ D.moment disk + 3) }
-
-        ensures refused { D.keeps disk → IfErr result (λ fault. IsOfFile fault → RefusesFile header.now fault (D.state disk).seen) }
-        ensures only { IfErr result IsFaultOfOpening }
-        // That some disk had failed more. The one handed in is gone: `adopt` says it of that one.
-        ensures device { IsErrOf result JournalFault.Device → (after : D) × (D.failures disk < D.failures after) }
-
-        ensures running { IfOk result (λ opened. journal_is_stopped opened.0 ≡ false) }
-        ensures header { IfOk result (λ opened. journal_header opened.0 ≡ header.now) }
-        ensures quiet { IfOk result (λ opened. D.failures (journal_disk opened.0) ≡ D.failures disk) }
-        ensures later { IfOk result (λ opened. D.failures disk ≤ D.failures (journal_disk opened.0)) }
-        ensures kept { IfOk result (λ opened. D.keeps disk ↔ D.keeps (journal_disk opened.0)) }
+        ensures opened { IfOk result (λ opened. HasOpened D.Disk disk header.now opened.1.items opened.0) }
+        // The disk that is gone: some disk that this one became, since a fault of a call is one of a disk.
+        ensures fault { IfErr result (λ fault. (after : D) × HandsBack D.Disk disk header.now fault after) }
     {
         match Journal::adopt(alloc, disk, header) {
             Ok(opened) => Ok(opened),
@@ -151,38 +105,8 @@ impl<D: Disk> Journal<D> {
         mut disk: D,
         header: &Header,
     ) -> Result<(Journal<D>, Vec<Record>), (JournalFault, D)>
-        ensures settled { D.keeps disk → IfOk result (λ opened. IsAtRest D.state header.now opened.1.items opened.0) }
-        // It gives the records that the file holds.
-        ensures held { D.keeps disk → IfOk result (λ opened. Holds header.now opened.1.items (D.state disk).seen) }
-        // From then on each file that a crash can leave holds exactly these.
-        ensures durable { D.keeps disk → IfOk result (λ opened. (file : List ℕ) →
-            MayLeave (D.state (journal_disk opened.0)) file → Holds header.now opened.1.items file) }
-        ensures on_disk { D.keeps disk → IfOk result (λ opened. D.state (journal_disk opened.0) ≡ at_rest (D.state disk).seen) }
-        // A crash at any moment leaves nothing but what it might have left before.
-        ensures any_moment { D.keeps disk → IfOk result (λ opened.
-            LeavesOnly D.moment D.since disk (journal_disk opened.0) (MayLeave (D.state disk))) }
-        ensures any_moment_err { D.keeps disk → IfErr result (λ refused.
-            LeavesOnly D.moment D.since disk refused.1 (MayLeave (D.state disk))) }
-        ensures three_calls { D.keeps disk → IfOk result (λ opened. D.moment (journal_disk opened.0) ≡ D.moment disk + 3) }
-        ensures three_calls_err { D.keeps disk → IfErr result (λ refused.
-            IsOfFile refused.0 → D.moment refused.1 ≡ D.moment disk + 3) }
-
-        // A fault of the file is the one that it has, and no byte was changed.
-        ensures refused { D.keeps disk → IfErr result (λ refused.
-            IsOfFile refused.0 → RefusesFile header.now refused.0 (D.state disk).seen) }
-        ensures same_err { D.keeps disk → IfErr result (λ refused. (D.state refused.1).seen ≡ (D.state disk).seen) }
-        ensures only { IfErr result (λ refused. IsFaultOfOpening refused.0) }
-        ensures device { IfErr result (λ refused. refused.0 ≡ JournalFault.Device → D.failures disk < D.failures refused.1) }
-        // With any other answer it had not failed.
-        ensures quiet { IfOk result (λ opened. D.failures (journal_disk opened.0) ≡ D.failures disk) }
-        ensures quiet_err { IfErr result (λ refused. (refused.0 ≡ JournalFault.Device → ⊥) → D.failures refused.1 ≡ D.failures disk) }
-
-        ensures running { IfOk result (λ opened. journal_is_stopped opened.0 ≡ false) }
-        ensures header { IfOk result (λ opened. journal_header opened.0 ≡ header.now) }
-        ensures later { IfOk result (λ opened. D.failures disk ≤ D.failures (journal_disk opened.0)) }
-        ensures later_err { IfErr result (λ refused. D.failures disk ≤ D.failures refused.1) }
-        ensures kept { IfOk result (λ opened. D.keeps disk ↔ D.keeps (journal_disk opened.0)) }
-        ensures kept_err { IfErr result (λ refused. D.keeps disk ↔ D.keeps refused.1) }
+        ensures opened { IfOk result (λ opened. HasOpened D.Disk disk header.now opened.1.items opened.0) }
+        ensures fault { IfErr result (λ refused. HandsBack D.Disk disk header.now refused.0 refused.1) }
     {
         match load(alloc, &mut disk, header) {
             Ok((gate, records)) => Ok((

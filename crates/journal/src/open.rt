@@ -4,7 +4,8 @@ ghost use Rattle.vocabulary.specs.Terms.{Header};
 ghost use Rattle.disk.specs.Model.{State, MayLeave, LeavesOnly, at_rest, after_write};
 ghost use Rattle.journal.specs.Texts.{header_text};
 ghost use Rattle.journal.specs.File.{HasHeader, Holds, RefusesFile, IsHeld};
-ghost use Rattle.journal.specs.Faults.{IsFaultOfCreate, IsFaultOfPeek, IsFaultOfOpening, IsOfFile};
+ghost use Rattle.journal.specs.Faults.{IsFaultOfCreate, IsFaultOfPeek, IsOfFile};
+ghost use Rattle.journal.specs.Outcomes.{WasRead, HandsBack};
 ghost use Rattle.journal.specs.declared.fault.JournalFault.TheVariants.{Device, Memory};
 
 use crate::JournalFault;
@@ -83,18 +84,8 @@ pub(crate) fn load<D: Disk>(
     header: &Header,
 ) -> Result<(usize, Vec<Record>), JournalFault>
     ensures held { D.keeps disk.old → IfOk result (λ held. IsHeld (D.state disk.new) header.now held.0 held.1.items) }
-    ensures on_disk { D.keeps disk.old → OnOk result (D.state disk.new ≡ at_rest (D.state disk.old).seen) }
-    ensures refused { D.keeps disk.old → IfErr result (λ fault. IsOfFile fault → RefusesFile header.now fault (D.state disk.old).seen) }
-    ensures same { D.keeps disk.old → (D.state disk.new).seen ≡ (D.state disk.old).seen }
-    ensures any_moment { D.keeps disk.old → LeavesOnly D.moment D.since disk.old disk.new (MayLeave (D.state disk.old)) }
-    ensures three_calls { D.keeps disk.old → OnOk result (D.moment disk.new ≡ D.moment disk.old + 3) }
-    ensures three_calls_err { D.keeps disk.old → IfErr result (λ fault. IsOfFile fault → D.moment disk.new ≡ D.moment disk.old + 3) }
-
-    ensures device { IsErrOf result JournalFault.Device → D.failures disk.old < D.failures disk.new }
-    ensures quiet { (IsErrOf result JournalFault.Device → ⊥) → D.failures disk.new ≡ D.failures disk.old }
-    ensures only { IfErr result IsFaultOfOpening }
-    ensures later { D.failures disk.old ≤ D.failures disk.new }
-    ensures kept { D.keeps disk.old ↔ D.keeps disk.new }
+    ensures read { OnOk result (WasRead D.Disk disk.old disk.new) }
+    ensures fault { IfErr result (λ fault. HandsBack D.Disk disk.old header.now fault disk.new) }
 {
     let bytes = fetch(alloc, disk)?;
     read_file(alloc, header, &bytes)
@@ -103,15 +94,8 @@ pub(crate) fn load<D: Disk>(
 // All the bytes, once they are on the disk.
 fn fetch<D: Disk>(alloc: Global, disk: &mut D) -> Result<Vec<u8>, JournalFault>
     ensures bytes { D.keeps disk.old → IfOk result (λ bytes. bytes.items ≡ (D.state disk.old).seen) }
-    ensures on_disk { D.keeps disk.old → OnOk result (D.state disk.new ≡ at_rest (D.state disk.old).seen) }
-    ensures same { D.keeps disk.old → (D.state disk.new).seen ≡ (D.state disk.old).seen }
-    ensures any_moment { D.keeps disk.old → LeavesOnly D.moment D.since disk.old disk.new (MayLeave (D.state disk.old)) }
-    ensures three_calls { D.keeps disk.old → OnOk result (D.moment disk.new ≡ D.moment disk.old + 3) }
-    ensures only { IfErr result (λ fault. (fault ≡ Device) ⊎ (fault ≡ Memory)) }
-    ensures device { IsErrOf result JournalFault.Device → D.failures disk.old < D.failures disk.new }
-    ensures quiet { (IsErrOf result JournalFault.Device → ⊥) → D.failures disk.new ≡ D.failures disk.old }
-    ensures later { D.failures disk.old ≤ D.failures disk.new }
-    ensures kept { D.keeps disk.old ↔ D.keeps disk.new }
+    ensures read { OnOk result (WasRead D.Disk disk.old disk.new) }
+    ensures fault { IfErr result (λ fault. (header : Header) → HandsBack D.Disk disk.old header fault disk.new) }
 {
     disk.sync()?;
     let len = disk.len()?;

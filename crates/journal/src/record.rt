@@ -37,8 +37,7 @@ pub(crate) fn record_of(header: &Header, bytes: &[u8; 7]) -> Option<Record>
     ensures some { IfSome result (λ r. IsWellFormedFor header.now r × (bytes.now ≡ record_bytes r)) }
     ensures none { IsNone result → (r : Record) → IsWellFormedFor header.now r → bytes.now ≢ record_bytes r }
 {
-    // The bounds of a size are known where it is read.
-    let _members = header.size().n();
+    header.size().recall();
     let [kind, high, low, origin, round, step, value] = *bytes;
     let question = u16::from_be_bytes([high, low]);
     if kind != DECIDED {

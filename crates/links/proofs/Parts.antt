@@ -3,8 +3,7 @@ use Rattle.std.proofs.Common.{◌≡◌, ℕ, ◌+◌, List, [], ◌++◌, refl,
 use Rattle.std.proofs.lemmas.List.{map-append}
 use Rattle.vocabulary.specs.Terms.{Statement}
 use Rattle.rounds.specs.declared.tosses.Toss.{Toss}
-use Rattle.node.specs.Firsts.{SeatView, HandsIn, IsLawfulSeat}
-use Rattle.node.specs.Groups.{said_in}
+use Rattle.node.specs.Words.{SeatView, HandsIn, IsLawfulSeat, said_in}
 use Rattle.node.proofs.Handing.{hands_on, hands_nothing}
 use Rattle.links.specs.Handing.{HandsInAll}
 

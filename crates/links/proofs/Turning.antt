@@ -6,9 +6,7 @@ use Rattle.wire.specs.declared.message.Message.{Message}
 use Rattle.wire.specs.declared.message.WireFault.{WireFault}
 use Rattle.wire.specs.declared.feeder.Fed.{Fed}
 use Rattle.wire.specs.declared.feeder.Fed.TheVariants as fed
-use Rattle.wire.specs.Texts.{frame_bytes}
-use Rattle.wire.specs.Reading.{AreBytes, IsPartial, End, Rest, Broken, ReadsMessages}
-use Rattle.wire.specs.Feeding.{Feeds, FeederFields, answer_of, Took}
+use Rattle.wire.specs.Words.{frame_bytes, AreBytes, IsPartial, End, Rest, Broken, ReadsMessages, Feeds, FeederFields, answer_of, Took}
 use Rattle.wire.proofs.Telling.{from_places, bytes_front, bytes_back}
 use Rattle.wire.proofs.Whole.{HasReading, each_reads, joins}
 use Rattle.node.specs.Firsts.{SeatView, HandsIn, IsLawfulSeat}

@@ -94,7 +94,7 @@ fn hand_in_groups<D: Disk, J: Naming, G: Gate, R: Wait>(
     ensures refused { OnErr result (HandsInFewer seat.old seat.new (said_in events.now)) }
     ensures only { IfErr result (λ why. (why ≡ LinkEnd.Stopped) ⊎ (why ≡ LinkEnd.Memory)) }
 {
-    let _peer = seat.peer();
+    seat.recall();
     let mut rest = events;
     while !rest.is_empty() {
         let (group, behind) = rest.split_at(rest.len().min(GROUP));
@@ -171,7 +171,7 @@ fn hand_in<D: Disk, J: Naming, G: Gate, T: Tosser, R: Wait>(
     ensures only { IfErr result (λ why.
         (why ≡ LinkEnd.OutOfOrder) ⊎ ((why ≡ LinkEnd.Stopped) ⊎ (why ≡ LinkEnd.Memory))) }
 {
-    let _peer = seat.peer();
+    seat.recall();
     let Ok(events) = gather(alloc, messages, tosser) else {
         return Err(LinkEnd::Memory);
     };
@@ -206,7 +206,7 @@ fn turn<D: Disk, J: Naming, S: Stream, G: Gate, T: Tosser, R: Wait>(
     ensures off { (rest : List ℕ) → Waits feeder.old rest →
         IfErr result (λ why. ReadsOff (S.told stream.old) (S.told stream.new) feeder.old.size rest seat.old seat.new why) }
 {
-    let _peer = seat.peer();
+    seat.recall();
     let mut piece = [0u8; PIECE];
     let count = match stream.read(&mut piece) {
         Ok(0) => return Err(LinkEnd::Ended),
@@ -241,9 +241,9 @@ fn read_session<D: Disk, J: Naming, S: Stream, G: Gate, T: Tosser, R: Wait>(
 ) -> (Seat, LinkEnd)
     ensures { ReadsLink hub.now.size (S.told stream.old) (S.told stream.new) seat result.0 result.1 }
 {
-    let _peer = seat.peer();
+    seat.recall();
     let size = hub.header().size();
-    let _members = size.n();
+    size.recall();
     let welcome = Message::Welcome { next: seat.next() };
     match write_message(alloc, stream, &welcome) {
         Ok(()) => {}

@@ -10,8 +10,7 @@ use Rattle.terms.proofs.Heard.{got-hear}
 use Rattle.terms.proofs.Stands.{lawful_stands}
 use Rattle.world.proofs.Formed.{lawful_formed}
 use Rattle.journal.specs.WellFormed.{IsWellFormedFor, AreWellFormedFor}
-use Rattle.member.specs.Answers.{event_question, heard_after}
-use Rattle.member.specs.Sound.{AreHeard}
+use Rattle.member.specs.Words.{event_question, heard_after, AreHeard}
 
 -- one more statement that is well formed
 pub heard_more : (size : Size) (heard : List (ℕ × Statement)) (a : ℕ) (s : Statement) → AreHeard size heard → IsWellFormed size s → AreHeard size (hear heard (a, s))
@@ -103,9 +102,9 @@ there_too size q from origin h = go (nat_le size.questions q) (nat_le size.n fro
     go false false false e n = grind (arith, nat_tests)
 
 -- a statement whose numbers have no fault is well formed
-pub comes_formed : (size : Size) (from : ℕ) (s : Statement) (at : Place) → at ≡ s.place → IsPlace at → FitsStep s.place.step s.value
+pub comes_formed : (size : Size) (from : ℕ) (s : Statement) → IsPlace s.place → FitsStep s.place.step s.value
     → number_fault size s.place.question (from ∷ s.place.origin ∷ []) ≡ None → IsWellFormed size s
-comes_formed size from s at is lawful fits h = let place : IsPlace s.place = subst (λ (p : Place). IsPlace p) is lawful in record {
+comes_formed size from s place fits h = record {
   question = there_is size s.place.question (from ∷ s.place.origin ∷ []) h;
   origin = there_too size s.place.question from s.place.origin h;
   from_one = place.from_one;

@@ -5,29 +5,16 @@ use Rattle.std.specs.List.{list_any}
 use Rattle.vocabulary.specs.Terms.{Header, Record, Size, Statement, IsSize, hear, hear_all, keep_or, past_of, AreReplies, records_of_all, without_tosses, Hearing}
 use Rattle.terms.specs.declared.Memory.{Memory as NoMemory}
 use Rattle.terms.proofs.Answer.{group_step}
-use Rattle.world.specs.World.{World, IsCorrect, IsAllowed, after}
-use Rattle.world.specs.World.Step.{Hears}
+use Rattle.world.specs.Words.{World, IsCorrect, IsAllowed, after, Hears}
 use Rattle.world.proofs.Runs.{put-here, hears_allowed}
 use Rattle.disk.specs.Model.{MayLeave, LeavesOnly}
 use Rattle.disk.specs.declared.device.Disk.{Ghosts as DiskGhosts}
-use Rattle.journal.specs.File.{Holds}
-use Rattle.journal.specs.WellFormed.{AreWellFormedFor}
+use Rattle.journal.specs.Words.{Holds, AreWellFormedFor}
 use Rattle.questions.specs.declared.Core.{Core}
 use Rattle.questions.specs.declared.answer.Answer.{Answer}
 use Rattle.questions.specs.declared.answer.CoreFault.TheVariants as cores
 use Rattle.questions.specs.Readers.{CoreStandsFor, core_size, core_me}
-use Rattle.member.specs.declared.fault.MemberFault.{MemberFault}
-use Rattle.member.specs.declared.fault.MemberFault.TheVariants.{Stopped, Device, Memory, JournalFull, NoSuchQuestion, NoSuchMember}
-use Rattle.member.specs.declared.group.Group.{Group}
-use Rattle.member.specs.declared.member.Member.{Member}
-use Rattle.member.specs.Answers.{event_question, event_members, gate_after}
-use Rattle.member.specs.Faults.{fault_of, IsFaultOf, Stops}
-use Rattle.member.specs.Groups.{replies_of, AreAnswers, AnswersAll, AreOneEvent, AreWellFormedInGroup, IsFullOfAll, bad_number, refusal_of_all, AllReply, AllCome, LivesAll, MayAllBeCutOff, HeardInTurn}
-use Rattle.member.specs.Life.{MemberIsAt, DoesStep}
-use Rattle.member.specs.Outcomes.{HasSaved, HasFailed, StaysOn}
-use Rattle.member.specs.Sound.{IsFiled, IsSound, AreHeard}
-use Rattle.member.specs.Stands.{Endures}
-use Rattle.member.specs.Readers.{member_disk, member_header, member_gate, member_saved, member_is_stopped, MemberStandsFor}
+use Rattle.member.specs.Words.{MemberFault, Stopped, Device, Memory, JournalFull, NoSuchQuestion, NoSuchMember, Group, Member, event_question, event_members, gate_after, fault_of, IsFaultOf, Stops, replies_of, AreAnswers, AnswersAll, AreOneEvent, AreWellFormedInGroup, IsFullOfAll, bad_number, refusal_of_all, AllReply, AllCome, LivesAll, MayAllBeCutOff, HeardInTurn, MemberIsAt, DoesStep, HasSaved, HasFailed, StaysOn, IsFiled, IsSound, AreHeard, Endures, member_disk, member_header, member_gate, member_saved, member_is_stopped, MemberStandsFor}
 use Rattle.member.proofs.Formed.{heard_more, batch_for}
 use Rattle.member.proofs.Standing.{settled_holds, begins, stands_on}
 

@@ -1,23 +1,9 @@
 -- The answer of a member to an event.
-use Rattle.std.specs.Prelude.{ℕ, ◌+◌, ◌*◌, ◌<◌, ◌^◌, Bool, Option, Some, None, List, [], ◌∷◌, ◌++◌, length}
-use Rattle.vocabulary.specs.Terms.{Statement, Record, hear, decided, past_of, Event, Reply, IsReply, records_of, Hearing, Proposal}
+use Rattle.std.specs.Prelude.{ℕ, ◌+◌, ◌*◌, ◌<◌, ◌^◌, Bool, Option, Some, None, List, ◌++◌, length}
+use Rattle.vocabulary.specs.Terms.{Statement, Record, decided, past_of, Event, Reply, IsReply, records_of}
+pub use Rattle.questions.specs.Events.{event_question, event_members, heard_after}
 use Rattle.member.specs.declared.member.Member.{Member}
 use Rattle.member.specs.Readers.{member_header, member_gate, MemberStandsFor}
-
--- the question that the event is on
-abbrev pub event_question : Event → ℕ
-event_question (Hearing from s) = s.place.question
-event_question (Proposal question bit) = question
-
--- the members that it names: the sender, and the origin of the statement
-abbrev pub event_members : Event → List ℕ
-event_members (Hearing from s) = from ∷ s.place.origin ∷ []
-event_members (Proposal question bit) = []
-
--- what was heard after the event
-abbrev pub heard_after : List (ℕ × Statement) → Event → List (ℕ × Statement)
-heard_after heard (Hearing from s) = hear heard (from, s)
-heard_after heard (Proposal question bit) = heard
 
 -- by the definitions it is the reply to the event, for whatever records and hearing the member stands for
 abbrev pub IsAnswer : {D : Type 0} → Member D → ℕ → Event → Reply → Type 0

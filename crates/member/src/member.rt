@@ -110,8 +110,7 @@ impl<D: Disk> Member<D> {
         if self.stopped {
             return Err(MemberFault::Stopped);
         }
-        let _round = s.place().round();
-        let _value = s.value();
+        s.recall();
         let answer = self.core.hear(from, s, toss);
         self.keep(answer)
     }
@@ -233,7 +232,7 @@ fn begin(
     ensures memory { IfErr result (λ fault. records_fault header.now.size records.now ≡ None → fault ≡ JournalFault.Memory) }
     ensures only { IfErr result (λ fault. (fault ≡ JournalFault.Memory) ⊎ (fault ≡ JournalFault.BadRecord)) }
 {
-    let _members = header.size().n();
+    header.size().recall();
     match Core::new(alloc, header.size(), header.me(), records) {
         Ok(core) => {
             let mut outbox = Vec::with_capacity(alloc, records.len())?;

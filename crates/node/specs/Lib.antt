@@ -9,3 +9,4 @@ pub mod Groups
 pub mod Laws
 pub mod Lives
 pub mod Marks
+pub mod Words

@@ -59,6 +59,13 @@ impl Seat {
         self.peer
     }
 
+    /// Recalls what holds of every seat, for the proof of its caller; at run time it does nothing.
+    pub fn recall(&self)
+        ensures { IsLawfulSeat self.now }
+    {
+        let _next = self.next;
+    }
+
     /// How many statements were handed in since the opening. At 2^64 - 1 it stays.
     pub fn next(&self) -> u64
         ensures { result ≡ self.now.next }

@@ -3,8 +3,7 @@ use Rattle.std.proofs.Common.{ℕ, zero, suc, ◌≡◌, ◌+◌, ◌*◌, ◌<�
 use Rattle.vocabulary.specs.Terms.{Kind, Initial, Value, Place, Statement, Record, Said, Decided, Size, place_eq, is_about, kind_eq, Accepted, IsGiven, said, decided, keep_or, given, IsLawfulStatement, before, round_before, step_before, Past, after_record, after_records, place_code, IsChosen, AreInitials, MayBegin, IsNextInitial}
 use Rattle.terms.proofs.Same.{is_about-true, place_eq-same}
 use Rattle.terms.proofs.Journal.{said-append_one, decided-append_said}
-use Rattle.questions.specs.declared.instance.Instance.{Instance}
-use Rattle.questions.specs.Instances.{Has}
+use Rattle.questions.specs.Words.{Instance, Has}
 use Rattle.questions.proofs.Rows.{keep_none, rows-append_one}
 
 -- the place of the last of these Initials, or the one given

@@ -18,9 +18,7 @@ use Rattle.rbc.specs.Stands.{BroadcastsStandFor as HasBroadcasts}
 use Rattle.rounds.specs.declared.questions.Question.{Question}
 use Rattle.rounds.specs.Stands.{QuestionStandsFor as HasRounds, IsSameElse}
 use Rattle.rounds.specs.Readers.{question_taken}
-use Rattle.questions.specs.declared.instance.Instance.{Instance}
-use Rattle.questions.specs.Instances.{Has}
-use Rattle.questions.specs.Parts.{plain_if}
+use Rattle.questions.specs.Words.{Instance, Has, plain_if}
 use Rattle.questions.proofs.Rows.{keep_nothing}
 
 -- what is so of what news brings

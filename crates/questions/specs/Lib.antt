@@ -5,4 +5,7 @@ pub mod Fields
 pub mod Faults
 pub mod Readers
 pub mod Replay
+pub mod Events
 pub mod Laws
+pub mod Outcomes
+pub mod Words

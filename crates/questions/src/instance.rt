@@ -8,12 +8,9 @@ ghost use Rattle.questions.specs.Parts.{IsFrom, if_there, plain_if, initial_in, 
 
 use crate::answer::Answer;
 use rbc::{Broadcasts, Brought, Taken};
-use rounds::{Question, Toss};
+use rounds::{MOST_INITIALS, Question, Toss};
 use std::alloc::Global;
 use terms::{Kind, Memory, Place, Record, Size, Statement, Value};
-
-/// How many places of one origin there are: three of each of 32 rounds.
-const PLACES: u8 = 96;
 
 /// One question, as one member takes part in it.
 #[derive(Drop)]
@@ -51,7 +48,7 @@ impl Instance {
         ensures me { instance_me result ≡ me }
         ensures question { instance_question result ≡ question }
     {
-        let _members = size.n();
+        size.recall();
         Instance {
             alloc,
             me,
@@ -101,7 +98,7 @@ impl Instance {
         ensures me { instance_me self.new ≡ instance_me self.old }
         ensures question { instance_question self.new ≡ instance_question self.old }
     {
-        let _value = s.value();
+        s.recall();
         match self.take(from, s)? {
             Taken::Foreign => Ok(Answer::Foreign),
             Taken::Repeat => Ok(Answer::Repeat),
@@ -275,7 +272,7 @@ impl Instance {
         ensures question { instance_question self.new ≡ instance_question self.old }
     {
         let mut records = Vec::new(self.alloc);
-        for turn in 0..PLACES {
+        for turn in 0..MOST_INITIALS {
             let Some(statement) = self.rounds.next(toss) else {
                 break
             };

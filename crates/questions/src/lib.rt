@@ -15,12 +15,12 @@
 //! A member that restarts has its saved records and has forgotten what it heard. [`Core::new`] takes the records: what
 //! was said once is never said otherwise, and is not said again.
 //!
-//! The contracts speak of a core by what it knows (`Knows`, in `specs/Cores`): the records and what was heard, which
-//! are lists. What a core answers is fixed by these lists, the event and its toss; [`laws`] says so, and that the
+//! The contracts speak of a core by what it stands for (`CoreStandsFor`): the records and what was heard, which
+//! are lists. What a call comes to stands in `specs/Outcomes`. What a core answers is fixed by these lists, the event and its toss; [`laws`] says so, and that the
 //! replay of a history is fixed by the opening records.
 #![tactic(auto)]
 
-ghost use Rattle.std.specs.Prelude.{◌≡◌, ◌≢◌, ◌<◌, ◌≤◌, ◌++◌, ℕ, true, false, List, [], ◌∷◌, None, IfOk, IfErr, OnOk, unwrap_or, length};
+ghost use Rattle.std.specs.Prelude.{◌≡◌, ◌<◌, ◌≤◌, ◌++◌, ℕ, true, false, List, [], ◌∷◌, None, IfOk, IfErr, OnOk, unwrap_or};
 
 use rounds::Toss;
 use std::alloc::Global;
@@ -73,8 +73,8 @@ impl Model for Core {
 
 #[tactic(auto, unfolding(crate::specs::Readers::core_size, crate::specs::Readers::core_me, crate::specs::Readers::core_failed, crate::specs::Readers::AreStanding))]
 impl Core {
-    ghost use Rattle.vocabulary.specs.Terms.{Initial, Record, Statement, got, is_foreign, said, decided, past_of, IsReply, records_of, Hearing, Proposal, new_place};
-    ghost use Rattle.terms.specs.Heard.{hear as heard_with};
+    ghost use Rattle.vocabulary.specs.Terms.{Initial, Record, Statement, got, is_foreign, said, decided, Hearing, Proposal, new_place};
+    ghost use Rattle.questions.specs.Outcomes.{RepliesTo, HasNoReply};
     ghost use Rattle.questions.specs.Readers.{core_size, core_me, core_failed, CoreStandsFor, core_refuses};
     ghost use Rattle.questions.specs.Faults.{opening_fault, record_fault};
     ghost use Rattle.questions.specs.Replies.{reply_of};
@@ -121,22 +121,8 @@ impl Core {
     /// statement's origin. They change nothing. [`CoreFault::Memory`]: the statement is news, and there was no memory.
     /// The core has failed.
     pub fn hear(&mut self, from: u8, s: &Statement, toss: Toss) -> Result<Answer, CoreFault>
-        ensures reply { IfOk result (λ answer.
-            (records : List Record) (heard : List (ℕ × Statement)) → CoreStandsFor self.old records heard →
-            IsReply (past_of (core_size self.old) (core_me self.old) s.now.place.question records heard) toss.0
-            (Hearing from s.now) (reply_of answer)) }
-        ensures knows { IfOk result (λ answer.
-            (records : List Record) (heard : List (ℕ × Statement)) → CoreStandsFor self.old records heard →
-            CoreStandsFor self.new (records ++ records_of (reply_of answer)) (heard_with heard (from, s.now))) }
-        ensures few { IfOk result (λ answer. length (records_of (reply_of answer)) ≤ 99) }
-
-        ensures ok { OnOk result (
-            core_refuses self.old s.now.place.question (from ∷ s.now.place.origin ∷ []) ≡ None) }
-        ensures up { OnOk result (core_failed self.new ≡ false) }
-        ensures err { IfErr result (λ fault.
-            fault ≡ unwrap_or (core_refuses self.old s.now.place.question (from ∷ s.now.place.origin ∷ [])) CoreFault.Memory) }
-        ensures refused { IfErr result (λ fault. fault ≢ CoreFault.Memory → self.new ≡ self.old) }
-        ensures failed { IfErr result (λ fault. fault ≡ CoreFault.Memory → core_failed self.new ≡ true) }
+        ensures answer { IfOk result (λ answer. RepliesTo self.old toss.0 (Hearing from s.now) (reply_of answer) self.new) }
+        ensures fault { IfErr result (λ fault. HasNoReply self.old (Hearing from s.now) fault self.new) }
         ensures memory_only_at_news { IfErr result (λ fault. fault ≡ CoreFault.Memory →
             (records : List Record) (heard : List (ℕ × Statement)) → CoreStandsFor self.old records heard →
             (is_foreign from s.now ≡ false) × (got heard from s.now.kind s.now.place ≡ None)) }
@@ -163,20 +149,8 @@ impl Core {
     /// The first of these faults is answered: [`CoreFault::Failed`]; [`CoreFault::NoSuchQuestion`]. They change
     /// nothing. [`CoreFault::Memory`]: it is the first proposal, and there was no memory. The core has failed.
     pub fn propose(&mut self, question: u16, bit: bool, toss: Toss) -> Result<Answer, CoreFault>
-        ensures reply { IfOk result (λ answer.
-            (records : List Record) (heard : List (ℕ × Statement)) → CoreStandsFor self.old records heard →
-            IsReply (past_of (core_size self.old) (core_me self.old) question records heard) toss.0
-            (Proposal question bit) (reply_of answer)) }
-        ensures knows { IfOk result (λ answer.
-            (records : List Record) (heard : List (ℕ × Statement)) → CoreStandsFor self.old records heard →
-            CoreStandsFor self.new (records ++ records_of (reply_of answer)) heard) }
-        ensures few { IfOk result (λ answer. length (records_of (reply_of answer)) ≤ 99) }
-
-        ensures ok { OnOk result (core_refuses self.old question [] ≡ None) }
-        ensures up { OnOk result (core_failed self.new ≡ false) }
-        ensures err { IfErr result (λ fault. fault ≡ unwrap_or (core_refuses self.old question []) CoreFault.Memory) }
-        ensures refused { IfErr result (λ fault. fault ≢ CoreFault.Memory → self.new ≡ self.old) }
-        ensures failed { IfErr result (λ fault. fault ≡ CoreFault.Memory → core_failed self.new ≡ true) }
+        ensures answer { IfOk result (λ answer. RepliesTo self.old toss.0 (Proposal question bit) (reply_of answer) self.new) }
+        ensures fault { IfErr result (λ fault. HasNoReply self.old (Proposal question bit) fault self.new) }
         ensures memory_only_at_first { IfErr result (λ fault. fault ≡ CoreFault.Memory →
             (records : List Record) (heard : List (ℕ × Statement)) → CoreStandsFor self.old records heard →
             said records Initial (new_place question (core_me self.old) 1 1) ≡ None) }

@@ -3,14 +3,10 @@ use Rattle.std.proofs.Common.{ℕ, ◌≡◌, ◌+◌, ◌*◌, ◌<◌, ◌≤�
 use Rattle.std.proofs.Math.ListN.{get_or-eq_default}
 use Rattle.vocabulary.specs.Terms.{Kind, Initial, Echo, Ready, Place, Size, Value, Statement, count_below, keep_or, given, FitsStep, value_is, kind_eq, new_place}
 use Rattle.terms.proofs.Same.{kind_eq-true}
-use Rattle.rbc.specs.declared.known.Known.{Known}
-use Rattle.rbc.specs.declared.Broadcasts.{Broadcasts}
-use Rattle.rbc.specs.Spots.{same_spot, is_at}
-use Rattle.rbc.specs.Known.{is_third, fits, no_known, value_known, voted_known, is_reached, heard_known, said_known, say_known, accepted_known}
-use Rattle.rbc.specs.Table.{has_spot, spot_of, known_in}
-use Rattle.rbc.specs.Readers.{broadcasts_size, broadcasts_me, broadcasts_got, broadcasts_accepted, broadcasts_said}
+use Rattle.rbc.specs.Words.{Known, Broadcasts, same_spot, is_at, is_third, no_known, value_known, voted_known, is_reached, heard_known, said_known, say_known, accepted_known, has_spot, spot_of, known_in, broadcasts_size, broadcasts_me, broadcasts_got, broadcasts_accepted, broadcasts_said}
 use Rattle.rbc.proofs.Cells.{step_same, known_in-spot}
-use Rattle.terms.proofs.Votes.{keep_None}
+use Rattle.votes.specs.Votes.{fits}
+use Rattle.votes.proofs.Sent.{keep_None}
 use Rattle.rbc.proofs.Votes.{and_true, and_false, fits_step, voted_value, heard_value, heard_said, fitting_given, said_value, said_accepted, said_echo, said_ready, no_value, no_said}
 
 -- all words are the same

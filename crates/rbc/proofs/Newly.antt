@@ -6,15 +6,7 @@ use Rattle.terms.proofs.Count.{count-mono}
 use Rattle.terms.proofs.Heard.{got-hear, got-append_one, accepted_in, Accepted-one}
 use Rattle.terms.proofs.Lawful.{Accepted-more}
 use Rattle.terms.proofs.Same.{is_about-same, kind_eq-true, value_is-true, value_is-from}
-use Rattle.rbc.specs.declared.Broadcasts.{Broadcasts}
-use Rattle.rbc.specs.Answers.{IsNewlyAccepted, IsQuietAt}
-use Rattle.rbc.specs.declared.known.Known.{Known}
-use Rattle.rbc.specs.Due.{is_backed_as, unless_said, echo_for, ready_for}
-use Rattle.rbc.specs.Known.{got_known, said_known, accepted_known}
-use Rattle.rbc.specs.Table.{known_in}
-use Rattle.rbc.specs.Spots.{same_spot}
-use Rattle.rbc.specs.Stands.{BroadcastsStandFor}
-use Rattle.rbc.specs.Readers.{broadcasts_size, broadcasts_got, broadcasts_accepted, broadcasts_said}
+use Rattle.rbc.specs.Words.{Broadcasts, IsNewlyAccepted, IsQuietAt, Known, is_backed_as, unless_said, echo_for, ready_for, got_known, said_known, accepted_known, known_in, same_spot, BroadcastsStandFor, broadcasts_size, broadcasts_got, broadcasts_accepted, broadcasts_said}
 use Rattle.rbc.proofs.Asking.{senders}
 
 -- a statement that counts

@@ -3,12 +3,7 @@ use Rattle.std.proofs.Common.{ℕ, zero, suc, ◌≡◌, ◌<◌, ◌≤◌, ◌
 use Rattle.std.proofs.lemmas.Bool.{cases_lt, false≢true}
 use Rattle.vocabulary.specs.Terms.{Value, Kind, Initial, Echo, Ready, kind_eq, Place, Size, Statement, Said, count_below, said, keep_or, given, Past, no_past, after_record}
 use Rattle.terms.proofs.Journal.{said-append_one}
-use Rattle.rbc.specs.declared.Broadcasts.{Broadcasts}
-use Rattle.rbc.specs.Table.{spot_of}
-use Rattle.rbc.specs.Answers.{IsTouched}
-use Rattle.rbc.specs.Spots.{is_at}
-use Rattle.rbc.specs.Stands.{BroadcastsStandFor}
-use Rattle.rbc.specs.Readers.{broadcasts_size, broadcasts_me, broadcasts_accepted, broadcasts_said}
+use Rattle.rbc.specs.Words.{Broadcasts, spot_of, IsTouched, is_at, BroadcastsStandFor, broadcasts_size, broadcasts_me, broadcasts_accepted, broadcasts_said}
 use Rattle.rbc.proofs.Changes.{IsSame, SaysOne, said_with, none_got, none_said, none_accepted}
 use Rattle.rbc.proofs.Spots.{about-at}
 

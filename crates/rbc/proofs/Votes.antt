@@ -1,11 +1,10 @@
--- The masks of a place after one more vote.
-use Rattle.std.proofs.Common.{ℕ, zero, suc, ◌≡◌, ◌<◌, Bool, true, false, ◌&&◌, ◌||◌, eqb, refl, sym, ap, ◌∙◌, Option, Some, None}
-use Rattle.std.proofs.lemmas.Nat.Bits.{bit_at-zero}
+-- What is known of a place after one more vote.
+use Rattle.std.proofs.Common.{ℕ, zero, suc, ◌≡◌, ◌<◌, Bool, true, false, ◌&&◌, eqb, refl, sym, ap, ◌∙◌, Option, Some, None}
 use Rattle.vocabulary.specs.Terms.{Kind, Initial, Echo, Ready, Value, Zero, One, SureZero, SureOne, Unsure, Place, Size, FitsStep, keep_or, given, kind_eq}
-use Rattle.terms.proofs.Votes.{bit_more, voted, keep_None}
-use Rattle.rbc.specs.declared.known.Votes.{Votes}
-use Rattle.rbc.specs.declared.known.Known.{Known}
-use Rattle.rbc.specs.Known.{is_third, fits, has_bit, value_of, with_bit, with_vote, no_votes, no_known, value_known, voted_known, heard_known, said_known, say_known, accepted_known, fitting}
+use Rattle.votes.specs.declared.Votes.{Votes}
+use Rattle.votes.specs.Votes.{fits, value_of, with_vote}
+use Rattle.votes.proofs.Sent.{keep_None, nobody, voted}
+use Rattle.rbc.specs.Words.{Known, is_third, no_known, value_known, voted_known, heard_known, said_known, say_known, accepted_known, fitting}
 
 -- a value that fits its step
 pub fits_step : (p : Place) (m : Value) → FitsStep p.step m → fits (is_third p) m ≡ true
@@ -30,21 +29,6 @@ fits_step p m f = at p.step m f
     at (suc (suc (suc zero))) Unsure f = refl
     at (suc (suc (suc (suc step)))) m f = absurd f
 
--- the member that had sent none has sent this one, and every other what it had sent
-value_of-with : (third : Bool) (votes : Votes) (a b : ℕ) (v : Value) → a < 32 → fits third v ≡ true → value_of third votes a ≡ None
-    → value_of third (with_vote votes a v) b ≡ keep_or (value_of third votes b) (given (eqb a b) v)
-value_of-with third votes a b v l f n = at v f
-  where
-    more : (mask : ℕ) → has_bit (with_bit mask a) b ≡ (eqb a b || has_bit mask b)
-    more mask = bit_more mask a b l
-
-    at : (w : Value) → fits third w ≡ true → value_of third (with_vote votes a w) b ≡ keep_or (value_of third votes b) (given (eqb a b) w)
-    at Zero g = voted third votes.zero votes.one votes.unsure (with_bit votes.zero a) votes.one votes.unsure a b Zero g n (more votes.zero) refl refl
-    at One g = voted third votes.zero votes.one votes.unsure votes.zero (with_bit votes.one a) votes.unsure a b One g n refl (more votes.one) refl
-    at SureZero g = voted third votes.zero votes.one votes.unsure (with_bit votes.zero a) votes.one votes.unsure a b SureZero g n (more votes.zero) refl refl
-    at SureOne g = voted third votes.zero votes.one votes.unsure votes.zero (with_bit votes.one a) votes.unsure a b SureOne g n refl (more votes.one) refl
-    at Unsure g = voted third votes.zero votes.one votes.unsure votes.zero votes.one (with_bit votes.unsure a) a b Unsure g n refl refl (more votes.unsure)
-
 pub and_true : (x : Bool) → (x && true) ≡ x
 and_true true = refl
 and_true false = refl
@@ -62,7 +46,7 @@ voted_value place known a kind m b k l f n = step kind k n
   where
     same : (votes : Votes) → value_of (is_third place) votes a ≡ None
         → value_of (is_third place) (with_vote votes a m) b ≡ keep_or (value_of (is_third place) votes b) (given (eqb a b && true) m)
-    same votes h = value_of-with (is_third place) votes a b m l f h
+    same votes h = voted (is_third place) votes a b m l f h
         ∙ ap (λ t. keep_or (value_of (is_third place) votes b) (given t m)) (sym (and_true (eqb a b)))
 
     other : (votes : Votes) → value_of (is_third place) votes b ≡ keep_or (value_of (is_third place) votes b) (given (eqb a b && false) m)
@@ -157,14 +141,10 @@ pub no_value : (place : Place) (a : ℕ) (kind : Kind) → value_known place no_
 unfolding value_known
 no_value place a kind = step kind
   where
-    none : (third : Bool) → value_of third no_votes a ≡ None
-    none true = rw (bit_at-zero a) refl
-    none false = rw (bit_at-zero a) refl
-
     step : (k : Kind) → value_known place no_known a k ≡ None
-    step Initial = none (is_third place)
-    step Echo = none (is_third place)
-    step Ready = none (is_third place)
+    step Initial = nobody (is_third place) a
+    step Echo = nobody (is_third place) a
+    step Ready = nobody (is_third place) a
 
 pub no_said : (kind : Kind) → said_known no_known kind ≡ None
 no_said Initial = refl

@@ -80,7 +80,8 @@ impl Broadcasts {
     ghost use Rattle.rbc.specs.declared.Heard.TheVariants.{News};
     ghost use Rattle.rbc.specs.Readers.{broadcasts_size};
     ghost use Rattle.rbc.specs.Stands.{BroadcastsStandFor};
-    ghost use Rattle.rbc.specs.Answers.{heard_as, heard_of, IsAccepted, IsNewlyAccepted, IsQuietAt, IfNews, IsTouched};
+    ghost use Rattle.rbc.specs.Answers.{heard_as, heard_of, IsAccepted, IfNews, IsTouched};
+    ghost use Rattle.rbc.specs.Outcomes.{Brings};
 
     /// Those of the member `me`, below `size.n()`, that heard and said nothing yet. It takes no memory: `alloc` is
     /// kept for [`hear`](Broadcasts::hear) and [`say`](Broadcasts::say).
@@ -148,18 +149,7 @@ impl Broadcasts {
         ensures unchanged_unless_news { IfOk result (λ taken. heard_of taken ≢ News →
             (past : Past) → BroadcastsStandFor self.old past → BroadcastsStandFor self.new past) }
 
-        // What may be said at a place where nothing might be said before is of the statement's own value.
-        ensures echo { IfOk result (λ taken. IfNews taken (λ brought.
-            (past : Past) → BroadcastsStandFor self.old past → s.now.place.question ≡ past.question → IsQuietAt past s.now.place →
-            IsLeast (MaySay (after_hearing past from s.now) Echo s.now.place) brought.due.echo)) }
-        ensures ready { IfOk result (λ taken. IfNews taken (λ brought.
-            (past : Past) → BroadcastsStandFor self.old past → s.now.place.question ≡ past.question → IsQuietAt past s.now.place →
-            IsLeast (MaySay (after_hearing past from s.now) Ready s.now.place) brought.due.ready)) }
-        ensures accepted { IfOk result (λ taken. IfNews taken (λ brought.
-            (past : Past) → BroadcastsStandFor self.old past → s.now.place.question ≡ past.question →
-            IsNewlyAccepted past from s.now brought.accepted)) }
-        ensures fits { IfOk result (λ taken. IfNews taken (λ brought.
-            IfSome brought.accepted (λ m. FitsStep s.now.place.step m))) }
+        ensures brings { IfOk result (λ taken. IfNews taken (Brings self.old from s.now)) }
 
         ensures err { OnErr result ((past : Past) → BroadcastsStandFor self.old past → BroadcastsStandFor self.new past) }
         ensures err_only_at_news { OnErr result (
@@ -169,12 +159,12 @@ impl Broadcasts {
             IsTouched past s.now.place → IsOk result }
         ensures size { broadcasts_size self.new ≡ broadcasts_size self.old }
     {
-        let _members = self.size.n();
+        self.size.recall();
         if known::is_foreign(from, *s) {
             return Ok(Taken::Foreign);
         }
         let place = s.place();
-        let _value = s.value();
+        s.recall();
         let before = table::known_at(&self.cells, self.size, place);
         if known::value(before, place, from, s.kind()).is_some() {
             return Ok(Taken::Repeat);
@@ -192,7 +182,7 @@ impl Broadcasts {
         ensures ready { (past : Past) → BroadcastsStandFor self.now past → place.question ≡ past.question →
             IsLeast (MaySay past Ready place) result.ready }
     {
-        let _members = self.size.n();
+        self.size.recall();
         let known = table::known_at(&self.cells, self.size, place);
         let initial = known::value(known, place, place.origin(), Kind::Initial);
         Due {

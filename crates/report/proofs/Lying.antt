@@ -4,9 +4,7 @@ use Rattle.std.specs.List.{flat_map}
 use Rattle.vocabulary.specs.Terms.{Statement, Size, IsSize}
 use Rattle.wire.specs.declared.message.Message.{Message}
 use Rattle.wire.specs.declared.message.Message.TheVariants as message
-use Rattle.wire.specs.Texts.{frame_bytes, Fits}
-use Rattle.wire.specs.Reading.{ReadsMessages, End, Rest, Broken, Ends, IsPartial}
-use Rattle.wire.specs.Feeding.{Took, Feeds}
+use Rattle.wire.specs.Words.{frame_bytes, Fits, ReadsMessages, End, Rest, Broken, Ends, IsPartial, Took, Feeds}
 use Rattle.wire.proofs.Unique.{reads_once}
 use Rattle.wire.proofs.Frames.{begins_with}
 use Rattle.report.specs.Charts.{IsFrameOf}

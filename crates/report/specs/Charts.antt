@@ -2,8 +2,6 @@
 use Rattle.std.specs.Prelude.{ℕ, ◌+◌, ◌-◌, ◌^◌, ◌≡◌, ◌<◌, ◌==◌, ◌⊎◌, nat_le, Bool, true, false, if◌then◌else◌, Option, Some, None, List, [], ◌∷◌, ◌++◌, codes, length, min, take, slice_get, slice_index}
 use Rattle.std.specs.Fmt.{decimal}
 use Rattle.hex.specs.Hex.{encode_lower}
-use Rattle.disk.specs.declared.crash.Pick.{Pick}
-use Rattle.disk.specs.declared.crash.Pick.TheVariants.{Kept, Lost, Fill}
 use Rattle.words.specs.Sentences.{sentence}
 use Rattle.vocabulary.specs.Terms.{Record, Said, Decided, Statement, Size}
 use Rattle.wire.specs.declared.message.Message.TheVariants as message
@@ -32,14 +30,9 @@ member_of (Reset from to) = to
 abbrev pub runs_after : Event → Mark → Bool → Bool
 runs_after event (Skipped reason) runs = runs
 runs_after event Failed runs = false
-runs_after (Propose member question bit toss) Done runs = runs
-runs_after (Deliver from to which toss) Done runs = runs
-runs_after (DeliverAll from to count toss) Done runs = runs
-runs_after (LieBytes liar to bytes toss) Done runs = runs
-runs_after (Fuse member calls) Done runs = runs
 runs_after (Crash member pick) Done runs = false
 runs_after (Restart member) Done runs = true
-runs_after (Reset from to) Done runs = runs
+runs_after event Done runs = runs
 
 -- how many statements come as one group of at most so many, of all that their sender has said, over a link at that place
 abbrev pub group_count : ℕ → ℕ → ℕ → ℕ
@@ -50,16 +43,11 @@ group_count said place count = min (min count 256) (said - place)
 -- after its own reset
 abbrev pub place_after : ℕ → Event → Mark → ℕ → ℕ → ℕ
 place_after said event (Skipped reason) sender place = place
-place_after said (Propose member question bit toss) mark sender place = place
 place_after said (Deliver from to Next toss) mark sender place = if sender == from then place + 1 else place
-place_after said (Deliver from to (At number) toss) mark sender place = place
 place_after said (DeliverAll from to count toss) mark sender place = if sender == from then place + group_count said place count else place
-place_after said (LieBytes liar to bytes toss) mark sender place = place
-place_after said (Fuse member calls) mark sender place = place
-place_after said (Crash member pick) mark sender place = place
 place_after said (Restart member) Done sender place = 0
-place_after said (Restart member) Failed sender place = place
 place_after said (Reset from to) mark sender place = if sender == from then 0 else place
+place_after said event mark sender place = place
 
 -- the statements among records, in order
 abbrev pub statements_said : List Record → List Statement
@@ -80,12 +68,6 @@ group_text count = sentence (codes "group" ∷ codes "of" ∷ decimal count ∷ 
 abbrev pub text_if : Option Statement → List ℕ
 text_if (Some s) = statement_text s
 text_if None = []
-
--- what a crash leaves
-abbrev pub pick_text : Pick → List ℕ
-pick_text Kept = codes "kept"
-pick_text Lost = codes "lost"
-pick_text (Fill byte) = sentence (codes "fill" ∷ encode_lower (byte ∷ []) ∷ [])
 
 -- bytes in hexadecimal digits, of which 24 are shown at most
 abbrev pub bytes_label : List ℕ → List ℕ

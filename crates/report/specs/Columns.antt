@@ -5,12 +5,12 @@ use Rattle.sim.specs.declared.events.Event.{Event}
 use Rattle.sim.specs.declared.events.Event.TheVariants.{DeliverAll}
 use Rattle.sim.specs.declared.events.Mark.{Mark}
 use Rattle.report.specs.declared.chart.column.Column.{Column}
-use Rattle.report.specs.declared.chart.drawing.Line.{Line}
-use Rattle.report.specs.declared.chart.drawing.Line.TheVariants.{Runs, Down, Lies}
+use Rattle.report.specs.declared.chart.drawing.Lifeline.{Lifeline}
+use Rattle.report.specs.declared.chart.drawing.Lifeline.TheVariants.{Runs, Down, Lies}
 use Rattle.report.specs.Charts.{member_of, runs_after, statements_said, AreMoved}
 
 -- how the lifeline of a liar, or else of a member that runs or doesn't, looks
-abbrev pub line_of : Bool → Bool → Line
+abbrev pub line_of : Bool → Bool → Lifeline
 line_of true runs = Lies
 line_of false true = Runs
 line_of false false = Down

@@ -1,7 +1,7 @@
 -- A chart in the making.
 use Rattle.std.specs.Prelude.{◌≡◌}
-use Rattle.report.specs.declared.chart.Scene.{Scene}
+use Rattle.report.specs.declared.chart.Canvas.{Canvas}
 
 -- elements may have been drawn, and all else is as it was
-abbrev pub DrawsOnly : Scene → Scene → Type 0
+abbrev pub DrawsOnly : Canvas → Canvas → Type 0
 DrawsOnly old new = new ≡ record old { events = new.events }

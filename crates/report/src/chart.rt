@@ -2,8 +2,8 @@
 
 ghost use Rattle.std.specs.Prelude.{◌≡◌, ◌+◌, ◌*◌, ◌/◌, ◌≤◌, IfOk, OnOk, string_bytes};
 ghost use Rattle.sim.specs.declared.TheConstants.{MOST_EVENTS};
-ghost use Rattle.sim.specs.Texts.{calls_text};
-ghost use Rattle.report.specs.Charts.{pick_text, IsSvg};
+ghost use Rattle.sim.specs.Texts.{calls_text, pick_text};
+ghost use Rattle.report.specs.Charts.{IsSvg};
 
 mod column;
 mod drawing;
@@ -105,10 +105,7 @@ fn pick_text(alloc: Global, pick: Pick) -> Result<String, AllocError>
     match pick {
         Pick::Kept => String::from_str(alloc, "kept"),
         Pick::Lost => String::from_str(alloc, "lost"),
-        Pick::Fill(byte) => {
-            let digits = hex::encode(alloc, [byte].as_slice())?;
-            format!(in alloc; "fill {digits}")
-        }
+        Pick::Fill(byte) => format!(in alloc; "fill {byte:02x}"),
     }
 }
 
@@ -185,7 +182,7 @@ fn draw_heads(
 
 /// The run, as far as it is drawn.
 #[derive(Drop)]
-struct Scene {
+struct Canvas {
     alloc: Global,
     size: Size,
     columns: Vec<Column>,
@@ -194,7 +191,7 @@ struct Scene {
     rows: u64,
 }
 
-impl Scene {
+impl Canvas {
     ghost use Rattle.std.specs.Prelude.{ℕ, ◌≡◌, ◌+◌, ◌<◌, IfOk, OnOk, Some, length, slice_get, string_bytes};
     ghost use Rattle.sim.specs.declared.TheConstants.{MOST_EVENTS};
     ghost use Rattle.report.specs.Scenes.{DrawsOnly};
@@ -203,13 +200,13 @@ impl Scene {
     ghost use Rattle.report.specs.declared.chart.column.Column.{Column};
 
     /// The columns, before the first event.
-    fn new(alloc: Global, size: Size, liars: &[u8]) -> Result<Scene, AllocError> {
+    fn new(alloc: Global, size: Size, liars: &[u8]) -> Result<Canvas, AllocError> {
         let mut columns = Vec::new(alloc);
         for member in 0..size.n() {
             let is_liar = liars.contains(&member);
             columns.push(Column::new(alloc, size.n(), is_liar, LIFE)?)?;
         }
-        let mut scene = Scene {
+        let mut scene = Canvas {
             alloc,
             size,
             columns,
@@ -559,7 +556,7 @@ pub fn chart_text(
     ensures { IfOk result (λ text. IsSvg (string_bytes text)) }
 {
     let count = events.len().min(marks.len()).min(saved.len());
-    let mut scene = Scene::new(alloc, size, liars)?;
+    let mut scene = Canvas::new(alloc, size, liars)?;
     for (index, event) in events[..count].iter().enumerate() {
         if !is_skipped(&marks[index]) {
             scene.take(index + 1, event, marks[index], &saved[index])?;

@@ -6,9 +6,7 @@ use Rattle.terms.proofs.Count.{count-mono, Outside, has_outside}
 use Rattle.terms.proofs.Same.{value_is-true, value_is-from}
 use Rattle.validate.specs.declared.follow.Tally.{Tally}
 use Rattle.validate.specs.declared.steps.Steps.{Steps}
-use Rattle.validate.specs.Accepted.{AreAcceptable}
-use Rattle.validate.specs.Tallies.{IsTally}
-use Rattle.validate.specs.Readers.{steps_size, steps_question, steps_taken, IsTakenBy, IsValidBy}
+use Rattle.validate.specs.Words.{AreAcceptable, IsTally, steps_size, steps_question, steps_taken, IsTakenBy, IsValidBy}
 use Rattle.validate.proofs.Validity.{valid_taken}
 use Rattle.rounds.specs.Due.{DecidesBy, NoneBefore, FirstDecisionBy}
 

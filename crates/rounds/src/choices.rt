@@ -5,7 +5,7 @@ ghost use Rattle.validate.specs.Readers.{steps_size};
 ghost use Rattle.rounds.specs.Choosing.{chosen};
 ghost use Rattle.rounds.specs.Due.{DecidesBy, FirstDecisionBy, IsGivenBy, IsPickedBy};
 
-use super::tosses::Toss;
+use crate::tosses::Toss;
 use terms::{LAST_ROUND, Size, Value};
 use validate::{Steps, Tally};
 
@@ -138,7 +138,7 @@ pub fn value_for(steps: &Steps, round: u8, step: u8, toss: Toss) -> Option<Value
     ensures fits { IfSome result (λ m. FitsStep step m) }
 {
     let size = steps.size();
-    let _members = size.n();
+    size.recall();
     let last_round = round_before(round, step);
     let last_step = step_before(step);
     let tally = steps.tally(last_round, last_step);

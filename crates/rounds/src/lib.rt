@@ -29,5 +29,6 @@ mod settling;
 mod tests;
 mod tosses;
 
+pub use own::MOST_INITIALS;
 pub use questions::Question;
 pub use tosses::{ChaChaTosser, Toss, Tosser};

@@ -4,10 +4,10 @@ ghost use Rattle.vocabulary.specs.Terms.{Place, Initial, FitsStep, IsPlace, new_
 ghost use Rattle.rounds.specs.Due.{MaySayAt};
 ghost use Rattle.rounds.specs.Rounded.{begins_at, decision_after};
 
-use super::choices::value_for;
-use super::own::Own;
-use super::settling::Settling;
-use super::tosses::Toss;
+use crate::choices::value_for;
+use crate::own::Own;
+use crate::settling::Settling;
+use crate::tosses::Toss;
 use std::alloc::Global;
 use terms::{Kind, Memory, Place, Record, Size, Statement, Value};
 

@@ -5,8 +5,8 @@ use Rattle.wire.specs.declared.message.WireFault.{WireFault}
 use Rattle.wire.specs.declared.message.WireFault.TheVariants.{BadLength, BadType, BadKind, BadPlace, BadValue, BadHello}
 use Rattle.links.specs.declared.ends.LinkEnd.{LinkEnd}
 use Rattle.links.specs.declared.ends.LinkEnd.TheVariants as cause
-use Rattle.running.specs.declared.events.Event.{Event}
-use Rattle.running.specs.declared.events.Event.TheVariants.{Ready, LinkUp, LinkDown, LinkUpTo, LinkDownTo, Refused, Decided, Stopped, Missed, End}
+use Rattle.running.specs.declared.events.LogEvent.{LogEvent}
+use Rattle.running.specs.declared.events.LogEvent.TheVariants.{Ready, LinkUp, LinkDown, LinkUpTo, LinkDownTo, Refused, Decided, Stopped, Missed, End}
 
 -- what is wrong with bytes that begin no frame
 abbrev pub fault_text : WireFault → List ℕ
@@ -34,7 +34,7 @@ bit_number false = 0
 bit_number true = 1
 
 -- an event's line, without its end
-abbrev pub log_text : Event → List ℕ
+abbrev pub log_text : LogEvent → List ℕ
 log_text (Ready me) = codes "ready member " ++ decimal me
 log_text (LinkUp peer) = codes "link-up from " ++ decimal peer
 log_text (LinkDown peer end) = codes "link-down from " ++ (decimal peer ++ (codes " " ++ cause_text end))

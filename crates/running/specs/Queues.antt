@@ -1,10 +1,10 @@
 -- What waits to be told.
 use Rattle.std.specs.Prelude.{ℕ, ◌+◌, ◌-◌, ◌^◌, min, List, []}
-use Rattle.running.specs.declared.events.Event.{Event}
+use Rattle.running.specs.declared.events.LogEvent.{LogEvent}
 
 -- the events that wait, in order, and how many came since that don't
 pub record Waiting : Type 0 where
-  pub events : List Event
+  pub events : List LogEvent
   pub missed : ℕ
 
 -- nothing waits

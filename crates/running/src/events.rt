@@ -9,7 +9,7 @@ use wire::WireFault;
 
 /// What happens to a member that runs. The text of each is its line in a log, without the line's end.
 #[derive(Clone, Copy, Debug, PartialEq, Eq)]
-pub enum Event {
+pub enum LogEvent {
     /// This member listens.
     Ready(u8),
     /// A link from this member has greeted, and is read from now on.
@@ -62,7 +62,7 @@ fn cause_text(end: LinkEnd) -> &'static str
     }
 }
 
-impl fmt::Display for Event {
+impl fmt::Display for LogEvent {
     ghost use Rattle.std.specs.Prelude.{Some};
     ghost use Rattle.running.specs.Events.{log_text};
 
@@ -70,16 +70,16 @@ impl fmt::Display for Event {
 
     fn fmt<W: fmt::Write>(&self, f: &mut fmt::Formatter<W>) -> fmt::Result {
         match *self {
-            Event::Ready(me) => write!(f, "ready member {me}"),
-            Event::LinkUp(peer) => write!(f, "link-up from {peer}"),
-            Event::LinkDown(peer, end) => write!(f, "link-down from {peer} {}", cause_text(end)),
-            Event::LinkUpTo(peer) => write!(f, "link-up to {peer}"),
-            Event::LinkDownTo(peer, end) => write!(f, "link-down to {peer} {}", cause_text(end)),
-            Event::Refused(end) => write!(f, "refused {}", cause_text(end)),
-            Event::Decided(question, bit) => write!(f, "decided {question} {}", u8::from(bit)),
-            Event::Stopped => f.write_str("stopped"),
-            Event::Missed(count) => write!(f, "missed {count}"),
-            Event::End => f.write_str("end"),
+            LogEvent::Ready(me) => write!(f, "ready member {me}"),
+            LogEvent::LinkUp(peer) => write!(f, "link-up from {peer}"),
+            LogEvent::LinkDown(peer, end) => write!(f, "link-down from {peer} {}", cause_text(end)),
+            LogEvent::LinkUpTo(peer) => write!(f, "link-up to {peer}"),
+            LogEvent::LinkDownTo(peer, end) => write!(f, "link-down to {peer} {}", cause_text(end)),
+            LogEvent::Refused(end) => write!(f, "refused {}", cause_text(end)),
+            LogEvent::Decided(question, bit) => write!(f, "decided {question} {}", u8::from(bit)),
+            LogEvent::Stopped => f.write_str("stopped"),
+            LogEvent::Missed(count) => write!(f, "missed {count}"),
+            LogEvent::End => f.write_str("end"),
         }
     }
 }

@@ -19,7 +19,7 @@ mod sockets;
 mod tossers;
 mod watch;
 
-pub use events::Event;
+pub use events::LogEvent;
 pub use fault::RunFault;
 pub use log::{Log, Queue};
 pub use machine::Machine;

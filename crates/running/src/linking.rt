@@ -1,6 +1,6 @@
 //! The threads of links.
 
-use crate::events::Event;
+use crate::events::LogEvent;
 use crate::machine::Machine;
 use crate::outgoing::Outgoing;
 use crate::shared::Shared;
@@ -35,10 +35,10 @@ fn write_told<D: Disk, J: Naming, R: Machine>(
     peer: u8,
     stream: NetStream,
 ) -> LinkEnd {
-    let mut outgoing = Outgoing::new(rt, stream, &it.telling, Event::LinkUpTo(peer));
+    let mut outgoing = Outgoing::new(rt, stream, &it.telling, LogEvent::LinkUpTo(peer));
     let end = write_link(rt, it.alloc, &it.hub, peer, &mut outgoing, &Open);
     if outgoing.is_up() {
-        it.note_link(rt, Event::LinkDownTo(peer, end));
+        it.note_link(rt, LogEvent::LinkDownTo(peer, end));
     }
     end
 }
@@ -122,31 +122,35 @@ pub(crate) fn dial_all<D: Disk + Send, J: Naming + Send + Sync, R: Machine>(
 }
 
 /// The event of the link from a peer is to be told. The link from the member to itself is none of the log's.
-fn note_peer<D: Disk, J: Naming, R: Machine>(rt: &R, it: &Shared<D, J>, peer: u8, event: Event) {
+fn note_peer<D: Disk, J: Naming, R: Machine>(rt: &R, it: &Shared<D, J>, peer: u8, event: LogEvent) {
     if peer != it.hub.header().me() {
         it.note_link(rt, event);
     }
 }
 
-/// Reads the link of a peer that greeted, with its seat and its tosser.
+/// Reads the link of a peer that greeted, with its seat and its tosser. A stopped member reads none, which isn't told, since
+/// each peer dials again once a second.
 fn read_from<D: Disk, J: Naming, R: Machine>(
     rt: &R,
     it: &Shared<D, J>,
     peer: u8,
     stream: &mut NetStream,
 ) -> LinkEnd {
+    if it.hub.lock(rt).is_stopped() {
+        return LinkEnd::Stopped;
+    }
     let Some(tosser) = it.link_tossers.get(usize::from(peer)) else {
         return LinkEnd::Stranger;
     };
     let Some(seat) = it.rack.take(rt, peer) else {
-        it.note_link(rt, Event::Refused(LinkEnd::Busy));
+        it.note_link(rt, LogEvent::Refused(LinkEnd::Busy));
         return LinkEnd::Busy;
     };
-    note_peer(rt, it, peer, Event::LinkUp(peer));
+    note_peer(rt, it, peer, LogEvent::LinkUp(peer));
     let mut tosser = tosser.lock(rt);
     let (seat, end) = read_link(rt, it.alloc, &it.hub, seat, stream, &Open, &mut *tosser);
     it.rack.put(rt, seat);
-    note_peer(rt, it, peer, Event::LinkDown(peer, end));
+    note_peer(rt, it, peer, LogEvent::LinkDown(peer, end));
     end
 }
 
@@ -175,7 +179,7 @@ fn read_at<D: Disk, J: Naming, R: Machine>(rt: &R, it: &Shared<D, J>, place: usi
             None => LinkEnd::Lost,
         },
         Err(end) => {
-            it.note_link(rt, Event::Refused(end));
+            it.note_link(rt, LogEvent::Refused(end));
             end
         }
     }

@@ -3,7 +3,7 @@
 ghost use Rattle.std.specs.Prelude.{◌≡◌, ◌↔◌, ◌⊎◌, ◌≤◌, ◌++◌, ◌∷◌, [], length, IsTrue};
 ghost use Rattle.running.specs.Queues.{none, one_more};
 
-use crate::events::Event;
+use crate::events::LogEvent;
 use std::alloc::Global;
 use std::marker::Model;
 use std::mem;
@@ -11,7 +11,7 @@ use std::mem;
 /// Where the events of a member are told.
 pub trait Log {
     /// Tells an event. Where it can't be told it is lost. Nothing of the member waits for it, but for its end.
-    fn tell(&mut self, event: &Event);
+    fn tell(&mut self, event: &LogEvent);
 }
 
 /// How many events may wait.
@@ -20,7 +20,7 @@ const WAITING: usize = 1024;
 /// Events that wait to be told, at most 1,024, and how many came since that don't. Contracts see both.
 #[derive(Drop)]
 pub struct Queue {
-    events: Vec<Event>,
+    events: Vec<LogEvent>,
     missed: u64,
 }
 
@@ -44,7 +44,7 @@ impl Queue {
     }
 
     /// The event waits from now on, or is counted as missed where 1,024 wait, or there is no memory.
-    pub fn put(&mut self, event: Event)
+    pub fn put(&mut self, event: LogEvent)
         ensures put { (self.new ≡ record self.old { events = self.old.events ++ event ∷ [] })
             ⊎ (self.new ≡ record self.old { missed = one_more self.old.missed }) }
         ensures full { 1024 ≤ length self.old.events → self.new.events ≡ self.old.events }
@@ -62,7 +62,7 @@ impl Queue {
     }
 
     /// What waits, in order, and how many came since that don't. Nothing waits any more.
-    pub fn take(&mut self, alloc: Global) -> (Vec<Event>, u64)
+    pub fn take(&mut self, alloc: Global) -> (Vec<LogEvent>, u64)
         ensures taken { (result.0.items ≡ self.old.events) × (result.1 ≡ self.old.missed) }
         ensures none { self.new ≡ none }
     {

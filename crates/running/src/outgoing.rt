@@ -4,7 +4,7 @@ ghost use Rattle.std.specs.Prelude.{◌≡◌, true};
 ghost use Rattle.links.specs.Net.{told_net, is_closed_net};
 ghost use Rattle.running.specs.Standings.{after_read, after_written, has_come_up};
 
-use crate::events::Event;
+use crate::events::LogEvent;
 use crate::watch::Telling;
 use links::{NetStream, Stream, StreamFault};
 use std::sync::{Mutex, Wait};
@@ -56,7 +56,7 @@ pub(crate) struct Outgoing<'a, R> {
     rt: &'a R,
     stream: NetStream,
     telling: &'a Mutex<Option<Telling>>,
-    up: Event,
+    up: LogEvent,
     standing: Standing,
 }
 
@@ -66,7 +66,7 @@ impl<'a, R: Wait> Outgoing<'a, R> {
         rt: &'a R,
         stream: NetStream,
         telling: &'a Mutex<Option<Telling>>,
-        up: Event,
+        up: LogEvent,
     ) -> Outgoing<'a, R> {
         Outgoing {
             rt,

@@ -6,7 +6,7 @@ ghost use Rattle.member.specs.Sound.{IsSound};
 ghost use Rattle.member.specs.Readers.{member_header, member_saved, member_is_stopped, MemberStandsFor};
 
 use crate::clients::accept_clients;
-use crate::events::Event;
+use crate::events::LogEvent;
 use crate::fault::RunFault;
 use crate::linking::{accept_links, dial_all};
 use crate::log::Log;
@@ -97,7 +97,7 @@ fn share<D: Disk + Drop, J: Naming>(
 fn begin_telling<D: Disk, J: Naming, R: Machine>(rt: &R, it: &Shared<D, J>) -> Result<(), Memory> {
     let telling = Telling::new(it.alloc, &it.hub.lock(rt))?;
     *it.telling.lock(rt) = Some(telling);
-    it.note(rt, Event::Ready(it.hub.header().me()));
+    it.note(rt, LogEvent::Ready(it.hub.header().me()));
     Ok(())
 }
 
@@ -188,7 +188,7 @@ fn run_named<
 fn tell_end<D: Disk, J: Naming, L: Log, R: Machine>(rt: &R, it: &Shared<D, J>, log: &Mutex<L>) {
     it.note_book(rt);
     it.tell(rt, log);
-    log.lock(rt).tell(&Event::End);
+    log.lock(rt).tell(&LogEvent::End);
 }
 
 /// Binds a listener. The operator is told why there is none.

@@ -1,6 +1,6 @@
 //! What the threads of a member share.
 
-use crate::events::Event;
+use crate::events::LogEvent;
 use crate::log::Log;
 use crate::machine::Machine;
 use crate::places::Places;
@@ -65,14 +65,14 @@ impl<D: Disk, J: Naming> Shared<D, J> {
     }
 
     /// The event is to be told, if the member has a log.
-    pub(crate) fn note<R: Machine>(&self, rt: &R, event: Event) {
+    pub(crate) fn note<R: Machine>(&self, rt: &R, event: LogEvent) {
         if let Some(telling) = &mut *self.telling.lock(rt) {
             telling.queue.put(event);
         }
     }
 
     /// The same of an event of links. What the member's own end does to them isn't told.
-    pub(crate) fn note_link<R: Machine>(&self, rt: &R, event: Event) {
+    pub(crate) fn note_link<R: Machine>(&self, rt: &R, event: LogEvent) {
         if !self.is_closing() {
             self.note(rt, event);
         }
@@ -97,12 +97,12 @@ impl<D: Disk, J: Naming> Shared<D, J> {
             log.tell(event);
         }
         if missed > 0 {
-            log.tell(&Event::Missed(missed));
+            log.tell(&LogEvent::Missed(missed));
         }
     }
 
     /// What waits to be told, and how many events came too fast.
-    fn take_events<R: Machine>(&self, rt: &R) -> (Vec<Event>, u64) {
+    fn take_events<R: Machine>(&self, rt: &R) -> (Vec<LogEvent>, u64) {
         match &mut *self.telling.lock(rt) {
             Some(telling) => telling.queue.take(self.alloc),
             None => (Vec::new(self.alloc), 0),

@@ -15,7 +15,7 @@ const GREETING_TICKS: u8 = 10;
 
 /// A socket of a session that is under way.
 #[derive(Drop)]
-struct Held {
+struct OpenSocket {
     socket: TcpStream,
     /// How many ticks are left for the greeting; none where none is awaited.
     patience: Option<u8>,
@@ -25,7 +25,7 @@ struct Held {
 /// or write in which its thread waits.
 #[derive(Drop)]
 pub(crate) struct Sockets {
-    held: Vec<Option<Held>>,
+    held: Vec<Option<OpenSocket>>,
     closed: bool,
 }
 
@@ -40,7 +40,7 @@ impl Sockets {
 
     /// Takes a socket in, and gives its place. It is closed, and has none, where memory is refused or all were shut down.
     pub(crate) fn enter(&mut self, socket: TcpStream) -> Option<usize> {
-        self.hold(Held {
+        self.hold(OpenSocket {
             socket,
             patience: None,
         })
@@ -48,13 +48,13 @@ impl Sockets {
 
     /// Takes in the socket of a peer that is to greet within ten ticks, like `enter`.
     pub(crate) fn enter_to_greet(&mut self, socket: TcpStream) -> Option<usize> {
-        self.hold(Held {
+        self.hold(OpenSocket {
             socket,
             patience: Some(GREETING_TICKS),
         })
     }
 
-    fn hold(&mut self, held: Held) -> Option<usize> {
+    fn hold(&mut self, held: OpenSocket) -> Option<usize> {
         if self.closed {
             return None;
         }
@@ -116,7 +116,7 @@ impl Sockets {
     }
 }
 
-impl Held {
+impl OpenSocket {
     fn tick(&mut self) {
         match self.patience {
             Some(left) if left > 1 => self.patience = Some(left - 1),

@@ -144,11 +144,11 @@ impl<R: Clock> Operator for Prompter<'_, R> {
 /// The events that were told, as a list.
 #[derive(Drop)]
 struct Kept {
-    events: Vec<Event>,
+    events: Vec<LogEvent>,
 }
 
 impl Log for Kept {
-    fn tell(&mut self, event: &Event) {
+    fn tell(&mut self, event: &LogEvent) {
         let _lost = self.events.push(*event).is_err();
     }
 }
@@ -302,18 +302,34 @@ fn a_member_that_starts_late_learns_the_decision(rt: HostRuntime) -> Result<(), 
     joins_late(&rt, rt.alloc())
 }
 
-/// Three members decide beside one whose disk fails.
+/// How many links came up from peers.
+fn links_up(events: &[LogEvent]) -> usize {
+    events
+        .iter()
+        .filter(|event| matches!(event, LogEvent::LinkUp(_)))
+        .count()
+}
+
+/// Three members decide beside one whose disk fails. The log of that one has no link of a peer more than once: once it is
+/// stopped it takes none in, however often it is dialled.
 fn one_stops<R: Machine + Abort>(rt: &R, alloc: Global) -> Result<(), Fail> {
     let cluster = Cluster {
         n: 4,
         t: 1,
         port: 47210,
     };
+    let kept = Mutex::new(Kept {
+        events: Vec::new(alloc),
+    });
+    let log = &kept;
     let cues = [Cue::new(), Cue::new(), Cue::new(), Cue::new()];
     let [zero, one, two, three] = &cues;
     thread::scope(thread::scope_env(), rt, |scope| -> Result<(), Fail> {
         let _zero = scope.spawn(move || run_to_cue(rt, alloc, cluster, 0, None, zero));
-        let _one = scope.spawn(move || run_to_cue(rt, alloc, cluster, 1, Some(0), one));
+        let _one = scope.spawn(move || {
+            let ended = run_told(rt, alloc, cluster, 1, Some(0), one, Some(log));
+            *one.ended.lock(rt) = Some(ended);
+        });
         let _two = scope.spawn(move || run_to_cue(rt, alloc, cluster, 2, None, two));
         let _three = scope.spawn(move || run_to_cue(rt, alloc, cluster, 3, None, three));
         for cue in &cues {
@@ -327,12 +343,18 @@ fn one_stops<R: Machine + Abort>(rt: &R, alloc: Global) -> Result<(), Fail> {
             assert!(rt; comes_to(rt, cluster.desk(me), b"ASK 0\n", b"DECIDED 1\n"));
         }
         assert!(rt; comes_to(rt, cluster.desk(1), b"STATUS\n", b"STOPPED\n"));
+        // Its peers dial again meanwhile.
+        thread::sleep(rt, Duration::from_millis(2500));
         assert!(rt; one.ends(rt) == Some(Err(RunFault::Stopped)));
         assert!(rt; zero.ends(rt) == Some(Ok(())));
         assert!(rt; two.ends(rt) == Some(Ok(())));
         assert!(rt; three.ends(rt) == Some(Ok(())));
         Ok(())
-    })
+    })?;
+    let told = kept.into_inner().events;
+    assert!(rt; links_up(&told) <= 3, "told {told:?}");
+    assert!(rt; told.iter().any(|event| *event == LogEvent::Stopped));
+    Ok(())
 }
 
 #[test]
@@ -396,6 +418,10 @@ fn crowd<R: Machine + Abort>(rt: &R, alloc: Global) -> Result<(), Fail> {
             silent.push(connect(rt, links)?)?;
         }
         assert!(rt; is_closed(&mut connect(rt, links)?));
+        // Who has greeted, or was refused, has given its place back: the last of the 64 has one.
+        let mut last = silent.pop().ok_or("a peer")?;
+        last.set_read_timeout(Some(Duration::from_millis(300)))?;
+        assert!(rt; !is_closed(&mut last));
         assert!(rt; cue.ends(rt) == Some(Ok(())));
         Ok(())
     })
@@ -433,10 +459,10 @@ fn alone<R: Machine + Abort>(rt: &R, alloc: Global) -> Result<(), Fail> {
     })?;
     let told = kept.into_inner().events;
     let want = [
-        Event::Ready(0),
-        Event::Refused(LinkEnd::Stranger),
-        Event::Decided(0, true),
-        Event::End,
+        LogEvent::Ready(0),
+        LogEvent::Refused(LinkEnd::Stranger),
+        LogEvent::Decided(0, true),
+        LogEvent::End,
     ];
     assert!(rt; told.as_slice() == want.as_slice());
     Ok(())
@@ -472,7 +498,7 @@ fn welcome<R: Machine + Abort>(rt: &R, listener: &TcpListener) -> Result<TcpStre
     Ok(link)
 }
 
-/// A member that has a log, and a peer that welcomes its link, and leaves.
+/// A member that has a log, and a peer that welcomes its link, leaves, and then welcomes none.
 fn peer_leaves<R: Machine + Abort>(rt: &R, alloc: Global) -> Result<(), Fail> {
     let cluster = Cluster {
         n: 4,
@@ -495,15 +521,19 @@ fn peer_leaves<R: Machine + Abort>(rt: &R, alloc: Global) -> Result<(), Fail> {
         wait_for(rt, log, 2);
         drop(link);
         wait_for(rt, log, 3);
+        // Dialled again the peer says nothing, and leaves: no link was up, and nothing is told.
+        let (silent, _) = listener.accept()?;
+        drop(silent);
+        thread::sleep(rt, Duration::from_millis(500));
         assert!(rt; cue.ends(rt) == Some(Ok(())));
         Ok(())
     })?;
     let told = kept.into_inner().events;
     let want = [
-        Event::Ready(0),
-        Event::LinkUpTo(1),
-        Event::LinkDownTo(1, LinkEnd::Lost),
-        Event::End,
+        LogEvent::Ready(0),
+        LogEvent::LinkUpTo(1),
+        LogEvent::LinkDownTo(1, LinkEnd::Lost),
+        LogEvent::End,
     ];
     assert!(rt; told.as_slice() == want.as_slice(), "told {told:?}");
     Ok(())
@@ -513,6 +543,56 @@ fn peer_leaves<R: Machine + Abort>(rt: &R, alloc: Global) -> Result<(), Fail> {
 fn a_log_tells_of_links_to_peers(rt: HostRuntime) -> Result<(), Fail> {
     let _types = no_sockets();
     peer_leaves(&rt, rt.alloc())
+}
+
+/// The Hello of member 1 to member 0, of a cluster of four.
+const HELLO: [u8; 18] = [0, 16, 1, 1, 0, 0, 0, 0, 0, 0, 0, 7, 4, 1, 0, 1, 1, 0];
+
+/// A member that has a log, and a peer that dials it twice, and leaves.
+fn peer_comes<R: Machine + Abort>(rt: &R, alloc: Global) -> Result<(), Fail> {
+    let cluster = Cluster {
+        n: 4,
+        t: 1,
+        port: 47260,
+    };
+    let kept = Mutex::new(Kept {
+        events: Vec::new(alloc),
+    });
+    let cue = Cue::new();
+    let (cue, log) = (&cue, &kept);
+    thread::scope(thread::scope_env(), rt, |scope| -> Result<(), Fail> {
+        let _run = scope.spawn(move || {
+            let ended = run_told(rt, alloc, cluster, 0, None, cue, Some(log));
+            *cue.ended.lock(rt) = Some(ended);
+        });
+        assert!(rt; cue.is_ready(rt));
+        let mut link = connect(rt, cluster.address(0))?;
+        link.write_all(&HELLO)?;
+        let mut welcome = [0u8; 11];
+        link.read_exact(&mut welcome)?;
+        assert!(rt; welcome == [0, 9, 2, 0, 0, 0, 0, 0, 0, 0, 0]);
+        assert!(rt; is_refused(rt, cluster.address(0), &HELLO)?);
+        drop(link);
+        wait_for(rt, log, 4);
+        assert!(rt; cue.ends(rt) == Some(Ok(())));
+        Ok(())
+    })?;
+    let told = kept.into_inner().events;
+    let want = [
+        LogEvent::Ready(0),
+        LogEvent::LinkUp(1),
+        LogEvent::Refused(LinkEnd::Busy),
+        LogEvent::LinkDown(1, LinkEnd::Ended),
+        LogEvent::End,
+    ];
+    assert!(rt; told.as_slice() == want.as_slice(), "told {told:?}");
+    Ok(())
+}
+
+#[test]
+fn a_log_tells_of_links_from_peers(rt: HostRuntime) -> Result<(), Fail> {
+    let _types = no_sockets();
+    peer_comes(&rt, rt.alloc())
 }
 
 #[test]
@@ -530,39 +610,45 @@ fn a_link_is_up_once_it_is_written_behind_a_read(rt: HostRuntime) -> Result<(), 
 #[test]
 fn events_are_lines(rt: HostRuntime) -> Result<(), Fail> {
     for (event, want) in [
-        (Event::Ready(1), "ready member 1"),
-        (Event::LinkUp(2), "link-up from 2"),
-        (Event::LinkDown(31, LinkEnd::Lost), "link-down from 31 lost"),
+        (LogEvent::Ready(1), "ready member 1"),
+        (LogEvent::LinkUp(2), "link-up from 2"),
         (
-            Event::LinkDown(2, LinkEnd::Broken(WireFault::BadValue)),
+            LogEvent::LinkDown(31, LinkEnd::Lost),
+            "link-down from 31 lost",
+        ),
+        (
+            LogEvent::LinkDown(2, LinkEnd::Broken(WireFault::BadValue)),
             "link-down from 2 broken BadValue",
         ),
         (
-            Event::LinkDown(0, LinkEnd::OutOfOrder),
+            LogEvent::LinkDown(0, LinkEnd::OutOfOrder),
             "link-down from 0 out-of-order",
         ),
         (
-            Event::LinkDown(3, LinkEnd::Stopped),
+            LogEvent::LinkDown(3, LinkEnd::Stopped),
             "link-down from 3 stopped",
         ),
         (
-            Event::LinkDown(3, LinkEnd::Memory),
+            LogEvent::LinkDown(3, LinkEnd::Memory),
             "link-down from 3 memory",
         ),
-        (Event::LinkUpTo(2), "link-up to 2"),
-        (Event::LinkDownTo(31, LinkEnd::Lost), "link-down to 31 lost"),
+        (LogEvent::LinkUpTo(2), "link-up to 2"),
         (
-            Event::LinkDownTo(0, LinkEnd::Memory),
+            LogEvent::LinkDownTo(31, LinkEnd::Lost),
+            "link-down to 31 lost",
+        ),
+        (
+            LogEvent::LinkDownTo(0, LinkEnd::Memory),
             "link-down to 0 memory",
         ),
-        (Event::Refused(LinkEnd::Stranger), "refused stranger"),
-        (Event::Refused(LinkEnd::Busy), "refused busy"),
-        (Event::Refused(LinkEnd::Ended), "refused ended"),
-        (Event::Decided(17, true), "decided 17 1"),
-        (Event::Decided(255, false), "decided 255 0"),
-        (Event::Stopped, "stopped"),
-        (Event::Missed(3), "missed 3"),
-        (Event::End, "end"),
+        (LogEvent::Refused(LinkEnd::Stranger), "refused stranger"),
+        (LogEvent::Refused(LinkEnd::Busy), "refused busy"),
+        (LogEvent::Refused(LinkEnd::Ended), "refused ended"),
+        (LogEvent::Decided(17, true), "decided 17 1"),
+        (LogEvent::Decided(255, false), "decided 255 0"),
+        (LogEvent::Stopped, "stopped"),
+        (LogEvent::Missed(3), "missed 3"),
+        (LogEvent::End, "end"),
     ] {
         let text = format!(in rt.alloc(); "{event}")?;
         assert_eq!(rt; text.as_str(), want);
@@ -575,13 +661,13 @@ fn a_queue_has_an_end(rt: HostRuntime) -> Result<(), Fail> {
     let mut queue = Queue::new(rt.alloc());
     assert!(&rt; queue.is_empty());
     for question in 0..1026u16 {
-        queue.put(Event::Decided(question, true));
+        queue.put(LogEvent::Decided(question, true));
     }
     assert!(&rt; !queue.is_empty());
     let (events, missed) = queue.take(rt.alloc());
     assert!(&rt; events.len() == 1024 && missed == 2);
-    assert!(&rt; events.first() == Some(&Event::Decided(0, true)));
-    assert!(&rt; events.last() == Some(&Event::Decided(1023, true)));
+    assert!(&rt; events.first() == Some(&LogEvent::Decided(0, true)));
+    assert!(&rt; events.last() == Some(&LogEvent::Decided(1023, true)));
     assert!(&rt; queue.is_empty());
     Ok(())
 }

@@ -1,6 +1,6 @@
 //! What of a member's book was told.
 
-use crate::events::Event;
+use crate::events::LogEvent;
 use crate::log::Queue;
 use disk::Disk;
 use node::{Book, Naming};
@@ -32,18 +32,18 @@ impl Watch {
     }
 
     /// The next event of the book that is to be told, if there is one. It is told once.
-    pub(crate) fn next<D: Disk, J: Naming>(&mut self, book: &Book<D, J>) -> Option<Event> {
+    pub(crate) fn next<D: Disk, J: Naming>(&mut self, book: &Book<D, J>) -> Option<LogEvent> {
         if let Some(event) = self.next_decision(book) {
             return Some(event);
         }
         if !self.stopped && book.is_stopped() {
             self.stopped = true;
-            return Some(Event::Stopped);
+            return Some(LogEvent::Stopped);
         }
         None
     }
 
-    fn next_decision<D: Disk, J: Naming>(&mut self, book: &Book<D, J>) -> Option<Event> {
+    fn next_decision<D: Disk, J: Naming>(&mut self, book: &Book<D, J>) -> Option<LogEvent> {
         for question in 0..book.header().size().questions() {
             let told = self.decided.get_mut(usize::from(question))?;
             if *told {
@@ -51,7 +51,7 @@ impl Watch {
             }
             if let Some(bit) = book.verdict(question) {
                 *told = true;
-                return Some(Event::Decided(question, bit));
+                return Some(LogEvent::Decided(question, bit));
             }
         }
         None

@@ -2,15 +2,8 @@
 use Rattle.std.proofs.Common.{ℕ, zero, suc, ◌≡◌, ◌+◌, ◌*◌, ◌-◌, ◌<◌, ◌≤◌, ◌^◌, min, refl, sym, ap, ◌∙◌, subst, arith, inl, inr, ◌⊎◌, List, [], ◌∷◌, ◌++◌, length, drop, Result, Ok, Err, IfOk, IfErr}
 use Rattle.vocabulary.specs.Terms.{Size}
 use Rattle.sim.specs.declared.TheConstants.{MOST_EVENTS}
-use Rattle.script.specs.declared.fault.ScriptFault.{ScriptFault}
+use Rattle.script.specs.Words.{ScriptFault, Line, Order, words_of, ScriptStep, SaysStep, Once, Rounds, Random, Made, after_step, how_many, turns, LeadsBy, BreakBy, numbered, order_step, made_by}
 use Rattle.script.specs.declared.fault.ScriptFault.TheVariants as faults
-use Rattle.script.specs.declared.lines.Line.{Line}
-use Rattle.script.specs.declared.step.Order.{Order}
-use Rattle.script.specs.LineWords.{words_of}
-use Rattle.script.specs.Steps.{ScriptStep, SaysStep}
-use Rattle.script.specs.Steps.ScriptStep.{Once, Rounds, Random}
-use Rattle.script.specs.Making.{Made, after_step, how_many, turns, LeadsBy, BreakBy}
-use Rattle.script.specs.Untossed.{numbered, order_step, made_by}
 use Rattle.script.proofs.Counting.{length-add, length-rounds, length-draws, uncut}
 use Rattle.script.proofs.Leading.{Reached, line_at, reached_start, reached_next, broken_or_refused}
 

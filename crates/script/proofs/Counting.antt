@@ -3,11 +3,9 @@ use Rattle.std.proofs.Common.{ℕ, zero, suc, ◌≡◌, ◌+◌, ◌*◌, ◌-�
 use Rattle.sim.specs.declared.TheConstants.{MOST_EVENTS}
 use Rattle.std.proofs.Math.Seq.{drop-cons}
 use Rattle.sim.specs.declared.events.Which.TheVariants.{Next}
-use Rattle.script.specs.Acts.Act.{Deliver}
+use Rattle.script.specs.Words.{Deliver, Act, Made, add, add_drawn, adds, draws, row, round, times}
 use Rattle.std.specs.List.{flat_map}
 use Rattle.vocabulary.specs.Terms.{Size}
-use Rattle.script.specs.Acts.{Act}
-use Rattle.script.specs.Making.{Made, add, add_drawn, adds, draws, row, round, times}
 
 pub length-add : (act : Act) (made : Made) → length (add act made).events ≡ length made.events + 1
 unfolding add

@@ -1,14 +1,7 @@
 -- A text has one script or one first fault, and not both.
 use Rattle.std.proofs.Common.{ℕ, ◌≡◌, sym, ap, ◌∙◌, subst, arith, inl, inr, Option, Some, None, List, [], ◌∷◌, length, drop, map, codes}
 use Rattle.vocabulary.specs.Terms.{Size, SizeFault}
-use Rattle.script.specs.declared.fault.ScriptFault.{ScriptFault}
-use Rattle.script.specs.declared.Script.{Script}
-use Rattle.script.specs.LineWords.{words_of, IsCount, IsLong, AreMembers}
-use Rattle.script.specs.Lines.{Page, page_from, HasLine}
-use Rattle.script.specs.Acts.{tossed_act}
-use Rattle.script.specs.Steps.{ScriptStep}
-use Rattle.script.specs.Making.{Made, after_step, correct_below, LeadsBy, LeadTo, BreaksAt, BreakBy}
-use Rattle.script.specs.Scripts.{IsNamed, AreListedLiars, IsSeed, MakeSize, at_start, IsScript, FailsOr, SizeFailsOr, IsFirstFault}
+use Rattle.script.specs.Words.{ScriptFault, Script, words_of, IsCount, IsLong, AreMembers, Page, page_from, HasLine, tossed_act, ScriptStep, Made, after_step, correct_below, LeadsBy, LeadTo, BreaksAt, BreakBy, IsNamed, AreListedLiars, IsSeed, MakeSize, at_start, IsScript, FailsOr, SizeFailsOr, IsFirstFault}
 use Rattle.script.proofs.Exact.{IsExact, one_below, one_members, one_step}
 
 one_named : (name : List ℕ) → IsExact (IsNamed name)

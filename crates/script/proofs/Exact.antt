@@ -2,11 +2,9 @@
 use Rattle.std.proofs.Common.{ℕ, ◌≡◌, ◌+◌, ◌*◌, ◌<◌, refl, sym, ap, ◌∙◌, subst, arith, true, false, cond, eqb, Option, Some, None, List, [], ◌∷◌, length, get_or, codes}
 use Rattle.disk.specs.declared.Pick.TheVariants.{Kept, Lost, Fill}
 use Rattle.sim.specs.declared.events.Which.TheVariants.{Next, At}
-use Rattle.script.specs.declared.step.Verb.{Verb}
+use Rattle.script.specs.Words.{Verb, IsMember, IsCount, IsLong, IsGroupSize, IsBit, IsWhich, IsFuse, ArePick, AreMembers, ScriptStep, verb_name, One, Two, Three, SaysBehind, SaysStep}
 use Rattle.script.specs.declared.step.Verb.TheVariants as verb
-use Rattle.script.specs.LineWords.{IsMember, IsCount, IsLong, IsGroupSize, IsBit, IsWhich, IsFuse, ArePick, AreMembers}
 use Rattle.words.specs.Numbers.{IsNumber, IsBelow, IsHexOf}
-use Rattle.script.specs.Steps.{ScriptStep, verb_name, One, Two, Three, SaysBehind, SaysStep}
 
 -- a form that a thing has at most once
 abbrev pub IsExact : {A B : Type 0} → (A → B → Type 0) → Type 0

@@ -2,12 +2,7 @@
 use Rattle.std.proofs.Common.{ℕ, zero, suc, ◌≡◌, refl, sym, ap, ◌∙◌, List, [], ◌∷◌, ◌++◌, append_assoc, append-nil}
 use Rattle.rand_chacha.specs.ChaCha.{ChaCha}
 use Rattle.vocabulary.specs.Terms.{Size}
-use Rattle.script.specs.Acts.{Act, TossedAct}
-use Rattle.script.specs.Drawing.{drawn, tossed}
-use Rattle.script.specs.Steps.{ScriptStep}
-use Rattle.script.specs.Steps.ScriptStep.{Once, Rounds, Random}
-use Rattle.script.specs.Making.{Made, add, add_drawn, adds, draws, round, times, turns, after_step, after_steps}
-use Rattle.script.specs.Sources.{events_of}
+use Rattle.script.specs.Words.{Act, TossedAct, drawn, tossed, ScriptStep, Once, Rounds, Random, Made, add, add_drawn, adds, draws, round, times, turns, after_step, after_steps, events_of}
 use Rattle.script.proofs.Counted.{over_step}
 
 -- with these events in front

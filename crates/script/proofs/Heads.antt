@@ -1,15 +1,9 @@
 -- Lines of the head.
 use Rattle.std.proofs.Common.{ℕ, ◌≡◌, sym, ap, ◌∙◌, subst, ◌+◌, ◌<◌, ◌≤◌, append-nil, refl, inl, inr, ◌⊎◌, codes, Option, Some, List, [], ◌∷◌, ◌++◌, length, drop, get_or, Bor, append_assoc, slice_get}
-use Rattle.script.specs.LineWords.{IsMember, AreMembers}
-use Rattle.script.specs.Untossed.{texts}
+use Rattle.script.specs.Words.{IsMember, AreMembers, words_of, texts, ScriptFault, Page, page_from, HasLine, number_or, IsNamed, AreListedLiars, IsSeed, MakeSize, IsHead, IsHeadFault, HeadFailsOr, IsFirstFault, LacksLine, at_start, Made, correct_below, BreakBy}
 use Rattle.std.proofs.lemmas.List.{drop_all}
 use Rattle.script.proofs.Counting.{next_of}
-use Rattle.script.specs.declared.fault.ScriptFault.{ScriptFault}
 use Rattle.script.specs.declared.fault.ScriptFault.TheVariants as faults
-use Rattle.script.specs.LineWords.{words_of}
-use Rattle.script.specs.Lines.{Page, page_from, HasLine, number_or}
-use Rattle.script.specs.Scripts.{IsNamed, AreListedLiars, IsSeed, MakeSize, IsHead, IsHeadFault, HeadFailsOr, IsFirstFault, LacksLine, at_start}
-use Rattle.script.specs.Making.{Made, correct_below, BreakBy}
 use Rattle.vocabulary.specs.Terms.{Size, SizeFault, size_fault}
 
 -- a line whose words aren't of the form

@@ -2,11 +2,8 @@
 use Rattle.std.proofs.Common.{ℕ, zero, suc, ◌∙◌, ◌-◌, take, take_all, length-drop, arith, ◌≡◌, ◌+◌, ◌<◌, ◌≤◌, refl, sym, ap, subst, inl, inr, ◌⊎◌, List, [], ◌∷◌, length, drop, get_or}
 use Rattle.std.proofs.lemmas.List.{drop_all}
 use Rattle.vocabulary.specs.Terms.{Size}
-use Rattle.script.specs.declared.fault.ScriptFault.{ScriptFault}
+use Rattle.script.specs.Words.{ScriptFault, Line, Made, LeadsBy, LeadTo, BreaksAt, BreakBy, numbered}
 use Rattle.script.specs.declared.fault.ScriptFault.TheVariants as faults
-use Rattle.script.specs.declared.lines.Line.{Line}
-use Rattle.script.specs.Making.{Made, LeadsBy, LeadTo, BreaksAt, BreakBy}
-use Rattle.script.specs.Untossed.{numbered}
 use Rattle.script.proofs.Counting.{next_of}
 
 -- what the lines that are left come to, all come to

@@ -1,10 +1,8 @@
 -- The words of a slice of so many.
 use Rattle.std.proofs.Common.{ℕ, ◌≡◌, ◌<◌, ◌≤◌, refl, arith, Bor, List, [], ◌∷◌, length, get_or, drop, take, take_all, ◌-◌, sym, ap, IsUtf8, codes, Bool, true, false, nat_lt, zero, suc, lit<, rules, Some, cond, ◌==◌, subst, ◌∙◌, eqb-true, slice_get, ltb-true}
 use Rattle.std.proofs.lemmas.Str.{IsUtf8-from_ascii}
-use Rattle.script.specs.declared.step.Verb.{Verb}
+use Rattle.script.specs.Words.{Verb, verb_name, texts, is_empty, ends_empty}
 use Rattle.script.specs.declared.step.Verb.TheVariants as verb
-use Rattle.script.specs.Steps.{verb_name}
-use Rattle.script.specs.Untossed.{texts, is_empty, ends_empty}
 
 pub three : (ws : List (Bor (List ℕ))) (d : Bor (List ℕ)) → 3 ≤ length ws → length ws < 4
     → texts ws ≡ (get_or ws 0 d).now ∷ (get_or ws 1 d).now ∷ (get_or ws 2 d).now ∷ []

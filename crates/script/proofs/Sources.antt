@@ -2,10 +2,7 @@
 use Rattle.std.proofs.Common.{ℕ, ◌≡◌, ◌<◌, ◌⊎◌, inl, inr, refl, ap, ◌∙◌, arith, List, [], ◌∷◌, ◌++◌, length, map}
 use Rattle.rand_chacha.specs.ChaCha.{ChaCha}
 use Rattle.vocabulary.specs.Terms.{Size}
-use Rattle.script.specs.declared.step.Order.{Order}
-use Rattle.script.specs.Making.{Made, after_step, turns}
-use Rattle.script.specs.Untossed.{order_step}
-use Rattle.script.specs.Sources.{events_of, left_of, turns_of, all_turns}
+use Rattle.script.specs.Words.{Order, Made, after_step, turns, order_step, events_of, left_of, turns_of, all_turns}
 use Rattle.script.proofs.Fronts.{first_events, no_events}
 
 pub none_left : {X : Type 0} (l : List X) → length l ≡ 0 → l ≡ []

@@ -2,9 +2,8 @@
 use Rattle.std.proofs.Common.{ℕ, suc, ◌≡◌, ◌+◌, ◌-◌, ◌≤◌, ◌==◌, refl, sym, ap, ◌∙◌, arith, Bool, true, false, cond, List, [], ◌∷◌, length, Bor, if◌then◌else◌}
 use mir.Val.{bool_byte}
 use Rattle.std.specs.List.{slice_split, onto_first}
-use Rattle.script.specs.Lines.{Page, is_comment, said_from, page_from}
+use Rattle.script.specs.Words.{Page, is_comment, said_from, page_from, texts, is_empty, ends_empty}
 use Rattle.words.specs.Lines.{onto_line, lines_of}
-use Rattle.script.specs.Untossed.{texts, is_empty, ends_empty}
 
 -- all but an empty last one
 abbrev pub without_last : List (List ℕ) → List (List ℕ)

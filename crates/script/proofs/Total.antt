@@ -9,20 +9,11 @@ use Rattle.disk.specs.declared.Pick.{Pick}
 use Rattle.disk.specs.declared.Pick.TheVariants.{Kept, Lost, Fill}
 use Rattle.sim.specs.declared.events.Which.{Which}
 use Rattle.sim.specs.declared.events.Which.TheVariants.{Next, At}
-use Rattle.script.specs.declared.fault.ScriptFault.{ScriptFault}
+use Rattle.script.specs.Words.{ScriptFault, Verb, words_of, IsMember, IsCount, IsLong, IsGroupSize, IsBit, IsWhich, IsFuse, ArePick, AreMembers, Page, page_from, HasLine, line_number, TossedAct, Propose, Deliver, DeliverAll, Lie, Fuse, Crash, Restart, Reset, ScriptStep, verb_name, One, Two, Three, SaysBehind, SaysStep, Once, Rounds, Random, Made, after_step, correct_below, LeadTo, BreakBy, IsNamed, AreListedLiars, IsSeed, MakeSize, IsTold, at_start, LacksLine, IsFirstFault}
 use Rattle.script.specs.declared.fault.ScriptFault.TheVariants as faults
-use Rattle.script.specs.declared.step.Verb.{Verb}
 use Rattle.script.specs.declared.step.Verb.TheVariants as verb
 use Rattle.sim.specs.declared.TheConstants.{MOST_EVENTS}
-use Rattle.script.specs.LineWords.{words_of, IsMember, IsCount, IsLong, IsGroupSize, IsBit, IsWhich, IsFuse, ArePick, AreMembers}
 use Rattle.words.specs.Numbers.{IsNumber, IsBelow, IsHexOf}
-use Rattle.script.specs.Lines.{Page, page_from, HasLine, line_number}
-use Rattle.script.specs.Acts.{TossedAct}
-use Rattle.script.specs.Acts.Act.{Propose, Deliver, DeliverAll, Lie, Fuse, Crash, Restart, Reset}
-use Rattle.script.specs.Steps.{ScriptStep, verb_name, One, Two, Three, SaysBehind, SaysStep}
-use Rattle.script.specs.Steps.ScriptStep.{Once, Rounds, Random}
-use Rattle.script.specs.Making.{Made, after_step, correct_below, LeadTo, BreakBy}
-use Rattle.script.specs.Scripts.{IsNamed, AreListedLiars, IsSeed, MakeSize, IsTold, at_start, LacksLine, IsFirstFault}
 use Rattle.script.proofs.Exact.{one_number, one_bytes, one_verb}
 
 -- a form that a thing has, or has not

@@ -32,13 +32,14 @@ tossed_act (event.Crash member pick) = record { act = Crash member pick; toss = 
 tossed_act (event.Restart member) = record { act = Restart member; toss = None }
 tossed_act (event.Reset from to) = record { act = Reset from to; toss = None }
 
+-- what an event tells, but for its toss
+abbrev pub act_of : Event → Act
+act_of event = (tossed_act event).act
+
 -- whether an event takes a toss: a member may then say something
 abbrev pub takes_toss : Act → Bool
 takes_toss (Propose member question bit) = true
 takes_toss (Deliver from to which) = true
 takes_toss (DeliverAll from to count) = true
 takes_toss (Lie liar to bytes) = true
-takes_toss (Fuse member calls) = false
-takes_toss (Crash member pick) = false
-takes_toss (Restart member) = false
-takes_toss (Reset from to) = false
+takes_toss act = false

@@ -3,7 +3,8 @@ pub mod Lines
 pub mod Acts
 pub mod Drawing
 pub mod Steps
-pub mod Untossed
+pub mod Orders
 pub mod Making
 pub mod Scripts
 pub mod Sources
+pub mod Words

@@ -6,7 +6,7 @@ use Rattle.script.specs.declared.step.Order.{Order}
 use Rattle.script.specs.Acts.{TossedAct}
 use Rattle.script.specs.Steps.{ScriptStep}
 use Rattle.script.specs.Making.{after_steps, turns}
-use Rattle.script.specs.Untossed.{order_step}
+use Rattle.script.specs.Orders.{order_step}
 
 -- a script's cluster, the events of now and those behind them, and in how many turns at most these are made
 pub record SourceFields : Type 0 where

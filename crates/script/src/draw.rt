@@ -3,8 +3,7 @@
 ghost use Rattle.std.specs.Prelude.{◌≡◌, ◌<◌, ◌≤◌, IfOk};
 ghost use Rattle.rand_chacha.specs.ChaCha.{ChaCha};
 ghost use Rattle.vocabulary.specs.Terms.{FitsStep, IsPlain, IsOfThird};
-ghost use Rattle.script.specs.Acts.{tossed_act};
-ghost use Rattle.script.specs.Untossed.{act_of};
+ghost use Rattle.script.specs.Acts.{act_of, tossed_act};
 ghost use Rattle.script.specs.Drawing as drawing;
 
 use disk::Pick;
@@ -18,59 +17,14 @@ use std::marker::Model;
 use terms::{Kind, Memory, Place, Size, Statement, Value};
 use wire::{Message, encode};
 
-/// How many places of an outbox a drawn delivery names.
-const PLACES: u32 = 64;
+/// How many statements of an outbox a drawn delivery may name, the first ones.
+const NUMBERS: u32 = 64;
 
 /// What a drawn crash may do: fill with one of 256 bytes, keep all, or lose all.
 const PICKS: u32 = 258;
 
-/// An event whose toss isn't drawn yet. Members and questions are any numbers: they may name none.
-#[derive(Debug, PartialEq, Eq, Drop)]
-pub enum Untossed {
-    /// A bit is proposed to a member.
-    Propose {
-        member: u8,
-        question: u16,
-        bit: bool,
-    },
-    /// A statement is delivered.
-    Deliver {
-        from: u8,
-        to: u8,
-        which: Which,
-    },
-    /// Statements are delivered as a group.
-    DeliverAll {
-        from: u8,
-        to: u8,
-        count: u16,
-    },
-    /// A liar's bytes come.
-    Lie {
-        liar: u8,
-        to: u8,
-        bytes: Vec<u8>,
-    },
-    /// A fuse is set, or taken out.
-    Fuse {
-        member: u8,
-        calls: Option<u64>,
-    },
-    /// A member goes down, and its disk crashes.
-    Crash {
-        member: u8,
-        pick: Pick,
-    },
-    /// A member is opened again.
-    Restart {
-        member: u8,
-    },
-    /// A link starts anew.
-    Reset {
-        from: u8,
-        to: u8,
-    },
-}
+/// What stands in an event whose toss isn't drawn yet.
+pub const UNDRAWN: Toss = Toss(0);
 
 /// What is drawn from a seed: stream 0 of ChaCha20, whose key is the seed in eight bytes, the greatest first, and 24
 /// zeros.
@@ -216,76 +170,87 @@ impl Draw {
     }
 
     /// A delivery of the link's next statement.
-    fn deliver_next(&mut self, size: Size) -> Untossed
+    fn deliver_next(&mut self, size: Size) -> Event
         ensures { (act_of result, self.new) ≡ drawing.deliver_next size self.old }
     {
         let from = self.member(size);
         let to = self.member(size);
         let which = Which::Next;
-        Untossed::Deliver { from, to, which }
+        Event::Deliver {
+            from,
+            to,
+            which,
+            toss: UNDRAWN,
+        }
     }
 
     /// A delivery of a statement by its number.
-    fn deliver_at(&mut self, size: Size) -> Untossed
+    fn deliver_at(&mut self, size: Size) -> Event
         ensures { (act_of result, self.new) ≡ drawing.deliver_at size self.old }
     {
         let from = self.member(size);
         let to = self.member(size);
-        let which = Which::At(u64::from(self.below(PLACES)));
-        Untossed::Deliver { from, to, which }
+        let which = Which::At(u64::from(self.below(NUMBERS)));
+        Event::Deliver {
+            from,
+            to,
+            which,
+            toss: UNDRAWN,
+        }
     }
 
     /// A link that starts anew.
-    fn reset(&mut self, size: Size) -> Untossed
+    fn reset(&mut self, size: Size) -> Event
         ensures { (act_of result, self.new) ≡ drawing.reset size self.old }
     {
         let from = self.member(size);
         let to = self.member(size);
-        Untossed::Reset { from, to }
+        Event::Reset { from, to }
     }
 
     /// A crash.
-    fn crash(&mut self, size: Size) -> Untossed
+    fn crash(&mut self, size: Size) -> Event
         ensures { (act_of result, self.new) ≡ drawing.crash size self.old }
     {
         let member = self.member(size);
         let pick = self.pick();
-        Untossed::Crash { member, pick }
+        Event::Crash { member, pick }
     }
 
     /// A restart.
-    fn restart(&mut self, size: Size) -> Untossed
+    fn restart(&mut self, size: Size) -> Event
         ensures { (act_of result, self.new) ≡ drawing.restart size self.old }
     {
         let member = self.member(size);
-        Untossed::Restart { member }
+        Event::Restart { member }
     }
 
     /// A fuse.
-    fn fuse(&mut self, size: Size) -> Untossed
+    fn fuse(&mut self, size: Size) -> Event
         ensures { (act_of result, self.new) ≡ drawing.fuse size self.old }
     {
         let member = self.member(size);
         let calls = self.calls();
-        Untossed::Fuse { member, calls }
+        Event::Fuse { member, calls }
     }
 
     /// A proposal.
-    fn propose(&mut self, size: Size) -> Untossed
+    fn propose(&mut self, size: Size) -> Event
         ensures { (act_of result, self.new) ≡ drawing.propose size self.old }
     {
         let member = self.member(size);
         let question = self.question(size);
         let bit = self.below(2) == 1;
-        Untossed::Propose {
+        Event::Propose {
             member,
             question,
             bit,
+            toss: UNDRAWN,
         }
     }
 
     /// A statement of a liar, as a frame.
-    fn lie(&mut self, alloc: Global, size: Size) -> Result<Untossed, Memory>
+    fn lie(&mut self, alloc: Global, size: Size) -> Result<Event, Memory>
         ensures { IfOk result (λ event. (act_of event, self.new) ≡ drawing.lie size self.old) }
     {
         let liar = self.member(size);
@@ -293,12 +258,17 @@ impl Draw {
         let statement = self.statement(size);
         let mut bytes = Vec::new(alloc);
         encode(&Message::Statement(statement), &mut bytes)?;
-        Ok(Untossed::Lie { liar, to, bytes })
+        Ok(Event::LieBytes {
+            liar,
+            to,
+            bytes,
+            toss: UNDRAWN,
+        })
     }
 
     /// An event of this kind, 0 to 15, of a cluster of this size.
     #[tactic(auto, unfolding(crate::specs::Drawing::act_of_kind))]
-    fn of_kind(&mut self, alloc: Global, size: Size, kind: u32) -> Result<Untossed, Memory>
+    fn of_kind(&mut self, alloc: Global, size: Size, kind: u32) -> Result<Event, Memory>
         ensures { IfOk result (λ event. (act_of event, self.new) ≡ drawing.act_of_kind size kind self.old) }
     {
         Ok(match kind {
@@ -314,7 +284,7 @@ impl Draw {
     }
 
     /// An event of a cluster of this size.
-    pub fn event(&mut self, alloc: Global, size: Size) -> Result<Untossed, Memory>
+    pub fn event(&mut self, alloc: Global, size: Size) -> Result<Event, Memory>
         ensures { IfOk result (λ event. (act_of event, self.new) ≡ drawing.drawn size self.old) }
     {
         let kind = self.below(16);
@@ -322,42 +292,55 @@ impl Draw {
     }
 
     /// The event with its toss, which is drawn where it takes one.
-    pub fn tossed(&mut self, event: Untossed) -> Event
+    pub fn tossed(&mut self, event: Event) -> Event
         ensures { (tossed_act result, self.new) ≡ drawing.tossed (act_of event) self.old }
     {
         match event {
-            Untossed::Propose {
+            Event::Propose {
                 member,
                 question,
                 bit,
+                toss: _,
             } => Event::Propose {
                 member,
                 question,
                 bit,
                 toss: self.toss(),
             },
-            Untossed::Deliver { from, to, which } => Event::Deliver {
+            Event::Deliver {
+                from,
+                to,
+                which,
+                toss: _,
+            } => Event::Deliver {
                 from,
                 to,
                 which,
                 toss: self.toss(),
             },
-            Untossed::DeliverAll { from, to, count } => Event::DeliverAll {
+            Event::DeliverAll {
+                from,
+                to,
+                count,
+                toss: _,
+            } => Event::DeliverAll {
                 from,
                 to,
                 count,
                 toss: self.toss(),
             },
-            Untossed::Lie { liar, to, bytes } => Event::LieBytes {
+            Event::LieBytes {
+                liar,
+                to,
+                bytes,
+                toss: _,
+            } => Event::LieBytes {
                 liar,
                 to,
                 bytes,
                 toss: self.toss(),
             },
-            Untossed::Fuse { member, calls } => Event::Fuse { member, calls },
-            Untossed::Crash { member, pick } => Event::Crash { member, pick },
-            Untossed::Restart { member } => Event::Restart { member },
-            Untossed::Reset { from, to } => Event::Reset { from, to },
+            untossed => untossed,
         }
     }
 }

@@ -4,7 +4,7 @@ ghost use Rattle.std.specs.Prelude.{ℕ, List, ◌≡◌, ◌⊎◌, ◌<◌, �
 ghost use Rattle.script.specs.LineWords.{AreMembers};
 ghost use Rattle.script.specs.Scripts.{IsNamed, AreListedLiars, IsSeed, IsHead, IsHeadFault, LacksLine};
 ghost use Rattle.script.specs.Lines.{HasLine};
-ghost use Rattle.script.specs.Untossed.{texts};
+ghost use Rattle.script.specs.Orders.{texts};
 
 use crate::fault::ScriptFault;
 use crate::lines::Lines;

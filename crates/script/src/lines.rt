@@ -4,7 +4,7 @@ ghost use Rattle.std.specs.Prelude.{◌≡◌, ◌+◌, ◌==◌, Some, None, dr
 ghost use Rattle.std.specs.List.{slice_split};
 ghost use Rattle.script.specs.LineWords.{words_of};
 ghost use Rattle.script.specs.Lines.{Page, page_from, is_comment, said_from};
-ghost use Rattle.script.specs.Untossed.{texts, numbered, ends_empty};
+ghost use Rattle.script.specs.Orders.{texts, numbered, ends_empty};
 
 use crate::fault::ScriptFault;
 use std::alloc::{AllocError, Global};

@@ -2,11 +2,11 @@
 
 ghost use Rattle.std.specs.Prelude.{ℕ, List, ◌≡◌, ◌⊎◌, ◌<◌, [], map, OnOk, IfOk, IfErr};
 ghost use Rattle.vocabulary.specs.Terms.{Size};
-ghost use Rattle.script.specs.Acts.{tossed_act};
-ghost use Rattle.script.specs.Untossed.{act_of, order_step, made_by};
+ghost use Rattle.script.specs.Acts.{act_of, tossed_act};
+ghost use Rattle.script.specs.Orders.{order_step, made_by};
 ghost use Rattle.script.specs.Making.{Made, add, add_drawn, adds, draws, row, round, times, turns, after_step};
 
-use crate::draw::{Draw, Untossed};
+use crate::draw::{Draw, UNDRAWN};
 use crate::fault::ScriptFault;
 use crate::step::Order;
 use sim::{Event, Which};
@@ -45,7 +45,7 @@ impl Making {
 
     /// Adds an event.
     #[tactic(auto, unfolding(crate::specs::Making::add))]
-    fn add(&mut self, event: Untossed) -> Result<(), ScriptFault>
+    fn add(&mut self, event: Event) -> Result<(), ScriptFault>
         ensures ok { OnOk result (self.new ≡ add (act_of event) self.old) }
         ensures err { IfErr result (λ fault. fault ≡ ScriptFault.Memory) }
     {
@@ -74,10 +74,11 @@ impl Making {
     {
         for to in members {
             let which = Which::Next;
-            self.add(Untossed::Deliver {
+            self.add(Event::Deliver {
                 from,
                 to: *to,
                 which,
+                toss: UNDRAWN,
             })?;
         }
         Ok(())
@@ -181,7 +182,7 @@ impl Making {
     }
 
     /// Adds the event.
-    fn take_one(&mut self, event: Untossed) -> Result<Order, ScriptFault>
+    fn take_one(&mut self, event: Event) -> Result<Order, ScriptFault>
         ensures ok { IfOk result (λ rest.
             (size : Size) (correct : List ℕ) → after_step size correct (order_step rest) self.new ≡ add (act_of event) self.old) }
         ensures fewer { IfOk result (λ rest. turns (order_step rest) ≡ 0) }

@@ -5,7 +5,7 @@ ghost use Rattle.sim.specs.declared.TheConstants.{MOST_EVENTS};
 ghost use Rattle.vocabulary.specs.Terms.{Size};
 ghost use Rattle.script.specs.Steps.{ScriptStep, SaysStep};
 ghost use Rattle.script.specs.LineWords.{words_of};
-ghost use Rattle.script.specs.Untossed.{order_step, numbered, made_by};
+ghost use Rattle.script.specs.Orders.{order_step, numbered, made_by};
 ghost use Rattle.script.specs.Making.{Made, LeadTo, BreakBy, how_many};
 
 use crate::fault::ScriptFault;

@@ -4,7 +4,7 @@ ghost use Rattle.std.specs.Prelude.{◌≡◌, ◌<◌, ◌≤◌, ◌⊎◌, �
 ghost use Rattle.sim.specs.declared.TheConstants.{MOST_EVENTS};
 ghost use Rattle.script.specs.Acts.{tossed_act};
 ghost use Rattle.script.specs.Making.{turns};
-ghost use Rattle.script.specs.Untossed.{order_step};
+ghost use Rattle.script.specs.Orders.{order_step};
 ghost use Rattle.script.specs.Scripts.{IsTold, IsFirstFault};
 
 use crate::correct_members;

@@ -5,11 +5,12 @@ ghost use Rattle.disk.specs.declared.Pick.{Pick};
 ghost use Rattle.script.specs.LineWords.{ArePick, IsLong};
 ghost use Rattle.script.specs.Steps.{ScriptStep, One, verb_name, SaysBehind, SaysStep};
 ghost use Rattle.script.specs.declared.step.Verb.{Verb};
-ghost use Rattle.script.specs.Untossed.{order_step, texts};
+ghost use Rattle.script.specs.Orders.{order_step, texts};
 
-use crate::draw::Untossed;
+use crate::draw::UNDRAWN;
 use crate::values::{bit, fuse, group_size, which};
 use disk::Pick;
+use sim::Event;
 use std::alloc::Global;
 use terms::Memory;
 use words::{byte, bytes, is, number, number8, number16};
@@ -42,8 +43,8 @@ pub enum Verb {
 /// What a line says, before tosses are drawn and lines that stand for many events are unrolled.
 #[derive(Debug, PartialEq, Eq, Drop)]
 pub enum Order {
-    /// One event.
-    Once(Untossed),
+    /// One event, whose toss isn't drawn yet.
+    Once(Event),
     /// So many times a delivery on each link between correct members.
     Rounds(u64),
     /// So many drawn events.
@@ -58,10 +59,11 @@ fn propose(words: &[&[u8]]) -> Option<Order>
     let [m, q, b] = words else {
         return None;
     };
-    Some(Order::Once(Untossed::Propose {
+    Some(Order::Once(Event::Propose {
         member: number8(m)?,
         question: number16(q)?,
         bit: bit(b)?,
+        toss: UNDRAWN,
     }))
 }
 
@@ -73,10 +75,11 @@ fn deliver(words: &[&[u8]]) -> Option<Order>
     let [a, b, i] = words else {
         return None;
     };
-    Some(Order::Once(Untossed::Deliver {
+    Some(Order::Once(Event::Deliver {
         from: number8(a)?,
         to: number8(b)?,
         which: which(i)?,
+        toss: UNDRAWN,
     }))
 }
 
@@ -88,10 +91,11 @@ fn group(words: &[&[u8]]) -> Option<Order>
     let [a, b, k] = words else {
         return None;
     };
-    Some(Order::Once(Untossed::DeliverAll {
+    Some(Order::Once(Event::DeliverAll {
         from: number8(a)?,
         to: number8(b)?,
         count: group_size(k)?,
+        toss: UNDRAWN,
     }))
 }
 
@@ -103,7 +107,7 @@ fn fuse_of(words: &[&[u8]]) -> Option<Order>
     let [m, k] = words else {
         return None;
     };
-    Some(Order::Once(Untossed::Fuse {
+    Some(Order::Once(Event::Fuse {
         member: number8(m)?,
         calls: fuse(k)?,
     }))
@@ -117,7 +121,7 @@ fn restart(words: &[&[u8]]) -> Option<Order>
     let [m] = words else {
         return None;
     };
-    Some(Order::Once(Untossed::Restart {
+    Some(Order::Once(Event::Restart {
         member: number8(m)?,
     }))
 }
@@ -133,7 +137,12 @@ fn lie(alloc: Global, words: &[&[u8]]) -> Result<Option<Order>, Memory>
     let (Some(liar), Some(to), Some(bytes)) = (number8(l), number8(m), bytes(alloc, hex)?) else {
         return Ok(None);
     };
-    Ok(Some(Order::Once(Untossed::Lie { liar, to, bytes })))
+    Ok(Some(Order::Once(Event::LieBytes {
+        liar,
+        to,
+        bytes,
+        toss: UNDRAWN,
+    })))
 }
 
 /// What the words behind the member of a crash say.
@@ -164,7 +173,7 @@ fn crash(alloc: Global, words: &[&[u8]]) -> Result<Option<Order>, Memory>
         return Ok(None);
     };
     match pick(alloc, behind)? {
-        Some(pick) => Ok(Some(Order::Once(Untossed::Crash { member, pick }))),
+        Some(pick) => Ok(Some(Order::Once(Event::Crash { member, pick }))),
         None => Ok(None),
     }
 }
@@ -177,7 +186,7 @@ fn reset(words: &[&[u8]]) -> Option<Order>
     let [a, b] = words else {
         return None;
     };
-    Some(Order::Once(Untossed::Reset {
+    Some(Order::Once(Event::Reset {
         from: number8(a)?,
         to: number8(b)?,
     }))

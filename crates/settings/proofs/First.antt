@@ -2,12 +2,8 @@
 use Rattle.std.proofs.Common.{◌≡◌, Result, Ok, Err, IfErr, List, ◌∷◌, ◌++◌, inl, inr}
 use Rattle.std.specs.List.{AllByRecursion}
 use Rattle.toml.specs.Data.{Members}
-use Rattle.settings.specs.declared.entries.Entries.{Entries}
-use Rattle.settings.specs.declared.keys.Key.{Key}
-use Rattle.settings.specs.declared.fault.SettingsFault.{SettingsFault}
+use Rattle.settings.specs.Words.{Entries, Key, SettingsFault, keys, Suits, IsLackOrMemory, IsOfFirst}
 use Rattle.settings.specs.declared.fault.SettingsFault.TheVariants as fault
-use Rattle.settings.specs.Settings.{keys, Suits}
-use Rattle.settings.specs.Entries.{IsLackOrMemory, IsOfFirst}
 
 pub first_of : (ms : Members) (before : List Key) (key : Key) (behind : List Key) (ends : SettingsFault) (r : Result Entries SettingsFault)
     → r ≡ Err ends → keys ≡ before ++ key ∷ behind → AllByRecursion (Suits ms) before → (ends ≡ fault.Key key) × (Suits ms key → ⊥) → IfErr r (IsOfFirst ms)

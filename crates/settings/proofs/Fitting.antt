@@ -3,13 +3,8 @@ use Rattle.std.proofs.Common.{◌≡◌, ◌<◌, ◌≤◌, refl, sym, subst, a
 use Rattle.std.proofs.lemmas.Bool.Decides.{nat_tests}
 use Rattle.toml.specs.Data.{Members}
 use Rattle.vocabulary.specs.Terms.{size_fault, SizeFault}
-use Rattle.settings.specs.declared.entries.Entries.{Entries}
-use Rattle.settings.specs.declared.keys.Key.TheVariants.{Me, Peers}
-use Rattle.settings.specs.declared.document.Settings.{Settings}
-use Rattle.settings.specs.declared.fault.SettingsFault.{SettingsFault}
+use Rattle.settings.specs.Words.{Entries, Me, Peers, Settings, SettingsFault, AllSuit, HasNumbers, IsOfMany, IsFault, SaysEntries, unfit, misfit, size_or}
 use Rattle.settings.specs.declared.fault.SettingsFault.TheVariants as fault
-use Rattle.settings.specs.Settings.{AllSuit, HasNumbers, IsOfMany, IsFault}
-use Rattle.settings.specs.Entries.{SaysEntries, unfit, misfit, size_or}
 
 -- all keys of what the entries say have values of their own
 pub all_suit : (ms : Members) (e : Entries) → SaysEntries ms e → AllSuit ms

@@ -2,8 +2,7 @@
 use Rattle.std.proofs.Common.{ℕ, zero, suc, ◌≡◌, ◌≢◌, ◌<◌, sym, subst, arith, List, [], ◌∷◌, ◌++◌, length, get_or, codes, inl, inr}
 use Rattle.std.specs.Str.Parse.{AllDigits}
 use Rattle.std.specs.Char.{digit_value}
-use Rattle.settings.specs.Marks.{LacksMark}
-use Rattle.settings.specs.Addresses.{IsOctet, AreDotted, IsHost}
+use Rattle.settings.specs.Words.{LacksMark, IsOctet, AreDotted, IsHost}
 
 -- no index has the mark
 pub lacks_at : (mark : ℕ) (front : List ℕ) → LacksMark mark front → (i : ℕ) → i < length front → get_or front i 0 ≢ mark

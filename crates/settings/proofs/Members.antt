@@ -5,14 +5,8 @@ use Rattle.std.specs.Option.{ok_or}
 use Rattle.toml.specs.Data.{Data, Members, string, get_member}
 use Rattle.toml.specs.View.{view, items_view}
 use Rattle.toml.specs.declared.value.Value.{Value}
-use Rattle.settings.specs.declared.address.Address.{Address}
-use Rattle.settings.specs.declared.keys.Key.{Key}
-use Rattle.settings.specs.declared.fault.SettingsFault.{SettingsFault}
+use Rattle.settings.specs.Words.{Address, Key, SettingsFault, key_text, IsAddress, IsAddressText, AreAddresses, HasAddress, IsLack}
 use Rattle.settings.specs.declared.fault.SettingsFault.TheVariants as fault
-use Rattle.settings.specs.Keys.{key_text}
-use Rattle.settings.specs.Addresses.{IsAddress}
-use Rattle.settings.specs.Settings.{IsAddressText, AreAddresses, HasAddress}
-use Rattle.settings.specs.Entries.{IsLack}
 
 -- what a look-up found
 pub found : (r : Option (Bor Value)) (d : Option Data) → option_map (λ x. view x.now) r ≡ d → MatchOption r (d ≡ None) (λ v. d ≡ Some (view v.now))

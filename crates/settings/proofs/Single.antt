@@ -3,15 +3,8 @@ use Rattle.std.proofs.Common.{ℕ, pos, ◌≡◌, refl, sym, ap, ◌∙◌, sub
 use Rattle.std.specs.List.{AllByRecursion}
 use Rattle.toml.specs.Data.{Data, Members, Items, integer, array, item, no_items}
 use Rattle.vocabulary.specs.Terms.{size_fault, SizeFault}
-use Rattle.settings.specs.declared.address.Address.{Address}
-use Rattle.settings.specs.declared.keys.Key.{Key}
-use Rattle.settings.specs.declared.keys.Key.TheVariants.{Cluster, N, T, Questions, Me, Journal, Peers, Desk, Seed}
-use Rattle.settings.specs.declared.document.Settings.{Settings}
-use Rattle.settings.specs.declared.fault.SettingsFault.{SettingsFault}
+use Rattle.settings.specs.Words.{Address, Key, Cluster, N, T, Questions, Me, Journal, Peers, Desk, Seed, Settings, SettingsFault, Entries, SaysEntries, FitsEntries, unfit, IsOfFirst, Suits, AllSuit, HasNumber, AreAddresses, HasAddresses, HasNumbers, IsFirstBad, IsBadSize, IsOfMany, IsMisfit, IsFault, GivesSettings, IsSettings}
 use Rattle.settings.specs.declared.fault.SettingsFault.TheVariants as fault
-use Rattle.settings.specs.declared.entries.Entries.{Entries}
-use Rattle.settings.specs.Entries.{SaysEntries, FitsEntries, unfit, IsOfFirst}
-use Rattle.settings.specs.Settings.{Suits, AllSuit, HasNumber, AreAddresses, HasAddresses, HasNumbers, IsFirstBad, IsBadSize, IsOfMany, IsMisfit, IsFault, GivesSettings, IsSettings}
 
 -- what holds of all holds of the one in the middle
 middle : (P : Key → Type 0) (before : List Key) (key : Key) (behind : List Key) → AllByRecursion P (before ++ key ∷ behind) → P key

@@ -3,3 +3,4 @@ pub mod Addresses
 pub mod Keys
 pub mod Settings
 pub mod Entries
+pub mod Words

@@ -9,21 +9,11 @@ use Rattle.wire.specs.declared.message.Message.{Message}
 use Rattle.wire.specs.Reading.{End, Rest, Broken, ReadsMessages}
 use Rattle.wire.proofs.Cutting.{written_reads}
 use Rattle.wire.proofs.Whole.{joins}
-use Rattle.world.specs.World.{World, Step, after, after_all}
-use Rattle.world.specs.World.Step.{Lie, Crash as CrashStep}
+use Rattle.world.specs.Words.{World, Step, after, after_all, Lie}
+use Rattle.world.specs.World.Step.{Crash as CrashStep}
 use Rattle.world.proofs.Runs.{put-here}
-use Rattle.sim.specs.declared.events.Mark.{Mark}
-use Rattle.sim.specs.declared.events.Mark.TheVariants.{Done, Failed, Skipped}
-use Rattle.sim.specs.declared.events.Reason.{Reason}
-use Rattle.sim.specs.declared.events.Reason.TheVariants.{Nothing}
-use Rattle.sim.specs.declared.links.Link.{Link}
-use Rattle.sim.specs.declared.posts.Post.{Post}
-use Rattle.sim.specs.declared.seats.Seat.{Seat}
-use Rattle.sim.specs.declared.tasks.Task.TheVariants as task
-use Rattle.sim.specs.Links.{statements_in, is_broken_at, Takes}
-use Rattle.sim.specs.Seats.{IsSeatAt, IsMove, Answers, AnswersGroup, hearings_from, AreLies, GoesOn, Reopens, is_liar, mine}
-use Rattle.sim.specs.Scene.{Scene, Does, HearsLies, group_of, put_at, cleared}
-use Rattle.sim.specs.Posts.{IsPost, IsLink, IsNewLink, IsDone, CanBeDone}
+use Rattle.sim.specs.Words.{Mark, Done, Failed, Skipped, Reason, Nothing, Link, Post, Presence, statements_in, is_broken_at, Takes, IsSeatAt, IsMove, Answers, AnswersGroup, hearings_from, AreLies, GoesOn, Reopens, is_liar, mine, Scene, Does, HearsLies, group_of, put_at, cleared, IsPost, IsLink, IsNewLink, IsDone, CanBeDone}
+use Rattle.sim.specs.declared.tasks.Instruction.TheVariants as task
 use Rattle.sim.proofs.Reading.{all_formed}
 
 pub mapped : {A E : Type 0} (P Q : A → Type 0) (r : Result A E) → IfOk r P → ((x : A) → P x → Q x) → IfOk r Q
@@ -98,7 +88,7 @@ never_skipped size p w fused liar toss (s ∷ ss) reason steps (one, heard, othe
 
 module _ (size : Size) (liars : ℕ → Bool) (c : Scene) (p : ℕ) (old : Post) (post : IsPost size liars c p old) (below : p < size.n) where
   -- a proposal
-  pub proposed : (question : ℕ) (bit : Bool) (toss : Toss) (bytes : List ℕ) (mark : Mark) (seat : Seat) → liars p ≡ false → is_liar seat ≡ is_liar old.seat
+  pub proposed : (question : ℕ) (bit : Bool) (toss : Toss) (bytes : List ℕ) (mark : Mark) (seat : Presence) → liars p ≡ false → is_liar seat ≡ is_liar old.seat
       → IsMove size liars p c.world (Answers size p c.world old.fused toss.0 (Proposal question bit) mark) seat
       → IsDone size liars c p (task.Propose question bit toss) bytes mark (record old { seat = seat })
   proposed question bit toss bytes mark seat honest side move =
@@ -210,7 +200,7 @@ module _ (size : Size) (liars : ℕ → Bool) (c : Scene) (p : ℕ) (old : Post)
     at = record {
       header = h ∙ post.header;
       side = ap is_liar s ∙ post.side;
-      at = λ honest. subst (λ (x : Seat). IsSeatAt (mine size p) c.world x) (sym s) (post.at honest);
+      at = λ honest. subst (λ (x : Presence). IsSeatAt (mine size p) c.world x) (sym s) (post.at honest);
       fused = λ honest. f ∙ post.fused honest;
       links = λ a x la. subst (λ (l : List Link). IsLink size (liars a) (c.place a p) (c.fed a p) (get_or l a x)) (sym items)
           (link_set size liars c c p liar i old.incoming.items link len member ei post.links
@@ -232,7 +222,7 @@ module _ (size : Size) (liars : ℕ → Bool) (c : Scene) (p : ℕ) (old : Post)
       hears (Broken fault) h = (refl, refl)
 
   -- the fuse
-  pub fuse_set : (calls : Option ℕ) (bytes : List ℕ) (seat : Seat) (fused : Bool) → is_liar seat ≡ is_liar old.seat → fused ≡ is_some calls
+  pub fuse_set : (calls : Option ℕ) (bytes : List ℕ) (seat : Presence) (fused : Bool) → is_liar seat ≡ is_liar old.seat → fused ≡ is_some calls
       → (liars p ≡ false → IsSeatAt (mine size p) c.world seat)
       → IsDone size liars c p (task.Fuse calls) bytes Done (record old { seat = seat; fused = fused })
   fuse_set calls bytes seat fused side f at = record {
@@ -260,7 +250,7 @@ module _ (size : Size) (liars : ℕ → Bool) (c : Scene) (p : ℕ) (old : Post)
     at = record {
       header = h ∙ post.header;
       side = ap is_liar s ∙ post.side;
-      at = λ honest. subst (λ (x : Seat). IsSeatAt (mine size p) c.world x) (sym s) (post.at honest);
+      at = λ honest. subst (λ (x : Presence). IsSeatAt (mine size p) c.world x) (sym s) (post.at honest);
       fused = λ honest. f ∙ post.fused honest;
       links = λ a x la. subst (λ (l : List Link). IsLink size (liars a) (put_at c.place from p 0 a p) (put_at c.fed from p [] a p) (get_or l a x)) (sym items)
           (link_set size liars c (record c { place = put_at c.place from p 0; fed = put_at c.fed from p [] }) p from i old.incoming.items link len member ei post.links
@@ -270,7 +260,7 @@ module _ (size : Size) (liars : ℕ → Bool) (c : Scene) (p : ℕ) (old : Post)
   }
 
   -- a crash
-  pub crash_done : (pick : Pick) (bytes : List ℕ) (seat : Seat) → is_liar seat ≡ is_liar old.seat → liars p ≡ false
+  pub crash_done : (pick : Pick) (bytes : List ℕ) (seat : Presence) → is_liar seat ≡ is_liar old.seat → liars p ≡ false
       → IsSeatAt (mine size p) (after c.world (CrashStep p)) seat
       → IsDone size liars c p (task.Crash pick) bytes Done (record old { seat = seat; fused = false })
   crash_done pick bytes seat side honest at = record {
@@ -287,7 +277,7 @@ module _ (size : Size) (liars : ℕ → Bool) (c : Scene) (p : ℕ) (old : Post)
   }
 
   -- an opening again that failed
-  pub reopen_failed : (bytes : List ℕ) (mark : Mark) (seat : Seat) → (mark ≡ Done → ⊥) → is_liar seat ≡ is_liar old.seat → liars p ≡ false
+  pub reopen_failed : (bytes : List ℕ) (mark : Mark) (seat : Presence) → (mark ≡ Done → ⊥) → is_liar seat ≡ is_liar old.seat → liars p ≡ false
       → IsMove size liars p c.world (Reopens p old.fused mark) seat
       → IsDone size liars c p task.Restart bytes mark (record old { seat = seat })
   reopen_failed bytes mark seat undone side honest move =

@@ -9,9 +9,7 @@ use Rattle.terms.proofs.Same.{statement_eq-same}
 use Rattle.rounds.specs.declared.tosses.Toss.{Toss}
 use Rattle.wire.specs.Reading.{End, Rest}
 use Rattle.member.specs.Groups.{hearings, AllCome}
-use Rattle.sim.specs.Seats.{nth_said, all_said, group_from, hearings_from}
-use Rattle.sim.specs.Scene.{Scene}
-use Rattle.sim.specs.Posts.{AreSaid}
+use Rattle.sim.specs.Words.{nth_said, all_said, group_from, hearings_from, Scene, AreSaid}
 
 pub or_true : (b : Bool) → (b || true) ≡ true
 or_true true = refl

@@ -6,15 +6,10 @@ use Rattle.std.proofs.lemmas.Bool.{and_from}
 use Rattle.vocabulary.specs.Terms.{Size, Statement, Record, IsWellFormed, records_of, Hearing, Proposal, statement_eq}
 use Rattle.terms.specs.Reply.{Event as Happening}
 use Rattle.terms.proofs.Same.{statement_eq-same}
-use Rattle.world.specs.World.{World, Step, IsCorrect, IsRun, has_sent, after, after_all}
-use Rattle.world.specs.World.Step.{Lie}
+use Rattle.world.specs.Words.{World, Step, IsCorrect, IsRun, has_sent, after, after_all, Lie}
 use Rattle.world.proofs.Runs.{IsRun-append, after_all-append}
 use Rattle.member.specs.Life.{world_step}
-use Rattle.sim.specs.declared.events.Mark.{Mark}
-use Rattle.sim.specs.declared.events.Mark.TheVariants.{Done, Failed, Skipped}
-use Rattle.sim.specs.declared.seats.Seat.{Seat}
-use Rattle.sim.specs.declared.seats.Seat.TheVariants.{Here, Down, Liar}
-use Rattle.sim.specs.Seats.{IsSeatAt, IsMove, Answers, AreLies, MayCome, mine}
+use Rattle.sim.specs.Words.{Mark, Done, Failed, Skipped, Presence, Here, Down, Liar, IsSeatAt, IsMove, Answers, AreLies, MayCome, mine}
 use Rattle.sim.proofs.Room.{comes_after}
 
 -- a step that is kept leaves the member up
@@ -23,7 +18,7 @@ kept_up w p (Hearing a s) batch = refl
 kept_up w p (Proposal question bit) batch = refl
 
 -- a lie changes nothing of a member
-pub seat_of_lie : (size : Size) (w : World) (p liar : ℕ) (s : Statement) (seat : Seat) → IsSeatAt (mine size p) w seat → IsSeatAt (mine size p) (after w (Lie liar s)) seat
+pub seat_of_lie : (size : Size) (w : World) (p liar : ℕ) (s : Statement) (seat : Presence) → IsSeatAt (mine size p) w seat → IsSeatAt (mine size p) (after w (Lie liar s)) seat
 seat_of_lie size w p liar s (Here m) at = at
 seat_of_lie size w p liar s (Down disk records) at = record { batch = at.batch; doubt = at.doubt; saved = at.saved; left = at.left }
 seat_of_lie size w p liar s Liar at = at
@@ -34,7 +29,7 @@ lie_sent w liar s =
     ap (λ (b : Bool). b || has_sent w.sent liar s) (and_from (eqb liar liar) (statement_eq s s) (eq-eqb liar liar refl) (statement_eq-same s))
 
 -- The first so many statements were said and heard, and all others may follow.
-pub record HeardSoFar (size : Size) (liars : ℕ → Bool) (p : ℕ) (w : World) (fused : Bool) (liar toss : ℕ) (statements : List Statement) (i : ℕ) (seat : Seat) : Type 0 where
+pub record HeardSoFar (size : Size) (liars : ℕ → Bool) (p : ℕ) (w : World) (fused : Bool) (liar toss : ℕ) (statements : List Statement) (i : ℕ) (seat : Presence) : Type 0 where
   pub steps : List Step
   pub is_run : IsRun size liars w steps
   pub up : (after_all w steps).doubt p ≡ None
@@ -44,7 +39,7 @@ pub record HeardSoFar (size : Size) (liars : ℕ → Bool) (p : ℕ) (w : World)
       → AreLies size p w fused liar toss statements mark (steps ++ more)
 
 module _ (size : Size) (liars : ℕ → Bool) (p : ℕ) (w : World) (fused : Bool) (liar toss : ℕ) (statements : List Statement) where
-  pub none_heard : (seat : Seat) → w.doubt p ≡ None → IsSeatAt (mine size p) w seat → AllByRecursion (IsWellFormed size) statements
+  pub none_heard : (seat : Presence) → w.doubt p ≡ None → IsSeatAt (mine size p) w seat → AllByRecursion (IsWellFormed size) statements
       → HeardSoFar size liars p w fused liar toss statements 0 seat
   none_heard seat up at formed = record {
     steps = [];
@@ -56,7 +51,7 @@ module _ (size : Size) (liars : ℕ → Bool) (p : ℕ) (w : World) (fused : Boo
   }
 
   -- where all were heard
-  pub all_heard : (i : ℕ) (seat : Seat) → drop i statements ≡ [] → HeardSoFar size liars p w fused liar toss statements i seat
+  pub all_heard : (i : ℕ) (seat : Presence) → drop i statements ≡ [] → HeardSoFar size liars p w fused liar toss statements i seat
       → IsMove size liars p w (AreLies size p w fused liar toss statements Done) seat
   all_heard i seat e h = record {
     steps = h.steps;
@@ -67,7 +62,7 @@ module _ (size : Size) (liars : ℕ → Bool) (p : ℕ) (w : World) (fused : Boo
   }
 
   -- one statement more
-  module _ (i : ℕ) (s : Statement) (old new : Seat) (mark : Mark) (next : drop i statements ≡ s ∷ drop (i + 1) statements) (correct : IsCorrect size liars p)
+  module _ (i : ℕ) (s : Statement) (old new : Presence) (mark : Mark) (next : drop i statements ≡ s ∷ drop (i + 1) statements) (correct : IsCorrect size liars p)
       (member : liar < size.n) (lies : liars liar ≡ true) (h : HeardSoFar size liars p w fused liar toss statements i old)
       (heard : (v : World) → IsCorrect size liars p → v.doubt p ≡ None → IsSeatAt (mine size p) v old → has_sent v.sent liar s ≡ true
       → IsMove size liars p v (Answers size p v fused toss (Hearing liar s) mark) new) where
@@ -131,7 +126,7 @@ module _ (size : Size) (liars : ℕ → Bool) (p : ℕ) (w : World) (fused : Boo
             }
 
 -- what holds of one more statement in each world that may come
-pub one_more : (size : Size) (liars : ℕ → Bool) (p : ℕ) (w : World) (fused : Bool) (liar toss : ℕ) (statements : List Statement) (i : ℕ) (s : Statement) (seat : Seat) {T : Type 0}
+pub one_more : (size : Size) (liars : ℕ → Bool) (p : ℕ) (w : World) (fused : Bool) (liar toss : ℕ) (statements : List Statement) (i : ℕ) (s : Statement) (seat : Presence) {T : Type 0}
     → drop i statements ≡ s ∷ drop (i + 1) statements → MayCome size liars w → IsCorrect size liars p → liar < size.n → liars liar ≡ true
     → HeardSoFar size liars p w fused liar toss statements i seat
     → ((v : World) → IsCorrect size liars p → v.doubt p ≡ None → IsSeatAt (mine size p) v seat → has_sent v.sent liar s ≡ true → MayCome size liars v → T) → T

@@ -7,12 +7,7 @@ use Rattle.world.proofs.Runs.{IsRun-append, after_all-append}
 use Rattle.world.proofs.Keeps.{reached_ok}
 use Rattle.world.proofs.Invariant.{said_sent}
 use Rattle.world.proofs.Order.{reached_order}
-use Rattle.sim.specs.declared.events.Event.{Event}
-use Rattle.sim.specs.declared.events.Mark.{Mark}
-use Rattle.sim.specs.declared.posts.Post.{Post}
-use Rattle.sim.specs.Scene.{Scene}
-use Rattle.sim.specs.Posts.{IsCluster}
-use Rattle.sim.specs.Runs.{IsEvent, IsRunOf, IsTurn, IsSteady, IsFollowed}
+use Rattle.sim.specs.Words.{Event, Mark, Post, Scene, IsCluster, IsEvent, IsRunOf, IsTurn, IsSteady, IsFollowed}
 
 -- one event more
 run-append : (size : Size) (liars : ℕ → Bool) (c : Scene) (events : List Event) (marks : List Mark) (records : List (Vec Record)) (steps : List Step) (mid : Scene)

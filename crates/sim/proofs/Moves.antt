@@ -6,28 +6,18 @@ use Rattle.terms.specs.Reply.{Event as Happening}
 use Rattle.disk.specs.declared.memory.MemDisk.{MemDisk}
 use Rattle.disk.specs.Memory.{memory_state}
 use Rattle.disk.specs.Model.{State, MayLeave, at_rest}
-use Rattle.journal.specs.Texts.{header_text, batches_bytes}
-use Rattle.journal.specs.File.{IsFrontOf, Holds}
+use Rattle.journal.specs.Words.{header_text, batches_bytes, IsFrontOf, Holds}
 use Rattle.journal.proofs.Crash.{begins_kept}
 use Rattle.journal.proofs.Held.{left_holds}
 use Rattle.questions.specs.declared.answer.Answer.{Answer}
 use Rattle.questions.specs.Replies.{reply_of}
-use Rattle.world.specs.World.{World, in_doubt, after}
-use Rattle.world.specs.World.Step.{Hears, Crash, Restart}
+use Rattle.world.specs.Words.{World, in_doubt, after, Hears, Crash, Restart}
 use Rattle.world.proofs.Runs.{put-here}
 use Rattle.member.specs.declared.fault.MemberFault.{MemberFault}
 use Rattle.member.specs.declared.fault.MemberFault.TheVariants.{Stopped, Device, Memory, JournalFull, NoSuchQuestion, NoSuchMember}
 use Rattle.member.specs.declared.member.Member.{Member}
-use Rattle.member.specs.Readers.{member_disk, member_saved, member_header, member_is_stopped}
-use Rattle.member.specs.Sound.{IsSound}
-use Rattle.member.specs.Memory.{memory_disk}
-use Rattle.member.specs.Stands.{IsLeft}
-use Rattle.member.specs.Life.{MemberIsAt, DoesStep, Lives, world_step}
-use Rattle.member.specs.Groups.{LivesAll, replies_of}
-use Rattle.sim.specs.declared.events.Mark.{Mark}
-use Rattle.sim.specs.declared.events.Mark.TheVariants.{Done}
-use Rattle.sim.specs.declared.seats.Seat.TheVariants.{Here}
-use Rattle.sim.specs.Seats.{IsMarkOf, IsMove, IsDown, Answers, AnswersGroup, Reopens, mine}
+use Rattle.member.specs.Words.{member_disk, member_saved, member_header, member_is_stopped, IsSound, memory_disk, IsLeft, MemberIsAt, DoesStep, Lives, world_step, LivesAll, replies_of}
+use Rattle.sim.specs.Words.{Mark, Done, Here, IsMarkOf, IsMove, IsDown, Answers, AnswersGroup, Reopens, mine}
 
 -- an event that a member answered
 pub told : (size : Size) (liars : ℕ → Bool) (p : ℕ) (w : World) (toss : ℕ) (fused : Bool) (event : Happening) (old new : Member MemDisk)

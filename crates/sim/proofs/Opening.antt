@@ -4,14 +4,9 @@ use Rattle.std.proofs.lemmas.Bool.{eqb-false}
 use Rattle.std.proofs.lemmas.List.{get_or_default}
 use Rattle.disk.specs.declared.memory.MemDisk.{MemDisk}
 use Rattle.disk.specs.Memory.{fuse_left}
-use Rattle.sim.specs.declared.posts.Post.{Post}
-use Rattle.sim.specs.Outcomes.{HasFuse, among, fused_in}
+use Rattle.sim.specs.Words.{Post, HasFuse, among, fused_in, Link, mine, is_liar, opening, OpensPost, IsReady, IsCreated, IsOpenedPost, IsNewLink, IsLink, IsPost}
 use Rattle.vocabulary.specs.Terms.{Size, Header}
 use Rattle.sim.proofs.Done.{link_new}
-use Rattle.sim.specs.declared.links.Link.{Link}
-use Rattle.sim.specs.Seats.{mine, is_liar}
-use Rattle.sim.specs.Scene.{opening}
-use Rattle.sim.specs.Posts.{OpensPost, IsReady, IsCreated, IsOpenedPost, IsNewLink, IsLink, IsPost}
 
 module _ (initial posts : List Post) (i : ℕ) (x new : Post) (l : i < length posts) (at : x ≡ get_or posts i x) (one : OpensPost x new)
     (done : (p : ℕ) (d : Post) → p < i → OpensPost (get_or initial p d) (get_or posts p d))

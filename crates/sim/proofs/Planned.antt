@@ -7,23 +7,10 @@ use Rattle.rounds.specs.declared.tosses.Toss.{Toss}
 use Rattle.wire.specs.Reading.{Rest}
 use Rattle.world.specs.World.{World, has_sent}
 use Rattle.member.specs.Readers.{member_is_stopped}
-use Rattle.sim.specs.declared.events.Which.{Which}
-use Rattle.sim.specs.declared.events.Which.TheVariants.{Next, At}
-use Rattle.sim.specs.declared.events.Event.{Event}
+use Rattle.sim.specs.Words.{Which, Next, At, Event, Reason, Link, Delivery, Post, Instruction, Presence, Here, Down, Liar, IsSeatAt, is_up, saved_in, nth_said, group_from, mine, Scene, plan_of, for_link, to_deliver, delivery_of, group_of, to_group, IsPost, IsCluster, CanBeDone, Brings, AreSaid, IsSteady}
 use Rattle.sim.specs.declared.events.Event.TheVariants as events
-use Rattle.sim.specs.declared.events.Reason.{Reason}
 use Rattle.sim.specs.declared.events.Reason.TheVariants as reasons
-use Rattle.sim.specs.declared.links.Link.{Link}
-use Rattle.sim.specs.declared.posts.Group.{Group}
-use Rattle.sim.specs.declared.posts.Post.{Post}
-use Rattle.sim.specs.declared.tasks.Task.{Task}
-use Rattle.sim.specs.declared.tasks.Task.TheVariants as tasks
-use Rattle.sim.specs.declared.seats.Seat.{Seat}
-use Rattle.sim.specs.declared.seats.Seat.TheVariants.{Here, Down, Liar}
-use Rattle.sim.specs.Seats.{IsSeatAt, is_up, saved_in, nth_said, group_from, mine}
-use Rattle.sim.specs.Scene.{Scene, plan_of, for_link, to_deliver, delivery_of, group_of, to_group}
-use Rattle.sim.specs.Posts.{IsPost, IsCluster, CanBeDone, Brings, AreSaid}
-use Rattle.sim.specs.Runs.{IsSteady}
+use Rattle.sim.specs.declared.tasks.Instruction.TheVariants as tasks
 use Rattle.sim.proofs.Moves.{true_or_false}
 use Rattle.sim.proofs.Groups.{or_true, all_in_group, group_some}
 
@@ -31,7 +18,7 @@ pub lt_is : (a b : ℕ) → a < b → nat_lt a b ≡ true
 lt_is a b l = grind (arith, nat_tests)
 
 -- a seat is up where the world has no batch in doubt
-pub up_is : (size : Size) (p : ℕ) (w : World) (seat : Seat) → IsSeatAt (mine size p) w seat → is_up seat ≡ is_none (w.doubt p)
+pub up_is : (size : Size) (p : ℕ) (w : World) (seat : Presence) → IsSeatAt (mine size p) w seat → is_up seat ≡ is_none (w.doubt p)
 up_is size p w (Here m) at = go (true_or_false (member_is_stopped m))
   where
     go : (member_is_stopped m ≡ true) ⊎ (member_is_stopped m ≡ false) → not (member_is_stopped m) ≡ is_none (w.doubt p)
@@ -41,7 +28,7 @@ up_is size p w (Down disk records) at = sym (ap is_none at.doubt)
 up_is size p w Liar at = absurd at
 
 -- it has what the world has
-pub saved_is : (size : Size) (p : ℕ) (w : World) (seat : Seat) → IsSeatAt (mine size p) w seat → saved_in seat ≡ w.journal p
+pub saved_is : (size : Size) (p : ℕ) (w : World) (seat : Presence) → IsSeatAt (mine size p) w seat → saved_in seat ≡ w.journal p
 saved_is size p w (Here m) at = at.records
 saved_is size p w (Down disk records) at = at.saved
 saved_is size p w Liar at = absurd at
@@ -131,7 +118,7 @@ told_of size liars s posts i from to place sender e at cluster h =
     }
 
 -- what is taken of the sender for a group is what the group brings
-pub brought_is : (size : Size) (liars : ℕ → Bool) (s : Scene) (posts : List Post) (p from count : ℕ) (toss : Toss) (i j place : ℕ) (receiver sender : Post) {E : Type 0} (result : Result Group E)
+pub brought_is : (size : Size) (liars : ℕ → Bool) (s : Scene) (posts : List Post) (p from count : ℕ) (toss : Toss) (i j place : ℕ) (receiver sender : Post) {E : Type 0} (result : Result Delivery E)
     → IsCluster size liars s posts → p < size.n → CanBeDone size liars s p (tasks.DeliverAll from count toss)
     → i ≡ p → receiver ≡ get_or posts i receiver → j ≡ from → sender ≡ get_or posts j sender → ((d : Link) → place ≡ (get_or receiver.incoming.items from d).place)
     → IfOk result (λ group. group.statements.items ≡ group_from (saved_in sender.seat) place count)
@@ -163,17 +150,17 @@ nth_has (Said x ∷ rs) (suc k) s h = rw (nth_has rs k s h) (or_true (statement_
 nth_has (Decided q r b ∷ rs) k s h = nth_has rs k s h
 
 -- a planned task fits
-pub record IsRight (size : Size) (liars : ℕ → Bool) (c : Scene) (p : ℕ) (told : Task) : Type 0 where
+pub record IsRight (size : Size) (liars : ℕ → Bool) (c : Scene) (p : ℕ) (told : Instruction) : Type 0 where
   pub below : p < size.n
   pub fits : CanBeDone size liars c p told
 
-right : (size : Size) (liars : ℕ → Bool) (c : Scene) (m : ℕ) (one : Task) (p : ℕ) (told : Task) → m < size.n → CanBeDone size liars c m one
-    → ◌≡◌ {A = Result (ℕ × Task) Reason} (Ok (m, one)) (Ok (p, told)) → IsRight size liars c p told
+right : (size : Size) (liars : ℕ → Bool) (c : Scene) (m : ℕ) (one : Instruction) (p : ℕ) (told : Instruction) → m < size.n → CanBeDone size liars c m one
+    → ◌≡◌ {A = Result (ℕ × Instruction) Reason} (Ok (m, one)) (Ok (p, told)) → IsRight size liars c p told
 right size liars c m one p told l fits h =
-    let pair : ◌≡◌ {A = ℕ × Task} (m, one) (p, told) = cc in
-    subst (λ (y : ℕ × Task). IsRight size liars c y.0 y.1) pair (record { below = l; fits = fits })
+    let pair : ◌≡◌ {A = ℕ × Instruction} (m, one) (p, told) = cc in
+    subst (λ (y : ℕ × Instruction). IsRight size liars c y.0 y.1) pair (record { below = l; fits = fits })
 
-module _ (size : Size) (liars : ℕ → Bool) (c : Scene) (steady : IsSteady size liars c) (p : ℕ) (told : Task) where
+module _ (size : Size) (liars : ℕ → Bool) (c : Scene) (steady : IsSteady size liars c) (p : ℕ) (told : Instruction) where
   statement_right : (from to place : ℕ) (toss : Toss) (number : ℕ) → from < size.n → to < size.n → liars from ≡ false → liars to ≡ false → c.world.doubt to ≡ None
       → (o : Option Statement) → nth_said (c.world.journal from) number ≡ o → to_deliver from to place toss o ≡ Ok (p, told) → IsRight size liars c p told
   statement_right from to place toss number lf lt hf ht up None n h = cc

@@ -4,19 +4,9 @@ use Rattle.std.specs.List.{slice_get}
 use Rattle.std.proofs.lemmas.Option.{slice_get_past}
 use Rattle.std.specs.Global.{Vec}
 use Rattle.vocabulary.specs.Terms.{Size, Record, IsSize}
-use Rattle.sim.specs.declared.events.Event.{Event}
-use Rattle.sim.specs.declared.events.Mark.{Mark}
-use Rattle.sim.specs.declared.posts.Post.{Post}
-use Rattle.world.specs.World.{EveryRun}
-use Rattle.world.specs.Claims.{Agree, Unanimous}
-use Rattle.sim.specs.declared.faults.SimFault.{SimFault}
+use Rattle.sim.specs.Words.{Event, Mark, Post, SimFault, Scene, opening, IsCluster, AreLiars, IsSimulation, HaveOneBit, AreUnanimous, Verdict, among, verdicts_of, IsTurn, IsSteady, saved_in, ClusterFields, Played, ClusterStandsFor, unplayed, and_then, saved_behind, saved_among, last_saved}
+use Rattle.world.specs.Words.{EveryRun, Agree, Unanimous}
 use Rattle.sim.specs.declared.faults.SimFault.TheVariants as faults
-use Rattle.sim.specs.Scene.{Scene, opening}
-use Rattle.sim.specs.Posts.{IsCluster}
-use Rattle.sim.specs.Outcomes.{AreLiars, IsSimulation, HaveOneBit, AreUnanimous, Verdict, among, verdicts_of}
-use Rattle.sim.specs.Runs.{IsTurn, IsSteady}
-use Rattle.sim.specs.Seats.{saved_in}
-use Rattle.sim.specs.Plays.{ClusterFields, Played, ClusterStandsFor, unplayed, and_then, saved_behind, saved_among, last_saved}
 use Rattle.sim.proofs.Loop.{none_followed, one_followed, steady}
 use Rattle.sim.proofs.Simulations.{few_lie, simulations_agree, simulations_unanimous}
 

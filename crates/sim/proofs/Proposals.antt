@@ -8,23 +8,11 @@ use Rattle.std.specs.Global.{Vec}
 use Rattle.terms.specs.Reply.{Event as Happening}
 use Rattle.wire.specs.declared.message.Message.{Message}
 use Rattle.wire.specs.Reading.{End, Rest, Broken}
-use Rattle.world.specs.World.{World, Step, after, after_all}
-use Rattle.world.specs.World.Step.{Lie, Hears, Proposes, Crash as CrashStep, Restart as RestartStep}
-use Rattle.world.specs.Claims.{AllPropose, has_proposed}
+use Rattle.world.specs.Words.{World, Step, after, after_all, Lie, Hears, Proposes, AllPropose, has_proposed}
+use Rattle.world.specs.World.Step.{Crash as CrashStep, Restart as RestartStep}
 use Rattle.member.specs.Life.{world_step}
-use Rattle.sim.specs.declared.events.Event.{Event}
-use Rattle.sim.specs.declared.events.Event.TheVariants.{Propose, Deliver, DeliverAll, LieBytes, Fuse, Crash, Restart, Reset}
-use Rattle.sim.specs.declared.events.Which.{Which}
-use Rattle.sim.specs.declared.events.Which.TheVariants.{Next, At}
-use Rattle.sim.specs.declared.events.Mark.{Mark}
-use Rattle.sim.specs.declared.events.Mark.TheVariants.{Done, Failed, Skipped}
-use Rattle.sim.specs.declared.events.Reason.{Reason}
-use Rattle.sim.specs.declared.tasks.Task.{Task}
-use Rattle.sim.specs.declared.tasks.Task.TheVariants as task
-use Rattle.sim.specs.Seats.{nth_said, hearings_from, Answers, AnswersGroup, AreLies, Reopens}
-use Rattle.sim.specs.Scene.{Scene, plan_of, delivery_of, to_deliver, for_link, group_of, to_group, Does, HearsLies, moved, bytes_in}
-use Rattle.sim.specs.Runs.{IsPlanned, IsEvent, IsRunOf}
-use Rattle.sim.specs.Outcomes.{ProposesOnly, ProposedOnly, AllProposedOnly}
+use Rattle.sim.specs.Words.{Event, Propose, Deliver, DeliverAll, LieBytes, Fuse, Crash, Restart, Reset, Which, Next, At, Mark, Done, Failed, Skipped, Reason, Instruction, nth_said, hearings_from, Answers, AnswersGroup, AreLies, Reopens, Scene, plan_of, delivery_of, to_deliver, for_link, group_of, to_group, Does, HearsLies, moved, bytes_in, IsPlanned, IsEvent, IsRunOf, ProposesOnly, ProposedOnly, AllProposedOnly}
+use Rattle.sim.specs.declared.tasks.Instruction.TheVariants as task
 
 split : (x y z rest : Bool) → ((x && (y && z)) || rest) ≡ true → ((y ≡ true) × (z ≡ true)) ⊎ (rest ≡ true)
 split false y z rest h = inr h
@@ -113,7 +101,7 @@ module _ (question : ℕ) (v : Bool) where
   reopens_ok p fused (Skipped reason) steps h = absurd h
 
   -- the task is no proposal of another bit
-  abbrev TaskOk : Task → Type 0
+  abbrev TaskOk : Instruction → Type 0
   TaskOk (task.Propose q bit toss) = q ≡ question → bit ≡ v
   TaskOk (task.Deliver from s place toss) = Unit {0}
   TaskOk (task.DeliverAll from count toss) = Unit {0}
@@ -123,7 +111,7 @@ module _ (question : ℕ) (v : Bool) where
   TaskOk task.Restart = Unit {0}
   TaskOk (task.Reset from) = Unit {0}
 
-  does_ok : (size : Size) (c : Scene) (p : ℕ) (told : Task) (bytes : List ℕ) (mark : Mark) (steps : List Step) → TaskOk told → Does size c p told bytes mark steps → AllByRecursion IsOfBit steps
+  does_ok : (size : Size) (c : Scene) (p : ℕ) (told : Instruction) (bytes : List ℕ) (mark : Mark) (steps : List Step) → TaskOk told → Does size c p told bytes mark steps → AllByRecursion IsOfBit steps
   does_ok size c p (task.Propose q bit toss) bytes mark steps ok h = answers_ok size p c.world (c.fused p) toss.0 (Proposal q bit) mark steps (λ records kept. ok) h
   does_ok size c p (task.Deliver from s place toss) bytes mark steps ok h = answers_ok size p c.world (c.fused p) toss.0 (Hearing from s) mark steps (λ records kept. tt) h
   does_ok size c p (task.DeliverAll from count toss) bytes mark steps ok h =
@@ -134,11 +122,11 @@ module _ (question : ℕ) (v : Bool) where
   does_ok size c p task.Restart bytes mark steps ok h = reopens_ok p (c.fused p) mark steps h
   does_ok size c p (task.Reset from) bytes mark steps ok h = none steps h.1
 
-  abbrev PlanOk : Result (ℕ × Task) Reason → Type 0
+  abbrev PlanOk : Result (ℕ × Instruction) Reason → Type 0
   PlanOk (Ok to) = TaskOk to.1
   PlanOk (Err reason) = Unit {0}
 
-  either : (b : Bool) (x y : Result (ℕ × Task) Reason) → PlanOk x → PlanOk y → PlanOk (cond b x y)
+  either : (b : Bool) (x y : Result (ℕ × Instruction) Reason) → PlanOk x → PlanOk y → PlanOk (cond b x y)
   either true x y f g = f
   either false x y f g = g
 
@@ -154,7 +142,7 @@ module _ (question : ℕ) (v : Bool) where
   group_ok from to count toss [] = tt
   group_ok from to count toss (s ∷ statements) = tt
 
-  link_ok : (size : Size) (liars : ℕ → Bool) (w : World) (from to : ℕ) (plan : Result (ℕ × Task) Reason) → PlanOk plan → PlanOk (for_link size liars w from to plan)
+  link_ok : (size : Size) (liars : ℕ → Bool) (w : World) (from to : ℕ) (plan : Result (ℕ × Instruction) Reason) → PlanOk plan → PlanOk (for_link size liars w from to plan)
   link_ok size liars w from to plan ok =
       either (nat_lt from size.n) _ _ (either (nat_lt to size.n) _ _ (either (liars from) _ _ tt (either (liars to) _ _ tt (either (is_none (w.doubt to)) _ _ ok tt))) tt) tt
 
@@ -171,7 +159,7 @@ module _ (question : ℕ) (v : Bool) where
   plan_ok size liars c (Restart m) ok = either (nat_lt m size.n) _ _ (either (liars m) _ _ tt (either (is_none (c.world.doubt m)) _ _ tt tt)) tt
   plan_ok size liars c (Reset from to) ok = either (nat_lt from size.n) _ _ (either (nat_lt to size.n) _ _ tt tt) tt
 
-  moved_world : (c : Scene) (p : ℕ) (told : Task) (bytes : List ℕ) (mark : Mark) (w : World) → (moved c p told bytes mark w).world ≡ w
+  moved_world : (c : Scene) (p : ℕ) (told : Instruction) (bytes : List ℕ) (mark : Mark) (w : World) → (moved c p told bytes mark w).world ≡ w
   moved_world c p (task.Propose q bit toss) bytes mark w = refl
   moved_world c p (task.Deliver from s place toss) bytes mark w = refl
   moved_world c p (task.DeliverAll from count toss) bytes mark w = refl
@@ -183,7 +171,7 @@ module _ (question : ℕ) (v : Bool) where
   moved_world c p task.Restart bytes (Skipped reason) w = refl
   moved_world c p (task.Reset from) bytes mark w = refl
 
-  moved_on : (size : Size) (c : Scene) (p : ℕ) (told : Task) (bytes : List ℕ) (mark : Mark) (steps : List Step) (next : Scene) → TaskOk told → Does size c p told bytes mark steps
+  moved_on : (size : Size) (c : Scene) (p : ℕ) (told : Instruction) (bytes : List ℕ) (mark : Mark) (steps : List Step) (next : Scene) → TaskOk told → Does size c p told bytes mark steps
       → next ≡ moved c p told bytes mark (after_all c.world steps) → AllPropose c.world question v → AllPropose next.world question v
   moved_on size c p told bytes mark steps next ok does is all =
       subst (λ (w : World). AllPropose w question v) (sym (ap (λ (s : Scene). s.world) is ∙ moved_world c p told bytes mark (after_all c.world steps)))
@@ -192,17 +180,17 @@ module _ (question : ℕ) (v : Bool) where
   same_scene : (c next : Scene) → next ≡ c → AllPropose c.world question v → AllPropose next.world question v
   same_scene c next e all = subst (λ (s : Scene). AllPropose s.world question v) (sym e) all
 
-  skipped_on : (size : Size) (c : Scene) (plan : Result (ℕ × Task) Reason) (bytes : List ℕ) (reason : Reason) (saved : List Record) (steps : List Step) (next : Scene)
+  skipped_on : (size : Size) (c : Scene) (plan : Result (ℕ × Instruction) Reason) (bytes : List ℕ) (reason : Reason) (saved : List Record) (steps : List Step) (next : Scene)
       → IsPlanned size c plan bytes (Skipped reason) saved steps next → AllPropose c.world question v → AllPropose next.world question v
   skipped_on size c (Ok to) bytes reason saved steps next h all = same_scene c next h.1 all
   skipped_on size c (Err told) bytes reason saved steps next h all = same_scene c next h.3 all
 
-  done_on : (size : Size) (c : Scene) (plan : Result (ℕ × Task) Reason) (bytes : List ℕ) (saved : List Record) (steps : List Step) (next : Scene)
+  done_on : (size : Size) (c : Scene) (plan : Result (ℕ × Instruction) Reason) (bytes : List ℕ) (saved : List Record) (steps : List Step) (next : Scene)
       → PlanOk plan → IsPlanned size c plan bytes Done saved steps next → AllPropose c.world question v → AllPropose next.world question v
   done_on size c (Ok to) bytes saved steps next ok h all = moved_on size c to.0 to.1 bytes Done steps next ok h.0 h.1 all
   done_on size c (Err told) bytes saved steps next ok h all = same_scene c next h.3 all
 
-  failed_on : (size : Size) (c : Scene) (plan : Result (ℕ × Task) Reason) (bytes : List ℕ) (saved : List Record) (steps : List Step) (next : Scene)
+  failed_on : (size : Size) (c : Scene) (plan : Result (ℕ × Instruction) Reason) (bytes : List ℕ) (saved : List Record) (steps : List Step) (next : Scene)
       → PlanOk plan → IsPlanned size c plan bytes Failed saved steps next → AllPropose c.world question v → AllPropose next.world question v
   failed_on size c (Ok to) bytes saved steps next ok h all = moved_on size c to.0 to.1 bytes Failed steps next ok h.0 h.1 all
   failed_on size c (Err told) bytes saved steps next ok h all = same_scene c next h.3 all

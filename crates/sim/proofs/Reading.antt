@@ -5,9 +5,7 @@ use Rattle.std.proofs.lemmas.List.{take_more}
 use Rattle.vocabulary.specs.Terms.{Size, Statement, IsSize, IsWellFormed}
 use Rattle.wire.specs.declared.message.Message.{Message}
 use Rattle.wire.specs.declared.message.Message.TheVariants as message
-use Rattle.wire.specs.Texts.{frame_bytes, Fits}
-use Rattle.wire.specs.Reading.{End, Rest}
-use Rattle.wire.specs.Feeding.{Feeds}
+use Rattle.wire.specs.Words.{frame_bytes, Fits, End, Rest, Feeds}
 use Rattle.wire.proofs.Cutting.{written_is_fed}
 use Rattle.sim.specs.Links.{statements_in}
 

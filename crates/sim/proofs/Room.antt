@@ -3,13 +3,11 @@ use Rattle.std.proofs.Common.{◌≡◌, ◌+◌, ◌*◌, ◌^◌, ◌<◌, ◌
 use Rattle.vocabulary.specs.Terms.{Size, Statement, Header, Record, past_of, IsReply, AreReplies, records_of, records_of_all, without_tosses, Hearing, Proposal}
 use Rattle.terms.specs.Reply.{Event as Happening}
 use Rattle.disk.specs.declared.memory.MemDisk.{MemDisk}
-use Rattle.journal.specs.Texts.{Batch, batch_body, header_text, batches_bytes, batch_records as records_in}
-use Rattle.journal.specs.WellFormed.{AreBatches}
+use Rattle.journal.specs.Texts.{batch_records as records_in}
+use Rattle.journal.specs.Words.{Batch, batch_body, header_text, batches_bytes, AreBatches}
 use Rattle.journal.proofs.Texts.{length-header_text, length-body}
 use Rattle.questions.specs.declared.answer.Answer.{Answer}
-use Rattle.world.specs.World.{World, Step, IsCorrect, IsAllowed, IsRun, start, in_doubt, after, after_all}
-use Rattle.world.specs.World.Step.{Hears}
-use Rattle.world.specs.Laws.{AreWellFormedRecords}
+use Rattle.world.specs.Words.{World, Step, IsCorrect, IsAllowed, IsRun, start, in_doubt, after, after_all, Hears, AreWellFormedRecords}
 use Rattle.world.proofs.Runs.{IsRun-append, after_all-append, hears_allowed, put-here}
 use Rattle.world.proofs.Single.{decides_once, says_once}
 use Rattle.world.proofs.Order.{reached_order, saved_formed}
@@ -17,12 +15,7 @@ use Rattle.world.proofs.Formed.{AreWellFormed-front}
 use Rattle.member.specs.declared.fault.MemberFault.{MemberFault}
 use Rattle.member.specs.declared.fault.MemberFault.TheVariants.{Stopped, Device, Memory, JournalFull, NoSuchQuestion, NoSuchMember}
 use Rattle.member.specs.declared.member.Member.{Member}
-use Rattle.member.specs.Answers.{event_question, gate_after, IsFull}
-use Rattle.member.specs.Groups.{AllReply, AllCome, IsFullOfAll}
-use Rattle.member.specs.Life.{MemberIsAt, Lives, Comes, Replies, world_step}
-use Rattle.member.specs.Memory.{memory_disk}
-use Rattle.member.specs.Sound.{IsSound}
-use Rattle.member.specs.Readers.{member_header, member_gate, member_saved, member_is_stopped}
+use Rattle.member.specs.Words.{event_question, gate_after, IsFull, AllReply, AllCome, IsFullOfAll, MemberIsAt, Lives, Comes, Replies, world_step, memory_disk, IsSound, member_header, member_gate, member_saved, member_is_stopped}
 use Rattle.member.proofs.Lives.{kept_step}
 use Rattle.sim.specs.Seats.{MayCome, mine}
 use Rattle.sim.proofs.Few.{few_records}

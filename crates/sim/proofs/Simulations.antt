@@ -2,12 +2,8 @@
 use Rattle.std.proofs.Common.{◌≤◌, ℕ, Bool, List, sym, subst, arith}
 use Rattle.std.specs.Global.{Vec}
 use Rattle.vocabulary.specs.Terms.{Size, Record, IsSize, count_below}
-use Rattle.world.specs.World.{World, EveryRun}
-use Rattle.world.specs.Claims.{Agree, Unanimous}
-use Rattle.sim.specs.declared.events.Event.{Event}
-use Rattle.sim.specs.declared.events.Mark.{Mark}
-use Rattle.sim.specs.Scene.{opening}
-use Rattle.sim.specs.Outcomes.{AreLiars, IsSimulation, HaveOneBit, AreUnanimous, Verdict, among}
+use Rattle.world.specs.Words.{World, EveryRun, Agree, Unanimous}
+use Rattle.sim.specs.Words.{Event, Mark, opening, AreLiars, IsSimulation, HaveOneBit, AreUnanimous, Verdict, among}
 use Rattle.sim.proofs.Rising.{few_among}
 use Rattle.sim.proofs.Verdicts.{verdicts_agree, verdicts_unanimous}
 use Rattle.sim.proofs.Proposals.{script_on}

@@ -5,24 +5,13 @@ use Rattle.std.proofs.Math.Seq.{drop-append_seam}
 use Rattle.vocabulary.specs.Terms.{Size, Statement, Record, records_of, records_of_all, without_tosses, Hearing, Proposal, IsSize}
 use Rattle.terms.specs.Reply.{Event as Happening}
 use Rattle.wire.specs.declared.message.Message.{Message}
-use Rattle.sim.specs.declared.events.Reason.{Reason}
+use Rattle.sim.specs.Words.{Reason, Mark, Done, Failed, Skipped, Post, Presence, Here, Down, Liar, Instruction, IsSeatAt, Answers, AnswersGroup, hearings_from, AreLies, GoesOn, is_liar, saved_in, mine, Scene, Does, HearsLies, group_of, moved, scene_after, plan_of, bytes_in, IsPost, IsDone, IsCluster, CanBeDone, IsTurn, IsPlanned, Event}
 use Rattle.wire.specs.Reading.{End, Rest, Broken}
-use Rattle.world.specs.World.{World, Step, put, in_doubt, after, after_all}
-use Rattle.world.specs.World.Step.{Lie, Hears, Proposes, Crash as CrashStep, Restart as RestartStep}
+use Rattle.world.specs.Words.{World, Step, put, in_doubt, after, after_all, Lie, Hears, Proposes}
+use Rattle.world.specs.World.Step.{Crash as CrashStep, Restart as RestartStep}
 use Rattle.world.proofs.Runs.{put-there, after_all-append}
 use Rattle.member.specs.Life.{world_step}
-use Rattle.sim.specs.declared.events.Mark.{Mark}
-use Rattle.sim.specs.declared.events.Mark.TheVariants.{Done, Failed, Skipped}
-use Rattle.sim.specs.declared.posts.Post.{Post}
-use Rattle.sim.specs.declared.seats.Seat.{Seat}
-use Rattle.sim.specs.declared.seats.Seat.TheVariants.{Here, Down, Liar}
-use Rattle.sim.specs.declared.tasks.Task.{Task}
-use Rattle.sim.specs.declared.tasks.Task.TheVariants as task
-use Rattle.sim.specs.Seats.{IsSeatAt, Answers, AnswersGroup, hearings_from, AreLies, GoesOn, is_liar, saved_in, mine}
-use Rattle.sim.specs.Scene.{Scene, Does, HearsLies, group_of, moved, scene_after, plan_of, bytes_in}
-use Rattle.sim.specs.Posts.{IsPost, IsDone, IsCluster, CanBeDone}
-use Rattle.sim.specs.Runs.{IsTurn, IsPlanned}
-use Rattle.sim.specs.declared.events.Event.{Event}
+use Rattle.sim.specs.declared.tasks.Instruction.TheVariants as task
 use Rattle.sim.proofs.Planned.{IsRight, saved_is}
 use Rattle.sim.proofs.Done.{never_skipped, put_at-other, cleared-other, link_same}
 
@@ -86,7 +75,7 @@ hears_other size c p q liar bytes toss messages (Broken fault) mark steps h ne =
 hears_other size c p q liar bytes toss messages (Rest rest) mark steps h ne = lies_other size p q c.world (c.fused p) liar toss _ mark steps h.3 ne
 
 -- a task of one member leaves the others
-pub does_other : (size : Size) (c : Scene) (p q : ℕ) (told : Task) (bytes : List ℕ) (mark : Mark) (steps : List Step) → Does size c p told bytes mark steps → eqb q p ≡ false
+pub does_other : (size : Size) (c : Scene) (p q : ℕ) (told : Instruction) (bytes : List ℕ) (mark : Mark) (steps : List Step) → Does size c p told bytes mark steps → eqb q p ≡ false
     → SameAt q c.world (after_all c.world steps)
 does_other size c p q (task.Propose question bit toss) bytes mark steps h ne = answers_other size p q c.world (c.fused p) toss.0 (Proposal question bit) mark steps h ne
 does_other size c p q (task.Deliver from s place toss) bytes mark steps h ne = answers_other size p q c.world (c.fused p) toss.0 (Hearing from s) mark steps h ne
@@ -106,7 +95,7 @@ pub record SameTables (q : ℕ) (c d : Scene) : Type 0 where
   pub fed : (a : ℕ) → d.fed a q ≡ c.fed a q
   pub fused : d.fused q ≡ c.fused q
 
-tables_of : (c : Scene) (p q : ℕ) (told : Task) (bytes : List ℕ) (mark : Mark) (w : World) → eqb q p ≡ false → SameTables q c (scene_after c p told bytes mark w)
+tables_of : (c : Scene) (p q : ℕ) (told : Instruction) (bytes : List ℕ) (mark : Mark) (w : World) → eqb q p ≡ false → SameTables q c (scene_after c p told bytes mark w)
 tables_of c p q told bytes (Skipped reason) w ne = record { place = λ a. refl; fed = λ a. refl; fused = refl }
 tables_of c p q (task.Propose question bit toss) bytes Done w ne = record { place = λ a. refl; fed = λ a. refl; fused = refl }
 tables_of c p q (task.Propose question bit toss) bytes Failed w ne = record { place = λ a. refl; fed = λ a. refl; fused = refl }
@@ -125,7 +114,7 @@ tables_of c p q task.Restart bytes Failed w ne = record { place = λ a. refl; fe
 tables_of c p q (task.Reset from) bytes Done w ne = record { place = λ a. put_at-other c.place from p 0 a q ne; fed = λ a. put_at-other c.fed from p [] a q ne; fused = refl }
 tables_of c p q (task.Reset from) bytes Failed w ne = record { place = λ a. put_at-other c.place from p 0 a q ne; fed = λ a. put_at-other c.fed from p [] a q ne; fused = refl }
 
-seat_stays : (size : Size) (q : ℕ) (w v : World) (seat : Seat) → SameAt q w v → IsSeatAt (mine size q) w seat → IsSeatAt (mine size q) v seat
+seat_stays : (size : Size) (q : ℕ) (w v : World) (seat : Presence) → SameAt q w v → IsSeatAt (mine size q) w seat → IsSeatAt (mine size q) v seat
 seat_stays size q w v (Here m) same at = rw (same.journal, same.heard, same.doubt) at
 seat_stays size q w v (Down disk records) same at = record {
   batch = at.batch;
@@ -145,7 +134,7 @@ skipped_hears : (size : Size) (c : Scene) (p liar : ℕ) (bytes : List ℕ) (tos
 skipped_hears size c p liar bytes toss messages (Broken fault) reason steps h = h.1
 skipped_hears size c p liar bytes toss messages (Rest rest) reason steps h = skipped_lies size p c.world (c.fused p) liar toss _ reason steps h.3
 
-skipped_does : (size : Size) (c : Scene) (p : ℕ) (told : Task) (bytes : List ℕ) (reason : Reason) (steps : List Step) → Does size c p told bytes (Skipped reason) steps → steps ≡ []
+skipped_does : (size : Size) (c : Scene) (p : ℕ) (told : Instruction) (bytes : List ℕ) (reason : Reason) (steps : List Step) → Does size c p told bytes (Skipped reason) steps → steps ≡ []
 skipped_does size c p (task.Propose question bit toss) bytes reason steps h = absurd h
 skipped_does size c p (task.Deliver from s place toss) bytes reason steps h = absurd h
 skipped_does size c p (task.DeliverAll from count toss) bytes reason steps h = absurd h
@@ -155,7 +144,7 @@ skipped_does size c p (task.Crash pick) bytes reason steps h = let e : ◌≡◌
 skipped_does size c p task.Restart bytes reason steps h = absurd h
 skipped_does size c p (task.Reset from) bytes reason steps h = h.1
 
-moved_world : (c : Scene) (p : ℕ) (told : Task) (bytes : List ℕ) (mark : Mark) (w : World) → (moved c p told bytes mark w).world ≡ w
+moved_world : (c : Scene) (p : ℕ) (told : Instruction) (bytes : List ℕ) (mark : Mark) (w : World) → (moved c p told bytes mark w).world ≡ w
 moved_world c p (task.Propose question bit toss) bytes mark w = refl
 moved_world c p (task.Deliver from s place toss) bytes mark w = refl
 moved_world c p (task.DeliverAll from count toss) bytes mark w = refl
@@ -168,14 +157,14 @@ moved_world c p task.Restart bytes (Skipped reason) w = refl
 moved_world c p (task.Reset from) bytes mark w = refl
 
 -- the scene's world is the one that the steps leave
-pub world_of : (size : Size) (c : Scene) (p : ℕ) (told : Task) (bytes : List ℕ) (mark : Mark) (steps : List Step) → Does size c p told bytes mark steps
+pub world_of : (size : Size) (c : Scene) (p : ℕ) (told : Instruction) (bytes : List ℕ) (mark : Mark) (steps : List Step) → Does size c p told bytes mark steps
     → (scene_after c p told bytes mark (after_all c.world steps)).world ≡ after_all c.world steps
 world_of size c p told bytes Done steps h = moved_world c p told bytes Done (after_all c.world steps)
 world_of size c p told bytes Failed steps h = moved_world c p told bytes Failed (after_all c.world steps)
 world_of size c p told bytes (Skipped reason) steps h = sym (ap (λ (l : List Step). after_all c.world l) (skipped_does size c p told bytes reason steps h))
 
 -- another task leaves the post what the scene has
-pub post_other : (size : Size) (liars : ℕ → Bool) (c : Scene) (p q : ℕ) (told : Task) (bytes : List ℕ) (mark : Mark) (steps : List Step) (post : Post)
+pub post_other : (size : Size) (liars : ℕ → Bool) (c : Scene) (p q : ℕ) (told : Instruction) (bytes : List ℕ) (mark : Mark) (steps : List Step) (post : Post)
     → Does size c p told bytes mark steps → eqb q p ≡ false → IsPost size liars c q post → IsPost size liars (scene_after c p told bytes mark (after_all c.world steps)) q post
 post_other size liars c p q told bytes mark steps post does ne h =
     let t = tables_of c p q told bytes mark (after_all c.world steps) ne in
@@ -189,7 +178,7 @@ post_other size liars c p q told bytes mark steps post does ne h =
     }
 
 -- one post changed
-pub cluster_done : (size : Size) (liars : ℕ → Bool) (c : Scene) (p : ℕ) (told : Task) (bytes : List ℕ) (mark : Mark) (posts : List Post) (post : Post) → length posts ≡ size.n → p < size.n
+pub cluster_done : (size : Size) (liars : ℕ → Bool) (c : Scene) (p : ℕ) (told : Instruction) (bytes : List ℕ) (mark : Mark) (posts : List Post) (post : Post) → length posts ≡ size.n → p < size.n
     → IsCluster size liars c posts → (d : IsDone size liars c p told bytes mark post)
     → IsCluster size liars (scene_after c p told bytes mark (after_all c.world d.steps)) (set posts p post)
 cluster_done size liars c p told bytes mark posts post len below cluster done q d lq = go (eqb q p) refl
@@ -228,7 +217,7 @@ grown w (x ∷ xs) p =
     )
 
 -- a task at a liar's number takes no step
-liar_stays : (size : Size) (liars : ℕ → Bool) (c : Scene) (p : ℕ) (told : Task) (bytes : List ℕ) (mark : Mark) (steps : List Step) → liars p ≡ true → CanBeDone size liars c p told
+liar_stays : (size : Size) (liars : ℕ → Bool) (c : Scene) (p : ℕ) (told : Instruction) (bytes : List ℕ) (mark : Mark) (steps : List Step) → liars p ≡ true → CanBeDone size liars c p told
     → Does size c p told bytes mark steps → steps ≡ []
 liar_stays size liars c p (task.Propose question bit toss) bytes mark steps e fits h = let no : liars p ≡ false = fits.0 in cc
 liar_stays size liars c p (task.Deliver from s place toss) bytes mark steps e fits h = let no : liars p ≡ false = fits.0.0 in cc
@@ -240,13 +229,13 @@ liar_stays size liars c p task.Restart bytes mark steps e fits h = let no : liar
 liar_stays size liars c p (task.Reset from) bytes mark steps e fits h = h.1
 
 -- a liar has no records
-liar_saves : (seat : Seat) → is_liar seat ≡ true → saved_in seat ≡ []
+liar_saves : (seat : Presence) → is_liar seat ≡ true → saved_in seat ≡ []
 liar_saves (Here m) e = cc
 liar_saves (Down disk records) e = cc
 liar_saves Liar e = refl
 
 -- what the post has of the member behind what it had is what the member came to save
-came : (size : Size) (liars : ℕ → Bool) (c : Scene) (p : ℕ) (told : Task) (bytes : List ℕ) (mark : Mark) (old new : Post) (saved : List Record) → CanBeDone size liars c p told → IsPost size liars c p old
+came : (size : Size) (liars : ℕ → Bool) (c : Scene) (p : ℕ) (told : Instruction) (bytes : List ℕ) (mark : Mark) (old new : Post) (saved : List Record) → CanBeDone size liars c p told → IsPost size liars c p old
     → (d : IsDone size liars c p told bytes mark new) → saved ≡ drop (length (saved_in old.seat)) (saved_in new.seat)
     → (scene_after c p told bytes mark (after_all c.world d.steps)).world.journal p ≡ c.world.journal p ++ saved
 came size liars c p told bytes mark old new saved fits here d is = go (liars p) refl
@@ -273,7 +262,7 @@ came size liars c p told bytes mark old new saved fits here d is = go (liars p) 
         world ∙ ap (λ (l : List Step). (after_all c.world l).journal p) still ∙ sym (append-nil (c.world.journal p)) ∙ ap (λ (l : List Record). c.world.journal p ++ l) (sym none)
 
 -- a task that was carried out, as a turn; the code has the member's number as an index
-pub turned : (size : Size) (liars : ℕ → Bool) (c : Scene) (event : Event) (p : ℕ) (told : Task) (bytes : List ℕ) (i : ℕ) (mark : Mark) (saved : List Record) (posts : List Post) (x post : Post)
+pub turned : (size : Size) (liars : ℕ → Bool) (c : Scene) (event : Event) (p : ℕ) (told : Instruction) (bytes : List ℕ) (i : ℕ) (mark : Mark) (saved : List Record) (posts : List Post) (x post : Post)
     → IsSize size → i ≡ p → bytes ≡ bytes_in event → length posts ≡ size.n → plan_of size liars c event ≡ Ok (p, told) → IsRight size liars c p told → IsCluster size liars c posts
     → (IsSize size → p < size.n → IsPost size liars c p (get_or posts i x) → CanBeDone size liars c p told → IsDone size liars c p told bytes mark post)
     → saved ≡ drop (length (saved_in (get_or posts i x).seat)) (saved_in post.seat)
@@ -286,7 +275,7 @@ turned size liars c event p told bytes i mark saved posts x post lawful ei eb le
       steps = done.steps;
       next = next;
       is = subst (λ (b : List ℕ). IsPlanned size c (plan_of size liars c event) b mark saved done.steps next) eb
-          (subst (λ (r : Result (ℕ × Task) Reason). IsPlanned size c r bytes mark saved done.steps next) (sym plan)
+          (subst (λ (r : Result (ℕ × Instruction) Reason). IsPlanned size c r bytes mark saved done.steps next) (sym plan)
           (done.does, refl, came size liars c p told bytes mark (get_or posts i x) post saved right.fits here done is));
       world_is = world_of size c p told bytes mark done.steps done.does;
       is_run = done.is_run;
@@ -300,7 +289,7 @@ pub skipped_turn : (size : Size) (liars : ℕ → Bool) (c : Scene) (event : Eve
 skipped_turn size liars c event reason saved posts plan none cluster = record {
   steps = [];
   next = c;
-  is = subst (λ (r : Result (ℕ × Task) Reason). IsPlanned size c r (bytes_in event) (Skipped reason) saved [] c) (sym plan) (refl, none, refl, refl);
+  is = subst (λ (r : Result (ℕ × Instruction) Reason). IsPlanned size c r (bytes_in event) (Skipped reason) saved [] c) (sym plan) (refl, none, refl, refl);
   world_is = refl;
   is_run = tt;
   at = cluster;

@@ -1,23 +1,16 @@
 -- The verdicts are those of the world.
 use Rattle.std.proofs.Common.{◌≡◌, ◌<◌, ◌+◌, ℕ, zero, suc, Bool, true, false, cond, List, [], ◌∷◌, ◌++◌, refl, sym, ap, subst, ◌∙◌, add-one, append-nil, append_assoc, length, drop, get_or, ◌&&◌, ◌||◌, ◌==◌, ◌⊎◌, Option, Some, None, eq-eqb}
 use Rattle.vocabulary.specs.Terms.{Size, Header, Record, Statement, Said, Decided, decided, has_decided}
-use Rattle.sim.specs.declared.posts.Post.{Post}
-use Rattle.sim.specs.declared.seats.Seat.{Seat}
-use Rattle.sim.specs.declared.seats.Seat.TheVariants.{Here, Down, Liar}
-use Rattle.sim.specs.Seats.{is_liar, saved_in}
-use Rattle.sim.specs.Scene.{Scene}
-use Rattle.sim.specs.Posts.{IsPost}
+use Rattle.sim.specs.Words.{Post, Presence, Here, Down, Liar, is_liar, saved_in, Scene, IsPost, Verdict, verdict_in, verdicts_below, verdicts_of_below, verdicts_of, HaveOneBit}
 use Rattle.std.specs.Bool.{beq}
 use Rattle.std.specs.List.{Contains}
 use Rattle.std.proofs.Common.{arith, inl, inr}
 use Rattle.std.proofs.Math.Seq.{drop-cons}
 use Rattle.std.proofs.lemmas.List.Elements.{Contains-append_cases}
-use Rattle.world.specs.World.{World}
-use Rattle.world.specs.Claims.{Agree, Unanimous, AllPropose}
-use Rattle.sim.specs.Outcomes.{Verdict, verdict_in, verdicts_below, verdicts_of_below, verdicts_of, HaveOneBit}
+use Rattle.world.specs.Words.{World, Agree, Unanimous, AllPropose}
 use Rattle.sim.proofs.Planned.{saved_is}
 
-none_saved : (seat : Seat) → is_liar seat ≡ true → saved_in seat ≡ []
+none_saved : (seat : Presence) → is_liar seat ≡ true → saved_in seat ≡ []
 none_saved (Here m) h = cc
 none_saved (Down disk records) h = cc
 none_saved Liar h = refl

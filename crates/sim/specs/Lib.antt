@@ -6,3 +6,4 @@ pub mod Runs
 pub mod Outcomes
 pub mod Plays
 pub mod Texts
+pub mod Words

@@ -86,19 +86,12 @@ HaveOneBit verdicts = (a b question round later : ℕ) (v u : Bool)
 -- if the event is a proposal of the question, it is of this bit
 abbrev pub ProposesOnly : ℕ → Bool → Event → Type 0
 ProposesOnly question v (Propose member of bit toss) = of ≡ question → bit ≡ v
-ProposesOnly question v (Deliver from to which toss) = Unit {0}
-ProposesOnly question v (DeliverAll from to count toss) = Unit {0}
-ProposesOnly question v (LieBytes liar to bytes toss) = Unit {0}
-ProposesOnly question v (Fuse member calls) = Unit {0}
-ProposesOnly question v (Crash member pick) = Unit {0}
-ProposesOnly question v (Restart member) = Unit {0}
-ProposesOnly question v (Reset from to) = Unit {0}
+ProposesOnly question v event = Unit {0}
 
 -- so it is, where the event wasn't skipped
 abbrev pub ProposedOnly : ℕ → Bool → Event → Mark → Type 0
-ProposedOnly question v event Done = ProposesOnly question v event
-ProposedOnly question v event Failed = ProposesOnly question v event
 ProposedOnly question v event (Skipped reason) = Unit {0}
+ProposedOnly question v event mark = ProposesOnly question v event
 
 -- each proposal of the question that wasn't skipped is of this bit
 abbrev pub AllProposedOnly : ℕ → Bool → List Event → List Mark → Type 0

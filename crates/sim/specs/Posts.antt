@@ -7,10 +7,10 @@ use Rattle.wire.specs.Reading.{Rest, ReadsMessages}
 use Rattle.world.specs.World.{Step, IsRun, has_sent, start, after_all}
 use Rattle.sim.specs.declared.events.Mark.{Mark}
 use Rattle.sim.specs.declared.links.Link.{Link}
-use Rattle.sim.specs.declared.posts.Group.{Group}
+use Rattle.sim.specs.declared.posts.Delivery.{Delivery}
 use Rattle.sim.specs.declared.posts.Post.{Post}
-use Rattle.sim.specs.declared.tasks.Task.{Task}
-use Rattle.sim.specs.declared.tasks.Task.TheVariants as task
+use Rattle.sim.specs.declared.tasks.Instruction.{Instruction}
+use Rattle.sim.specs.declared.tasks.Instruction.TheVariants as task
 use Rattle.sim.specs.declared.faults.SimFault.{SimFault}
 use Rattle.sim.specs.declared.faults.SimFault.TheVariants as faults
 use Rattle.disk.specs.declared.memory.MemDisk.{MemDisk}
@@ -45,15 +45,12 @@ pub record IsReady (post : Post) : Type 0 where
   pub wide : length post.incoming.items ≡ post.header.size.n
 
 -- the sender that a task names is a member
-abbrev pub HasSender : ℕ → Task → Type 0
-HasSender n (task.Propose question bit toss) = Unit {0}
+abbrev pub HasSender : ℕ → Instruction → Type 0
 HasSender n (task.Deliver from s place toss) = from < n
 HasSender n (task.DeliverAll from count toss) = from < n
 HasSender n (task.Lie liar toss) = liar < n
-HasSender n (task.Fuse calls) = Unit {0}
-HasSender n (task.Crash pick) = Unit {0}
-HasSender n task.Restart = Unit {0}
 HasSender n (task.Reset from) = from < n
+HasSender n told = Unit {0}
 
 -- a member is correct and up
 abbrev pub Runs : (ℕ → Bool) → Scene → ℕ → Type 0
@@ -64,7 +61,7 @@ abbrev pub AreSaid : Size → Scene → ℕ → List Statement → Type 0
 AreSaid size c from statements = AllByRecursion (λ s. (has_sent c.world.sent from s ≡ true) × IsWellFormed size s) statements
 
 -- the task may be carried out at that number
-abbrev pub CanBeDone : Size → (ℕ → Bool) → Scene → ℕ → Task → Type 0
+abbrev pub CanBeDone : Size → (ℕ → Bool) → Scene → ℕ → Instruction → Type 0
 CanBeDone size liars c p (task.Propose question bit toss) = Runs liars c p
 CanBeDone size liars c p (task.Deliver from s place toss) =
     Runs liars c p × (liars from ≡ false) × (from < size.n) × (has_sent c.world.sent from s ≡ true) × IsWellFormed size s
@@ -77,19 +74,13 @@ CanBeDone size liars c p task.Restart = (liars p ≡ false) × ((batch : List Re
 CanBeDone size liars c p (task.Reset from) = from < size.n
 
 -- the group is what the task at that number brings, with the link's place behind it
-abbrev pub Brings : Scene → ℕ → Task → Group → Type 0
-Brings c p (task.Propose question bit toss) group = Unit {0}
-Brings c p (task.Deliver from s place toss) group = Unit {0}
+abbrev pub Brings : Scene → ℕ → Instruction → Delivery → Type 0
 Brings c p (task.DeliverAll from count toss) group =
     (group.statements.items ≡ group_of c from p count) × (group.place ≡ c.place from p + length (group_of c from p count))
-Brings c p (task.Lie liar toss) group = Unit {0}
-Brings c p (task.Fuse calls) group = Unit {0}
-Brings c p (task.Crash pick) group = Unit {0}
-Brings c p task.Restart group = Unit {0}
-Brings c p (task.Reset from) group = Unit {0}
+Brings c p told group = Unit {0}
 
 -- the task with that mark is some steps of the world, after which the post is what the scene has of its number
-pub record IsDone (size : Size) (liars : ℕ → Bool) (c : Scene) (p : ℕ) (told : Task) (bytes : List ℕ) (mark : Mark) (post : Post) : Type 0 where
+pub record IsDone (size : Size) (liars : ℕ → Bool) (c : Scene) (p : ℕ) (told : Instruction) (bytes : List ℕ) (mark : Mark) (post : Post) : Type 0 where
   pub steps : List Step
   pub does : Does size c p told bytes mark steps
   pub is_run : IsRun size liars c.world steps
@@ -109,15 +100,10 @@ pub record AreReady (size : Size) (posts : List Post) : Type 0 where
   pub each : (p : ℕ) (d : Post) → p < size.n → IsOneReady size (get_or posts p d)
 
 -- what the task of setting a fuse, or of a crash, does to the member's disk
-abbrev pub DoesToDisk : Task → Option MemDisk → Option MemDisk → Type 0
+abbrev pub DoesToDisk : Instruction → Option MemDisk → Option MemDisk → Type 0
 DoesToDisk (task.Fuse calls) old new = HasDiskFuse calls old new
 DoesToDisk (task.Crash pick) old new = HasCrashed pick old new
-DoesToDisk (task.Propose question bit toss) old new = Unit {0}
-DoesToDisk (task.Deliver from statement place toss) old new = Unit {0}
-DoesToDisk (task.DeliverAll from count toss) old new = Unit {0}
-DoesToDisk (task.Lie liar toss) old new = Unit {0}
-DoesToDisk task.Restart old new = Unit {0}
-DoesToDisk (task.Reset from) old new = Unit {0}
+DoesToDisk told old new = Unit {0}
 
 -- a fault that a task may end with, whatever the posts are
 abbrev pub IsOfRun : SimFault → Type 0

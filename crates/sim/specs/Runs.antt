@@ -8,13 +8,13 @@ use Rattle.sim.specs.declared.events.Mark.{Mark}
 use Rattle.sim.specs.declared.events.Mark.TheVariants.{Skipped}
 use Rattle.sim.specs.declared.events.Reason.{Reason}
 use Rattle.sim.specs.declared.posts.Post.{Post}
-use Rattle.sim.specs.declared.tasks.Task.{Task}
+use Rattle.sim.specs.declared.tasks.Instruction.{Instruction}
 use Rattle.sim.specs.Seats.{MayCome}
 use Rattle.sim.specs.Scene.{Scene, plan_of, Does, scene_after, bytes_in}
 use Rattle.sim.specs.Posts.{IsCluster}
 
 -- what a plan did, the scene that it leaves, and the records that stand there behind those that its member had saved
-abbrev pub IsPlanned : Size → Scene → Result (ℕ × Task) Reason → List ℕ → Mark → List Record → List Step → Scene → Type 0
+abbrev pub IsPlanned : Size → Scene → Result (ℕ × Instruction) Reason → List ℕ → Mark → List Record → List Step → Scene → Type 0
 IsPlanned size c (Ok to) bytes mark saved steps next =
     Does size c to.0 to.1 bytes mark steps × (next ≡ scene_after c to.0 to.1 bytes mark (after_all c.world steps))
     × (next.world.journal to.0 ≡ c.world.journal to.0 ++ saved)

@@ -14,8 +14,8 @@ use Rattle.sim.specs.declared.events.Mark.{Mark}
 use Rattle.sim.specs.declared.events.Mark.TheVariants.{Done, Failed, Skipped}
 use Rattle.sim.specs.declared.events.Reason.{Reason}
 use Rattle.sim.specs.declared.events.Reason.TheVariants.{NoSuch, WrongSide, NotUp, Running, Nothing}
-use Rattle.sim.specs.declared.tasks.Task.{Task}
-use Rattle.sim.specs.declared.tasks.Task.TheVariants as task
+use Rattle.sim.specs.declared.tasks.Instruction.{Instruction}
+use Rattle.sim.specs.declared.tasks.Instruction.TheVariants as task
 use Rattle.sim.specs.Links.{statements_in}
 use Rattle.sim.specs.Seats.{nth_said, group_from, hearings_from, Answers, AnswersGroup, AreLies, Reopens}
 
@@ -53,12 +53,12 @@ for_link size liars w from to plan =
     (cond (is_none (w.doubt to)) plan (Err NotUp)))) (Err NoSuch)) (Err NoSuch)
 
 -- a statement, if there is one, is delivered, and the link is then at that place
-abbrev pub to_deliver : ℕ → ℕ → ℕ → Toss → Option Statement → Result (ℕ × Task) Reason
+abbrev pub to_deliver : ℕ → ℕ → ℕ → Toss → Option Statement → Result (ℕ × Instruction) Reason
 to_deliver from to place toss None = Err Nothing
 to_deliver from to place toss (Some s) = Ok (to, task.Deliver from s place toss)
 
 -- which of these records' statements a delivery is of, and the link's place then
-abbrev pub delivery_of : List Record → ℕ → ℕ → ℕ → Which → Toss → Result (ℕ × Task) Reason
+abbrev pub delivery_of : List Record → ℕ → ℕ → ℕ → Which → Toss → Result (ℕ × Instruction) Reason
 delivery_of records place from to Next toss = to_deliver from to (place + 1) toss (nth_said records place)
 delivery_of records place from to (At number) toss = to_deliver from to place toss (nth_said records number)
 
@@ -67,18 +67,18 @@ abbrev pub group_of : Scene → ℕ → ℕ → ℕ → List Statement
 group_of c from to count = group_from (c.world.journal from) (c.place from to) count
 
 -- these statements, if there are any, are delivered as a group of at most so many
-abbrev pub to_group : ℕ → ℕ → ℕ → Toss → List Statement → Result (ℕ × Task) Reason
+abbrev pub to_group : ℕ → ℕ → ℕ → Toss → List Statement → Result (ℕ × Instruction) Reason
 to_group from to count toss [] = Err Nothing
 to_group from to count toss (s ∷ statements) = Ok (to, task.DeliverAll from count toss)
 
 -- a liar's bytes for a correct member that is up
-abbrev pub lie_plan : Size → (ℕ → Bool) → Scene → ℕ → ℕ → Toss → Result (ℕ × Task) Reason
+abbrev pub lie_plan : Size → (ℕ → Bool) → Scene → ℕ → ℕ → Toss → Result (ℕ × Instruction) Reason
 lie_plan size liars c liar to toss =
     cond (nat_lt liar size.n) (cond (nat_lt to size.n) (cond (liars liar) (cond (liars to) (Err WrongSide)
     (cond (is_none (c.world.doubt to)) (Ok (to, task.Lie liar toss)) (Err NotUp))) (Err WrongSide)) (Err NoSuch)) (Err NoSuch)
 
 -- the member and its task, or the first reason to skip the event; whether a liar's link is broken is seen later
-abbrev pub plan_of : Size → (ℕ → Bool) → Scene → Event → Result (ℕ × Task) Reason
+abbrev pub plan_of : Size → (ℕ → Bool) → Scene → Event → Result (ℕ × Instruction) Reason
 plan_of size liars c (Propose member question bit toss) =
     cond (nat_lt question size.questions) (for_running size liars c.world member (Ok (member, task.Propose question bit toss))) (Err NoSuch)
 plan_of size liars c (Deliver from to which toss) =
@@ -101,7 +101,7 @@ HearsLies size c p liar bytes toss messages (Rest rest) mark steps =
     × AreLies size p c.world (c.fused p) liar toss (statements_in more) mark steps
 
 -- these steps are the member's task with that mark; the bytes are a liar's
-abbrev pub Does : Size → Scene → ℕ → Task → List ℕ → Mark → List Step → Type 0
+abbrev pub Does : Size → Scene → ℕ → Instruction → List ℕ → Mark → List Step → Type 0
 Does size c p (task.Propose question bit toss) bytes mark steps = Answers size p c.world (c.fused p) toss.0 (Proposal question bit) mark steps
 Does size c p (task.Deliver from s place toss) bytes mark steps = Answers size p c.world (c.fused p) toss.0 (Hearing from s) mark steps
 Does size c p (task.DeliverAll from count toss) bytes mark steps =
@@ -115,8 +115,7 @@ Does size c p task.Restart bytes mark steps = Reopens p (c.fused p) mark steps
 Does size c p (task.Reset from) bytes mark steps = (mark ≡ Done) × (steps ≡ [])
 
 -- what a task that wasn't skipped leaves, over the world that its steps leave
-abbrev pub moved : Scene → ℕ → Task → List ℕ → Mark → World → Scene
-moved c p (task.Propose question bit toss) bytes mark w = record c { world = w }
+abbrev pub moved : Scene → ℕ → Instruction → List ℕ → Mark → World → Scene
 moved c p (task.Deliver from s place toss) bytes mark w = record c { world = w; place = put_at c.place from p place }
 moved c p (task.DeliverAll from count toss) bytes mark w =
     record c { world = w; place = put_at c.place from p (c.place from p + length (group_of c from p count)) }
@@ -124,23 +123,15 @@ moved c p (task.Lie liar toss) bytes mark w = record c { world = w; fed = put_at
 moved c p (task.Fuse calls) bytes mark w = record c { world = w; fused = put c.fused p (is_some calls) }
 moved c p (task.Crash pick) bytes mark w = record c { world = w; fused = put c.fused p false }
 moved c p task.Restart bytes Done w = record c { world = w; place = cleared c.place p 0; fed = cleared c.fed p [] }
-moved c p task.Restart bytes Failed w = record c { world = w }
-moved c p task.Restart bytes (Skipped reason) w = record c { world = w }
 moved c p (task.Reset from) bytes mark w = record c { world = w; place = put_at c.place from p 0; fed = put_at c.fed from p [] }
+moved c p told bytes mark w = record c { world = w }
 
 -- a skipped event changes nothing
-abbrev pub scene_after : Scene → ℕ → Task → List ℕ → Mark → World → Scene
-scene_after c p told bytes Done w = moved c p told bytes Done w
-scene_after c p told bytes Failed w = moved c p told bytes Failed w
+abbrev pub scene_after : Scene → ℕ → Instruction → List ℕ → Mark → World → Scene
 scene_after c p told bytes (Skipped reason) w = c
+scene_after c p told bytes mark w = moved c p told bytes mark w
 
 -- the bytes that a liar's event brings
 abbrev pub bytes_in : Event → List ℕ
-bytes_in (Propose member question bit toss) = []
-bytes_in (Deliver from to which toss) = []
-bytes_in (DeliverAll from to count toss) = []
 bytes_in (LieBytes liar to bytes toss) = bytes.items
-bytes_in (Fuse member calls) = []
-bytes_in (Crash member pick) = []
-bytes_in (Restart member) = []
-bytes_in (Reset from to) = []
+bytes_in event = []

@@ -20,32 +20,32 @@ use Rattle.member.specs.Life.{MemberIsAt, IsReached, Replies, world_step}
 use Rattle.member.specs.Groups.{AllReply}
 use Rattle.sim.specs.declared.events.Mark.{Mark}
 use Rattle.sim.specs.declared.events.Mark.TheVariants.{Done, Failed, Skipped}
-use Rattle.sim.specs.declared.seats.Seat.{Seat}
-use Rattle.sim.specs.declared.seats.Seat.TheVariants.{Here, Down, Liar}
+use Rattle.sim.specs.declared.seats.Presence.{Presence}
+use Rattle.sim.specs.declared.seats.Presence.TheVariants.{Here, Down, Liar}
 
 -- the header of a member's journal: the cluster has the number 0
 abbrev pub mine : Size → ℕ → Header
 mine size p = new_header 0 size p
 
 -- its calls may be made
-abbrev pub IsOneSound : Seat → Type 0
+abbrev pub IsOneSound : Presence → Type 0
 IsOneSound (Here m) = IsSound memory_disk m
 IsOneSound (Down disk records) = Unit {0}
 IsOneSound Liar = Unit {0}
 
-abbrev pub is_liar : Seat → Bool
+abbrev pub is_liar : Presence → Bool
 is_liar (Here m) = false
 is_liar (Down disk records) = false
 is_liar Liar = true
 
 -- its member runs
-abbrev pub is_up : Seat → Bool
+abbrev pub is_up : Presence → Bool
 is_up (Here m) = not (member_is_stopped m)
 is_up (Down disk records) = false
 is_up Liar = false
 
 -- its member's disk
-abbrev pub disk_in : Seat → Option MemDisk
+abbrev pub disk_in : Presence → Option MemDisk
 disk_in (Here m) = Some (member_disk m)
 disk_in (Down disk records) = Some disk
 disk_in Liar = None
@@ -62,7 +62,7 @@ HasCrashed pick (Some old) None = ⊥
 HasCrashed pick None new = new ≡ None
 
 -- what its member has saved
-abbrev pub saved_in : Seat → List Record
+abbrev pub saved_in : Presence → List Record
 saved_in (Here m) = member_saved m
 saved_in (Down disk records) = records.items
 saved_in Liar = []
@@ -93,13 +93,13 @@ pub record IsDown (header : Header) (w : World) (disk : MemDisk) (records : List
   pub left : IsLeft (memory_state disk) header (w.journal header.me) (w.doubt header.me)
 
 -- the seat is what the world has of the correct member of that header
-abbrev pub IsSeatAt : Header → World → Seat → Type 0
+abbrev pub IsSeatAt : Header → World → Presence → Type 0
 IsSeatAt header w (Here m) = MemberIsAt memory_disk header w m
 IsSeatAt header w (Down disk records) = IsDown header w disk records.items
 IsSeatAt header w Liar = ⊥
 
 -- its journal was created, and nothing was saved
-abbrev pub IsFreshSeat : Header → Seat → Type 0
+abbrev pub IsFreshSeat : Header → Presence → Type 0
 IsFreshSeat header (Here m) = ⊥
 IsFreshSeat header (Down disk records) = IsLeft (memory_state disk) header [] None
 IsFreshSeat header Liar = ⊥
@@ -188,14 +188,14 @@ Reopens p fused Failed steps = (fused ≡ true) × (steps ≡ [])
 Reopens p fused (Skipped reason) steps = ⊥
 
 -- These steps may happen now, they are what the mark says, and then the seat is what the world has of the member.
-pub record IsMove (size : Size) (liars : ℕ → Bool) (p : ℕ) (w : World) (Is : List Step → Type 0) (seat : Seat) : Type 0 where
+pub record IsMove (size : Size) (liars : ℕ → Bool) (p : ℕ) (w : World) (Is : List Step → Type 0) (seat : Presence) : Type 0 where
   pub steps : List Step
   pub is : Is steps
   pub is_run : IsRun size liars w steps
   pub at : IsSeatAt (mine size p) (after_all w steps) seat
 
 -- after the first opening the seat is what the world has at its start; it failed only where a fuse is in the disk
-abbrev pub IsBegun : Header → Bool → Mark → Seat → Type 0
+abbrev pub IsBegun : Header → Bool → Mark → Presence → Type 0
 IsBegun header fused Done seat = IsSeatAt header start seat
 IsBegun header fused Failed seat = fused ≡ true
 IsBegun header fused (Skipped reason) seat = ⊥

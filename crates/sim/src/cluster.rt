@@ -87,7 +87,7 @@ impl Cluster {
         if !are_disks(size, &disks) {
             return Err(SimFault::BadDisks);
         }
-        let _members = size.n();
+        size.recall();
         let posts = opened(alloc, size, liars, disks)?;
         Ok(Cluster {
             size,

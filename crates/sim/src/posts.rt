@@ -7,7 +7,7 @@ ghost use Rattle.disk.specs.declared.memory.MemDisk.{MemDisk};
 ghost use Rattle.disk.specs.Memory.{fuse_left};
 ghost use Rattle.member.specs.Stands.{IsLeft};
 ghost use Rattle.disk.specs.Memory.{memory_state};
-ghost use Rattle.sim.specs.declared.tasks.Task.TheVariants as tasks;
+ghost use Rattle.sim.specs.declared.tasks.Instruction.TheVariants as tasks;
 ghost use Rattle.sim.specs.declared.faults.SimFault.TheVariants as faults;
 ghost use Rattle.sim.specs.declared.links.Link.{Link};
 ghost use Rattle.sim.specs.Seats.{is_liar, is_up, saved_in, nth_said, group_from, disk_in, HasDiskFuse, HasCrashed, IsFreshSeat, IsSeatAt, MayCome, mine};
@@ -15,8 +15,8 @@ ghost use Rattle.sim.specs.Scene.{Scene};
 ghost use Rattle.sim.specs.Posts.{IsPost, IsReady, IsDone, Brings, IsNewLink, CanBeDone, HasSender, IsCreated, IsOpenedPost, IsOfOpening, IsOfRun, DoesToDisk};
 
 use crate::links::Link;
-use crate::seats::Seat;
-use crate::tasks::Task;
+use crate::seats::Presence;
+use crate::tasks::Instruction;
 use crate::{MOST_IN_GROUP, Mark, Reason, SimFault};
 use disk::{MemDisk, Pick};
 use journal::{JournalFault, create};
@@ -26,7 +26,7 @@ use terms::{Header, Record, Size, Statement};
 
 /// The statements that a group brings, and the link's place behind them.
 #[derive(Drop)]
-pub(crate) struct Group {
+pub(crate) struct Delivery {
     pub(crate) statements: Vec<Statement>,
     pub(crate) place: u64,
 }
@@ -35,7 +35,7 @@ pub(crate) struct Group {
 #[derive(Drop)]
 pub(crate) struct Post {
     header: Header,
-    seat: Seat,
+    seat: Presence,
     /// Whether a fuse is in its disk.
     fused: bool,
     /// The links to it, by their senders.
@@ -58,9 +58,9 @@ impl Post {
         let incoming = links(alloc, header.size())?;
         let fused = disk.is_fused();
         let seat = if liar {
-            Seat::Liar
+            Presence::Liar
         } else {
-            Seat::Down(created(disk, &header)?, Vec::new(alloc))
+            Presence::Down(created(disk, &header)?, Vec::new(alloc))
         };
         Ok(Post {
             header,
@@ -128,7 +128,7 @@ impl Post {
 
     /// The statements from that number on, of all that its member has saved: at most so many, and at most
     /// [`MOST_IN_GROUP`].
-    pub(crate) fn group(&self, alloc: Global, number: u64, count: u16) -> Result<Group, SimFault>
+    pub(crate) fn group(&self, alloc: Global, number: u64, count: u16) -> Result<Delivery, SimFault>
         requires ready { IsReady self.now }
         ensures statements { IfOk result (λ group.
             group.statements.items ≡ group_from (saved_in self.now.seat) number count) }
@@ -140,12 +140,12 @@ impl Post {
         let mut place = number;
         for _taken in 0..count.min(MOST_IN_GROUP) {
             let Some(statement) = self.seat.statement(place) else {
-                return Ok(Group { statements, place });
+                return Ok(Delivery { statements, place });
             };
             statements.push(statement)?;
             place += 1;
         }
-        Ok(Group { statements, place })
+        Ok(Delivery { statements, place })
     }
 
     /// The place of the link from that sender.
@@ -161,9 +161,9 @@ impl Post {
     pub(crate) fn carry(
         &mut self,
         alloc: Global,
-        task: Task,
+        task: Instruction,
         bytes: &[u8],
-        group: &Group,
+        group: &Delivery,
     ) -> Result<Mark, SimFault>
         requires ready { IsReady self.old }
         requires within { HasSender self.old.header.size.n task }
@@ -180,16 +180,16 @@ impl Post {
             IfErr result (λ fault. fault ≡ faults.Memory) }
     {
         match task {
-            Task::Propose(question, bit, toss) => self.propose(question, bit, toss),
-            Task::Deliver(from, statement, place, toss) => {
+            Instruction::Propose(question, bit, toss) => self.propose(question, bit, toss),
+            Instruction::Deliver(from, statement, place, toss) => {
                 self.deliver(from, statement, place, toss)
             }
-            Task::DeliverAll(from, _, toss) => self.deliver_all(alloc, from, group, toss),
-            Task::Lie(liar, toss) => self.hear_lies(alloc, liar, bytes, toss),
-            Task::Fuse(calls) => self.fuse(calls),
-            Task::Crash(pick) => self.crash(pick),
-            Task::Restart => self.restart(alloc),
-            Task::Reset(from) => self.reset(from),
+            Instruction::DeliverAll(from, _, toss) => self.deliver_all(alloc, from, group, toss),
+            Instruction::Lie(liar, toss) => self.hear_lies(alloc, liar, bytes, toss),
+            Instruction::Fuse(calls) => self.fuse(calls),
+            Instruction::Crash(pick) => self.crash(pick),
+            Instruction::Restart => self.restart(alloc),
+            Instruction::Reset(from) => self.reset(from),
         }
     }
 
@@ -242,7 +242,7 @@ impl Post {
         &mut self,
         alloc: Global,
         from: u8,
-        group: &Group,
+        group: &Delivery,
         toss: Toss,
     ) -> Result<Mark, SimFault>
         requires ready { IsReady self.old }

@@ -23,7 +23,7 @@ use terms::{Header, Record, Statement};
 
 /// Where a number's member is.
 #[derive(Drop)]
-pub(crate) enum Seat {
+pub(crate) enum Presence {
     /// It runs, or has stopped.
     Here(Member<MemDisk>),
     /// It is down: its disk, and what it has saved.
@@ -32,12 +32,12 @@ pub(crate) enum Seat {
     Liar,
 }
 
-impl Seat {
+impl Presence {
     /// Whether the number is a liar's.
     pub(crate) fn is_liar(&self) -> bool
         ensures { result ≡ is_liar self.now }
     {
-        matches!(self, Seat::Liar)
+        matches!(self, Presence::Liar)
     }
 
     /// Whether its member runs.
@@ -45,7 +45,7 @@ impl Seat {
         ensures { result ≡ is_up self.now }
     {
         match self {
-            Seat::Here(member) => !member.is_stopped(),
+            Presence::Here(member) => !member.is_stopped(),
             _ => false,
         }
     }
@@ -55,9 +55,9 @@ impl Seat {
         ensures { result.now ≡ saved_in self.now }
     {
         match self {
-            Seat::Here(member) => member.records(),
-            Seat::Down(_, records) => records.as_slice(),
-            Seat::Liar => &[],
+            Presence::Here(member) => member.records(),
+            Presence::Down(_, records) => records.as_slice(),
+            Presence::Liar => &[],
         }
     }
 
@@ -68,7 +68,7 @@ impl Seat {
         ensures room { IfSome result (λ _. number + 1 < 2 ^ 64) }
     {
         match self {
-            Seat::Here(member) => {
+            Presence::Here(member) => {
                 let outbox = member.outbox();
                 let index = number as usize;
                 if index < outbox.len() {
@@ -99,7 +99,7 @@ impl Seat {
         ensures memory { (size : Size) (liars : ℕ → Bool) (p : ℕ) (w : World) → IsCorrect size liars p → w.doubt p ≡ None →
             IsSeatAt (mine size p) w self.old → MayCome size liars w → IfErr result (λ fault. fault ≡ faults.Memory) }
     {
-        let Seat::Here(member) = self else {
+        let Presence::Here(member) = self else {
             return Ok(Mark::Skipped(Reason::NotUp));
         };
         let answer = member.propose(question, bit, toss);
@@ -125,7 +125,7 @@ impl Seat {
             IsSeatAt (mine size p) w self.old → has_sent w.sent from statement.now ≡ true → MayCome size liars w →
             IfErr result (λ fault. fault ≡ faults.Memory) }
     {
-        let Seat::Here(member) = self else {
+        let Presence::Here(member) = self else {
             return Ok(Mark::Skipped(Reason::NotUp));
         };
         let answer = member.hear(from, statement, toss);
@@ -150,7 +150,7 @@ impl Seat {
             IsSeatAt (mine size p) w self.old → AllCome w (hearings events.now) → MayCome size liars w →
             IfErr result (λ fault. fault ≡ faults.Memory) }
     {
-        let Seat::Here(member) = self else {
+        let Presence::Here(member) = self else {
             return Ok(Mark::Skipped(Reason::NotUp));
         };
         let answers = member.hear_all(events);
@@ -195,9 +195,9 @@ impl Seat {
         ensures at { (header : Header) (w : World) → IsSeatAt header w self.old → IsSeatAt header w self.new }
     {
         match self {
-            Seat::Here(member) => member.fuse(calls),
-            Seat::Down(disk, _) => disk.fuse(calls),
-            Seat::Liar => {}
+            Presence::Here(member) => member.fuse(calls),
+            Presence::Down(disk, _) => disk.fuse(calls),
+            Presence::Liar => {}
         }
     }
 
@@ -211,9 +211,9 @@ impl Seat {
         ensures at { (header : Header) (w : World) → IsSeatAt header w self.old →
             OnOk result (IsSeatAt header (after w (Crash header.me)) self.new) }
     {
-        match mem::replace(self, Seat::Liar).into_parts() {
+        match mem::replace(self, Presence::Liar).into_parts() {
             Some((disk, records)) => {
-                *self = Seat::Down(disk.crash(pick)?, records);
+                *self = Presence::Down(disk.crash(pick)?, records);
                 Ok(())
             }
             None => Ok(()),
@@ -237,17 +237,17 @@ impl Seat {
             IfOk result (λ mark. IsMove size liars p w (Reopens p fused mark) self.new) }
         ensures begun { IsFreshSeat header.now self.old → IfOk result (λ mark. IsBegun header.now fused mark self.new) }
     {
-        let (disk, records) = match mem::replace(self, Seat::Liar).into_parts() {
+        let (disk, records) = match mem::replace(self, Presence::Liar).into_parts() {
             Some(parts) => parts,
             None => return Ok(Mark::Skipped(Reason::WrongSide)),
         };
         match Member::adopt(alloc, disk, header) {
             Ok(member) => {
-                *self = Seat::Here(member);
+                *self = Presence::Here(member);
                 Ok(Mark::Done)
             }
             Err((JournalFault::Device, disk)) if fused => {
-                *self = Seat::Down(disk, records);
+                *self = Presence::Down(disk, records);
                 Ok(Mark::Failed)
             }
             Err(_) => Err(SimFault::Memory),
@@ -263,9 +263,9 @@ impl Seat {
         ensures side { MatchOption result (is_liar self ≡ true) (λ _. is_liar self ≡ false) }
     {
         match self {
-            Seat::Here(member) => Some(member.into_parts()),
-            Seat::Down(disk, records) => Some((disk, records)),
-            Seat::Liar => None,
+            Presence::Here(member) => Some(member.into_parts()),
+            Presence::Down(disk, records) => Some((disk, records)),
+            Presence::Liar => None,
         }
     }
 }

@@ -6,9 +6,9 @@ ghost use Rattle.sim.specs.Posts.{IsCluster, AreReady, IsReady, HasSender, CanBe
 ghost use Rattle.sim.specs.Seats.{saved_in, group_from};
 ghost use Rattle.sim.specs.declared.faults.SimFault.TheVariants as faults;
 ghost use Rattle.sim.specs.declared.events.Event.TheVariants as events;
-ghost use Rattle.sim.specs.declared.tasks.Task.TheVariants as tasks;
+ghost use Rattle.sim.specs.declared.tasks.Instruction.TheVariants as tasks;
 
-use crate::posts::{Group, Post};
+use crate::posts::{Delivery, Post};
 use crate::{Event, Reason, SimFault, Which};
 use disk::Pick;
 use rounds::Toss;
@@ -17,7 +17,7 @@ use terms::{Size, Statement};
 
 /// What one member of the cluster is told.
 #[derive(Clone, Copy)]
-pub(crate) enum Task {
+pub(crate) enum Instruction {
     /// To take a proposal.
     Propose(u16, bool, Toss),
     /// To hear this statement of that sender; the link's place is then this one.
@@ -37,7 +37,7 @@ pub(crate) enum Task {
 }
 
 /// The member that an event is for and its task, or the first reason to skip the event.
-pub(crate) fn plan(size: Size, posts: &[Post], event: &Event) -> Result<(u8, Task), Reason>
+pub(crate) fn plan(size: Size, posts: &[Post], event: &Event) -> Result<(u8, Instruction), Reason>
     requires ready { AreReady size posts.now }
     ensures plan { (liars : ℕ → Bool) (c : Scene) → IsCluster size liars c posts.now → result ≡ plan_of size liars c event.now }
     ensures within { IfOk result (λ to. (to.0 < size.n) × HasSender size.n to.1) }
@@ -52,7 +52,12 @@ pub(crate) fn plan(size: Size, posts: &[Post], event: &Event) -> Result<(u8, Tas
             if *question >= size.questions() {
                 return Err(Reason::NoSuch);
             }
-            for_running(size, posts, *member, Task::Propose(*question, *bit, *toss))
+            for_running(
+                size,
+                posts,
+                *member,
+                Instruction::Propose(*question, *bit, *toss),
+            )
         }
         Event::Deliver {
             from,
@@ -72,20 +77,35 @@ pub(crate) fn plan(size: Size, posts: &[Post], event: &Event) -> Result<(u8, Tas
             bytes: _,
             toss,
         } => lie(size, posts, *liar, *to, *toss),
-        Event::Fuse { member, calls } => for_correct(size, posts, *member, Task::Fuse(*calls)),
-        Event::Crash { member, pick } => for_correct(size, posts, *member, Task::Crash(*pick)),
+        Event::Fuse { member, calls } => for_correct(
+            size,
+            posts,
+            *member,
+            Instruction::Fuse(*calls),
+        ),
+        Event::Crash { member, pick } => for_correct(
+            size,
+            posts,
+            *member,
+            Instruction::Crash(*pick),
+        ),
         Event::Restart { member } => restart(size, posts, *member),
         Event::Reset { from, to } => {
             if *from >= size.n() || *to >= size.n() {
                 return Err(Reason::NoSuch);
             }
-            Ok((*to, Task::Reset(*from)))
+            Ok((*to, Instruction::Reset(*from)))
         }
     }
 }
 
 /// A task for a correct member.
-fn for_correct(size: Size, posts: &[Post], member: u8, task: Task) -> Result<(u8, Task), Reason>
+fn for_correct(
+    size: Size,
+    posts: &[Post],
+    member: u8,
+    task: Instruction,
+) -> Result<(u8, Instruction), Reason>
     requires sender { HasSender size.n task }
     requires ready { AreReady size posts.now }
     ensures plan { (liars : ℕ → Bool) (c : Scene) → IsCluster size liars c posts.now → result ≡ for_correct size liars member (Ok (member, task)) }
@@ -101,7 +121,12 @@ fn for_correct(size: Size, posts: &[Post], member: u8, task: Task) -> Result<(u8
 }
 
 /// A task for a correct member that runs.
-fn for_running(size: Size, posts: &[Post], member: u8, task: Task) -> Result<(u8, Task), Reason>
+fn for_running(
+    size: Size,
+    posts: &[Post],
+    member: u8,
+    task: Instruction,
+) -> Result<(u8, Instruction), Reason>
     requires sender { HasSender size.n task }
     requires ready { AreReady size posts.now }
     ensures plan { (liars : ℕ → Bool) (c : Scene) → IsCluster size liars c posts.now → result ≡ for_running size liars c.world member (Ok (member, task)) }
@@ -149,7 +174,7 @@ fn delivery(
     to: u8,
     which: Which,
     toss: Toss,
-) -> Result<(u8, Task), Reason>
+) -> Result<(u8, Instruction), Reason>
     requires ready { AreReady size posts.now }
     ensures plan { (liars : ℕ → Bool) (c : Scene) → IsCluster size liars c posts.now → result ≡ plan_of size liars c (events.Deliver from to which toss) }
     ensures within { IfOk result (λ to. (to.0 < size.n) × HasSender size.n to.1) }
@@ -168,7 +193,7 @@ fn group(
     to: u8,
     count: u16,
     toss: Toss,
-) -> Result<(u8, Task), Reason>
+) -> Result<(u8, Instruction), Reason>
     requires ready { AreReady size posts.now }
     ensures plan { (liars : ℕ → Bool) (c : Scene) → IsCluster size liars c posts.now → result ≡ plan_of size liars c (events.DeliverAll from to count toss) }
     ensures within { IfOk result (λ to. (to.0 < size.n) × HasSender size.n to.1) }
@@ -187,7 +212,7 @@ fn outgoing_group(
     to: u8,
     count: u16,
     toss: Toss,
-) -> Result<(u8, Task), Reason>
+) -> Result<(u8, Instruction), Reason>
     requires ready { IsReady sender.now }
     ensures plan { result ≡ to_group from to count toss (group_from (saved_in sender.now.seat) place count) }
     ensures to { IfOk result (λ planned. planned.0 ≡ to) }
@@ -197,7 +222,7 @@ fn outgoing_group(
         return Err(Reason::Nothing);
     }
     match sender.statement(place) {
-        Some(_) => Ok((to, Task::DeliverAll(from, count, toss))),
+        Some(_) => Ok((to, Instruction::DeliverAll(from, count, toss))),
         None => Err(Reason::Nothing),
     }
 }
@@ -210,7 +235,7 @@ fn outgoing(
     to: u8,
     which: Which,
     toss: Toss,
-) -> Result<(u8, Task), Reason>
+) -> Result<(u8, Instruction), Reason>
     requires ready { IsReady sender.now }
     ensures plan { result ≡ delivery_of (saved_in sender.now.seat) place from to which toss }
     ensures to { IfOk result (λ planned. planned.0 ≡ to) }
@@ -218,18 +243,24 @@ fn outgoing(
 {
     match which {
         Which::Next => match sender.statement(place) {
-            Some(statement) => Ok((to, Task::Deliver(from, statement, place + 1, toss))),
+            Some(statement) => Ok((to, Instruction::Deliver(from, statement, place + 1, toss))),
             None => Err(Reason::Nothing),
         },
         Which::At(number) => match sender.statement(number) {
-            Some(statement) => Ok((to, Task::Deliver(from, statement, place, toss))),
+            Some(statement) => Ok((to, Instruction::Deliver(from, statement, place, toss))),
             None => Err(Reason::Nothing),
         },
     }
 }
 
 /// A liar's bytes for a correct member.
-fn lie(size: Size, posts: &[Post], liar: u8, to: u8, toss: Toss) -> Result<(u8, Task), Reason>
+fn lie(
+    size: Size,
+    posts: &[Post],
+    liar: u8,
+    to: u8,
+    toss: Toss,
+) -> Result<(u8, Instruction), Reason>
     requires ready { AreReady size posts.now }
     ensures plan { (liars : ℕ → Bool) (c : Scene) → IsCluster size liars c posts.now →
         result ≡ lie_plan size liars c liar to toss }
@@ -245,11 +276,11 @@ fn lie(size: Size, posts: &[Post], liar: u8, to: u8, toss: Toss) -> Result<(u8, 
     if !receiver.is_up() {
         return Err(Reason::NotUp);
     }
-    Ok((to, Task::Lie(liar, toss)))
+    Ok((to, Instruction::Lie(liar, toss)))
 }
 
 /// An opening of a correct member that doesn't run.
-fn restart(size: Size, posts: &[Post], member: u8) -> Result<(u8, Task), Reason>
+fn restart(size: Size, posts: &[Post], member: u8) -> Result<(u8, Instruction), Reason>
     requires ready { AreReady size posts.now }
     ensures plan { (liars : ℕ → Bool) (c : Scene) → IsCluster size liars c posts.now → result ≡ plan_of size liars c (events.Restart member) }
     ensures within { IfOk result (λ to. (to.0 < size.n) × HasSender size.n to.1) }
@@ -264,7 +295,7 @@ fn restart(size: Size, posts: &[Post], member: u8) -> Result<(u8, Task), Reason>
     if post.is_up() {
         return Err(Reason::Running);
     }
-    Ok((member, Task::Restart))
+    Ok((member, Instruction::Restart))
 }
 
 /// The statements that a task brings, which are those of a group.
@@ -273,8 +304,8 @@ pub(crate) fn brought(
     size: Size,
     posts: &[Post],
     to: u8,
-    task: &Task,
-) -> Result<Group, SimFault>
+    task: &Instruction,
+) -> Result<Delivery, SimFault>
     requires ready { AreReady size posts.now }
     requires within { (to < size.n) × HasSender size.n task.now }
     ensures brings { (liars : ℕ → Bool) (c : Scene) → IsCluster size liars c posts.now → CanBeDone size liars c to task.now →
@@ -283,11 +314,11 @@ pub(crate) fn brought(
     ensures only { IfErr result (λ fault. fault ≡ faults.Memory) }
 {
     match *task {
-        Task::DeliverAll(from, count, _) => {
+        Instruction::DeliverAll(from, count, _) => {
             let place = posts[usize::from(to)].place(from);
             posts[usize::from(from)].group(alloc, place, count)
         }
-        _ => Ok(Group {
+        _ => Ok(Delivery {
             statements: Vec::new(alloc),
             place: 0,
         }),

@@ -6,6 +6,8 @@ mod answers;
 #[cfg(test)]
 mod broadcasts;
 #[cfg(test)]
+mod counts;
+#[cfg(test)]
 mod documents;
 #[cfg(test)]
 mod draws;

@@ -66,7 +66,7 @@ pub enum Task<'a> {
 
 /// What the words of the command line ask for.
 #[derive(Clone, Copy, Debug, PartialEq, Eq)]
-pub struct Order<'a> {
+pub struct Request<'a> {
     pub task: Task<'a>,
     /// Behind the line of a fault a second one is wanted, which names the thing.
     pub verbose: bool,
@@ -477,7 +477,7 @@ fn is_verbose(matches: &ArgMatches<'_>) -> bool
 
 /// What the words ask for, the program's name first among them. An `Err` is to be printed: it is a fault of the words,
 /// the help or the version.
-pub fn command<'a, S: AsStr>(alloc: Global, words: &'a [S]) -> Result<Order<'a>, Error>
+pub fn command<'a, S: AsStr>(alloc: Global, words: &'a [S]) -> Result<Request<'a>, Error>
     ensures asks { IfOk result (λ order. AskFor (map S.text words.entry.now) order.task) }
     ensures verbose { IfOk result (λ order. AreVerbose (map S.text words.entry.now) order.verbose) }
     ensures faults { FailsBy (fault_of program_app (map S.text words.entry.now)) result }
@@ -485,7 +485,7 @@ pub fn command<'a, S: AsStr>(alloc: Global, words: &'a [S]) -> Result<Order<'a>,
     let matches = program(alloc)?.try_get_matches_from(words)?;
     let verbose = is_verbose(&matches);
     match task_of(&matches) {
-        Some(task) => Ok(Order { task, verbose }),
+        Some(task) => Ok(Request { task, verbose }),
         None => unreachable!(),
     }
 }

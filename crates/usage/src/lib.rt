@@ -4,7 +4,7 @@
 
 mod command_line;
 
-pub use command_line::{Order, Task, command};
+pub use command_line::{Request, Task, command};
 
 #[cfg(test)]
 mod tests;

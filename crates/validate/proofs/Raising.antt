@@ -3,30 +3,23 @@ use Rattle.std.proofs.Common.{ℕ, zero, suc, ◌≡◌, ◌+◌, ◌<◌, ◌�
 use Rattle.std.proofs.lemmas.Bool.{and_parts, cases_eq, false≢true}
 use Rattle.vocabulary.specs.Terms.{Value, Zero, One, SureZero, SureOne, Unsure, Place, Size, IsPlace, FitsStep, keep_or, given, count_below, value_is, place_eq}
 use Rattle.terms.proofs.Count.{count-ext}
-use Rattle.terms.proofs.Votes.{fits, value_fits, zero_bit, one_bit_of, unsure_bit}
-use Rattle.validate.specs.declared.follow.Tally.{Tally}
-use Rattle.validate.specs.declared.rows.Votes.{Votes}
-use Rattle.validate.specs.declared.rows.Row.{Row}
-use Rattle.validate.specs.Tallies.{no_tally}
-use Rattle.validate.specs.Rows.{has_bit, value_of, zero_value, one_value, ones_of, unsures_of, is_third_step, no_row, row_at, number_of, row_value, with_vote}
-use Rattle.validate.specs.Running.{Passes, IsCounted, IsFresh, values_at, tally_before, IsRowFresh, AreFresh}
+use Rattle.validate.specs.Words.{Tally, Row, no_tally, is_third_step, no_row, row_at, number_of, row_value, Passes, IsCounted, IsFresh, values_at, tally_before, IsRowFresh, AreFresh}
+use Rattle.votes.specs.declared.Votes.{Votes}
+use Rattle.votes.specs.Votes.{zero_value, one_value, fits, value_of, with_vote}
+use Rattle.votes.proofs.Sent.{value_fits, nobody}
 use Rattle.validate.proofs.Counting.{count-nobody}
-use Rattle.validate.proofs.Masks.{no_value, taken_more}
+use Rattle.validate.proofs.Places.{taken_more}
 
 -- nobody passes a test that none passes
 none_pass : (n : ℕ) (test : ℕ → Bool) → count_below n (λ a. false && test a) ≡ 0
 none_pass zero test = refl
 none_pass (suc n) test = let e : count_below n (λ a. false && test a) ≡ 0 = none_pass n test in omega (arith, e)
 
--- what is counted where the value passes, and where it doesn't
-pub counted_all : (size : Size) (i senders : ℕ) (before : Tally) (m : Value) (b : Bool) (many : ℕ) → b ≡ true
-    → Passes size i before m b → many ≡ count_below size.n (has_bit senders) → IsCounted size i senders before m many
-counted_all size i senders before m b many e p c = record { passes = true; right = subst (λ (x : Bool). Passes size i before m x) e p; count = c }
-
-pub counted_none : (size : Size) (i senders : ℕ) (before : Tally) (m : Value) (b : Bool) → b ≡ false
-    → Passes size i before m b → IsCounted size i senders before m 0
-counted_none size i senders before m b e p =
-    record { passes = false; right = subst (λ (x : Bool). Passes size i before m x) e p; count = sym (none_pass size.n (has_bit senders)) }
+-- what is counted where the value doesn't pass
+pub counted_none : (size : Size) (i : ℕ) (values : ℕ → Option Value) (before : Tally) (m : Value) (b : Bool) → b ≡ false
+    → Passes size i before m b → IsCounted size i values before m 0
+counted_none size i values before m b e p =
+    record { passes = false; right = subst (λ (x : Bool). Passes size i before m x) e p; count = sym (none_pass size.n (λ a. value_is (values a) m)) }
 
 -- which values pass, by those of each mask
 abbrev follows_of : Bool → Bool → Bool → Value → Bool
@@ -38,21 +31,17 @@ follows_of z o u Unsure = u
 
 -- the tally that is counted so is right
 pub fresh_from : (size : Size) (i : ℕ) (votes : Votes) (before tally : Tally)
-    → IsCounted size i votes.zero before (zero_value (is_third_step i)) tally.zero
-    → IsCounted size i (ones_of votes.zero votes.one) before (one_value (is_third_step i)) tally.one
-    → IsCounted size i (unsures_of (is_third_step i) votes.zero votes.one votes.unsure) before Unsure tally.unsure
+    → IsCounted size i (values_at i votes) before (zero_value (is_third_step i)) tally.zero
+    → IsCounted size i (values_at i votes) before (one_value (is_third_step i)) tally.one
+    → IsCounted size i (values_at i votes) before Unsure tally.unsure
     → IsFresh size i (values_at i votes) before tally
 fresh_from size i votes before tally z o u =
     record {
       follows = follows;
-      right = λ a m e. right_at (is_third_step i) z.right o.right m
-          (value_fits (is_third_step i) (has_bit votes.zero a) (has_bit votes.one a) (has_bit votes.unsure a) m e);
-      zeros = z.count ∙ count-ext size.n (λ a. z.passes && has_bit votes.zero a) (λ a. follows (zero_value (is_third_step i)) && value_is (values_at i votes a) (zero_value (is_third_step i)))
-          (λ a l j. zero_same (is_third_step i) j && zero_bit (is_third_step i) votes.zero votes.one votes.unsure a j);
-      ones = o.count ∙ count-ext size.n (λ a. o.passes && has_bit (ones_of votes.zero votes.one) a) (λ a. follows (one_value (is_third_step i)) && value_is (values_at i votes a) (one_value (is_third_step i)))
-          (λ a l j. one_same (is_third_step i) j && one_bit_of (is_third_step i) votes.zero votes.one votes.unsure a j);
-      unsures = u.count ∙ count-ext size.n (λ a. u.passes && has_bit (unsures_of (is_third_step i) votes.zero votes.one votes.unsure) a) (λ a. follows Unsure && value_is (values_at i votes a) Unsure)
-          (λ a l j. u.passes && unsure_bit (is_third_step i) votes.zero votes.one votes.unsure a j);
+      right = λ a m e. right_at (is_third_step i) z.right o.right m (value_fits (is_third_step i) votes a m e);
+      zeros = z.count ∙ (λ j. count_below size.n (λ a. zero_same (is_third_step i) j && value_is (values_at i votes a) (zero_value (is_third_step i))));
+      ones = o.count ∙ (λ j. count_below size.n (λ a. one_same (is_third_step i) j && value_is (values_at i votes a) (one_value (is_third_step i))));
+      unsures = u.count;
     }
   where
     follows : Value → Bool
@@ -91,10 +80,10 @@ fresh_empty size i before =
     }
   where
     nothing : (a : ℕ) (m : Value) → values_at i no_row.votes a ≡ Some m → ⊥
-    nothing a m e = let f : ◌≡◌ {A = Option Value} None (Some m) = sym (no_value (is_third_step i) a) ∙ e in cc
+    nothing a m e = let f : ◌≡◌ {A = Option Value} None (Some m) = sym (nobody (is_third_step i) a) ∙ e in cc
 
     none : (m : Value) → 0 ≡ count_below size.n (λ a. value_is (values_at i no_row.votes a) m)
-    none m = sym (count-ext size.n (λ a. value_is (values_at i no_row.votes a) m) (λ a. value_is None m) (λ a l. ap (λ o. value_is o m) (no_value (is_third_step i) a))
+    none m = sym (count-ext size.n (λ a. value_is (values_at i no_row.votes a) m) (λ a. value_is None m) (λ a l. ap (λ o. value_is o m) (nobody (is_third_step i) a))
         ∙ count-nobody size.n m)
 
 -- a step that stays, with the tally before it, stays right
@@ -186,34 +175,26 @@ votes_kept items k row within e i = step (cases_eq i k)
     step (inr apart) = ap (λ (x : Row). x.votes) (get_or-set_other items k i row no_row apart)
 
 -- what was accepted after one more vote, whatever the tallies are
-pub taken_raised : (n : ℕ) (place : Place) (value : Value) (old reached final : List Row) (k : ℕ) (row : Row) (votes : Votes)
-    → n ≤ 32 → IsPlace place → place.origin < n → FitsStep place.step value → k ≡ number_of place → k < length reached
-    → ((i : ℕ) → row_at reached i ≡ row_at old i) → row ≡ row_at reached k
-    → value_of (is_third_step k) row.votes place.origin ≡ None → votes ≡ with_vote row.votes place.origin value
-    → ((i : ℕ) → (row_at final i).votes ≡ (row_at (set reached k (record { votes = votes; tally = row.tally })) i).votes)
+pub taken_raised : (n : ℕ) (place : Place) (value : Value) (old reached final : List Row) (k : ℕ) (votes : Votes)
+    → n ≤ 32 → IsPlace place → place.origin < n → FitsStep place.step value → k ≡ number_of place
+    → ((i : ℕ) → row_at reached i ≡ row_at old i) → votes ≡ (row_at reached k).votes
+    → value_of (is_third_step k) votes place.origin ≡ None → (row_at final k).votes ≡ with_vote votes place.origin value
+    → ((i : ℕ) → (i ≡ k → ⊥) → (row_at final i).votes ≡ (row_at reached i).votes)
     → (p : Place) → row_value n place.question final p ≡ keep_or (row_value n place.question old p) (given (place_eq place p) value)
-taken_raised n place value old reached final k row votes few at origin fit e within same is none more raised =
+taken_raised n place value old reached final k votes few at origin fit e same is none changed kept =
     taken_more n place value (row_at old) (row_at final) few at origin fit none_old here others
   where
-    written : Row
-    written = record { votes = votes; tally = row.tally }
-
-    was : row ≡ row_at old k
-    was = is ∙ same k
+    was : votes ≡ (row_at old (number_of place)).votes
+    was = is ∙ (λ i. (same (e i) i).votes)
 
     none_old : value_of (is_third_step (number_of place)) (row_at old (number_of place)).votes place.origin ≡ None
-    none_old = (λ i. value_of (is_third_step (sym e i)) (row_at old (sym e i)).votes place.origin)
-        ∙ ap (λ (x : Row). value_of (is_third_step k) x.votes place.origin) (sym was) ∙ none
+    none_old = (λ i. value_of (is_third_step (sym e i)) (sym was i) place.origin) ∙ none
 
     here : (row_at final (number_of place)).votes ≡ with_vote (row_at old (number_of place)).votes place.origin value
-    here = ap (λ (j : ℕ). (row_at final j).votes) (sym e) ∙ raised k
-        ∙ ap (λ (x : Row). x.votes) (get_or-set_same reached k written no_row within) ∙ more
-        ∙ ap (λ (x : Row). with_vote x.votes place.origin value) was
-        ∙ ap (λ (j : ℕ). with_vote (row_at old j).votes place.origin value) e
+    here = ap (λ (j : ℕ). (row_at final j).votes) (sym e) ∙ changed ∙ ap (λ (x : Votes). with_vote x place.origin value) was
 
     others : (i : ℕ) → (i ≡ number_of place → ⊥) → (row_at final i).votes ≡ (row_at old i).votes
-    others i apart = raised i ∙ ap (λ (x : Row). x.votes) (get_or-set_other reached k i written no_row (λ z. apart (z ∙ e)))
-        ∙ ap (λ (x : Row). x.votes) (same i)
+    others i apart = kept i (λ z. apart (z ∙ e)) ∙ ap (λ (x : Row). x.votes) (same i)
 
 -- no value is there
 pub is_None : (o : Option Value) → is_some o ≡ false → o ≡ None

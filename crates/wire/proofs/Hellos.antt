@@ -2,14 +2,8 @@
 use Rattle.std.proofs.Common.{ℕ, zero, suc, ◌≡◌, ◌+◌, ◌-◌, ◌*◌, ◌/◌, ◌%◌, ◌^◌, ◌<◌, ◌≤◌, List, [], ◌∷◌, ◌++◌, length, get_or, drop, Result, Ok, Err, refl, sym, ap, subst, ◌∙◌, append_assoc, arith, append-nil, drop_at}
 use Rattle.std.specs.Int.{w64, to_be_bytes, from_be_bytes}
 use Rattle.vocabulary.specs.Terms.{Size, IsSize}
-use Rattle.wire.specs.declared.message.Message.{Message}
+use Rattle.wire.specs.Words.{Message, Stop, WireFault, BadType, BadHello, frame_bytes, Fits, AreBytes, BeginsFrame, IsPartial, BreaksFrame, fault_after, ◌>>=◌, byte_at, read_number, idle_at, welcome_at, hello_at}
 use Rattle.wire.specs.declared.message.Message.TheVariants as message
-use Rattle.wire.specs.declared.message.Stop.{Stop}
-use Rattle.wire.specs.declared.message.WireFault.{WireFault}
-use Rattle.wire.specs.declared.message.WireFault.TheVariants.{BadType, BadHello}
-use Rattle.wire.specs.Texts.{frame_bytes, Fits}
-use Rattle.wire.specs.Reading.{AreBytes, BeginsFrame, IsPartial, BreaksFrame, fault_after}
-use Rattle.wire.specs.Looking.{◌>>=◌, byte_at, read_number, idle_at, welcome_at, hello_at}
 use Rattle.wire.proofs.Telling.{Tells, In, step, step_one, step_number, number_back, number_below}
 
 -- the second bytes of equal lists

@@ -3,13 +3,9 @@ use Rattle.std.proofs.Common.{ℕ, zero, suc, ◌≡◌, ◌+◌, ◌-◌, ◌*�
 use Rattle.std.proofs.Math.Seq.{drop-cons}
 use Rattle.std.proofs.lemmas.Bool.{cond_both, eqb-false}
 use Rattle.vocabulary.specs.Terms.{Kind, Initial, Echo, Ready, Value, Zero, One, SureZero, SureOne, Unsure, Size, Statement, IsSize, FitsStep, value_code, new_place, new_statement, IsWellFormed}
-use Rattle.wire.specs.declared.message.Message.{Message}
+use Rattle.wire.specs.Words.{Message, BadType, BadKind, BadPlace, BadValue, frame_bytes, Fits, AreBytes, BeginsFrame, IsPartial, most_low, least_value, most_value, statement_at}
 use Rattle.wire.specs.declared.message.Message.TheVariants as message
-use Rattle.wire.specs.declared.message.WireFault.TheVariants.{BadType, BadKind, BadPlace, BadValue}
-use Rattle.wire.specs.Texts.{frame_bytes, Fits}
 use Rattle.spelling.specs.Statements.{kind_byte, statement_bytes, kind_from, value_from}
-use Rattle.wire.specs.Reading.{AreBytes, BeginsFrame, IsPartial}
-use Rattle.wire.specs.Looking.{most_low, least_value, most_value, statement_at}
 use Rattle.wire.proofs.Values.{value_fits}
 use Rattle.wire.proofs.Telling.{Tells, In, step, step_one}
 

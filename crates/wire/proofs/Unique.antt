@@ -5,11 +5,9 @@ use Rattle.std.specs.Int.{w64, from_be_bytes}
 use Rattle.std.proofs.lemmas.Nat.{from_be_bytes-to_be_bytes_8}
 use Rattle.vocabulary.specs.Terms.{Kind, Initial, Echo, Ready, Value, Zero, One, SureZero, SureOne, Unsure, Size, IsSize, value_code, new_place, new_statement}
 use Rattle.spelling.proofs.Statements.{kind_again, value_again}
-use Rattle.wire.specs.declared.message.Message.{Message}
+use Rattle.wire.specs.Words.{Message, frame_bytes, frame_body, Fits, BeginsFrame, IsPartial, End, Rest, Broken, Ends, ReadsMessages, fault_after}
 use Rattle.wire.specs.declared.message.Message.TheVariants as message
-use Rattle.wire.specs.Texts.{frame_bytes, frame_body, Fits}
 use Rattle.spelling.specs.Statements.{kind_byte, kind_from, value_from}
-use Rattle.wire.specs.Reading.{BeginsFrame, IsPartial, End, Rest, Broken, Ends, ReadsMessages, fault_after}
 use Rattle.wire.proofs.Frames.{begins_with, cell}
 
 -- two fronts of one list: one begins the other

@@ -6,9 +6,7 @@ use Rattle.terms.proofs.Count.{count-mono, count-and, count-not, Outside, has_ou
 use Rattle.terms.proofs.Same.{value_is-true, value_is-from}
 use Rattle.terms.proofs.Heard.{got-cons}
 use Rattle.terms.proofs.Valid.{IsValid-mono}
-use Rattle.world.specs.World.{World, has_sent, IsCorrect, AllSent}
-use Rattle.world.specs.Sent.{sends, Backed, Justified, DecidableIn}
-use Rattle.world.specs.Claims.{HasOneSure, StaysDecidable, IsOfProposals, Agree, Unanimous, IsDecidedAsAudited, value_in, AllPropose}
+use Rattle.world.specs.Words.{World, has_sent, IsCorrect, AllSent, sends, Backed, Justified, DecidableIn, HasOneSure, StaysDecidable, IsOfProposals, Agree, Unanimous, IsDecidedAsAudited, value_in, AllPropose}
 use Rattle.world.proofs.Sets.{Witness, quorum_has, accept_has}
 use Rattle.world.proofs.Good.{IsProposed, AtLeast-mono, shown_backed}
 use Rattle.world.proofs.Invariant.{WorldOk, member_good, sent_said, has_initial}

@@ -4,7 +4,8 @@
 //! that the program would end with is its last line, since a test ends with one of its own.
 
 use super::*;
-use std::io::Read;
+use std::io::{Read, Write};
+use std::net::{IpAddr, Ipv4Addr, SocketAddr};
 use std::process::{Child, Command, Stdio};
 use std::test::Fail;
 use std::time::Duration;
@@ -38,13 +39,24 @@ fn a_process(rt: HostRuntime) -> Result<(), Fail> {
 /// Set where a test asks for the words that its process was started with.
 const ASKED: &str = "BRACHA_TEST_ASKED";
 
+/// How many bytes the last of the words has.
+fn last_length(words: &[String]) -> usize {
+    match words.last() {
+        Some(word) => word.as_str().len(),
+        None => 0,
+    }
+}
+
 #[test]
 fn the_words_of_a_process(rt: HostRuntime) -> Result<(), Fail> {
     if env::var(&rt, ASKED).is_err() {
         return Ok(());
     }
     let status = match own_words(&rt, rt.alloc()) {
-        Ok(_) => 0,
+        Ok(words) => {
+            println!(&rt; "last {}", last_length(words.as_slice()))?;
+            0
+        }
         Err(fault) => {
             eprintln!(&rt; "bracha: {fault}")?;
             fault.status()
@@ -58,7 +70,9 @@ fn the_words_of_a_process(rt: HostRuntime) -> Result<(), Fail> {
 fn an_argument_that_is_no_text(rt: HostRuntime) -> Result<(), Fail> {
     let own = env::args(&rt)?.next().ok_or("the program's name")?;
     for (bytes, line, status) in [
-        ("dump 'x'", "", "status 0\n"),
+        ("dump 'x'", "", "last 1\nstatus 0\n"),
+        // It has more bytes than are taken at first.
+        ("dump \"$(printf %05000d 0)\"", "", "last 5000\nstatus 0\n"),
         (
             "dump \"$(printf 'x\\377')\"",
             "bracha: argument 3 is not UTF-8\n",
@@ -231,6 +245,10 @@ fn a_second_line_names_the_thing(rt: HostRuntime) -> Result<(), Fail> {
         "bracha_tests_more_key.toml",
     );
     let (script, journal) = ("bracha_tests_more.script", "bracha_tests_more.journal");
+    let (end, lines) = (
+        "bracha_tests_more_end.script",
+        "bracha_tests_more_lines.script",
+    );
     fs::write(&rt, text, "cluster = 7\nn = = 4\n")?;
     fs::write(&rt, bytes, [0x6e, 0xff].as_slice())?;
     fs::write(&rt, key, "n = 4\n\ncluster = 'seven'\n")?;
@@ -239,6 +257,8 @@ fn a_second_line_names_the_thing(rt: HostRuntime) -> Result<(), Fail> {
         script,
         "n 1\nt 0\nquestions 1\nliars\nseed 1\n\ndelivr 0 0 next\n",
     )?;
+    fs::write(&rt, end, "n 4\nt 1\n")?;
+    fs::write(&rt, lines, "n 4\r\nt 1\r\n")?;
     fs::write(&rt, journal, "BRACHAJ1")?;
     for (words, said) in [
         (
@@ -274,6 +294,14 @@ fn a_second_line_names_the_thing(rt: HostRuntime) -> Result<(), Fail> {
             "bracha: line 7\nbracha_tests_more.script:7: delivr 0 0 next\n",
         ),
         (
+            "simulate bracha_tests_more_end.script",
+            "bracha: line 3\nbracha_tests_more_end.script:3: the text ends before this line\n",
+        ),
+        (
+            "simulate bracha_tests_more_lines.script",
+            "bracha: line 1\nbracha_tests_more_lines.script:1: \"n 4\\r\"\n",
+        ),
+        (
             "status 127.0.0.1:47199",
             "bracha: no answer\n127.0.0.1:47199: connect: Connection refused (os error 111)\n",
         ),
@@ -295,7 +323,7 @@ fn a_second_line_names_the_thing(rt: HostRuntime) -> Result<(), Fail> {
         assert!(rt; told.as_str().contains(first), "{words}: {told}");
         assert!(rt; !told.as_str().contains(second), "{words}: {told}");
     }
-    for path in [text, bytes, key, script, journal] {
+    for path in [text, bytes, key, script, end, lines, journal] {
         fs::remove_file(&rt, path)?;
     }
     Ok(())
@@ -357,6 +385,30 @@ fn a_second_line_shows_the_bytes_of_a_journal(rt: HostRuntime) -> Result<(), Fai
 }
 
 #[test]
+fn a_desk_that_hangs_up_is_no_answer(rt: HostRuntime) -> Result<(), Fail> {
+    let address = SocketAddr::new(IpAddr::V4(Ipv4Addr::new(127, 0, 0, 1)), 47137);
+    let desk = TcpListener::bind(&rt, address)?;
+    let mut command = program(&rt, "bracha --verbose status 127.0.0.1:47137")?;
+    command
+        .stdin(Stdio::null())
+        .stdout(Stdio::piped())
+        .stderr(Stdio::piped());
+    let child = command.spawn(&rt)?;
+    let (mut client, _) = desk.accept()?;
+    // What isn't a whole line is no reply.
+    client.write_all(b"UP 3 0")?;
+    drop(client);
+    let output = child.wait_with_output(rt.alloc())?;
+    let printed = String::from_utf8(output.stdout).ok().ok_or("text")?;
+    let said = String::from_utf8(output.stderr).ok().ok_or("text")?;
+    assert!(rt; !printed.as_str().contains("UP"), "{printed}");
+    assert!(rt; printed.as_str().contains("status 1\n"), "{printed}");
+    let lines = "bracha: no answer\n127.0.0.1:47137: connected, but no whole reply came\n";
+    assert!(rt; said.as_str().contains(lines), "{said}");
+    Ok(())
+}
+
+#[test]
 fn a_journal_that_another_has_is_named(rt: HostRuntime) -> Result<(), Fail> {
     let journal = "bracha_tests_locked.journal";
     fs::write(&rt, journal, EMPTY.as_slice())?;
@@ -364,8 +416,9 @@ fn a_journal_that_another_has_is_named(rt: HostRuntime) -> Result<(), Fail> {
     file.try_lock()?;
     let told = told_more(&rt, "dump bracha_tests_locked.journal", false)?;
     assert!(rt;
-        told.as_str()
-            .contains("bracha: file\nbracha_tests_locked.journal: open: "),
+        told.as_str().contains(
+            "bracha: file\nbracha_tests_locked.journal: open: another process has it\n"
+        ),
         "{told}"
     );
     fs::remove_file(&rt, journal)?;
@@ -414,6 +467,22 @@ fn a_member_alone_tells_its_life(rt: HostRuntime) -> Result<(), Fail> {
         }
     }
     assert!(rt; proposed);
+    // What the desk refuses is printed, with status 1.
+    for (words, said) in [
+        (
+            "bracha propose 127.0.0.1:47139 0 2",
+            "ERR 3 bit\nstatus 1\n",
+        ),
+        (
+            "bracha propose 127.0.0.1:47139 1 1",
+            "ERR 2 question\nstatus 1\n",
+        ),
+        ("bracha ask 127.0.0.1:47139 1", "ERR 2 question\nstatus 1\n"),
+        ("bracha propose 127.0.0.1:47139 0 0", "HAVE 1\nstatus 0\n"),
+    ] {
+        let text = ended(&rt, words)?;
+        assert!(rt; text.as_str().contains(said), "{words}: {text}");
+    }
     thread::sleep(&rt, Duration::from_millis(2500));
     let output = child.wait_with_output(rt.alloc())?;
     let said = String::from_utf8(output.stderr).ok().ok_or("text")?;
@@ -421,6 +490,9 @@ fn a_member_alone_tells_its_life(rt: HostRuntime) -> Result<(), Fail> {
         said.as_str().contains("ready member 0\ndecided 0 1\nend\n"),
         "{said}"
     );
+    // In its next life the decision isn't told again.
+    let (_, said) = told(&rt, "bracha run --log bracha_tests_alone.toml")?;
+    assert!(rt; said.as_str().contains("ready member 0\nend\n"), "{said}");
     fs::remove_file(&rt, path)?;
     fs::remove_file(&rt, journal)?;
     Ok(())
@@ -440,6 +512,33 @@ fn init_makes_the_journal_once(rt: HostRuntime) -> Result<(), Fail> {
     assert!(rt; fails(&rt, words.as_str(), "journal NotEmpty")?);
     assert!(rt; fs::read(&rt, journal)?.as_slice() == EMPTY.as_slice());
     assert!(rt; fs::read(&rt, path)?.as_slice() == settings.as_str().as_bytes());
+    fs::remove_file(&rt, path)?;
+    fs::remove_file(&rt, journal)?;
+    Ok(())
+}
+
+/// A journal of no records: cluster 7, one member, one question.
+const ALONE: [u8; 25] = *b"BRACHAJ1\0\0\0\0\0\0\0\x07\x01\0\0\x01\0\0\0\0\0";
+
+#[test]
+fn a_member_that_stays_outlives_its_input(rt: HostRuntime) -> Result<(), Fail> {
+    let (path, journal) = ("bracha_tests_stay.toml", "bracha_tests_stay.journal");
+    fs::write(&rt, path, settings_alone(&rt, journal, 47136)?.as_str())?;
+    fs::write(&rt, journal, ALONE.as_slice())?;
+    let mut command = program(&rt, "bracha run --stay --log bracha_tests_stay.toml")?;
+    command
+        .stdin(Stdio::null())
+        .stdout(Stdio::piped())
+        .stderr(Stdio::piped());
+    let mut child = command.spawn(&rt)?;
+    wait_ready(&mut child, 0, &rt)?;
+    thread::sleep(&rt, Duration::from_millis(2000));
+    assert!(rt; child.try_wait()?.is_none(), "the member has ended");
+    child.kill()?;
+    let output = child.wait_with_output(rt.alloc())?;
+    let said = String::from_utf8(output.stderr).ok().ok_or("text")?;
+    assert!(rt; said.as_str().contains("ready member 0\n"), "{said}");
+    assert!(rt; !said.as_str().contains("end\n"), "{said}");
     fs::remove_file(&rt, path)?;
     fs::remove_file(&rt, journal)?;
     Ok(())
@@ -466,6 +565,11 @@ fn check_changes_nothing(rt: HostRuntime) -> Result<(), Fail> {
     assert!(rt; fails(&rt, words.as_str(), "file")?);
     assert!(rt; ended(&rt, words.as_str())?.as_str().contains(said.as_str()));
     assert!(rt; fs::metadata(&rt, journal).is_err());
+    assert!(rt; fails(&rt, "bracha run bracha_tests_check.toml", "file")?);
+    assert!(rt;
+        fs::metadata(&rt, journal).is_err(),
+        "a journal that run made"
+    );
     for (bytes, fault) in [
         (&EMPTY[..24], "journal CutShort"),
         (&EMPTY[..20], "journal BadHeader"),

@@ -1,6 +1,6 @@
 //! Charts byte for byte. Each was looked at, element by element, when it was written down.
 
-use super::charts::drawn;
+use crate::pictures::charts::drawn;
 use std::test::Fail;
 
 /// One reliable broadcast, with a liar and a crash: the chart of README.

@@ -2,7 +2,7 @@
 ghost use Rattle.std.specs.Prelude.{◌≡◌, ◌≤◌, length};
 
 use crate::DeviceFault;
-use crate::account::{Account, Deed};
+use crate::account::{Account, SystemCall};
 use crate::named::NamedFile;
 use crate::system::SystemFile;
 use std::io::{self, ErrorKind};
@@ -66,7 +66,7 @@ impl SystemFile for Faulty {
 
     fn len(&mut self) -> io::Result<usize> {
         self.call()?;
-        self.account = self.account.then(&Deed::Told(self.length));
+        self.account = self.account.then(&SystemCall::Told(self.length));
         Ok(self.length)
     }
 
@@ -74,7 +74,7 @@ impl SystemFile for Faulty {
         self.call()?;
         let rest = self.bytes.get(at..self.length).unwrap_or(&[]);
         let count = copy(rest, buf, self.most);
-        self.account = self.account.then(&Deed::Read(at, &buf[..count]));
+        self.account = self.account.then(&SystemCall::Read(at, &buf[..count]));
         Ok(count)
     }
 
@@ -85,14 +85,14 @@ impl SystemFile for Faulty {
             None => 0,
         };
         self.length = self.length.max(at.saturating_add(count));
-        self.account = self.account.then(&Deed::Wrote(at, &bytes[..count]));
+        self.account = self.account.then(&SystemCall::Wrote(at, &bytes[..count]));
         Ok(count)
     }
 
     fn sync(&mut self) -> io::Result<()> {
         self.call()?;
         self.syncs = self.syncs.saturating_add(1);
-        self.account = self.account.then(&Deed::Synced);
+        self.account = self.account.then(&SystemCall::Synced);
         Ok(())
     }
 }

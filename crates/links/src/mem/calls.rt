@@ -3,7 +3,7 @@ ghost use Rattle.std.specs.Prelude.{◌≡◌, ◌≤◌, ◌<◌, ◌+◌, ◌+
 ghost use Rattle.links.specs.Told.{nothing, has_read, has_written, has_failed, has_ended};
 ghost use Rattle.links.specs.Mem.{told_by, input_of, is_closed_mem};
 
-use super::MemStream;
+use crate::mem::MemStream;
 use crate::stream::{Stream, StreamFault};
 use crate::trace::{Note, Trace};
 use std::alloc::Global;

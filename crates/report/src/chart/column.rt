@@ -3,7 +3,7 @@
 ghost use Rattle.std.specs.Prelude.{◌≡◌, ◌+◌, ◌-◌, ◌^◌, ◌<◌, ◌++◌, OnOk};
 ghost use Rattle.report.specs.Charts.{member_of, runs_after, place_after, group_count, statements_said, delivered, AreMoved};
 
-use super::drawing::Line;
+use crate::chart::drawing::Lifeline;
 use sim::{Event, MOST_IN_GROUP, Mark, Which};
 use std::alloc::{AllocError, Global};
 use terms::{Record, Statement};
@@ -161,13 +161,13 @@ impl Column {
     }
 
     /// How its lifeline looks.
-    pub(crate) fn line(&self) -> Line
+    pub(crate) fn line(&self) -> Lifeline
         ensures { result ≡ line_of self.now.is_liar self.now.runs }
     {
         match (self.is_liar, self.runs) {
-            (true, _) => Line::Lies,
-            (false, true) => Line::Runs,
-            (false, false) => Line::Down,
+            (true, _) => Lifeline::Lies,
+            (false, true) => Lifeline::Runs,
+            (false, false) => Lifeline::Down,
         }
     }
 

@@ -69,7 +69,7 @@ pub(crate) enum Sign {
 
 /// How a piece of a lifeline looks.
 #[derive(Clone, Copy)]
-pub(crate) enum Line {
+pub(crate) enum Lifeline {
     /// Of a member that runs.
     Runs,
     /// Of one that is down or stopped.
@@ -173,15 +173,15 @@ impl Drawing {
     /// Adds a piece of a lifeline.
     pub(crate) fn lifeline(
         &mut self,
-        line: Line,
+        line: Lifeline,
         x: u64,
         from: u64,
         to: u64,
     ) -> Result<(), AllocError> {
         let class = match line {
-            Line::Runs => "runs",
-            Line::Down => "down",
-            Line::Lies => "lies",
+            Lifeline::Runs => "runs",
+            Lifeline::Down => "down",
+            Lifeline::Lies => "lies",
         };
         let element = format!(in self.alloc; "<path class=\"{class}\" d=\"M{x} {from}V{to}\"/>\n")?;
         self.text.push_str(element.as_str())

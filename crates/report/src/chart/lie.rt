@@ -29,8 +29,7 @@ fn statement_in(alloc: Global, size: Size, bytes: &[u8]) -> Result<Option<Statem
     ensures some { IfOk result (λ found. IfSome found (IsFrameOf size bytes.now)) }
     ensures none { IfOk result (λ found. found ≡ None → (s : Statement) → IsFrameOf size bytes.now s → ⊥) }
 {
-    // The bounds of a size are known where it is read.
-    let _members = size.n();
+    size.recall();
     if bytes.len() != STATEMENT_FRAME {
         return Ok(None);
     }

@@ -1,10 +1,7 @@
 use Rattle.std.proofs.Common.{◌≡◌, refl, ap₂, ◌∙◌, subst, ◌⊎◌}
 use Rattle.std.proofs.lemmas.Result.{err_from_is_err_and}
 use Rattle.script.specs.declared.fault.ScriptFault.TheVariants as faults
-use Rattle.script.specs.Lines.{Page}
-use Rattle.script.specs.Untossed.{numbered}
-use Rattle.script.specs.Scripts.{IsHeadFault, at_start}
-use Rattle.script.specs.Making.{correct_below}
+use Rattle.script.specs.Words.{Page, numbered, IsHeadFault, at_start, correct_below}
 use Rattle.script.proofs.Heads.{in_head, in_events_of}
 use Rattle.script.proofs.read.Goals as goal
 

@@ -1,6 +1,5 @@
 use Rattle.std.proofs.Common.{rules, ◌≡◌, ◌∙◌, ℕ, List, ap, sym, ◌++◌, length, min}
-use Rattle.journal.specs.File.{HasHeader}
-use Rattle.journal.specs.Texts.{header_text}
+use Rattle.journal.specs.Words.{HasHeader, header_text}
 use Rattle.commands.proofs.Batches.{good_up_to, header_front}
 use Rattle.commands.proofs.damage.good_length.Goals as goal
 

@@ -14,5 +14,5 @@ returns-in_err-_journal-clause-fault g c = λ keeps named is.
     unreadable c.in_ok-header.header c.in_err-_journal.field-0.0 named (g.D.Disk.state c.args.disk).seen
     (c.in_ok-header.ensures.header keeps)
     (λ of. subst (λ (s : State). RefusesFile c.in_ok-header.header c.in_err-_journal.field-0.0 s.seen) (c.in_ok-header.ensures.same keeps)
-    (c.in_err-_journal.ensures.refused (c.in_ok-header.ensures.kept.0 keeps) of))
-    c.in_err-_journal.ensures.only (sym gives)
+    (c.in_err-_journal.ensures.fault.1.refused (c.in_ok-header.ensures.kept.0 keeps) of))
+    c.in_err-_journal.ensures.fault.1.only (sym gives)

@@ -2,8 +2,7 @@ use Rattle.std.proofs.Common.{◌≡◌, ◌<◌, ◌^◌, ◌++◌, ◌∙◌, 
 use Rattle.std.specs.List.{flat_map}
 use Rattle.vocabulary.specs.Terms.{Size}
 use Rattle.sim.specs.declared.cluster.Cluster.{Cluster}
-use Rattle.sim.specs.Outcomes.{AreLiars, AreDisks, Verdict, among, fused_in}
-use Rattle.sim.specs.Plays.{ClusterStandsFor, played, unplayed}
+use Rattle.sim.specs.Words.{AreLiars, AreDisks, Verdict, among, fused_in, ClusterStandsFor, played, unplayed}
 use Rattle.commands.specs.Simulations.{verdict_line, line_of_counts}
 use Rattle.commands.proofs.Running.{unread_ends, unrun_ends, memory_ends, same_table, both_ways}
 use Rattle.commands.proofs.Counted.{told_whole}

@@ -1,8 +1,7 @@
 use Rattle.std.proofs.Common.{ℕ, ◌+◌, ◌≤◌, false, List, length}
 use Rattle.vocabulary.specs.Terms.{Size}
 use Rattle.sim.specs.declared.TheConstants.{MOST_EVENTS}
-use Rattle.sim.specs.Plays.{ClusterStandsFor, unplayed}
-use Rattle.sim.specs.Outcomes.{among}
+use Rattle.sim.specs.Words.{ClusterStandsFor, unplayed, among}
 use Rattle.commands.specs.Counts.{CountsPlayed}
 use Rattle.commands.proofs.simulate.play_all.Given as goal
 

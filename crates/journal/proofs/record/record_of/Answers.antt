@@ -1,8 +1,6 @@
 use Rattle.std.proofs.Common.{◌≡◌, ⊎_elim, ℕ, Bool, List, get_or, sym, ◌∙◌, ap, subst}
 use Rattle.vocabulary.specs.Terms.{Size, Statement, Record, Said, Decided, IsSize}
-use Rattle.journal.specs.Texts.{bit_byte, record_bytes}
-use Rattle.journal.specs.WellFormed.{IsStatementFor, IsDecisionFor, IsWellFormedFor}
-use Rattle.journal.specs.Reading.{HasBytes}
+use Rattle.journal.specs.Words.{bit_byte, record_bytes, IsStatementFor, IsDecisionFor, IsWellFormedFor, HasBytes}
 use Rattle.journal.proofs.Records.{if_some_more, kind_below, said_from, decided_from, no_record}
 use Rattle.journal.proofs.record.record_of.Goals as goal
 
@@ -21,13 +19,13 @@ returns-then-kind-ne-DECIDED-clause-some c =
 pub returns-then-kind-ne-DECIDED-clause-none : goal.returns-then-kind-ne-DECIDED-clause-none
 returns-then-kind-ne-DECIDED-clause-none c none =
     let b : List ℕ = c.args.bytes.now in
-    no_record b c.args.header.now (subst (λ (s : Size). IsSize s) c.size.ensures c.n-members.ensures.bounds)
+    no_record b c.args.header.now (subst (λ (s : Size). IsSize s) c.size.ensures c.recall.ensures)
     (λ s is has. c.said_of.ensures.none none s is (subst (λ (q : ℕ). HasBytes s (get_or b 0 0) q (get_or b 3 0) (get_or b 4 0) (get_or b 5 0) (get_or b 6 0)) (sym c.from_be_bytes-question.ensures) has))
     (λ question round bit is has. c.if-kind-ne-DECIDED.true has.kind_is)
 
 pub returns-then-origin-ne0-clause-none : goal.returns-then-origin-ne0-clause-none
 returns-then-origin-ne0-clause-none c none =
-    no_record c.args.bytes.now c.args.header.now (subst (λ (s : Size). IsSize s) c.size.ensures c.n-members.ensures.bounds)
+    no_record c.args.bytes.now c.args.header.now (subst (λ (s : Size). IsSize s) c.size.ensures c.recall.ensures)
     (λ s is has. kind_below s.kind (has.kind_is ∙ c.if-kind-ne-DECIDED.false))
     (λ question round bit is has. ⊎_elim (λ origin. origin has.origin_is) (λ step. step.1 has.step_is) c.then-origin-ne0.either)
 
@@ -47,7 +45,7 @@ returns-clause-some c =
 pub returns-clause-none : goal.returns-clause-none
 returns-clause-none c none =
     let b : List ℕ = c.args.bytes.now in
-    no_record b c.args.header.now (subst (λ (s : Size). IsSize s) c.size.ensures c.n-members.ensures.bounds)
+    no_record b c.args.header.now (subst (λ (s : Size). IsSize s) c.size.ensures c.recall.ensures)
     (λ s is has. kind_below s.kind (has.kind_is ∙ c.if-kind-ne-DECIDED.false))
     (λ question round bit is has.
     let question_is : question ≡ c.from_be_bytes-question.result = sym (c.from_be_bytes-question.ensures ∙ has.question_is) in

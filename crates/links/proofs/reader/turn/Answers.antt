@@ -9,17 +9,17 @@ use Rattle.links.proofs.reader.turn.Goals as goal
 pub returns-in-Ok-eq0-clause-off : goal.returns-in-Ok-eq0-clause-off
 returns-in-Ok-eq0-clause-off g c = λ rest w.
     let told : g.S.Stream.told c.read.new.self ≡ has_ended (g.S.Stream.told c.args.stream.now) = search (rules, c.in-Ok-eq0.ensures.end, c.in-Ok-eq0.field-0-test) in
-    off_ended c.args.feeder.now rest (g.S.Stream.told c.args.stream.now) (g.S.Stream.told c.read.new.self) c.args.seat.now w c.peer-peer.ensures.form told
+    off_ended c.args.feeder.now rest (g.S.Stream.told c.args.stream.now) (g.S.Stream.told c.read.new.self) c.args.seat.now w c.recall.ensures told
 
 pub returns-in-Err-clause-off : goal.returns-in-Err-clause-off
 returns-in-Err-clause-off g c = λ rest w.
-    off_lost c.args.feeder.now rest (g.S.Stream.told c.args.stream.now) (g.S.Stream.told c.read.new.self) c.args.seat.now w c.peer-peer.ensures.form c.in-Err.ensures.fault
+    off_lost c.args.feeder.now rest (g.S.Stream.told c.args.stream.now) (g.S.Stream.told c.read.new.self) c.args.seat.now w c.recall.ensures c.in-Err.ensures.fault
 
 pub returns-in-Err-feed-clause-off : goal.returns-in-Err-feed-clause-off
 returns-in-Err-feed-clause-off g c = λ rest w.
     let piece = take c.in-Ok.count c.read.new.buf in
     let told : g.S.Stream.told c.read.new.self ≡ has_read (g.S.Stream.told c.args.stream.now) piece = c.in-Ok.ensures.got (search (rules, c.in-Ok.count-test)) in
-    off_refused c.args.feeder.now rest piece (g.S.Stream.told c.args.stream.now) (g.S.Stream.told c.read.new.self) c.args.seat.now w c.peer-peer.ensures.form c.are_bytes.ensures told
+    off_refused c.args.feeder.now rest piece (g.S.Stream.told c.args.stream.now) (g.S.Stream.told c.read.new.self) c.args.seat.now w c.recall.ensures c.are_bytes.ensures told
 
 pub returns-in-More-clause-on : goal.returns-in-More-clause-on
 returns-in-More-clause-on g c = λ rest w.

@@ -5,5 +5,5 @@ use Rattle.node.proofs.tests.start.Goals as goal
 
 pub append-requires-clause-well_formed : goal.append-requires-clause-well_formed
 append-requires-clause-well_formed g c =
-    let same : (journal_header c.in_ok-journal.journal).size.questions ≡ c.args.header.now.size.questions = ap (λ (h : Header). h.size.questions) c.in_ok-journal.ensures.header in
+    let same : (journal_header c.in_ok-journal.journal).size.questions ≡ c.args.header.now.size.questions = ap (λ (h : Header). h.size.questions) c.in_ok-journal.ensures.opened.header_is in
     (record { asked = subst (λ (n : ℕ). 0 < n) (sym same) c.requires; from_one = omega arith; to_last = omega arith }, tt)

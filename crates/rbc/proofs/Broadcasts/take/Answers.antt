@@ -2,11 +2,8 @@ use Rattle.std.proofs.Common.{◌≡◌, ◌<◌, true, false, cond, is_some, No
 use Rattle.std.proofs.lemmas.Bool.{false≢true}
 use Rattle.std.proofs.lemmas.Result.{err_from_is_err_and}
 use Rattle.vocabulary.specs.Terms.{is_foreign, Past}
-use Rattle.rbc.specs.Known.{heard_known}
-use Rattle.rbc.specs.Stands.{BroadcastsStandFor}
-use Rattle.rbc.specs.Table.{known_in}
+use Rattle.rbc.specs.Words.{heard_known, BroadcastsStandFor, known_in, broadcasts_size, broadcasts_got}
 use Rattle.rbc.proofs.Changes.{is_None}
-use Rattle.rbc.specs.Readers.{broadcasts_size, broadcasts_got}
 use Rattle.rbc.proofs.Changes.{nothing_more, one_heard}
 use Rattle.rbc.proofs.Hearing.{news_heard, repeat_heard}
 use Rattle.rbc.proofs.Saying.{same_stands, touched}
@@ -38,11 +35,11 @@ unfolding broadcasts_size broadcasts_got
 returns-clause-ok c = λ past stands asked.
     let own : is_foreign c.args.from c.args.s.now ≡ false = cc in
     let fresh : is_some (broadcasts_got c.args.self.now c.args.from c.args.s.now.kind c.args.s.now.place) ≡ false = cc in
-    let within : c.args.from < 32 = omega (arith, c.requires.from, c.n-members.ensures.bounds.most) in
+    let within : c.args.from < 32 = omega (arith, c.requires.from, c.recall.ensures.most) in
     let before : c.known_at-before.result ≡ known_in c.args.self.now.cells.items c.args.self.now.size.n c.args.s.now.place =
     cc (c.deref.ensures.value, c.known_at-before.ensures, c.place-place.ensures) in
     news_heard c.args.self.now _ past c.args.from c.args.s.now stands
-    (one_heard c.args.self.now _ refl refl c.args.from c.args.s.now within c.value-value.ensures.fits fresh c.in_ok-after.ensures.ok)
+    (one_heard c.args.self.now _ refl refl c.args.from c.args.s.now within c.recall-2.ensures.fits fresh c.in_ok-after.ensures.ok)
     asked own fresh
 
 -- it counts
@@ -67,19 +64,19 @@ known_now c =
     (known_in c.args.self.now.cells.items c.args.self.now.size.n c.args.s.now.place)) (same_spot-itself c.args.s.now.place)
     ∙ sym c.in_ok-after.ensures.known
 
-pub returns-clause-echo : goal.returns-clause-echo
-returns-clause-echo c = λ past stands asked quiet.
-    echo_now c.args.self.now _ past c.args.from c.args.s.now (is_first c past stands asked) stands (returns-clause-ok c past stands asked) asked quiet _
-    (c.brought.ensures.echo ∙ echo_known _ c.args.s.now c.in_ok-after.after (known_now c))
-
-pub returns-clause-ready : goal.returns-clause-ready
-returns-clause-ready c = λ past stands asked quiet.
-    ready_now c.args.self.now _ past c.args.from c.args.s.now (is_first c past stands asked) stands (returns-clause-ok c past stands asked) asked quiet _
-    (c.brought.ensures.ready ∙ ready_known _ c.args.s.now c.in_ok-after.after (known_now c))
-
-pub returns-clause-accepted : goal.returns-clause-accepted
-returns-clause-accepted c = λ past stands asked.
+pub returns-clause-brings : goal.returns-clause-brings
+returns-clause-brings c =
     let before = accepted_by_known c.args.self.now c.args.s.now c.known_at-before.result (known_before c) in
     let after = accepted_by_known _ c.args.s.now c.in_ok-after.after (known_now c) in
-    accepted_now c.args.self.now _ past c.args.from c.args.s.now (is_first c past stands asked) stands (returns-clause-ok c past stands asked) asked _
-    (c.brought.ensures.accepted ∙ λ i. cond (is_some (before i)) None (after i))
+    record {
+      echo = λ past stands asked quiet.
+        echo_now c.args.self.now _ past c.args.from c.args.s.now (is_first c past stands asked) stands (returns-clause-ok c past stands asked) asked quiet _
+        (c.brought.ensures.echo ∙ echo_known _ c.args.s.now c.in_ok-after.after (known_now c));
+      ready = λ past stands asked quiet.
+        ready_now c.args.self.now _ past c.args.from c.args.s.now (is_first c past stands asked) stands (returns-clause-ok c past stands asked) asked quiet _
+        (c.brought.ensures.ready ∙ ready_known _ c.args.s.now c.in_ok-after.after (known_now c));
+      accepted = λ past stands asked.
+        accepted_now c.args.self.now _ past c.args.from c.args.s.now (is_first c past stands asked) stands (returns-clause-ok c past stands asked) asked _
+        (c.brought.ensures.accepted ∙ λ i. cond (is_some (before i)) None (after i));
+      fits = c.brought.ensures.fits;
+    }

@@ -1,9 +1,7 @@
 use Rattle.std.proofs.Common.{◌≡◌, ◌<◌, get_or, sym, ap, subst, ◌∙◌, arith, length, slice_set}
 use Rattle.std.proofs.lemmas.List.{get_or_default}
 use Rattle.vocabulary.specs.Terms.{Place, IsPlace}
-use Rattle.rbc.specs.declared.known.Known.{Known}
-use Rattle.rbc.specs.Known.{no_known, heard_known}
-use Rattle.rbc.specs.Table.{spot_of, known_in}
+use Rattle.rbc.specs.Words.{Known, no_known, heard_known, spot_of, known_in}
 use Rattle.rbc.proofs.Cells.{IsHere, written, known_here}
 use Rattle.rbc.proofs.table.hear.Goals as goal
 

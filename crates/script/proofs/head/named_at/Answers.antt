@@ -1,6 +1,5 @@
 use Rattle.std.proofs.Common.{◌∙◌, ap, inr, Bor, List, ℕ}
-use Rattle.script.specs.Untossed.{texts}
-use Rattle.script.specs.Scripts.{IsNamed}
+use Rattle.script.specs.Words.{texts, IsNamed}
 use Rattle.script.proofs.Heads.{lacks}
 use Rattle.script.proofs.head.named_at.Goals as goal
 

@@ -1,6 +1,5 @@
 use Rattle.std.proofs.Common.{◌∙◌, ap, inr, Bor, List, ℕ}
-use Rattle.script.specs.Untossed.{texts}
-use Rattle.script.specs.Scripts.{IsSeed}
+use Rattle.script.specs.Words.{texts, IsSeed}
 use Rattle.script.proofs.Heads.{lacks}
 use Rattle.script.proofs.head.seed_at.Goals as goal
 

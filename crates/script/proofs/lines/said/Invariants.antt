@@ -1,6 +1,5 @@
 use Rattle.std.proofs.Common.{◌≡◌, ◌+◌, ◌++◌, drop}
-use Rattle.script.specs.Lines.{said_from}
-use Rattle.script.specs.Untossed.{texts, numbered}
+use Rattle.script.specs.Words.{said_from, texts, numbered}
 use Rattle.script.proofs.lines.said.Given as goal
 
 -- what was found and what is left to find is all

@@ -1,6 +1,5 @@
 use Rattle.std.proofs.Common.{sym, ap, ◌∙◌, subst, inr, Bor, List, ℕ}
-use Rattle.script.specs.Steps.{SaysStep}
-use Rattle.script.specs.Untossed.{texts}
+use Rattle.script.specs.Words.{SaysStep, texts}
 use Rattle.script.proofs.orders.order_of.Goals as goal
 
 pub returns-clause-err : goal.returns-clause-err

@@ -1,5 +1,5 @@
 use Rattle.std.proofs.Common.{refl, get_or, length, take, drop, ◌-◌}
-use Rattle.script.specs.Untossed.{texts}
+use Rattle.script.specs.Orders.{texts}
 use Rattle.script.proofs.Parts.{first_of}
 use Rattle.script.proofs.step.crash.Goals as goal
 

@@ -1,7 +1,6 @@
 use Rattle.std.proofs.Common.{◌≡◌, None, Some, Option, subst, sym, List, take, ◌+◌}
 use Rattle.toml.specs.View.{items_view}
-use Rattle.settings.specs.declared.address.Address.{Address}
-use Rattle.settings.specs.Settings.{AreAddresses}
+use Rattle.settings.specs.Words.{Address, AreAddresses}
 use Rattle.settings.proofs.Members.{addresses_turn, no_addresses}
 use Rattle.settings.proofs.entries.addresses_of.Goals as goal
 

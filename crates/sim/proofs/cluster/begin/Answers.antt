@@ -1,7 +1,6 @@
 use Rattle.std.proofs.Common.{◌≡◌, ◌<◌, length, get_or, arith}
 use Rattle.std.proofs.lemmas.List.{get_or_default}
-use Rattle.sim.specs.declared.posts.Post.{Post}
-use Rattle.sim.specs.Posts.{OpensPost}
+use Rattle.sim.specs.Words.{Post, OpensPost}
 use Rattle.sim.proofs.Opening.{opens_more, rest_more}
 use Rattle.sim.proofs.cluster.begin.Goals as goal
 

@@ -1,6 +1,5 @@
 use Rattle.std.proofs.Common.{◌≡◌, ◌<◌, ◌≤◌, ℕ, get_or}
-use Rattle.sim.specs.declared.posts.Post.{Post}
-use Rattle.sim.specs.Posts.{OpensPost}
+use Rattle.sim.specs.Words.{Post, OpensPost}
 use Rattle.sim.proofs.cluster.begin.Given as goal
 
 abbrev pub invariant-loop-post : goal.invariant-loop-post

@@ -1,9 +1,6 @@
 use Rattle.std.proofs.Common.{◌≡◌, ◌<◌, List, length, get_or, drop, sym, ap, subst, arith, rules, Err, IsErrOf, take_at}
-use Rattle.sim.specs.declared.posts.Post.{Post}
+use Rattle.sim.specs.Words.{Post, opening, IsCluster, OpensPost, among, fused_in}
 use Rattle.sim.specs.declared.faults.SimFault.TheVariants as faults
-use Rattle.sim.specs.Scene.{opening}
-use Rattle.sim.specs.Posts.{IsCluster, OpensPost}
-use Rattle.sim.specs.Outcomes.{among, fused_in}
 use Rattle.sim.proofs.Opening.{opens_post, fuse_there}
 use Rattle.sim.proofs.cluster.opened.Goals as goal
 

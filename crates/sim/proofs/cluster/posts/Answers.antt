@@ -4,10 +4,7 @@ use Rattle.vocabulary.specs.Terms.{Header}
 use Rattle.disk.specs.declared.memory.MemDisk.{MemDisk}
 use Rattle.disk.specs.Memory.{fuse_left}
 use Rattle.sim.specs.declared.faults.SimFault.TheVariants as faults
-use Rattle.sim.specs.declared.posts.Post.{Post}
-use Rattle.sim.specs.Posts.{IsReady, IsCreated}
-use Rattle.sim.specs.Seats.{mine}
-use Rattle.sim.specs.Outcomes.{among, fused_in}
+use Rattle.sim.specs.Words.{Post, IsReady, IsCreated, mine, among, fused_in}
 use Rattle.sim.proofs.Opening.{pushed, fused_front, fused_behind, none_left}
 use Rattle.sim.proofs.cluster.posts.Goals as goal
 

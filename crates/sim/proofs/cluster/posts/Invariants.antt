@@ -1,9 +1,6 @@
 use Rattle.std.proofs.Common.{◌≡◌, ◌<◌, ◌++◌, ℕ, length, get_or}
 use Rattle.std.specs.Vec.Iter.{into_iter_items, into_iter_len}
-use Rattle.sim.specs.declared.posts.Post.{Post}
-use Rattle.sim.specs.Posts.{IsReady, IsCreated}
-use Rattle.sim.specs.Seats.{mine}
-use Rattle.sim.specs.Outcomes.{among, fused_in}
+use Rattle.sim.specs.Words.{Post, IsReady, IsCreated, mine, among, fused_in}
 use Rattle.sim.proofs.cluster.posts.Given as goal
 
 abbrev pub invariant-loop-disk : goal.invariant-loop-disk

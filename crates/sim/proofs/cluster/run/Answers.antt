@@ -1,5 +1,4 @@
-use Rattle.sim.specs.Outcomes.{among, fused_in}
-use Rattle.sim.specs.Plays.{played}
+use Rattle.sim.specs.Words.{among, fused_in, played}
 use Rattle.sim.proofs.cluster.run.Goals as goal
 
 pub returns-clause-run : goal.returns-clause-run

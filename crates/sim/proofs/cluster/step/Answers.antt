@@ -1,8 +1,7 @@
 use Rattle.std.proofs.Common.{◌∙◌, ◌<◌, ◌^◌, arith, ℕ, refl, sym, ap, subst, List, length, drop, get_or}
 use Rattle.std.proofs.lemmas.Result.{err_from_is_err_and}
 use Rattle.vocabulary.specs.Terms.{Record}
-use Rattle.sim.specs.Seats.{saved_in}
-use Rattle.sim.specs.Posts.{IsPost}
+use Rattle.sim.specs.Words.{saved_in, IsPost}
 use Rattle.sim.proofs.Planned.{plan_right}
 use Rattle.sim.proofs.Turn.{turned, skipped_turn}
 use Rattle.sim.proofs.Playing.{saved_there, few_behind}

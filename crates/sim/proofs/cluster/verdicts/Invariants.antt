@@ -1,7 +1,5 @@
 use Rattle.std.proofs.Common.{◌≡◌, ℕ, Bool}
-use Rattle.sim.specs.Scene.{Scene}
-use Rattle.sim.specs.Posts.{IsCluster}
-use Rattle.sim.specs.Outcomes.{verdicts_of_below}
+use Rattle.sim.specs.Words.{Scene, IsCluster, verdicts_of_below}
 use Rattle.sim.proofs.cluster.verdicts.Given as goal
 
 abbrev pub invariant-loop-post : goal.invariant-loop-post

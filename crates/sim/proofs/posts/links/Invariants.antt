@@ -1,6 +1,5 @@
 use Rattle.std.proofs.Common.{◌≡◌, ◌<◌, ℕ, length, get_or}
-use Rattle.sim.specs.declared.links.Link.{Link}
-use Rattle.sim.specs.Posts.{IsNewLink}
+use Rattle.sim.specs.Words.{Link, IsNewLink}
 use Rattle.sim.proofs.posts.links.Given as goal
 
 abbrev pub invariant-loop-from : goal.invariant-loop-from

@@ -1,7 +1,6 @@
 use Rattle.std.proofs.Common.{ℕ, List, sym, ap, ◌∙◌}
 use Rattle.vocabulary.specs.Terms.{Record}
-use Rattle.sim.specs.Scene.{to_group}
-use Rattle.sim.specs.Seats.{group_from}
+use Rattle.sim.specs.Words.{to_group, group_from}
 use Rattle.sim.proofs.Planned.{told_of, open_plan, closed_plan}
 use Rattle.sim.proofs.tasks.group.Goals as goal
 

@@ -1,5 +1,4 @@
-use Rattle.member.specs.Memory.{memory_disk}
-use Rattle.member.specs.Sound.{IsSound}
+use Rattle.member.specs.Words.{memory_disk, IsSound}
 use Rattle.trials.proofs.members.a_single_member_settles_its_question.Given as goal
 
 abbrev pub invariant-loop-number : goal.invariant-loop-number

@@ -2,10 +2,7 @@
 use Rattle.std.proofs.Common.{ℕ, ◌≡◌, ◌≤◌, Bool, true, ◌&&◌}
 use Rattle.std.proofs.lemmas.Bool.{and_parts}
 use Rattle.vocabulary.specs.Terms.{Echo, Size, count_below, IsSize}
-use Rattle.world.specs.World.{World, start, after_all}
-use Rattle.world.specs.Sent.{sends}
-use Rattle.world.specs.Claims.{HasEchosOfReady}
-use Rattle.world.specs.Laws.{HasOneReady}
+use Rattle.world.specs.Words.{World, start, after_all, sends, HasEchosOfReady, HasOneReady}
 use Rattle.world.proofs.Sets.{Witness, quorums_share}
 use Rattle.world.proofs.Invariant.{WorldOk}
 use Rattle.world.proofs.Keeps.{reached_ok}

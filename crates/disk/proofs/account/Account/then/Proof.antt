@@ -27,7 +27,7 @@ use denote.Triple.Table.{entered}
 use denote.Triple.Walked.{says, Stays, stay_dropped, walk_of, ends_at, walk_Meets, Goes-dropped}
 use Rattle.disk.proofs.Walks.{none, none_made}
 use Rattle.disk.specs.contracts.account.Account as Log
-use Rattle.disk.specs.contracts.account.Deed as Deed
+use Rattle.disk.specs.contracts.account.SystemCall as Deed
 use Rattle.disk.specs.Deeds.{done_after}
 use Rattle.disk.specs.contracts.account.Account.then as F
 use Rattle.disk.specs.contracts.account.Account.then.Key.{name as #self}

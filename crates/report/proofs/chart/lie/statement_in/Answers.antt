@@ -16,4 +16,4 @@ returns-clause-none c h s frame =
     let took =
     took_of c.args.size c.new-feeder.result.size c.new-feeder.result.end c.feed.new.self.end c.args.bytes.now c.new-messages.result.items c.feed.new.out.items c.as_slice.result.now
     c.in-Ok.ensures.reads c.new-feeder.ensures.size c.new-feeder.ensures.end c.new-messages.ensures.items c.as_slice.ensures.value in
-    c.first_statement.ensures.none h s (no_frame c.args.size c.args.bytes.now c.as_slice.result.now c.feed.new.self.end s c.n-members.ensures.bounds took frame)
+    c.first_statement.ensures.none h s (no_frame c.args.size c.args.bytes.now c.as_slice.result.now c.feed.new.self.end s c.recall.ensures took frame)

@@ -1,7 +1,5 @@
 use Rattle.std.proofs.Common.{ap, ◌∙◌, drop, List}
-use Rattle.script.specs.declared.lines.Line.{Line}
-use Rattle.script.specs.Lines.{Page}
-use Rattle.script.specs.Untossed.{numbered}
+use Rattle.script.specs.Words.{Line, Page, numbered}
 use Rattle.script.proofs.Leading.{numbered_from}
 use Rattle.script.proofs.lines.Lines.behind.Goals as goal
 

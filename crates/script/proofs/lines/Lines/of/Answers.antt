@@ -1,6 +1,5 @@
 use Rattle.std.proofs.Common.{ap, ◌∙◌, Bor, List, ℕ, arith}
-use Rattle.script.specs.Untossed.{texts, numbered, ends_empty}
-use Rattle.script.specs.Lines.{said_from}
+use Rattle.script.specs.Words.{texts, numbered, ends_empty, said_from}
 use Rattle.script.proofs.Splits.{page_is}
 use Rattle.script.proofs.lines.Lines.of.Goals as goal
 

@@ -1,8 +1,6 @@
 use Rattle.std.proofs.Common.{◌≡◌, List, [], sym, ap, ◌∙◌}
 use Rattle.std.specs.Vec.Iter.{into_iter_items}
-use Rattle.script.specs.declared.step.Order.{Order}
-use Rattle.script.specs.Making.{Made}
-use Rattle.script.specs.Untossed.{made_by}
+use Rattle.script.specs.Words.{Order, Made, made_by}
 use Rattle.script.proofs.Sources.{none_left}
 use Rattle.script.proofs.making.Making.take_all.Goals as goal
 

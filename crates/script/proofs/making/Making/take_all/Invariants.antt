@@ -1,6 +1,6 @@
 use Rattle.std.proofs.Common.{◌≡◌}
 use Rattle.std.specs.Vec.Iter.{into_iter_items}
-use Rattle.script.specs.Untossed.{made_by}
+use Rattle.script.specs.Orders.{made_by}
 use Rattle.script.proofs.making.Making.take_all.Given as goal
 
 -- the orders that are left lead to where all would have led

@@ -1,9 +1,6 @@
 use Rattle.std.proofs.Common.{◌≡◌, ◌∙◌, [], ap, sym, subst, List, ℕ}
 use Rattle.std.specs.Vec.Iter.{into_iter_items}
-use Rattle.script.specs.declared.step.Order.{Order}
-use Rattle.script.specs.Making.{Made, after_step}
-use Rattle.script.specs.Untossed.{order_step}
-use Rattle.script.specs.Sources.{SourceFields}
+use Rattle.script.specs.Words.{Order, Made, after_step, order_step, SourceFields}
 use Rattle.script.proofs.Sources.{next_piece}
 use Rattle.script.proofs.source.Source.more.Goals as goal
 

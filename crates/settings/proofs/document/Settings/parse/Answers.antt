@@ -1,8 +1,7 @@
 use Rattle.std.proofs.Common.{rules, ◌≡◌, Result, Err}
 use Rattle.toml.specs.Parse.{parse_document}
 use Rattle.toml.specs.View.{table_view}
-use Rattle.settings.specs.declared.document.Settings.{Settings}
-use Rattle.settings.specs.declared.fault.SettingsFault.{SettingsFault}
+use Rattle.settings.specs.Words.{Settings, SettingsFault}
 use Rattle.settings.proofs.Fitting.{unfit_answer}
 use Rattle.settings.proofs.Single.{exactly, at_fault, of_text, of_key, of_entries}
 use Rattle.settings.proofs.document.Settings.parse.Goals as goal

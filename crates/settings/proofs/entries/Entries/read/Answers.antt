@@ -1,9 +1,6 @@
 use Rattle.std.proofs.Common.{◌≡◌, rules, Result, Err, [], ◌∷◌, refl, string_bytes}
 use Rattle.toml.specs.View.{table_view}
-use Rattle.settings.specs.declared.entries.Entries.{Entries}
-use Rattle.settings.specs.declared.fault.SettingsFault.{SettingsFault}
-use Rattle.settings.specs.declared.keys.Key.TheVariants.{Cluster, N, T, Questions, Me, Journal, Peers, Desk, Seed}
-use Rattle.settings.specs.Settings.{HasPath, HasAddresses}
+use Rattle.settings.specs.Words.{Entries, SettingsFault, Cluster, N, T, Questions, Me, Journal, Peers, Desk, Seed, HasPath, HasAddresses}
 use Rattle.settings.proofs.First.{first_of, first_or_memory}
 use Rattle.settings.proofs.entries.Entries.read.Goals as goal
 

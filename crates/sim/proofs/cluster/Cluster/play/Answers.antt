@@ -1,9 +1,6 @@
 use Rattle.std.proofs.Common.{◌≡◌, ◌<◌, ◌++◌, ◌^◌, List, length, drop, take, refl, sym, subst, arith, take_at}
 use Rattle.std.proofs.lemmas.Result.{err_from_is_err_and}
-use Rattle.sim.specs.declared.posts.Post.{Post}
-use Rattle.sim.specs.Plays.{ClusterFields, ClusterStandsFor, saved_among}
-use Rattle.sim.specs.Runs.{IsTurn}
-use Rattle.sim.specs.Posts.{IsCluster}
+use Rattle.sim.specs.Words.{Post, ClusterFields, ClusterStandsFor, saved_among, IsTurn, IsCluster}
 use Rattle.sim.proofs.Playing.{played_next, refused, few_saved}
 use Rattle.sim.proofs.cluster.Cluster.play.Goals as goal
 

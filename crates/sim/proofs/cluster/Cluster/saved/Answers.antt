@@ -1,7 +1,6 @@
 use Rattle.std.proofs.Common.{◌∙◌, ℕ, Option, List, ap, sym}
 use Rattle.std.specs.List.{slice_get}
-use Rattle.sim.specs.declared.posts.Post.{Post}
-use Rattle.sim.specs.Plays.{last_saved, saved_among, saved_behind}
+use Rattle.sim.specs.Words.{Post, last_saved, saved_among, saved_behind}
 use Rattle.sim.proofs.Playing.{looked_up}
 use Rattle.sim.proofs.cluster.Cluster.saved.Goals as goal
 

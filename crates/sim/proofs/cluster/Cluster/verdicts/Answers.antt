@@ -1,8 +1,6 @@
 use Rattle.std.proofs.Common.{List, sym, subst}
 use Rattle.std.proofs.lemmas.Result.{IfOk-weaker}
-use Rattle.sim.specs.declared.posts.Post.{Post}
-use Rattle.sim.specs.Posts.{IsCluster}
-use Rattle.sim.specs.Plays.{ClusterFields, ClusterStandsFor}
+use Rattle.sim.specs.Words.{Post, IsCluster, ClusterFields, ClusterStandsFor}
 use Rattle.sim.proofs.Playing.{at_last, simulated_so, agree_so, unanimous_so}
 use Rattle.sim.proofs.cluster.Cluster.verdicts.Goals as goal
 

@@ -1,8 +1,7 @@
 use Rattle.std.proofs.Common.{◌≡◌, ◌++◌, ◌∙◌, [], sym, ap, subst, List, ℕ}
 use Rattle.vocabulary.specs.Terms.{Size, IsSize, IsWellFormed}
 use Rattle.wire.specs.declared.message.Message.TheVariants as message
-use Rattle.wire.specs.Texts.{frame_bytes}
-use Rattle.wire.specs.Feeding.{Feeds}
+use Rattle.wire.specs.Words.{frame_bytes, Feeds}
 use Rattle.sim.specs.Links.{LinkFields}
 use Rattle.sim.proofs.Reading.{arrives}
 use Rattle.sim.proofs.links.Link.carry.Goals as goal

@@ -2,8 +2,7 @@ use Rattle.std.proofs.Common.{◌≡◌, ℕ, [], Some, Option, IfOk, length, ge
 use Rattle.vocabulary.specs.Terms.{Size, Header, Statement, IsSize, IsWellFormed, Hearing}
 use Rattle.wire.specs.Reading.{Rest}
 use Rattle.world.specs.World.{has_sent}
-use Rattle.sim.specs.declared.links.Link.{Link}
-use Rattle.sim.specs.Seats.{IsMove, Answers}
+use Rattle.sim.specs.Words.{Link, IsMove, Answers}
 use Rattle.sim.proofs.Done.{mapped, delivered}
 use Rattle.sim.proofs.posts.Post.deliver.Goals as goal
 

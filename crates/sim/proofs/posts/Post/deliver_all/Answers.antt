@@ -3,9 +3,7 @@ use Rattle.std.specs.List.{AllByRecursion}
 use Rattle.vocabulary.specs.Terms.{Size, Header, Statement, IsSize, IsWellFormed}
 use Rattle.wire.specs.Reading.{Rest}
 use Rattle.member.specs.Groups.{hearings, AllCome}
-use Rattle.sim.specs.declared.links.Link.{Link}
-use Rattle.sim.specs.Seats.{hearings_from}
-use Rattle.sim.specs.Scene.{group_of}
+use Rattle.sim.specs.Words.{Link, hearings_from, group_of}
 use Rattle.sim.proofs.Done.{mapped, delivered_all}
 use Rattle.sim.proofs.Groups.{all_formed_of, all_come, hearings_are}
 use Rattle.sim.proofs.posts.Post.deliver_all.Goals as goal

@@ -1,8 +1,7 @@
 use Rattle.std.proofs.Common.{◌≡◌, length, refl, sym, ap, ◌∙◌, false, subst, List, IfOk}
 use Rattle.std.specs.List.{AllByRecursion}
 use Rattle.vocabulary.specs.Terms.{IsWellFormed, Header, Statement}
-use Rattle.sim.specs.Links.{is_broken_at}
-use Rattle.sim.specs.Seats.{IsMove, AreLies}
+use Rattle.sim.specs.Words.{is_broken_at, IsMove, AreLies}
 use Rattle.sim.proofs.Done.{mapped, broken, lies_formed, lies_done}
 use Rattle.sim.proofs.posts.Post.hear_lies.Goals as goal
 

@@ -1,6 +1,5 @@
 use Rattle.std.proofs.Common.{◌<◌, ℕ, get_or}
-use Rattle.sim.specs.declared.links.Link.{Link}
-use Rattle.sim.specs.Posts.{IsNewLink}
+use Rattle.sim.specs.Words.{Link, IsNewLink}
 use Rattle.sim.proofs.posts.Post.renew.Given as goal
 
 abbrev pub invariant-loop-link : goal.invariant-loop-link

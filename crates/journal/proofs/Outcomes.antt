@@ -1,0 +1,47 @@
+-- What a call comes to, as its contract says it.
+use Rattle.std.proofs.Common.{◌≡◌, ◌⊎◌, inl, inr, ℕ, Result, Ok, Err, IfOk, IfErr, List, sym, ◌∙◌, ap, subst, arith}
+use Rattle.vocabulary.specs.Terms.{Record, Header}
+use Rattle.disk.specs.Model.{State, at_rest}
+use Rattle.disk.specs.declared.device.Disk.{Ghosts as DiskGhosts}
+use Rattle.journal.specs.Words.{JournalFault, NotEmpty, BadHeader, OtherHeader, BadRecord, CutShort, Device, Memory, Stopped, Full, IsFaultOfOpening, IsOfFile, RefusesFile, IsHeld, WasRead, HandsBack}
+
+-- what was read has a fault, or there was no memory for its records
+pub refused_after : {A D : Type 0} (disk : DiskGhosts D) (before after : D) (header : Header) (bytes : List ℕ) (result : Result A JournalFault) → WasRead disk before after
+    → (disk.keeps before → bytes ≡ (disk.state before).seen) → IfErr result (λ fault. IsOfFile fault → RefusesFile header fault bytes)
+    → IfErr result (λ fault. IsOfFile fault ⊎ (fault ≡ Memory)) → IfErr result (λ fault. HandsBack disk before header fault after)
+refused_after disk before after header bytes (Ok a) read is refused only = tt
+refused_after disk before after header bytes (Err f) read is refused only = record {
+  only = opening f refused only;
+  refused = λ keeps of_file. subst (λ (l : List ℕ). RefusesFile header f l) (is keeps) (refused of_file);
+  same = λ keeps. ap (λ (s : State). s.seen) (read.on_disk keeps);
+  any_moment = read.any_moment;
+  three_calls = λ keeps of_file. read.three_calls keeps;
+  device = λ device. absurd (not_device f only device);
+  quiet = λ _. read.quiet;
+  later = omega (arith, read.quiet);
+  kept = read.kept;
+}
+  where
+    opening : (fault : JournalFault) → (IsOfFile fault → RefusesFile header fault bytes) → IsOfFile fault ⊎ (fault ≡ Memory) → IsFaultOfOpening fault
+    opening NotEmpty why (inl of_file) = absurd (why of_file)
+    opening BadHeader why (inl of_file) = tt
+    opening OtherHeader why (inl of_file) = tt
+    opening BadRecord why (inl of_file) = tt
+    opening CutShort why (inl of_file) = tt
+    opening Device why (inl of_file) = tt
+    opening Memory why (inl of_file) = tt
+    opening Stopped why (inl of_file) = absurd of_file
+    opening Full why (inl of_file) = absurd of_file
+    opening fault why (inr memory) = subst IsFaultOfOpening (sym memory) tt
+
+    not_device : (fault : JournalFault) → IsOfFile fault ⊎ (fault ≡ Memory) → fault ≡ Device → ⊥
+    not_device fault (inl of_file) is = subst IsOfFile is of_file
+    not_device fault (inr memory) is = let both : Memory ≡ Device = sym memory ∙ is in cc
+
+-- what was read is held
+pub held_after : {A : Type 0} {D : Type 0} (disk : DiskGhosts D) (before after : D) (header : Header) (bytes : List ℕ) (gate : A → ℕ) (records : A → List Record) (result : Result A JournalFault) → WasRead disk before after
+    → (disk.keeps before → bytes ≡ (disk.state before).seen) → IfOk result (λ held. IsHeld (at_rest bytes) header (gate held) (records held))
+    → disk.keeps before → IfOk result (λ held. IsHeld (disk.state after) header (gate held) (records held))
+held_after disk before after header bytes gate records (Err f) read is held keeps = tt
+held_after disk before after header bytes gate records (Ok a) read is held keeps =
+    subst (λ (s : State). IsHeld s header (gate a) (records a)) (ap at_rest (is keeps) ∙ sym (read.on_disk keeps)) held

@@ -1,0 +1,131 @@
+//! Worked rows of votes: what a member sent, and how many members sent a value.
+use std::test::Fail;
+use terms::Value::{One, SureOne, SureZero, Unsure, Zero};
+use terms::{Size, Value};
+use votes::Votes;
+
+const VALUES: [Value; 5] = [Zero, One, SureZero, SureOne, Unsure];
+
+/// The votes of those members for those values, one after another.
+fn cast(sent: [(u8, Value); 4]) -> Result<Votes, Fail> {
+    let mut votes = Votes::none();
+    for (member, value) in sent {
+        if member >= 32 {
+            return Err(Fail::from("a member"));
+        }
+        votes = votes.with(member, value);
+    }
+    Ok(votes)
+}
+
+/// What members 0 to 4 and 31 sent.
+fn sent_by(votes: Votes, third: bool) -> [Option<Value>; 6] {
+    [
+        votes.value(third, 0),
+        votes.value(third, 1),
+        votes.value(third, 2),
+        votes.value(third, 3),
+        votes.value(third, 4),
+        votes.value(third, 31),
+    ]
+}
+
+#[test]
+fn rows_of_counts(rt: HostRuntime) -> Result<(), Fail> {
+    // n, whether it is step 3, four votes, and how many sent each of VALUES.
+    let rows = [
+        (
+            4,
+            false,
+            [(0, Zero), (1, One), (2, One), (3, One)],
+            [1, 3, 0, 0, 0],
+        ),
+        (
+            4,
+            true,
+            [(0, SureZero), (1, SureOne), (2, Unsure), (3, Unsure)],
+            [0, 0, 1, 1, 2],
+        ),
+        // The first and the last member count, and one beyond the size doesn't.
+        (
+            32,
+            false,
+            [(0, Zero), (31, Zero), (30, One), (31, Zero)],
+            [2, 1, 0, 0, 0],
+        ),
+        (
+            4,
+            false,
+            [(0, One), (3, One), (4, One), (31, Zero)],
+            [0, 2, 0, 0, 0],
+        ),
+        (
+            1,
+            true,
+            [(0, Unsure), (1, Unsure), (2, SureOne), (3, SureZero)],
+            [0, 0, 0, 0, 1],
+        ),
+        // Of several votes of a member one counts.
+        (
+            4,
+            false,
+            [(2, One), (2, Zero), (2, One), (1, One)],
+            [1, 1, 0, 0, 0],
+        ),
+        (
+            4,
+            true,
+            [(2, Unsure), (2, SureOne), (1, SureZero), (1, Unsure)],
+            [0, 0, 1, 1, 0],
+        ),
+        // Nobody sent Unsure but in step 3.
+        (
+            4,
+            false,
+            [(0, Unsure), (1, Unsure), (2, One), (2, Unsure)],
+            [0, 1, 0, 0, 0],
+        ),
+    ];
+    for (n, third, sent, want) in rows {
+        let size = Size::new(n, 0, 1)?;
+        let votes = cast(sent)?;
+        let counts = VALUES.map(|value| votes.count(size, third, value));
+        assert!(rt; counts == want, "of n {n}, step 3 {third}");
+    }
+    Ok(())
+}
+
+#[test]
+fn rows_of_values(rt: HostRuntime) -> Result<(), Fail> {
+    // Whether it is step 3, four votes, and what sent_by then says.
+    let rows = [
+        (
+            false,
+            [(0, Zero), (1, One), (3, One), (31, Zero)],
+            [Some(Zero), Some(One), None, Some(One), None, Some(Zero)],
+        ),
+        (
+            true,
+            [(0, SureZero), (2, Unsure), (3, SureOne), (31, Unsure)],
+            [
+                Some(SureZero),
+                None,
+                Some(Unsure),
+                Some(SureOne),
+                None,
+                Some(Unsure),
+            ],
+        ),
+        (
+            false,
+            [(1, One), (1, Zero), (4, One), (4, One)],
+            [None, Some(Zero), None, None, Some(One), None],
+        ),
+    ];
+    for (third, sent, want) in rows {
+        let votes = cast(sent)?;
+        assert!(rt; sent_by(votes, third) == want, "of step 3 {third}");
+    }
+    assert!(rt; Votes::none().value(true, 0).is_none());
+    Ok(())
+}

@@ -1,0 +1,148 @@
+//! Who sent which value of a step, as masks of members: bit a is member a's. So a vote more and a count cost the same
+//! however many there are.
+//!
+//! Steps 1 and 2 of a round have the values Zero and One, and step 3 has SureZero, SureOne and Unsure. One mask serves
+//! Zero and SureZero, and another One and SureOne, so who asks says whether the step is a third one. Callers give a
+//! member one vote at most; of several one counts all the same: Zero before One, and One before Unsure.
+#![tactic(auto)]
+
+ghost use Rattle.std.specs.Prelude.{◌≡◌, ◌<◌, ◌==◌, ◌^◌, ◌-◌, ℕ, Bool, true, None};
+ghost use Rattle.vocabulary.specs.Terms.{count_below, value_is, keep_or, given};
+ghost use Rattle.votes.specs.Votes.{has_bit, zero_value, one_value, fits, value_of, no_votes, with_vote};
+
+use terms::{Size, Value};
+
+/// Who sent which value.
+#[derive(Clone, Copy, Debug, PartialEq, Eq)]
+pub struct Votes {
+    /// Who sent Zero, or in step 3 SureZero: bit a is member a's.
+    zero: u32,
+    /// Who sent One, or in step 3 SureOne.
+    one: u32,
+    /// Who sent Unsure: only in step 3.
+    unsure: u32,
+}
+
+/// The value that speaks for 0, in step 3 or in another.
+pub fn zero_value(third: bool) -> Value
+    ensures { result ≡ zero_value third }
+{
+    if third { Value::SureZero } else { Value::Zero }
+}
+
+/// The value that speaks for 1, in step 3 or in another.
+pub fn one_value(third: bool) -> Value
+    ensures { result ≡ one_value third }
+{
+    if third { Value::SureOne } else { Value::One }
+}
+
+/// Whether it is a value of step 3, or of another.
+pub fn fits(third: bool, value: Value) -> bool
+    ensures { result ≡ fits third value }
+{
+    match value {
+        Value::Zero | Value::One => !third,
+        Value::SureZero | Value::SureOne | Value::Unsure => third,
+    }
+}
+
+impl Votes {
+    /// Nobody sent anything.
+    #[tactic(auto, unfolding(crate::specs::Votes::no_votes))]
+    pub fn none() -> Votes
+        ensures votes { result ≡ no_votes }
+        ensures nobody { (third : Bool) → (member : ℕ) → value_of third result member ≡ None }
+    {
+        Votes {
+            zero: 0,
+            one: 0,
+            unsure: 0,
+        }
+    }
+
+    /// The value that the member sent.
+    #[tactic(auto, unfolding(crate::specs::Votes::value_of))]
+    pub fn value(self, third: bool, member: u8) -> Option<Value>
+        requires { member < 32 }
+        ensures { result ≡ value_of third self member }
+    {
+        if has_bit(self.zero, member) {
+            Some(zero_value(third))
+        } else if has_bit(self.one, member) {
+            Some(one_value(third))
+        } else if third && has_bit(self.unsure, member) {
+            Some(Value::Unsure)
+        } else {
+            None
+        }
+    }
+
+    /// The votes with one more, the member's.
+    pub fn with(self, member: u8, value: Value) -> Votes
+        requires { member < 32 }
+        ensures votes { result ≡ with_vote self member value }
+        ensures first { (third : Bool) → fits third value ≡ true → value_of third self member ≡ None → (other : ℕ) →
+            value_of third result other ≡ keep_or (value_of third self other) (given (member == other) value) }
+    {
+        let bit = 1u32 << u32::from(member);
+        match value {
+            Value::Zero | Value::SureZero => Votes {
+                zero: self.zero | bit,
+                ..self
+            },
+            Value::One | Value::SureOne => Votes {
+                one: self.one | bit,
+                ..self
+            },
+            Value::Unsure => Votes {
+                unsure: self.unsure | bit,
+                ..self
+            },
+        }
+    }
+
+    /// How many members sent the value.
+    pub fn count(self, size: Size, third: bool, value: Value) -> u8
+        ensures { result ≡ count_below size.n (λ member. value_is (value_of third self member) value) }
+    {
+        (u64::from(self.senders(third, value)) & everyone(size)).count_ones() as u8
+    }
+
+    /// Who sent the value, as a mask.
+    fn senders(self, third: bool, value: Value) -> u32
+        ensures { (member : ℕ) → has_bit result member ≡ value_is (value_of third self member) value }
+    {
+        let senders = self.senders_in_its_step(value);
+        if fits(third, value) { senders } else { 0 }
+    }
+
+    /// Who sent the value, as a mask, where it fits the step.
+    fn senders_in_its_step(self, value: Value) -> u32
+        ensures { (third : Bool) → fits third value ≡ true → (member : ℕ) →
+            has_bit result member ≡ value_is (value_of third self member) value }
+    {
+        let sure = self.one | self.zero;
+        match value {
+            Value::Zero | Value::SureZero => self.zero,
+            Value::One | Value::SureOne => sure ^ self.zero,
+            Value::Unsure => (self.unsure | sure) ^ sure,
+        }
+    }
+}
+
+/// Whether the member's bit is set.
+fn has_bit(mask: u32, member: u8) -> bool
+    requires { member < 32 }
+    ensures { result ≡ has_bit mask member }
+{
+    (mask >> u32::from(member)) & 1 == 1
+}
+
+/// The mask of all members.
+fn everyone(size: Size) -> u64
+    ensures { result ≡ 2 ^ size.n - 1 }
+{
+    let n = size.n();
+    (1u64 << u32::from(n)) - 1
+}
