@@ -16,11 +16,11 @@ use std::alloc::{AllocError, Global};
 #[derive(Drop)]
 pub(crate) struct Content {
     seen: Vec<u8>,
-    // How many bytes it had at the last sync that succeeded.
+    /// How many bytes it had at the last sync that succeeded.
     synced: usize,
-    // The place and the length of each write since then, also of one that failed.
+    /// The place and the length of each write since then, also of one that failed.
     written: Vec<(usize, usize)>,
-    // What each of these writes found within that length, byte by byte with its place, the last write last.
+    /// What each of these writes found within that length, byte by byte with its place, the last write last.
     under: Vec<(usize, u8)>,
     ghost within: { synced ≤ length seen.items },
 }
@@ -99,7 +99,7 @@ impl Content {
         self.sync();
     }
 
-    // The bytes become those that a crash leaves.
+    /// The bytes become those that a crash leaves.
     fn leave(&mut self, pick: Pick)
         ensures { (content_state self.new).seen ≡ left (content_state self.old) pick }
     {
@@ -110,7 +110,7 @@ impl Content {
         }
     }
 
-    // The bytes become those of the last sync that succeeded.
+    /// The bytes become those of the last sync that succeeded.
     fn undo(&mut self)
         ensures { (content_state self.new).seen ≡ (content_state self.old).synced }
     {
@@ -119,7 +119,7 @@ impl Content {
     }
 }
 
-// Puts these bytes over what is at a place.
+/// Puts these bytes over what is at a place.
 fn put_over(file: &mut [u8], at: usize, bytes: &[u8])
     requires { at + length bytes.now ≤ length file.old }
     ensures { file.new ≡ overwritten file.old at bytes.now }
@@ -127,7 +127,7 @@ fn put_over(file: &mut [u8], at: usize, bytes: &[u8])
     file[at..at + bytes.len()].copy_from_slice(bytes);
 }
 
-// Keeps these bytes with their places, from that one on.
+/// Keeps these bytes with their places, from that one on.
 fn keep(under: &mut Vec<(usize, u8)>, at: usize, bytes: &[u8])
     requires place { at + length bytes.now < 2 ^ 64 }
     requires room { vec_len under.old + length bytes.now ≤ vec_capacity under.old }
@@ -138,7 +138,7 @@ fn keep(under: &mut Vec<(usize, u8)>, at: usize, bytes: &[u8])
     }
 }
 
-// Lays each byte back at its place, the last first.
+/// Lays each byte back at its place, the last first.
 fn lay_back(file: &mut [u8], under: &mut Vec<(usize, u8)>)
     ensures { file.new ≡ laid_back under.old.items file.old }
 {

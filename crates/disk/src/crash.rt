@@ -24,7 +24,7 @@ pub(crate) fn fill(seen: &mut [u8], synced: usize, written: &[(usize, usize)], b
     }
 }
 
-// What is left at a place, where the file had this length at the last sync.
+/// What is left at a place, where the file had this length at the last sync.
 fn left_at(place: usize, kept: u8, synced: usize, written: &[(usize, usize)], byte: u8) -> u8
     ensures { result ≡ (if nat_le synced place || is_touched place written.now then byte else kept) }
 {
@@ -35,7 +35,7 @@ fn left_at(place: usize, kept: u8, synced: usize, written: &[(usize, usize)], by
     }
 }
 
-// Whether one of the ranges has this place.
+/// Whether one of the ranges has this place.
 fn is_touched(place: usize, ranges: &[(usize, usize)]) -> bool
     ensures { result ≡ is_touched place ranges.now }
 {

@@ -43,7 +43,7 @@ impl FileDisk {
     }
 }
 
-// The folder of a path, which is the working folder for a bare name.
+/// The folder of a path, which is the working folder for a bare name.
 pub(crate) fn folder_of(path: &str) -> Path<'_> {
     match Path::new(path).parent() {
         Some(folder) if !folder.as_os_str().is_empty() => folder,

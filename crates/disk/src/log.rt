@@ -95,7 +95,7 @@ impl LoggedFile {
         self.history = self.history.then(&Deed::Began(self.content.seen()));
     }
 
-    // A write that passes.
+    /// A write that passes.
     fn do_write(&mut self, at: usize, bytes: &[u8]) -> Result<(), AllocError>
         requires { at ≤ length (state_of self.old).seen }
         ensures ok { OnOk result (self.new ≡ listed self.old (Wrote at bytes.now)) }
@@ -106,7 +106,7 @@ impl LoggedFile {
         Ok(())
     }
 
-    // A write that fails.
+    /// A write that fails.
     fn fail_write(&mut self, at: usize, len: usize) -> Result<(), AllocError>
         ensures ok { OnOk result (self.new ≡ listed self.old (Failed at len)) }
         ensures err { OnErr result (self.new ≡ self.old) }
@@ -116,7 +116,7 @@ impl LoggedFile {
         Ok(())
     }
 
-    // A sync that passes.
+    /// A sync that passes.
     fn do_sync(&mut self)
         ensures { self.new ≡ listed self.old Synced }
     {

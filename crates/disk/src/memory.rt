@@ -70,7 +70,7 @@ impl MemDisk {
         Ok(MemDisk::of_log(self.log))
     }
 
-    // A disk with this past, with no fuse in.
+    /// A disk with this past, with no fuse in.
     fn of_log(log: LoggedFile) -> MemDisk
         ensures log { result.log ≡ log }
         ensures fuse { fuse_left result ≡ None }
@@ -83,14 +83,14 @@ impl MemDisk {
         }
     }
 
-    // Whether the fuse lets the next call pass.
+    /// Whether the fuse lets the next call pass.
     fn passes(&self) -> bool
         ensures { result ≡ lets_pass (fuse_left self.now) }
     {
         self.fuse != Some(0)
     }
 
-    // The answer to a call that was listed, which takes from the fuse.
+    /// The answer to a call that was listed, which takes from the fuse.
     fn answer(&mut self) -> Result<(), DeviceFault>
         ensures log { self.new.log ≡ self.old.log }
         ensures ok { IsOk result ↔ IsTrue (lets_pass (fuse_left self.old)) }
@@ -103,7 +103,7 @@ impl MemDisk {
         if passes { Ok(()) } else { self.fail() }
     }
 
-    // A call that fails.
+    /// A call that fails.
     fn fail(&mut self) -> Result<(), DeviceFault>
         ensures log { self.new.log ≡ self.old.log }
         ensures err { IsErr result }
@@ -115,7 +115,7 @@ impl MemDisk {
         Err(DeviceFault)
     }
 
-    // One call that the fuse counts.
+    /// One call that the fuse counts.
     fn burn(&mut self)
         ensures { self.new ≡ with_fuse self.old (burnt (fuse_left self.old)) }
     {

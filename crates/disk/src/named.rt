@@ -19,7 +19,7 @@ pub(crate) struct NamedFile<F: SystemFile> {
     pub(crate) failures: Failures,
 }
 
-// The answer to a call of the system.
+/// The answer to a call of the system.
 fn answer<T: Drop>(failures: &mut Failures, done: io::Result<T>) -> Result<T, DeviceFault>
     ensures ok { IfOk result (λ value. done ≡ Ok value) }
     ensures err { OnErr result (OnErr done (Unit {0})) }
@@ -100,7 +100,7 @@ impl<F: SystemFile> NamedFile<F> {
     }
 }
 
-// Puts the file on the disk, and the folder where it isn't there yet.
+/// Puts the file on the disk, and the folder where it isn't there yet.
 fn settle_both<F: SystemFile>(file: &mut F, folder: &mut F, named: bool) -> io::Result<()>
     ensures file { OnOk result (F.done file.new ≡ with_synced (F.done file.old)) }
     ensures folder { OnOk result (named ≡ false → F.done folder.new ≡ with_synced (F.done folder.old)) }

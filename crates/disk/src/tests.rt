@@ -48,7 +48,7 @@ impl Rule {
         }
     }
 
-    // A call that passed, or did not.
+    /// A call that passed, or did not.
     fn step(&mut self, step: Step, passed: bool) {
         match (step, passed) {
             (Step::Write(at, bytes), _) => self.write(at, bytes, passed),

@@ -8,7 +8,7 @@ use std::io::{self, ErrorKind};
 /// How often a call that a signal interrupted is made again.
 const TRIES: u32 = 1_000_000;
 
-// Whether a signal interrupted the call.
+/// Whether a signal interrupted the call.
 fn is_interrupted<T>(done: &io::Result<T>) -> bool
     ensures { IfOk done.now (λ _. result ≡ false) }
 {
@@ -46,7 +46,7 @@ pub(crate) fn settle<F: SystemFile>(file: &mut F) -> io::Result<()>
     Err(io::Error::from(ErrorKind::Interrupted))
 }
 
-// Reads once, and again where a signal interrupted it.
+/// Reads once, and again where a signal interrupted it.
 fn read_some<F: SystemFile>(file: &mut F, at: usize, buf: &mut [u8]) -> io::Result<usize>
     ensures within { IfOk result (λ n. n ≤ length buf.new) }
     ensures ok { IfOk result (λ n. F.done file.new ≡ with_read (F.done file.old) at (take n buf.new)) }
@@ -61,7 +61,7 @@ fn read_some<F: SystemFile>(file: &mut F, at: usize, buf: &mut [u8]) -> io::Resu
     Err(io::Error::from(ErrorKind::Interrupted))
 }
 
-// Writes once, and again where a signal interrupted it.
+/// Writes once, and again where a signal interrupted it.
 fn write_some<F: SystemFile>(file: &mut F, at: usize, bytes: &[u8]) -> io::Result<usize>
     ensures within { IfOk result (λ n. n ≤ length bytes.now) }
     ensures ok { IfOk result (λ n. F.done file.new ≡ with_written (F.done file.old) at (take n bytes.now)) }

@@ -10,10 +10,10 @@ use terms::{Header, Size};
 /// How many bytes a header has.
 pub(crate) const HEADER: usize = 24;
 
-// What each header begins with.
+/// What each header begins with.
 const MARK: [u8; 8] = *b"BRACHAJ1";
 
-// What each header ends with.
+/// What each header ends with.
 const ZEROS: [u8; 3] = [0; 3];
 
 /// The file of a journal that has no records: the header, and a closed gate.
@@ -50,14 +50,14 @@ pub(crate) fn header_of(bytes: &[u8; 24]) -> Option<Header>
     }
 }
 
-// Whether they begin and end as each header does.
+/// Whether they begin and end as each header does.
 fn is_marked(bytes: &[u8; 24]) -> bool
     ensures { IsTrue result ↔ (take 8 bytes.now ≡ codes "BRACHAJ1") × (take 3 (drop 21 bytes.now) ≡ 0 ∷ 0 ∷ 0 ∷ []) }
 {
     bytes[..8] == MARK[..] && bytes[21..] == ZEROS[..]
 }
 
-// The cluster's number.
+/// The cluster's number.
 fn cluster_of(bytes: &[u8; 24]) -> u64
     ensures { to_be_bytes w64 result ≡ take 8 (drop 8 bytes.now) }
 {

@@ -157,7 +157,7 @@ impl<D: Disk> Journal<D> {
     }
 }
 
-// The bytes behind a batch's gate, and the closed gate behind them, in a buffer that is empty.
+/// The bytes behind a batch's gate, and the closed gate behind them, in a buffer that is empty.
 fn encode(buffer: Vec<u8>, records: &[Record]) -> Result<Vec<u8>, AllocError>
     requires empty { buffer.items ≡ [] }
     requires few { length records.now ≤ 65535 }

@@ -91,7 +91,7 @@ pub(crate) fn load<D: Disk>(
     read_file(alloc, header, &bytes)
 }
 
-// All the bytes, once they are on the disk.
+/// All the bytes, once they are on the disk.
 fn fetch<D: Disk>(alloc: Global, disk: &mut D) -> Result<Vec<u8>, JournalFault>
     ensures bytes { D.keeps disk.old → IfOk result (λ bytes. bytes.items ≡ (D.state disk.old).seen) }
     ensures read { OnOk result (WasRead D.Disk disk.old disk.new) }
@@ -104,7 +104,7 @@ fn fetch<D: Disk>(alloc: Global, disk: &mut D) -> Result<Vec<u8>, JournalFault>
     Ok(bytes)
 }
 
-// The place of the closed gate, and the records before it.
+/// The place of the closed gate, and the records before it.
 fn read_file(
     alloc: Global,
     header: &Header,

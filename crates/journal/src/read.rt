@@ -41,7 +41,7 @@ pub(crate) fn read(
     Err(JournalFault::CutShort)
 }
 
-// Adds the records of a batch, as many as this.
+/// Adds the records of a batch, as many as this.
 fn read_records(
     header: &Header,
     bytes: &[u8],

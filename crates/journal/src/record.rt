@@ -11,7 +11,7 @@ use terms::{Header, Kind, LAST_ROUND, Place, Record, Statement};
 /// How many bytes a record has.
 pub(crate) const RECORD: usize = 7;
 
-// What a decision begins with.
+/// What a decision begins with.
 const DECIDED: u8 = 4;
 
 /// The bytes of a record.
@@ -49,7 +49,7 @@ pub(crate) fn record_of(header: &Header, bytes: &[u8; 7]) -> Option<Record>
     decided_of(header, question, round, value)
 }
 
-// The statement of these bytes.
+/// The statement of these bytes.
 fn said_of(
     header: &Header,
     kind: u8,
@@ -79,7 +79,7 @@ fn said_of(
     }
 }
 
-// The decision of these bytes.
+/// The decision of these bytes.
 fn decided_of(header: &Header, question: u16, round: u8, bit: u8) -> Option<Record>
     ensures some { IfSome result (λ r. (b : Bool) × (r ≡ Decided question round b) × IsDecisionFor header.now question round
         × (bit ≡ bit_byte b)) }
@@ -97,7 +97,7 @@ fn decided_of(header: &Header, question: u16, round: u8, bit: u8) -> Option<Reco
     }
 }
 
-// Whether the statement is one of the cluster, and an Initial is the member's own.
+/// Whether the statement is one of the cluster, and an Initial is the member's own.
 fn is_statement_for(header: &Header, s: Statement) -> bool
     ensures { IsTrue result ↔ IsStatementFor header.now s }
 {

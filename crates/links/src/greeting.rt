@@ -11,7 +11,7 @@ use std::alloc::Global;
 use terms::Header;
 use wire::Message;
 
-// Whether a Hello of this cluster to this member is meant for the header's.
+/// Whether a Hello of this cluster to this member is meant for the header's.
 fn is_meant(header: &Header, cluster: u64, to: u8) -> bool
     ensures yes { result ≡ true → (cluster ≡ header.now.cluster) × (to ≡ header.now.me) }
     ensures no { result ≡ false → (cluster ≢ header.now.cluster) ⊎ (to ≢ header.now.me) }
@@ -19,7 +19,7 @@ fn is_meant(header: &Header, cluster: u64, to: u8) -> bool
     cluster == header.cluster() && to == header.me()
 }
 
-// Reads the Hello of a member to the header's, at most 18 bytes in all, and answers whose it is.
+/// Reads the Hello of a member to the header's, at most 18 bytes in all, and answers whose it is.
 fn read_hello<S: Stream>(alloc: Global, stream: &mut S, header: &Header) -> Result<u8, LinkEnd>
     ensures ok { IfOk result (λ from.
         S.told stream.new ≡ has_read (S.told stream.old) (frame_bytes (hello_from header.now from))) }

@@ -48,7 +48,7 @@ impl Gate for Open {
     fn pass(&self, _point: Point) {}
 }
 
-// Hands in one group. Where it is answered with records the bell rings for them, once.
+/// Hands in one group. Where it is answered with records the bell rings for them, once.
 fn hand_in_group<D: Disk, J: Naming, G: Gate, R: Wait>(
     rt: &R,
     hub: &Hub<D, J>,
@@ -76,12 +76,12 @@ fn hand_in_group<D: Disk, J: Naming, G: Gate, R: Wait>(
     }
 }
 
-// Whether it is an answer with records.
+/// Whether it is an answer with records.
 fn has_records(answer: &Answer) -> bool {
     matches!(answer, Answer::Taken(records) if !records.is_empty())
 }
 
-// Hands in the statements, each with its toss, in groups of at most 256.
+/// Hands in the statements, each with its toss, in groups of at most 256.
 fn hand_in_groups<D: Disk, J: Naming, G: Gate, R: Wait>(
     rt: &R,
     hub: &Hub<D, J>,
@@ -107,7 +107,7 @@ fn hand_in_groups<D: Disk, J: Naming, G: Gate, R: Wait>(
     Ok(())
 }
 
-// The statements of these messages up to one that is out of place, each with a toss, which are drawn in order.
+/// The statements of these messages up to one that is out of place, each with a toss, which are drawn in order.
 fn gather<T: Tosser>(
     alloc: Global,
     messages: &[Message],
@@ -132,7 +132,7 @@ fn gather<T: Tosser>(
     Ok(events)
 }
 
-// Whether no message is out of place: a Hello or a Welcome.
+/// Whether no message is out of place: a Hello or a Welcome.
 fn all_in_place(messages: &[Message]) -> bool
     ensures { result ≡ all_in_place messages.now }
 {
@@ -152,7 +152,7 @@ fn all_in_place(messages: &[Message]) -> bool
     true
 }
 
-// Hands in the statements of these messages, up to one that is out of place.
+/// Hands in the statements of these messages, up to one that is out of place.
 fn hand_in<D: Disk, J: Naming, G: Gate, T: Tosser, R: Wait>(
     rt: &R,
     alloc: Global,
@@ -185,12 +185,12 @@ fn hand_in<D: Disk, J: Naming, G: Gate, T: Tosser, R: Wait>(
     Ok(())
 }
 
-// Each of them is below 256. It does nothing.
+/// Each of them is below 256. It does nothing.
 fn are_bytes(bytes: &[u8])
     ensures { AreBytes bytes.now }
 {}
 
-// Reads a piece, and hands in what it gives: `on` where the session goes on, `off` where it ended.
+/// Reads a piece, and hands in what it gives: `on` where the session goes on, `off` where it ended.
 fn turn<D: Disk, J: Naming, S: Stream, G: Gate, T: Tosser, R: Wait>(
     rt: &R,
     hub: &Hub<D, J>,
@@ -229,7 +229,7 @@ fn turn<D: Disk, J: Naming, S: Stream, G: Gate, T: Tosser, R: Wait>(
     }
 }
 
-// A session but for the closing of its stream.
+/// A session but for the closing of its stream.
 fn read_session<D: Disk, J: Naming, S: Stream, G: Gate, T: Tosser, R: Wait>(
     rt: &R,
     alloc: Global,

@@ -26,7 +26,7 @@ const PULL: usize = 64;
 /// The length of a Welcome.
 const WELCOME: usize = 11;
 
-// The next of the Welcome that the stream gives.
+/// The next of the Welcome that the stream gives.
 fn read_welcome<S: Stream>(alloc: Global, stream: &mut S, size: Size) -> Result<u64, LinkEnd>
     ensures ok { IfOk result (λ next. S.told stream.new ≡ has_read (S.told stream.old) (frame_bytes (message.Welcome next))) }
     ensures err { IfErr result (λ why. Unwelcomed size (S.told stream.old) (S.told stream.new) why) }
@@ -47,7 +47,7 @@ fn read_welcome<S: Stream>(alloc: Global, stream: &mut S, size: Size) -> Result<
     }
 }
 
-// The Hello of the header's member to another.
+/// The Hello of the header's member to another.
 fn hello(header: &Header, peer: u8) -> Message
     ensures { result ≡ hello_to header.now peer }
 {
@@ -59,7 +59,7 @@ fn hello(header: &Header, peer: u8) -> Message
     }
 }
 
-// The statements of the outbox from a number on, none where there are none yet.
+/// The statements of the outbox from a number on, none where there are none yet.
 fn pull<D: Disk, J: Naming>(book: &Book<D, J>, from: u64) -> Result<Vec<Sealed>, LinkEnd>
     ensures numbered { IfOk result (λ v. is_numbered from v.items ≡ true) }
     ensures fits { IfOk result (λ v. 0 < vec_len v → from + vec_len v < 2 ^ 64) }
@@ -71,7 +71,7 @@ fn pull<D: Disk, J: Naming>(book: &Book<D, J>, from: u64) -> Result<Vec<Sealed>,
     }
 }
 
-// What is new in the outbox from a number on, once the bell rang for it; nothing where it rang for nothing.
+/// What is new in the outbox from a number on, once the bell rang for it; nothing where it rang for nothing.
 fn next_items<D: Disk, J: Naming, R: Wait>(
     rt: &R,
     hub: &Hub<D, J>,
@@ -105,7 +105,7 @@ fn next_items<D: Disk, J: Naming, R: Wait>(
     }
 }
 
-// Writes an Idle frame.
+/// Writes an Idle frame.
 fn write_idle<S: Stream>(alloc: Global, stream: &mut S, from: u64) -> Result<(), LinkEnd>
     ensures ok { IfOk result (λ _. WritesTokens (S.told stream.old) (S.told stream.new) from from) }
     ensures err { IfErr result (λ why. WritesOn (S.told stream.old) (S.told stream.new) from why) }
@@ -116,7 +116,7 @@ fn write_idle<S: Stream>(alloc: Global, stream: &mut S, from: u64) -> Result<(),
     }
 }
 
-// Writes statements with numbers from this one on.
+/// Writes statements with numbers from this one on.
 fn write_items<S: Stream>(
     alloc: Global,
     stream: &mut S,
@@ -134,7 +134,7 @@ fn write_items<S: Stream>(
     }
 }
 
-// Writes what is new, or one Idle frame.
+/// Writes what is new, or one Idle frame.
 fn write_some<D: Disk, J: Naming, S: Stream, R: Wait>(
     rt: &R,
     alloc: Global,
@@ -159,7 +159,7 @@ fn write_some<D: Disk, J: Naming, S: Stream, R: Wait>(
     }
 }
 
-// Writes from a number on until the session ends.
+/// Writes from a number on until the session ends.
 fn write_on<D: Disk, J: Naming, S: Stream, R: Wait>(
     rt: &R,
     alloc: Global,
@@ -179,7 +179,7 @@ fn write_on<D: Disk, J: Naming, S: Stream, R: Wait>(
     unreachable!()
 }
 
-// A session but for the closing of its stream.
+/// A session but for the closing of its stream.
 fn write_session<D: Disk, J: Naming, S: Stream, R: Wait>(
     rt: &R,
     alloc: Global,

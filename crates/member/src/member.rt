@@ -207,7 +207,7 @@ impl<D: Disk> Member<D> {
     }
 }
 
-// The records of the answer.
+/// The records of the answer.
 pub(crate) fn records_in(answer: &Answer) -> &[Record]
     ensures { result.now ≡ records_of (reply_of answer.now) }
 {
@@ -217,7 +217,7 @@ pub(crate) fn records_in(answer: &Answer) -> &[Record]
     }
 }
 
-// The core of these records, and the outbox of their statements.
+/// The core of these records, and the outbox of their statements.
 fn begin(
     alloc: Global,
     header: &Header,

@@ -370,7 +370,7 @@ impl<D: Disk, J: Naming> Book<D, J> {
     }
 }
 
-// Makes room for one more entry and one more statement, if there is memory. Both lists stay.
+/// Makes room for one more entry and one more statement, if there is memory. Both lists stay.
 fn make_room_for_both(history: &mut Vec<Entry>, firsts: &mut Vec<Statement>) -> bool
     ensures history { history.new.items ≡ history.old.items }
     ensures firsts { firsts.new.items ≡ firsts.old.items }
@@ -380,7 +380,7 @@ fn make_room_for_both(history: &mut Vec<Entry>, firsts: &mut Vec<Statement>) -> 
     make_room(history) && firsts.reserve(1).is_ok()
 }
 
-// Makes room for one more entry, if there is memory. The list stays.
+/// Makes room for one more entry, if there is memory. The list stays.
 fn make_room(history: &mut Vec<Entry>) -> bool
     ensures history { history.new.items ≡ history.old.items }
     ensures room { result ≡ true → vec_len history.new < vec_capacity history.new }
@@ -399,7 +399,7 @@ pub(crate) fn note(history: &mut Vec<Entry>, entry: Entry, answer: &Answer)
     }
 }
 
-// The records of the answer.
+/// The records of the answer.
 fn records_in(answer: &Answer) -> &[Record]
     ensures { result.now ≡ records_of (reply_of answer.now) }
 {
@@ -409,7 +409,7 @@ fn records_in(answer: &Answer) -> &[Record]
     }
 }
 
-// Publishes the decisions of the questions that these records decide.
+/// Publishes the decisions of the questions that these records decide.
 fn publish<D: Disk>(member: &Member<D>, notes: &mut Notes, records: &[Record])
     requires sound { IsSound D.Disk member.now }
     requires decided { AreDecided (member_saved member.now) notes.old.known }
@@ -424,7 +424,7 @@ fn publish<D: Disk>(member: &Member<D>, notes: &mut Notes, records: &[Record])
     }
 }
 
-// Publishes the decisions of the questions that the records of these answers decide.
+/// Publishes the decisions of the questions that the records of these answers decide.
 fn publish_all<D: Disk>(member: &Member<D>, notes: &mut Notes, answers: &[Answer])
     requires sound { IsSound D.Disk member.now }
     requires decided { AreDecided (member_saved member.now) notes.old.known }
@@ -437,7 +437,7 @@ fn publish_all<D: Disk>(member: &Member<D>, notes: &mut Notes, answers: &[Answer
     }
 }
 
-// Publishes the decision of the question, if there is one.
+/// Publishes the decision of the question, if there is one.
 fn publish_one<D: Disk>(member: &Member<D>, notes: &mut Notes, question: u16)
     requires sound { IsSound D.Disk member.now }
     requires decided { AreDecided (member_saved member.now) notes.old.known }
@@ -450,7 +450,7 @@ fn publish_one<D: Disk>(member: &Member<D>, notes: &mut Notes, question: u16)
     }
 }
 
-// How many questions the member has decided.
+/// How many questions the member has decided.
 fn decided<D: Disk>(member: &Member<D>) -> u16
     requires { IsSound D.Disk member.now }
     ensures { result ≡ decided_below (member_header member.now).size.questions (member_saved member.now) }
@@ -464,7 +464,7 @@ fn decided<D: Disk>(member: &Member<D>) -> u16
     count
 }
 
-// A part of the outbox.
+/// A part of the outbox.
 fn part(alloc: Global, outbox: &[Sealed], from: u64, max: usize) -> Result<Vec<Sealed>, Memory>
     ensures items { IfOk result (λ v. v.items ≡ take max (drop from outbox.now)) }
     ensures fits { IfOk result (λ v. 0 < vec_len v → from + vec_len v < 2 ^ 64) }

@@ -342,7 +342,7 @@ fn accept_all(
     Ok(())
 }
 
-// The question is decided in round 32, so that no hearing looks for a decision: that keeps the test short.
+/// The question is decided in round 32, so that no hearing looks for a decision: that keeps the test short.
 #[test]
 fn coins_lead_to_round_thirty_two(rt: HostRuntime) -> Result<(), Fail> {
     let decided = Record::Decided {

@@ -70,13 +70,13 @@ returns-clause-brings c =
     let after = accepted_by_known _ c.args.s.now c.in_ok-after.after (known_now c) in
     record {
       echo = λ past stands asked quiet.
-        echo_now c.args.self.now _ past c.args.from c.args.s.now (is_first c past stands asked) stands (returns-clause-ok c past stands asked) asked quiet _
-        (c.brought.ensures.echo ∙ echo_known _ c.args.s.now c.in_ok-after.after (known_now c));
+          echo_now c.args.self.now _ past c.args.from c.args.s.now (is_first c past stands asked) stands (returns-clause-ok c past stands asked) asked quiet _
+          (c.brought.ensures.echo ∙ echo_known _ c.args.s.now c.in_ok-after.after (known_now c));
       ready = λ past stands asked quiet.
-        ready_now c.args.self.now _ past c.args.from c.args.s.now (is_first c past stands asked) stands (returns-clause-ok c past stands asked) asked quiet _
-        (c.brought.ensures.ready ∙ ready_known _ c.args.s.now c.in_ok-after.after (known_now c));
+          ready_now c.args.self.now _ past c.args.from c.args.s.now (is_first c past stands asked) stands (returns-clause-ok c past stands asked) asked quiet _
+          (c.brought.ensures.ready ∙ ready_known _ c.args.s.now c.in_ok-after.after (known_now c));
       accepted = λ past stands asked.
-        accepted_now c.args.self.now _ past c.args.from c.args.s.now (is_first c past stands asked) stands (returns-clause-ok c past stands asked) asked _
-        (c.brought.ensures.accepted ∙ λ i. cond (is_some (before i)) None (after i));
+          accepted_now c.args.self.now _ past c.args.from c.args.s.now (is_first c past stands asked) stands (returns-clause-ok c past stands asked) asked _
+          (c.brought.ensures.accepted ∙ λ i. cond (is_some (before i)) None (after i));
       fits = c.brought.ensures.fits;
     }
