@@ -111,6 +111,3 @@ pub fn check_journal<D: Disk + Drop, W: Write>(
     output.flush()?;
     Ok(0)
 }
-
-#[cfg(test)]
-mod tests;

@@ -140,6 +140,3 @@ fn print_reply<W: Write>(reply: &[u8], output: &mut W) -> Result<(), TalkFault>
     output.flush()?;
     Ok(())
 }
-
-#[cfg(test)]
-mod tests;

@@ -196,6 +196,3 @@ pub fn bytes_at(alloc: Global, file: &[u8], place: usize) -> Result<String, Allo
     }
     format!(in alloc; "bytes{}", hex_words(alloc, bytes)?)
 }
-
-#[cfg(test)]
-mod tests;

@@ -139,6 +139,3 @@ pub fn dump_count<D: Disk + Drop, W: Write>(
 {
     print_journal(alloc, true, disk, output)
 }
-
-#[cfg(test)]
-mod tests;

@@ -7,8 +7,6 @@ mod damage;
 mod dump;
 mod fault;
 mod init;
-#[cfg(test)]
-mod pictures;
 mod places;
 mod simulate;
 

@@ -347,6 +347,3 @@ pub fn print_verdicts<W: Write, E: Write>(
         print(verdicts, output)
     }
 }
-
-#[cfg(test)]
-mod tests;

@@ -24,6 +24,3 @@ pub use answering::answer;
 pub use command::{Command, parse};
 pub use reply::Reply;
 pub use serving::{DeskEnd, serve};
-
-#[cfg(test)]
-mod tests;

@@ -14,8 +14,6 @@ mod notes;
 mod rack;
 mod seat;
 mod settle;
-#[cfg(test)]
-mod tests;
 
 pub use board::{Board, Pass};
 pub use book::{Book, Naming};

@@ -28,6 +28,3 @@ pub use places::Places;
 pub use run::{Addresses, Operator, run_member};
 pub use slots::Slots;
 pub use tossers::{Tossers, tosser_for, tossers_of};
-
-#[cfg(test)]
-mod tests;

@@ -80,6 +80,3 @@ pub fn read(alloc: Global, text: &[u8]) -> Result<Script, ScriptFault>
         events,
     })
 }
-
-#[cfg(test)]
-mod tests;

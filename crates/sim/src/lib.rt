@@ -8,8 +8,6 @@ mod links;
 mod posts;
 mod seats;
 mod tasks;
-#[cfg(test)]
-mod tests;
 
 /// How many events a script may have.
 pub const MOST_EVENTS: usize = 1_000_000;

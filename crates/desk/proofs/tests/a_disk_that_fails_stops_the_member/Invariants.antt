@@ -1,5 +1,0 @@
-use Rattle.std.specs.Arc.{arc_value}
-use Rattle.desk.proofs.tests.a_disk_that_fails_stops_the_member.Given as goal
-
-abbrev pub ghosts-stops : goal.ghosts-stops
-ghosts-stops g a = record { names = arc_value a.board }

@@ -1,6 +1,0 @@
-use Rattle.std.specs.Arc.{arc_value}
-use Rattle.links.proofs.tests.a_writer_stops_in_the_second_frame.Given as goal
-
--- the board that was just made
-abbrev pub ghosts-sends : goal.ghosts-sends
-ghosts-sends g a = record { names = arc_value a.board }

@@ -1,6 +1,0 @@
-use Rattle.std.specs.Arc.{arc_value}
-use Rattle.links.proofs.tests.a_writer_waits_for_the_number_of_the_welcome.Given as goal
-
--- the board that was just made
-abbrev pub ghosts-woken : goal.ghosts-woken
-ghosts-woken g a = record { names = arc_value a.board }

@@ -1,6 +1,0 @@
-use Rattle.std.specs.Arc.{arc_value}
-use Rattle.links.proofs.tests.sessions_fail_at_each_call.Given as goal
-
--- the board that was just made
-abbrev pub ghosts-fails_at_each_call : goal.ghosts-fails_at_each_call
-ghosts-fails_at_each_call g a = record { names = arc_value a.board }

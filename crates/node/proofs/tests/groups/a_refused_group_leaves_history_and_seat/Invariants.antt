@@ -1,5 +1,0 @@
-use Rattle.std.specs.Arc.{arc_value}
-use Rattle.node.proofs.tests.groups.a_refused_group_leaves_history_and_seat.Given as goal
-
-abbrev pub ghosts-is_refused : goal.ghosts-is_refused
-ghosts-is_refused g a = record { names = arc_value a.board }

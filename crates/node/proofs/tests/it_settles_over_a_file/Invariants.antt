@@ -1,6 +1,0 @@
-use Rattle.std.specs.Arc.{arc_value}
-use Rattle.node.proofs.tests.it_settles_over_a_file.Given as goal
-
--- the board that was just made
-abbrev pub ghosts-settles : goal.ghosts-settles
-ghosts-settles g a = record { names = arc_value a.board }

@@ -1,0 +1,5 @@
+use Rattle.std.specs.Arc.{arc_value}
+use Rattle.running_trials.proofs.books.a_member_by_itself_settles_its_question.Given as goal
+
+abbrev pub ghosts-settles : goal.ghosts-settles
+ghosts-settles g a = record { names = arc_value a.board }

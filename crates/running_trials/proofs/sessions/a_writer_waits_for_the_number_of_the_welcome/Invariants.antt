@@ -1,0 +1,6 @@
+use Rattle.std.specs.Arc.{arc_value}
+use Rattle.running_trials.proofs.sessions.a_writer_waits_for_the_number_of_the_welcome.Given as goal
+
+-- the board that was just made
+abbrev pub ghosts-woken : goal.ghosts-woken
+ghosts-woken g a = record { names = arc_value a.board }

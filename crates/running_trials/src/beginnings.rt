@@ -1,0 +1,65 @@
+//! What the tests begin with: a member on a new disk, its board and its seats, and statements.
+ghost use Rattle.std.specs.Prelude.{◌≡◌, ◌<◌, length, IfOk, []};
+ghost use Rattle.std.specs.Arc.{arc_value};
+ghost use Rattle.member.specs.Sound.{IsSound};
+ghost use Rattle.member.specs.Readers.{member_header, member_saved, MemberStandsFor};
+
+use disk::Disk;
+use journal::Journal;
+use member::Member;
+use node::{Board, Rack, Seat};
+use std::alloc::Global;
+use std::sync::{Arc, Wait};
+use std::test::Fail;
+use terms::{Header, Kind, Place, Record, Size, Statement, Value};
+
+/// The header of the member `me` of the cluster 7, of `n` members of whom `t` may lie.
+pub(crate) fn header(n: u8, t: u8, questions: u16, me: u8) -> Result<Header, Fail>
+    ensures { IfOk result (λ h. h.size.questions ≡ questions) }
+{
+    Ok(Header::new(7, Size::new(n, t, questions)?, me).ok_or("a header")?)
+}
+
+/// A member on a new disk, whose journal may have a decision of question 0 for One.
+pub(crate) fn start<D: Disk + Drop>(
+    alloc: Global,
+    disk: D,
+    header: &Header,
+    decided: bool,
+) -> Result<Member<D>, Fail>
+    requires { 0 < header.now.size.questions }
+    ensures sound { IfOk result (λ m. IsSound D.Disk m) }
+    ensures fresh { IfOk result (λ m. MemberStandsFor m (member_saved m) []) }
+    ensures header { IfOk result (λ m. member_header m ≡ header.now) }
+{
+    let mut disk = disk;
+    journal::create(&mut disk, header)?;
+    if decided {
+        let (mut journal, _) = Journal::open(alloc, disk, header)?;
+        journal.append(&[Record::Decided {
+            question: 0,
+            round: 1,
+            bit: true,
+        }])?;
+        disk = journal.into_disk();
+    }
+    Ok(Member::open(alloc, disk, header)?)
+}
+
+/// A board for so many questions.
+pub(crate) fn board(rt: &impl AllocGlobal, questions: u16) -> Result<Arc<Board>, Fail>
+    ensures { IfOk result (λ b. length (arc_value b) ≡ questions) }
+{
+    Ok(Arc::new(rt.alloc(), Board::new(rt.alloc(), questions)?)?)
+}
+
+/// The seat of a peer.
+pub(crate) fn take<R: Wait>(rt: &R, rack: &Rack, peer: u8) -> Result<Seat, Fail> {
+    Ok(rack.take(rt, peer).ok_or("a seat")?)
+}
+
+/// A statement at an origin of a question, round 1 and step 1.
+pub(crate) fn at(question: u16, origin: u8, kind: Kind, value: Value) -> Result<Statement, Fail> {
+    let place = Place::new(question, origin, 1, 1).ok_or("a place")?;
+    Ok(Statement::new(kind, place, value).ok_or("a value of the step")?)
+}

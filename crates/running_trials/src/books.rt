@@ -1,0 +1,294 @@
+//! Worked rows of a book, over a disk in memory and a file.
+ghost use Rattle.std.specs.Prelude.{◌≡◌, ◌<◌, length};
+ghost use Rattle.std.specs.Arc.{arc_value};
+
+mod groups;
+
+use crate::beginnings::{at, board, header, start, take};
+use disk::{Disk, FileDisk, MemDisk};
+use member::{MemberFault, Sealed};
+use node::{Board, Entry, Hub, Naming, Rack, Seat, close};
+use questions::Answer;
+use rounds::Toss;
+use std::marker::Brand;
+use std::process::Abort;
+use std::sync::atomic::{AtomicBool, Ordering};
+use std::sync::{Arc, Wait};
+use std::test::Fail;
+use std::thread::{Threads, join};
+use std::time::{Clock, Duration};
+use std::{fs, thread};
+use terms::Kind::{Echo, Initial};
+use terms::Value::{One, Zero};
+use terms::{Kind, Memory, Record, Statement, Value};
+
+/// A statement at question 0, origin 0, round 1 and step 1.
+fn of(kind: Kind, value: Value) -> Result<Statement, Fail> {
+    at(0, 0, kind, value)
+}
+
+/// Whether these records are answered.
+fn takes(answer: &Answer, records: &[Record]) -> bool {
+    matches!(answer, Answer::Taken(taken) if taken.as_slice() == records)
+}
+
+// The calls of a book that is lent for one call, without their contracts.
+
+fn hear<D: Disk, J: Naming, R: Wait>(
+    rt: &R,
+    hub: &Hub<D, J>,
+    seat: &mut Seat,
+    said: &Statement,
+) -> Result<Answer, MemberFault> {
+    hub.lock(rt).apply(seat, said, Toss(0))
+}
+
+fn propose<D: Disk, J: Naming, R: Wait>(
+    rt: &R,
+    hub: &Hub<D, J>,
+    bit: bool,
+) -> Result<Answer, MemberFault> {
+    hub.lock(rt).propose(0, bit, Toss(0))
+}
+
+fn status<D: Disk, J: Naming, R: Wait>(rt: &R, hub: &Hub<D, J>) -> Option<(u64, u16)> {
+    hub.lock(rt).status()
+}
+
+fn event<D: Disk, J: Naming, R: Wait>(rt: &R, hub: &Hub<D, J>, at: usize) -> Option<Entry> {
+    hub.lock(rt).event(at)
+}
+
+fn verdict<D: Disk, J: Naming, R: Wait>(rt: &R, hub: &Hub<D, J>) -> Option<bool> {
+    hub.lock(rt).verdict(0)
+}
+
+fn pull<D: Disk, J: Naming, R: Wait>(
+    rt: &R,
+    hub: &Hub<D, J>,
+    from: u64,
+) -> Result<Vec<Sealed>, Memory> {
+    hub.lock(rt).pull(from, 64)
+}
+
+/// Closes the hub, and says whether the seats fit it.
+fn closes<D: Disk + Drop, J: Naming>(hub: Hub<D, J>, seats: Vec<Seat>) -> bool {
+    close(hub, seats).is_ok()
+}
+
+/// The first Initial is echoed, and what came before or is another's leaves no entry. A book that is refused
+/// memory, as under `rt try --test --fail-alloc N`, is stopped, and notes nothing.
+fn hears_a_peer<J: Naming, R: Wait + Abort + AllocGlobal>(
+    rt: &R,
+    board: Arc<Board>,
+) -> Result<(), Fail>
+    requires names { arc_value board ≡ J.names }
+    requires cells { length (arc_value board) ≡ 1 }
+{
+    let header = header(4, 1, 1, 1)?;
+    let member = start(rt.alloc(), MemDisk::new(rt.alloc()), &header, false)?;
+    let (hub, seats) = Hub::<MemDisk, J>::open(rt.alloc(), member, board)?;
+    let rack = Rack::new(seats);
+    let mut seat = take(rt, &rack, 0)?;
+    let answer = hear(rt, &hub, &mut seat, &of(Initial, One)?);
+    if answer == Err(MemberFault::Memory) {
+        assert!(rt; status(rt, &hub).is_none() && event(rt, &hub, 0).is_none());
+        assert!(rt; seat.next() == 0);
+        return Ok(());
+    }
+    assert!(rt; takes(&answer?, &[Record::Said(of(Echo, One)?)]));
+    let again = hear(rt, &hub, &mut seat, &of(Initial, Zero)?)?;
+    assert!(rt; again == Answer::Repeat);
+    assert!(rt; seat.peer() == 0 && seat.next() == 2);
+    let noted = Entry::Heard {
+        from: 0,
+        statement: of(Initial, One)?,
+        toss: Toss(0),
+    };
+    assert!(rt; event(rt, &hub, 0) == Some(noted) && event(rt, &hub, 1).is_none());
+    assert!(rt; status(rt, &hub) == Some((1, 0)) && verdict(rt, &hub).is_none());
+    assert!(rt; pull(rt, &hub, 0)?.len() == 1 && pull(rt, &hub, 1)?.is_empty());
+    let mut other = take(rt, &rack, 2)?;
+    let foreign = hear(rt, &hub, &mut other, &of(Initial, One)?)?;
+    assert!(rt; foreign == Answer::Foreign && other.next() == 1);
+    rack.put(rt, seat);
+    // The other seat is missing.
+    assert!(rt; !closes(hub, rack.into_seats()));
+    Ok(())
+}
+
+#[test]
+fn a_statement_is_heard_once(rt: HostRuntime) -> Result<(), Fail> {
+    node::laws::links();
+    hears_a_peer::<Brand, _>(&rt, board(&rt, 1)?)
+}
+
+/// Tells the member all that it says itself, which number 8 brings to its decision.
+fn tell<D: Disk, J: Naming, R: Wait + Abort>(
+    rt: &R,
+    hub: &Hub<D, J>,
+    seat: &mut Seat,
+) -> Result<(), Fail> {
+    for number in 0..18u64 {
+        assert!(rt; verdict(rt, hub).is_some() == (number > 8));
+        let pulled = pull(rt, hub, number)?;
+        let said = pulled.first().ok_or("a statement of that number")?;
+        assert!(rt; said.number() == number);
+        let answer = hear(rt, hub, seat, &said.statement())?;
+        assert!(rt; matches!(answer, Answer::Taken(_)));
+        hub.ring();
+    }
+    Ok(())
+}
+
+/// A member alone decides by what it says itself.
+fn settles<D: Disk + Drop, J: Naming, R: Wait + Abort + AllocGlobal>(
+    rt: &R,
+    disk: D,
+    board: Arc<Board>,
+) -> Result<(), Fail>
+    requires names { arc_value board ≡ J.names }
+    requires cells { length (arc_value board) ≡ 1 }
+{
+    let header = header(1, 0, 1, 0)?;
+    let member = start(rt.alloc(), disk, &header, false)?;
+    let (hub, seats) = Hub::<D, J>::open(rt.alloc(), member, board)?;
+    let rack = Rack::new(seats);
+    let mut seat = take(rt, &rack, 0)?;
+    assert!(rt; rack.take(rt, 0).is_none());
+    let mut pass = hub.board().pass()?;
+    assert!(rt; hub.board().ask(&mut pass, 0).is_none() && hub.board().ask(&mut pass, 1).is_none());
+    let answer = propose(rt, &hub, true)?;
+    assert!(rt; takes(&answer, &[Record::Said(of(Initial, One)?)]));
+    assert!(rt; propose(rt, &hub, false)? == Answer::Have(true));
+    tell(rt, &hub, &mut seat)?;
+    assert!(rt; status(rt, &hub) == Some((18, 1)) && verdict(rt, &hub) == Some(true));
+    assert!(rt; event(rt, &hub, 18).is_some() && event(rt, &hub, 19).is_none());
+    assert!(rt; hub.board().ask(&mut pass, 0) == Some(true));
+    hub.lock(rt).meet(&mut pass, 0);
+    let mut other = hub.board().pass()?;
+    pass.meet(&mut other, 0);
+    hub.shut(rt);
+    assert!(rt; hub.is_shut() && hub.header().me() == 0 && seat.next() == 18);
+    rack.put(rt, seat);
+    assert!(rt; closes(hub, rack.into_seats()));
+    Ok(())
+}
+
+#[test]
+fn a_member_by_itself_settles_its_question(rt: HostRuntime) -> Result<(), Fail> {
+    settles::<MemDisk, Brand, _>(&rt, MemDisk::new(rt.alloc()), board(&rt, 1)?)
+}
+
+#[test]
+fn it_settles_over_a_file(rt: HostRuntime) -> Result<(), Fail> {
+    let path = "node_tests_file";
+    let _ = fs::remove_file(&rt, path);
+    let disk = FileDisk::open(&rt, path, true)?;
+    settles::<FileDisk, Brand, _>(&rt, disk, board(&rt, 1)?)?;
+    fs::remove_file(&rt, path)?;
+    Ok(())
+}
+
+/// Waits until the flag is set, at most 10,000 turns of a millisecond. Whether it is.
+fn waits<R: Clock>(rt: &R, flag: &AtomicBool) -> bool {
+    for _ in 0..10_000u32 {
+        if flag.load(Ordering::SeqCst) {
+            return true;
+        }
+        thread::sleep(rt, Duration::from_millis(1));
+    }
+    false
+}
+
+/// Asks until there is a verdict, and then once more.
+fn asks<R: Clock>(rt: &R, board: &Board, read: &AtomicBool) -> bool {
+    let Ok(mut pass) = board.pass() else {
+        return false;
+    };
+    for _ in 0..10_000u32 {
+        if board.ask(&mut pass, 0) == Some(true) {
+            read.store(true, Ordering::SeqCst);
+            return board.ask(&mut pass, 0) == Some(true);
+        }
+        thread::sleep(rt, Duration::from_millis(1));
+    }
+    false
+}
+
+/// Hands a statement in once both flags are set.
+fn hands_in_last<J: Naming, R: Wait + Clock>(
+    rt: &R,
+    hub: &Hub<MemDisk, J>,
+    seat: &mut Seat,
+    said: &Statement,
+    passed: &AtomicBool,
+    read: &AtomicBool,
+) -> bool {
+    waits(rt, passed) && waits(rt, read) && hear(rt, hub, seat, said).is_ok()
+}
+
+/// Holds the book until the verdict was read, then hands a statement in and says so.
+fn hands_in_first<J: Naming, R: Wait + Clock>(
+    rt: &R,
+    hub: &Hub<MemDisk, J>,
+    seat: &mut Seat,
+    said: &Statement,
+    passed: &AtomicBool,
+    read: &AtomicBool,
+) -> bool {
+    let mut book = hub.lock(rt);
+    let handed = waits(rt, read) && book.apply(seat, said, Toss(0)).is_ok();
+    passed.store(true, Ordering::SeqCst);
+    handed
+}
+
+/// Member 0 decided in an earlier life. One thread keeps the book until a third has read the verdict, and hands in; a
+/// second hands in after that.
+fn at_once<J: Naming + Send + Sync, R: Threads + Wait + Clock + Abort + AllocGlobal + Sync>(
+    rt: &R,
+    board: Arc<Board>,
+) -> Result<(), Fail>
+    requires names { arc_value board ≡ J.names }
+    requires cells { length (arc_value board) ≡ 1 }
+{
+    let header = header(4, 1, 1, 0)?;
+    let member = start(rt.alloc(), MemDisk::new(rt.alloc()), &header, true)?;
+    let (hub, seats) = Hub::<MemDisk, J>::open(rt.alloc(), member, board)?;
+    let rack = Rack::new(seats);
+    let mut last = take(rt, &rack, 1)?;
+    let mut first = take(rt, &rack, 2)?;
+    let said = of(Echo, One)?;
+    let passed = AtomicBool::new(false);
+    let read = AtomicBool::new(false);
+    let board: &Board = hub.board();
+    let (late, (early, asked)) = join(
+        rt,
+        || hands_in_last(rt, &hub, &mut last, &said, &passed, &read),
+        || {
+            join(
+                rt,
+                || hands_in_first(rt, &hub, &mut first, &said, &passed, &read),
+                || asks(rt, board, &read),
+            )
+        },
+    );
+    assert!(rt; asked && early && late);
+    assert!(rt; last.next() == 1 && first.next() == 1);
+    // The book's history has the links' statements in the order in which they were handed in.
+    let noted = |from| Entry::Heard {
+        from,
+        statement: said,
+        toss: Toss(0),
+    };
+    assert!(rt; event(rt, &hub, 0) == Some(noted(2)) && event(rt, &hub, 1) == Some(noted(1)));
+    rack.put(rt, last);
+    rack.put(rt, first);
+    assert!(rt; closes(hub, rack.into_seats()));
+    Ok(())
+}
+
+#[test]
+fn links_hand_in_while_another_thread_reads_the_verdict(rt: HostRuntime) -> Result<(), Fail> {
+    at_once::<Brand, _>(&rt, board(&rt, 1)?)
+}

@@ -1,0 +1,289 @@
+//! Worked rows of lines and replies, and sessions over a stream in memory.
+ghost use Rattle.std.specs.Prelude.{◌≡◌, ◌≤◌, false, length, vec_len, IfOk, []};
+ghost use Rattle.std.specs.Arc.{arc_value};
+ghost use Rattle.member.specs.Memory.{memory_disk};
+ghost use Rattle.member.specs.Sound.{IsSound};
+ghost use Rattle.member.specs.Readers.{member_header, member_saved, member_is_stopped, MemberStandsFor};
+
+use crate::beginnings::{board, header};
+use desk::{Command, DeskEnd, Reply, answer, parse, serve};
+use disk::MemDisk;
+use member::Member;
+use node::{Board, Hub, Naming, Seat};
+use rounds::{ChaChaTosser, Toss};
+use std::alloc::{AllocError, Global};
+use std::io;
+use std::io::{Read, Write};
+use std::marker::Brand;
+use std::process::Abort;
+use std::sync::{Arc, Wait};
+use std::test::Fail;
+use terms::Size;
+
+#[test]
+fn a_line_asks_what_it_says(rt: HostRuntime) -> Result<(), Fail> {
+    let size = Size::new(4, 1, 256)?;
+    for (line, parsed) in [
+        (
+            "PROPOSE 0 1",
+            Ok(Command::Propose {
+                question: 0,
+                bit: true,
+            }),
+        ),
+        (
+            "PROPOSE 255 0\r",
+            Ok(Command::Propose {
+                question: 255,
+                bit: false,
+            }),
+        ),
+        ("ASK 00007", Ok(Command::Ask { question: 7 })),
+        ("STATUS", Ok(Command::Status)),
+        ("", Err(Reply::BadLine)),
+        ("ask 0", Err(Reply::BadLine)),
+        ("ASK", Err(Reply::BadLine)),
+        ("ASK ", Err(Reply::BadLine)),
+        ("ASK  0", Err(Reply::BadLine)),
+        ("ASK 0 ", Err(Reply::BadLine)),
+        ("ASK 0\r\r", Err(Reply::BadLine)),
+        ("ASK +7", Err(Reply::BadLine)),
+        ("ASK -1", Err(Reply::BadLine)),
+        ("ASK 000000", Err(Reply::BadLine)),
+        ("STATUS ", Err(Reply::BadLine)),
+        ("PROPOSE 0", Err(Reply::BadLine)),
+        ("PROPOSE 0 ", Err(Reply::BadLine)),
+        ("PROPOSE 0 1 ", Err(Reply::BadLine)),
+        ("PROPOSE x 1", Err(Reply::BadLine)),
+        ("ASK 256", Err(Reply::BadQuestion)),
+        ("ASK 99999", Err(Reply::BadQuestion)),
+        ("PROPOSE 256 2", Err(Reply::BadQuestion)),
+        ("PROPOSE 0 2", Err(Reply::BadBit)),
+        ("PROPOSE 0 01", Err(Reply::BadBit)),
+        ("PROPOSE 0 1\r\r", Err(Reply::BadBit)),
+    ] {
+        assert!(rt; parse(line.as_bytes(), size) == parsed);
+    }
+    Ok(())
+}
+
+#[test]
+fn a_reply_is_its_line(rt: HostRuntime) -> Result<(), Fail> {
+    for (reply, text) in [
+        (Reply::Taken, "OK"),
+        (Reply::Have(true), "HAVE 1"),
+        (Reply::Stopped, "STOPPED"),
+        (Reply::Decided(false), "DECIDED 0"),
+        (Reply::Undecided, "UNDECIDED"),
+        (
+            Reply::Up {
+                statements: 18,
+                decided: 1,
+            },
+            "UP 18 1",
+        ),
+        (Reply::BadLine, "ERR 1 line"),
+        (Reply::BadQuestion, "ERR 2 question"),
+        (Reply::BadBit, "ERR 3 bit"),
+        (Reply::Memory, "ERR 4 memory"),
+    ] {
+        assert!(rt; reply.to_string(rt.alloc())?.as_str() == text);
+    }
+    Ok(())
+}
+
+/// The member of a cluster of one, with one question, on a new disk, of which so many calls pass once it is open.
+fn member_of_one(rt: &impl AllocGlobal, calls: Option<u64>) -> Result<Member<MemDisk>, Fail>
+    ensures sound { IfOk result (λ m. IsSound memory_disk m) }
+    ensures fresh { IfOk result (λ m. member_is_stopped m ≡ false → MemberStandsFor m (member_saved m) []) }
+    ensures questions { IfOk result (λ m. (member_header m).size.questions ≡ 1) }
+{
+    let header = header(1, 0, 1, 0)?;
+    let mut disk = MemDisk::new(rt.alloc());
+    journal::create(&mut disk, &header)?;
+    // Opening makes three calls.
+    disk.fuse(calls.map(|more| more.wrapping_add(3)));
+    Ok(Member::open(rt.alloc(), disk, &header)?)
+}
+
+/// The reply to a line.
+fn replies<J: Naming, R: Wait>(rt: &R, hub: &Hub<MemDisk, J>, line: &str) -> Reply {
+    match parse(line.as_bytes(), hub.header().size()) {
+        Ok(command) => answer(&mut *hub.lock(rt), &command, Toss(0)),
+        Err(refusal) => refusal,
+    }
+}
+
+/// Hands the member all that it says, until it says no more.
+fn deliver<J: Naming, R: Wait>(rt: &R, hub: &Hub<MemDisk, J>, seat: &mut Seat) -> Result<(), Fail> {
+    for number in 0..64u64 {
+        let mut book = hub.lock(rt);
+        let items = book.pull(number, 1)?;
+        match items.as_slice() {
+            [item] => {
+                let statement = item.statement();
+                book.apply(seat, &statement, Toss(0))?;
+            }
+            _ => return Ok(()),
+        }
+    }
+    Ok(())
+}
+
+fn answers_rows<J: Naming, R: Wait + Abort + AllocGlobal>(
+    rt: &R,
+    board: Arc<Board>,
+) -> Result<(), Fail>
+    requires names { arc_value board ≡ J.names }
+    requires cells { length (arc_value board) ≡ 1 }
+{
+    let member = member_of_one(rt, None)?;
+    let (hub, mut seats) = Hub::<MemDisk, J>::open(rt.alloc(), member, board)?;
+    let mut seat = seats.pop().ok_or("a seat")?;
+    assert!(rt; replies(rt, &hub, "PROPOSE 0 1") == Reply::Taken);
+    assert!(rt; replies(rt, &hub, "PROPOSE 0 0") == Reply::Have(true));
+    assert!(rt; replies(rt, &hub, "ASK 0") == Reply::Undecided);
+    deliver(rt, &hub, &mut seat)?;
+    assert!(rt; replies(rt, &hub, "ASK 0") == Reply::Decided(true));
+    let up = Reply::Up {
+        statements: 18,
+        decided: 1,
+    };
+    assert!(rt; replies(rt, &hub, "STATUS") == up);
+    assert!(rt; replies(rt, &hub, "ASK 9") == Reply::BadQuestion);
+    assert!(rt; replies(rt, &hub, "PROPOSE 0 2") == Reply::BadBit);
+    assert!(rt; replies(rt, &hub, "ask 0") == Reply::BadLine);
+    Ok(())
+}
+
+#[test]
+fn a_desk_of_one_member(rt: HostRuntime) -> Result<(), Fail> {
+    let board = board(&rt, 1)?;
+    answers_rows::<Brand, _>(&rt, board)
+}
+
+fn stops<J: Naming, R: Wait + Abort + AllocGlobal>(rt: &R, board: Arc<Board>) -> Result<(), Fail>
+    requires names { arc_value board ≡ J.names }
+    requires cells { length (arc_value board) ≡ 1 }
+{
+    let member = member_of_one(rt, Some(0))?;
+    let (hub, _seats) = Hub::<MemDisk, J>::open(rt.alloc(), member, board)?;
+    assert!(rt; replies(rt, &hub, "PROPOSE 1 1") == Reply::BadQuestion);
+    assert!(rt;
+        replies(rt, &hub, "STATUS")
+            == Reply::Up {
+                statements: 0,
+                decided: 0,
+            }
+    );
+    for line in ["PROPOSE 0 1", "PROPOSE 0 1", "STATUS"] {
+        assert!(rt; replies(rt, &hub, line) == Reply::Stopped);
+    }
+    assert!(rt; replies(rt, &hub, "ASK 0") == Reply::Undecided);
+    Ok(())
+}
+
+#[test]
+fn a_disk_that_fails_stops_the_member(rt: HostRuntime) -> Result<(), Fail> {
+    let board = board(&rt, 1)?;
+    stops::<Brand, _>(&rt, board)
+}
+
+/// A stream that gives its input in pieces, and keeps what is written.
+#[derive(Drop)]
+struct Client {
+    input: Vec<u8>,
+    at: usize,
+    piece: usize,
+    output: Vec<u8>,
+    ghost within: { at ≤ vec_len input },
+}
+
+impl Client {
+    fn new(alloc: Global, input: &[u8], piece: usize) -> Result<Client, AllocError> {
+        Ok(Client {
+            input: Vec::from_slice(alloc, input)?,
+            at: 0,
+            piece,
+            output: Vec::new(alloc),
+        })
+    }
+
+    fn output(&self) -> &[u8] {
+        self.output.as_slice()
+    }
+}
+
+impl Read for Client {
+    fn read(&mut self, buf: &mut [u8]) -> io::Result<usize> {
+        let rest = &self.input[self.at..];
+        let count = buf.len().min(self.piece).min(rest.len());
+        buf[..count].copy_from_slice(&rest[..count]);
+        self.at += count;
+        Ok(count)
+    }
+}
+
+impl Write for Client {
+    fn write(&mut self, buf: &[u8]) -> io::Result<usize> {
+        self.output.extend_from_slice(buf)?;
+        Ok(buf.len())
+    }
+
+    fn flush(&mut self) -> io::Result<()> {
+        Ok(())
+    }
+}
+
+/// A session whose input comes in pieces of so many bytes, writes this and ends so.
+fn session<J: Naming, R: Wait + Abort + AllocGlobal>(
+    rt: &R,
+    hub: &Hub<MemDisk, J>,
+    input: &[u8],
+    piece: usize,
+    written: &str,
+    end: DeskEnd,
+) -> Result<(), Fail> {
+    let board: &Board = hub.board();
+    let mut pass = board.pass()?;
+    let mut tosser = ChaChaTosser::from_seed([0; 32], 0);
+    let mut client = Client::new(rt.alloc(), input, piece)?;
+    let ended = serve(rt, rt.alloc(), hub, &mut pass, &mut tosser, &mut client);
+    assert!(rt; ended == end);
+    assert_eq!(rt; client.output(), written.as_bytes());
+    Ok(())
+}
+
+/// A line of so many bytes, and one behind it.
+fn long_line(alloc: Global, length: usize) -> Result<Vec<u8>, AllocError> {
+    let mut line = vec![in alloc; b'A'; length]?;
+    line.extend_from_slice(b"\nASK 0\n")?;
+    Ok(line)
+}
+
+fn answers_sessions<J: Naming, R: Wait + Abort + AllocGlobal>(
+    rt: &R,
+    board: Arc<Board>,
+) -> Result<(), Fail>
+    requires names { arc_value board ≡ J.names }
+    requires cells { length (arc_value board) ≡ 1 }
+{
+    let (hub, _seats) = Hub::<MemDisk, J>::open(rt.alloc(), member_of_one(rt, None)?, board)?;
+    assert!(rt; replies(rt, &hub, "PROPOSE 0 1") == Reply::Taken);
+    let lines = b"ASK 0\r\nPROPOSE 0 0\n\nASK 00000\nASK 000000\nASK  0\nSTATUS";
+    let written = "UNDECIDED\nHAVE 1\nERR 1 line\nUNDECIDED\nERR 1 line\nERR 1 line\nUP 1 0\n";
+    for piece in [1usize, 2, 3, 7, 512] {
+        session(rt, &hub, lines.as_slice(), piece, written, DeskEnd::Ended)?;
+    }
+    let fits = long_line(rt.alloc(), 4096)?;
+    let written = "ERR 1 line\nUNDECIDED\n";
+    session(rt, &hub, &fits, 100, written, DeskEnd::Ended)?;
+    let longer = long_line(rt.alloc(), 4097)?;
+    session(rt, &hub, &longer, 512, "ERR 1 line\n", DeskEnd::TooLong)
+}
+
+#[test]
+fn a_session_answers_each_line(rt: HostRuntime) -> Result<(), Fail> {
+    let board = board(&rt, 1)?;
+    answers_sessions::<Brand, _>(&rt, board)
+}

@@ -1,0 +1,756 @@
+//! Clusters in one process, over disks in memory, with clients over TCP on this machine.
+ghost use Rattle.std.specs.Prelude.{◌≡◌, IfSome, false, []};
+ghost use Rattle.member.specs.Memory.{memory_disk};
+ghost use Rattle.member.specs.Sound.{IsSound};
+ghost use Rattle.member.specs.Readers.{member_saved, member_is_stopped, MemberStandsFor};
+
+use disk::MemDisk;
+use links::LinkEnd;
+use member::Member;
+use rounds::{ChaChaTosser, Tosser};
+use running::{
+    Addresses, Log, LogEvent, Machine, Operator, Places, Queue, RunFault, Slots, Standing, Tossers,
+    run_member, tosser_for, tossers_of,
+};
+use std::alloc::Global;
+use std::io::{ErrorKind, Read, Write};
+use std::net::{IpAddr, Ipv4Addr, SocketAddr, TcpListener, TcpStream};
+use std::process::Abort;
+use std::sync::atomic::{AtomicBool, Ordering};
+use std::sync::{Mutex, Wait};
+use std::test::Fail;
+use std::time::{Clock, Duration, Instant};
+use std::{io, thread};
+use terms::{Header, Memory, Size};
+use wire::WireFault;
+
+/// A cluster on this machine: how many members it has and how many of them may lie, and the port of member 0's links. The
+/// other members' follow, and then the ports of the desks.
+#[derive(Clone, Copy, Drop)]
+struct Cluster {
+    n: u8,
+    t: u8,
+    port: u16,
+}
+
+impl Cluster {
+    fn address(&self, at: u8) -> SocketAddr {
+        let port = self.port.wrapping_add(u16::from(at));
+        SocketAddr::new(IpAddr::V4(Ipv4Addr::new(127, 0, 0, 1)), port)
+    }
+
+    /// Where the member takes clients.
+    fn desk(&self, me: u8) -> SocketAddr {
+        self.address(self.n.wrapping_add(me))
+    }
+
+    fn addresses(&self, alloc: Global, me: u8) -> Result<Addresses, Memory> {
+        let mut peers = Vec::new(alloc);
+        for peer in 0..self.n {
+            peers.push(self.address(peer))?;
+        }
+        Ok(Addresses {
+            peers,
+            desk: self.desk(me),
+        })
+    }
+
+    /// A member on a new disk, of which so many calls pass once it is open.
+    fn member(&self, alloc: Global, me: u8, calls: Option<u64>) -> Option<Member<MemDisk>>
+        ensures sound { IfSome result (λ m. IsSound memory_disk m) }
+        ensures fresh { IfSome result (λ m. member_is_stopped m ≡ false → MemberStandsFor m (member_saved m) []) }
+    {
+        let Ok(size) = Size::new(self.n, self.t, 1) else {
+            return None;
+        };
+        let header = Header::new(7, size, me)?;
+        let mut disk = MemDisk::new(alloc);
+        if journal::create(&mut disk, &header).is_err() {
+            return None;
+        }
+        // Opening makes three calls.
+        disk.fuse(calls.map(|more| more.wrapping_add(3)));
+        match Member::open(alloc, disk, &header) {
+            Ok(member) => Some(member),
+            Err(_) => None,
+        }
+    }
+}
+
+/// What a test and a member that it runs tell each other.
+#[derive(Drop)]
+struct Cue {
+    ready: AtomicBool,
+    end: AtomicBool,
+    ended: Mutex<Option<Result<(), RunFault>>>,
+}
+
+impl Cue {
+    fn new() -> Cue {
+        Cue {
+            ready: AtomicBool::new(false),
+            end: AtomicBool::new(false),
+            ended: Mutex::new(None),
+        }
+    }
+
+    /// Ends the member, and says how its run ended; none where it didn't in ten seconds.
+    fn ends<R: Machine>(&self, rt: &R) -> Option<Result<(), RunFault>> {
+        self.end.store(true, Ordering::SeqCst);
+        for _ in 0..1000u32 {
+            let ended = *self.ended.lock(rt);
+            if ended.is_some() {
+                return ended;
+            }
+            thread::sleep(rt, Duration::from_millis(10));
+        }
+        None
+    }
+
+    /// Whether the member is ready within ten seconds.
+    fn is_ready<R: Clock>(&self, rt: &R) -> bool {
+        for _ in 0..1000u32 {
+            if self.ready.load(Ordering::SeqCst) {
+                return true;
+            }
+            thread::sleep(rt, Duration::from_millis(10));
+        }
+        false
+    }
+}
+
+/// Ends a member at its cue, at the latest after 40 seconds.
+#[derive(Drop)]
+struct Prompter<'a, R> {
+    rt: &'a R,
+    cue: &'a Cue,
+}
+
+impl<R: Clock> Operator for Prompter<'_, R> {
+    fn ready(&mut self) -> Result<(), RunFault> {
+        self.cue.ready.store(true, Ordering::SeqCst);
+        Ok(())
+    }
+
+    fn until_end(&mut self) -> Result<(), RunFault> {
+        for _ in 0..4000u32 {
+            if self.cue.end.load(Ordering::SeqCst) {
+                break;
+            }
+            thread::sleep(self.rt, Duration::from_millis(10));
+        }
+        Ok(())
+    }
+}
+
+/// The events that were told, as a list.
+#[derive(Drop)]
+struct Kept {
+    events: Vec<LogEvent>,
+}
+
+impl Log for Kept {
+    fn tell(&mut self, event: &LogEvent) {
+        let _lost = self.events.push(*event).is_err();
+    }
+}
+
+/// One run of a member, without a log.
+fn run_once<R: Machine>(
+    rt: &R,
+    alloc: Global,
+    cluster: Cluster,
+    me: u8,
+    calls: Option<u64>,
+    cue: &Cue,
+) -> Result<(), RunFault> {
+    run_told(rt, alloc, cluster, me, calls, cue, None)
+}
+
+/// One run of a member.
+fn run_told<R: Machine>(
+    rt: &R,
+    alloc: Global,
+    cluster: Cluster,
+    me: u8,
+    calls: Option<u64>,
+    cue: &Cue,
+    log: Option<&Mutex<Kept>>,
+) -> Result<(), RunFault> {
+    let Some(member) = cluster.member(alloc, me, calls) else {
+        return Err(RunFault::Memory);
+    };
+    let addresses = cluster.addresses(alloc, me)?;
+    let mut prompter = Prompter { rt, cue };
+    run_member(rt, alloc, member, addresses, [me; 32], &mut prompter, log)
+}
+
+/// Runs a member to its cue. A port that is taken for a moment is tried again.
+fn run_to_cue<R: Machine>(
+    rt: &R,
+    alloc: Global,
+    cluster: Cluster,
+    me: u8,
+    calls: Option<u64>,
+    cue: &Cue,
+) {
+    for _ in 0..50u32 {
+        let ended = run_once(rt, alloc, cluster, me, calls, cue);
+        if ended != Err(RunFault::Listen) {
+            *cue.ended.lock(rt) = Some(ended);
+            return;
+        }
+        thread::sleep(rt, Duration::from_millis(100));
+    }
+}
+
+/// A connection whose reads wait for at most five seconds.
+fn connect<R: Machine>(rt: &R, address: SocketAddr) -> io::Result<TcpStream> {
+    let stream: TcpStream = TcpStream::connect_timeout(rt, &address, Duration::from_secs(1))?;
+    stream.set_read_timeout(Some(Duration::from_secs(5)))?;
+    Ok(stream)
+}
+
+/// What the desk answers to a line of this client: its first bytes, up to a byte 10.
+fn ask(stream: &mut TcpStream, line: &[u8], reply: &mut [u8; 64]) -> io::Result<usize> {
+    stream.write_all(line)?;
+    for at in 0..64usize {
+        let count = stream.read(&mut reply[at..at + 1])?;
+        if count == 0 || reply[at] == b'\n' {
+            return Ok(at + count);
+        }
+    }
+    Ok(64)
+}
+
+/// Whether the desk answers a line of this client so.
+fn answers(stream: &mut TcpStream, line: &[u8], wanted: &[u8]) -> bool {
+    let mut reply = [0u8; 64];
+    match ask(stream, line, &mut reply) {
+        Ok(count) => count <= 64 && &reply[..count] == wanted,
+        Err(_) => false,
+    }
+}
+
+/// Whether a desk answers a line so, asked again and again for 15 seconds, each time by a client of its own.
+fn comes_to<R: Machine>(rt: &R, address: SocketAddr, line: &[u8], wanted: &[u8]) -> bool {
+    for _ in 0..300u32 {
+        if let Ok(mut stream) = connect(rt, address) {
+            if answers(&mut stream, line, wanted) {
+                return true;
+            }
+        }
+        thread::sleep(rt, Duration::from_millis(50));
+    }
+    false
+}
+
+/// Whether the other side closed the connection, within five seconds.
+fn is_closed(stream: &mut TcpStream) -> bool {
+    let mut byte = [0u8; 1];
+    match stream.read(&mut byte) {
+        Ok(count) => count == 0,
+        Err(error) => error.kind() != ErrorKind::WouldBlock,
+    }
+}
+
+/// No sockets. A test names their types by it, which the borrow checker wants where a runtime is taken as a [`Machine`].
+fn no_sockets() -> (Option<TcpListener>, Option<TcpStream>) {
+    (None, None)
+}
+
+/// Three members decide, and a fourth that starts later learns it, since it is dialled again.
+fn joins_late<R: Machine + Abort>(rt: &R, alloc: Global) -> Result<(), Fail> {
+    let cluster = Cluster {
+        n: 4,
+        t: 1,
+        port: 47200,
+    };
+    let cues = [Cue::new(), Cue::new(), Cue::new(), Cue::new()];
+    let [zero, one, two, three] = &cues;
+    thread::scope(thread::scope_env(), rt, |scope| -> Result<(), Fail> {
+        let _zero = scope.spawn(move || run_to_cue(rt, alloc, cluster, 0, None, zero));
+        let _one = scope.spawn(move || run_to_cue(rt, alloc, cluster, 1, None, one));
+        let _two = scope.spawn(move || run_to_cue(rt, alloc, cluster, 2, None, two));
+        for me in 0..3u8 {
+            assert!(rt; cues[usize::from(me)].is_ready(rt));
+            assert!(rt; comes_to(rt, cluster.desk(me), b"PROPOSE 0 1\n", b"OK\n"));
+        }
+        for me in 0..3u8 {
+            assert!(rt; comes_to(rt, cluster.desk(me), b"ASK 0\n", b"DECIDED 1\n"));
+        }
+        let _three = scope.spawn(move || run_to_cue(rt, alloc, cluster, 3, None, three));
+        assert!(rt; three.is_ready(rt));
+        assert!(rt; comes_to(rt, cluster.desk(3), b"ASK 0\n", b"DECIDED 1\n"));
+        // A client stays connected.
+        let mut client = connect(rt, cluster.desk(0))?;
+        assert!(rt; answers(&mut client, b"PROPOSE 0 0\n", b"HAVE 1\n"));
+        let start = Instant::now(rt)?;
+        for cue in &cues {
+            cue.end.store(true, Ordering::SeqCst);
+        }
+        for cue in &cues {
+            assert!(rt; cue.ends(rt) == Some(Ok(())));
+        }
+        assert!(rt; start.elapsed(rt)? < Duration::from_secs(5));
+        assert!(rt; is_closed(&mut client));
+        Ok(())
+    })
+}
+
+#[test]
+fn a_member_that_starts_late_learns_the_decision(rt: HostRuntime) -> Result<(), Fail> {
+    let _types = no_sockets();
+    joins_late(&rt, rt.alloc())
+}
+
+/// How many links came up from peers.
+fn links_up(events: &[LogEvent]) -> usize {
+    events
+        .iter()
+        .filter(|event| matches!(event, LogEvent::LinkUp(_)))
+        .count()
+}
+
+/// Three members decide beside one whose disk fails. The log of that one has no link of a peer more than once: once it is
+/// stopped it takes none in, however often it is dialled.
+fn one_stops<R: Machine + Abort>(rt: &R, alloc: Global) -> Result<(), Fail> {
+    let cluster = Cluster {
+        n: 4,
+        t: 1,
+        port: 47210,
+    };
+    let kept = Mutex::new(Kept {
+        events: Vec::new(alloc),
+    });
+    let log = &kept;
+    let cues = [Cue::new(), Cue::new(), Cue::new(), Cue::new()];
+    let [zero, one, two, three] = &cues;
+    thread::scope(thread::scope_env(), rt, |scope| -> Result<(), Fail> {
+        let _zero = scope.spawn(move || run_to_cue(rt, alloc, cluster, 0, None, zero));
+        let _one = scope.spawn(move || {
+            let ended = run_told(rt, alloc, cluster, 1, Some(0), one, Some(log));
+            *one.ended.lock(rt) = Some(ended);
+        });
+        let _two = scope.spawn(move || run_to_cue(rt, alloc, cluster, 2, None, two));
+        let _three = scope.spawn(move || run_to_cue(rt, alloc, cluster, 3, None, three));
+        for cue in &cues {
+            assert!(rt; cue.is_ready(rt));
+        }
+        assert!(rt; comes_to(rt, cluster.desk(1), b"PROPOSE 0 0\n", b"STOPPED\n"));
+        for me in [0u8, 2, 3] {
+            assert!(rt; comes_to(rt, cluster.desk(me), b"PROPOSE 0 1\n", b"OK\n"));
+        }
+        for me in [0u8, 2, 3] {
+            assert!(rt; comes_to(rt, cluster.desk(me), b"ASK 0\n", b"DECIDED 1\n"));
+        }
+        assert!(rt; comes_to(rt, cluster.desk(1), b"STATUS\n", b"STOPPED\n"));
+        // Its peers dial again meanwhile.
+        thread::sleep(rt, Duration::from_millis(2500));
+        assert!(rt; one.ends(rt) == Some(Err(RunFault::Stopped)));
+        assert!(rt; zero.ends(rt) == Some(Ok(())));
+        assert!(rt; two.ends(rt) == Some(Ok(())));
+        assert!(rt; three.ends(rt) == Some(Ok(())));
+        Ok(())
+    })?;
+    let told = kept.into_inner().events;
+    assert!(rt; links_up(&told) <= 3, "told {told:?}");
+    assert!(rt; told.iter().any(|event| *event == LogEvent::Stopped));
+    Ok(())
+}
+
+#[test]
+fn a_member_whose_disk_fails_ends_stopped(rt: HostRuntime) -> Result<(), Fail> {
+    let _types = no_sockets();
+    one_stops(&rt, rt.alloc())
+}
+
+/// The Hello of member 0 to itself, of a cluster of one.
+fn hello(cluster: u8) -> [u8; 18] {
+    [0, 16, 1, 1, 0, 0, 0, 0, 0, 0, 0, cluster, 1, 0, 0, 1, 0, 0]
+}
+
+/// Whether a link that begins so is closed.
+fn is_refused<R: Machine>(rt: &R, address: SocketAddr, greeting: &[u8]) -> io::Result<bool> {
+    let mut stream = connect(rt, address)?;
+    stream.write_all(greeting)?;
+    Ok(is_closed(&mut stream))
+}
+
+/// So many clients that were each answered.
+fn clients<R: Machine + Abort>(
+    rt: &R,
+    alloc: Global,
+    desk: SocketAddr,
+    count: u32,
+) -> Result<Vec<TcpStream>, Fail> {
+    let mut clients = Vec::new(alloc);
+    for _ in 0..count {
+        let mut client = connect(rt, desk)?;
+        assert!(rt; answers(&mut client, b"STATUS\n", b"UP 18 1\n"));
+        clients.push(client)?;
+    }
+    Ok(clients)
+}
+
+/// A member by itself, at whose doors there are too many.
+fn crowd<R: Machine + Abort>(rt: &R, alloc: Global) -> Result<(), Fail> {
+    let cluster = Cluster {
+        n: 1,
+        t: 0,
+        port: 47220,
+    };
+    let cue = Cue::new();
+    let cue = &cue;
+    let (links, desk) = (cluster.address(0), cluster.desk(0));
+    thread::scope(thread::scope_env(), rt, |scope| -> Result<(), Fail> {
+        let _run = scope.spawn(move || run_to_cue(rt, alloc, cluster, 0, None, cue));
+        assert!(rt; cue.is_ready(rt));
+        assert!(rt; comes_to(rt, desk, b"PROPOSE 0 1\n", b"OK\n"));
+        assert!(rt; comes_to(rt, desk, b"STATUS\n", b"UP 18 1\n"));
+        // A stranger, and a second link from a member whose first is up.
+        assert!(rt; is_refused(rt, links, &hello(8))?);
+        assert!(rt; is_refused(rt, links, &hello(7))?);
+        let mut seated = clients(rt, alloc, desk, 32)?;
+        assert!(rt; is_closed(&mut connect(rt, desk)?));
+        drop(seated.pop());
+        assert!(rt; comes_to(rt, desk, b"ASK 0\n", b"DECIDED 1\n"));
+        let mut silent = Vec::new(alloc);
+        for _ in 0..64u32 {
+            silent.push(connect(rt, links)?)?;
+        }
+        assert!(rt; is_closed(&mut connect(rt, links)?));
+        // Who has greeted, or was refused, has given its place back: the last of the 64 has one.
+        let mut last = silent.pop().ok_or("a peer")?;
+        last.set_read_timeout(Some(Duration::from_millis(300)))?;
+        assert!(rt; !is_closed(&mut last));
+        assert!(rt; cue.ends(rt) == Some(Ok(())));
+        Ok(())
+    })
+}
+
+#[test]
+fn too_many_are_closed_at_once(rt: HostRuntime) -> Result<(), Fail> {
+    let _types = no_sockets();
+    crowd(&rt, rt.alloc())
+}
+
+/// A member by itself that has a log, and a stranger at its door.
+fn alone<R: Machine + Abort>(rt: &R, alloc: Global) -> Result<(), Fail> {
+    let cluster = Cluster {
+        n: 1,
+        t: 0,
+        port: 47240,
+    };
+    let kept = Mutex::new(Kept {
+        events: Vec::new(alloc),
+    });
+    let cue = Cue::new();
+    let (cue, log) = (&cue, &kept);
+    thread::scope(thread::scope_env(), rt, |scope| -> Result<(), Fail> {
+        let _run = scope.spawn(move || {
+            let ended = run_told(rt, alloc, cluster, 0, None, cue, Some(log));
+            *cue.ended.lock(rt) = Some(ended);
+        });
+        assert!(rt; cue.is_ready(rt));
+        assert!(rt; is_refused(rt, cluster.address(0), &hello(8))?);
+        assert!(rt; comes_to(rt, cluster.desk(0), b"PROPOSE 0 1\n", b"OK\n"));
+        assert!(rt; comes_to(rt, cluster.desk(0), b"ASK 0\n", b"DECIDED 1\n"));
+        assert!(rt; cue.ends(rt) == Some(Ok(())));
+        Ok(())
+    })?;
+    let told = kept.into_inner().events;
+    let want = [
+        LogEvent::Ready(0),
+        LogEvent::Refused(LinkEnd::Stranger),
+        LogEvent::Decided(0, true),
+        LogEvent::End,
+    ];
+    assert!(rt; told.as_slice() == want.as_slice());
+    Ok(())
+}
+
+#[test]
+fn a_log_tells_a_life(rt: HostRuntime) -> Result<(), Fail> {
+    let _types = no_sockets();
+    alone(&rt, rt.alloc())
+}
+
+/// Lets the log have so many events, for at most ten seconds.
+fn wait_for<R: Machine>(rt: &R, log: &Mutex<Kept>, count: usize) {
+    for _ in 0..200u32 {
+        if log.lock(rt).events.len() >= count {
+            return;
+        }
+        thread::sleep(rt, Duration::from_millis(50));
+    }
+}
+
+/// As a peer welcomes the link that is dialled to it: it reads the Hello, writes the Welcome, and reads an Idle.
+fn welcome<R: Machine + Abort>(rt: &R, listener: &TcpListener) -> Result<TcpStream, Fail> {
+    let (mut link, _) = listener.accept()?;
+    link.set_read_timeout(Some(Duration::from_secs(5)))?;
+    let mut hello = [0u8; 18];
+    link.read_exact(&mut hello)?;
+    assert!(rt; hello == [0, 16, 1, 1, 0, 0, 0, 0, 0, 0, 0, 7, 4, 1, 0, 1, 0, 1]);
+    link.write_all(&[0, 9, 2, 0, 0, 0, 0, 0, 0, 0, 0])?;
+    let mut idle = [0u8; 3];
+    link.read_exact(&mut idle)?;
+    assert!(rt; idle == [0, 1, 0]);
+    Ok(link)
+}
+
+/// A member that has a log, and a peer that welcomes its link, leaves, and then welcomes none.
+fn peer_leaves<R: Machine + Abort>(rt: &R, alloc: Global) -> Result<(), Fail> {
+    let cluster = Cluster {
+        n: 4,
+        t: 1,
+        port: 47250,
+    };
+    let listener = TcpListener::bind(rt, cluster.address(1))?;
+    let kept = Mutex::new(Kept {
+        events: Vec::new(alloc),
+    });
+    let cue = Cue::new();
+    let (cue, log) = (&cue, &kept);
+    thread::scope(thread::scope_env(), rt, |scope| -> Result<(), Fail> {
+        let _run = scope.spawn(move || {
+            let ended = run_told(rt, alloc, cluster, 0, None, cue, Some(log));
+            *cue.ended.lock(rt) = Some(ended);
+        });
+        assert!(rt; cue.is_ready(rt));
+        let link = welcome(rt, &listener)?;
+        wait_for(rt, log, 2);
+        drop(link);
+        wait_for(rt, log, 3);
+        // Dialled again the peer says nothing, and leaves: no link was up, and nothing is told.
+        let (silent, _) = listener.accept()?;
+        drop(silent);
+        thread::sleep(rt, Duration::from_millis(500));
+        assert!(rt; cue.ends(rt) == Some(Ok(())));
+        Ok(())
+    })?;
+    let told = kept.into_inner().events;
+    let want = [
+        LogEvent::Ready(0),
+        LogEvent::LinkUpTo(1),
+        LogEvent::LinkDownTo(1, LinkEnd::Lost),
+        LogEvent::End,
+    ];
+    assert!(rt; told.as_slice() == want.as_slice(), "told {told:?}");
+    Ok(())
+}
+
+#[test]
+fn a_log_tells_of_links_to_peers(rt: HostRuntime) -> Result<(), Fail> {
+    let _types = no_sockets();
+    peer_leaves(&rt, rt.alloc())
+}
+
+/// The Hello of member 1 to member 0, of a cluster of four.
+const HELLO: [u8; 18] = [0, 16, 1, 1, 0, 0, 0, 0, 0, 0, 0, 7, 4, 1, 0, 1, 1, 0];
+
+/// The Idle frame.
+const IDLE: [u8; 3] = [0, 1, 0];
+
+/// A member that has a log, and a peer that dials it twice, and leaves.
+fn peer_comes<R: Machine + Abort>(rt: &R, alloc: Global) -> Result<(), Fail> {
+    let cluster = Cluster {
+        n: 4,
+        t: 1,
+        port: 47260,
+    };
+    let kept = Mutex::new(Kept {
+        events: Vec::new(alloc),
+    });
+    let cue = Cue::new();
+    let (cue, log) = (&cue, &kept);
+    thread::scope(thread::scope_env(), rt, |scope| -> Result<(), Fail> {
+        let _run = scope.spawn(move || {
+            let ended = run_told(rt, alloc, cluster, 0, None, cue, Some(log));
+            *cue.ended.lock(rt) = Some(ended);
+        });
+        assert!(rt; cue.is_ready(rt));
+        let mut link = connect(rt, cluster.address(0))?;
+        link.write_all(&HELLO)?;
+        let mut welcome = [0u8; 11];
+        link.read_exact(&mut welcome)?;
+        assert!(rt; welcome == [0, 9, 2, 0, 0, 0, 0, 0, 0, 0, 0]);
+        assert!(rt; is_refused(rt, cluster.address(0), &HELLO)?);
+        drop(link);
+        wait_for(rt, log, 4);
+        assert!(rt; cue.ends(rt) == Some(Ok(())));
+        Ok(())
+    })?;
+    let told = kept.into_inner().events;
+    let want = [
+        LogEvent::Ready(0),
+        LogEvent::LinkUp(1),
+        LogEvent::Refused(LinkEnd::Busy),
+        LogEvent::LinkDown(1, LinkEnd::Ended),
+        LogEvent::End,
+    ];
+    assert!(rt; told.as_slice() == want.as_slice(), "told {told:?}");
+    Ok(())
+}
+
+#[test]
+fn a_log_tells_of_links_from_peers(rt: HostRuntime) -> Result<(), Fail> {
+    let _types = no_sockets();
+    peer_comes(&rt, rt.alloc())
+}
+
+#[test]
+fn a_link_is_up_once_it_is_written_behind_a_read(rt: HostRuntime) -> Result<(), Fail> {
+    let hello = Standing::Greeting.written();
+    assert!(&rt; hello == Standing::Greeting && !hello.comes_up());
+    let answered = hello.read().read();
+    assert!(&rt; answered == Standing::Answered && answered.comes_up());
+    let up = answered.written();
+    assert!(&rt; up == Standing::Up && !up.comes_up());
+    assert!(&rt; up.read() == Standing::Up && up.written() == Standing::Up);
+    Ok(())
+}
+
+#[test]
+fn events_are_lines(rt: HostRuntime) -> Result<(), Fail> {
+    for (event, want) in [
+        (LogEvent::Ready(1), "ready member 1"),
+        (LogEvent::LinkUp(2), "link-up from 2"),
+        (
+            LogEvent::LinkDown(31, LinkEnd::Lost),
+            "link-down from 31 lost",
+        ),
+        (
+            LogEvent::LinkDown(2, LinkEnd::Broken(WireFault::BadValue)),
+            "link-down from 2 broken BadValue",
+        ),
+        (
+            LogEvent::LinkDown(0, LinkEnd::OutOfOrder),
+            "link-down from 0 out-of-order",
+        ),
+        (
+            LogEvent::LinkDown(3, LinkEnd::Stopped),
+            "link-down from 3 stopped",
+        ),
+        (
+            LogEvent::LinkDown(3, LinkEnd::Memory),
+            "link-down from 3 memory",
+        ),
+        (LogEvent::LinkUpTo(2), "link-up to 2"),
+        (
+            LogEvent::LinkDownTo(31, LinkEnd::Lost),
+            "link-down to 31 lost",
+        ),
+        (
+            LogEvent::LinkDownTo(0, LinkEnd::Memory),
+            "link-down to 0 memory",
+        ),
+        (LogEvent::Refused(LinkEnd::Stranger), "refused stranger"),
+        (LogEvent::Refused(LinkEnd::Busy), "refused busy"),
+        (LogEvent::Refused(LinkEnd::Ended), "refused ended"),
+        (LogEvent::Decided(17, true), "decided 17 1"),
+        (LogEvent::Decided(255, false), "decided 255 0"),
+        (LogEvent::Stopped, "stopped"),
+        (LogEvent::Missed(3), "missed 3"),
+        (LogEvent::End, "end"),
+    ] {
+        let text = format!(in rt.alloc(); "{event}")?;
+        assert_eq!(rt; text.as_str(), want);
+    }
+    Ok(())
+}
+
+#[test]
+fn a_queue_has_an_end(rt: HostRuntime) -> Result<(), Fail> {
+    let mut queue = Queue::new(rt.alloc());
+    assert!(&rt; queue.is_empty());
+    for question in 0..1026u16 {
+        queue.put(LogEvent::Decided(question, true));
+    }
+    assert!(&rt; !queue.is_empty());
+    let (events, missed) = queue.take(rt.alloc());
+    assert!(&rt; events.len() == 1024 && missed == 2);
+    assert!(&rt; events.first() == Some(&LogEvent::Decided(0, true)));
+    assert!(&rt; events.last() == Some(&LogEvent::Decided(1023, true)));
+    assert!(&rt; queue.is_empty());
+    Ok(())
+}
+
+/// A peer that greets, and one that sends one byte of its Hello, which is closed after ten seconds.
+fn slow_peer<R: Machine + Abort>(rt: &R, alloc: Global) -> Result<(), Fail> {
+    let cluster = Cluster {
+        n: 4,
+        t: 1,
+        port: 47230,
+    };
+    let cue = Cue::new();
+    let cue = &cue;
+    thread::scope(thread::scope_env(), rt, |scope| -> Result<(), Fail> {
+        let _run = scope.spawn(move || run_to_cue(rt, alloc, cluster, 0, None, cue));
+        assert!(rt; cue.is_ready(rt));
+        let mut slow = connect(rt, cluster.address(0))?;
+        slow.write_all(&HELLO[..1])?;
+        let mut prompt = connect(rt, cluster.address(0))?;
+        prompt.write_all(&HELLO)?;
+        prompt.read_exact(&mut [0u8; 11])?;
+        for _ in 0..14u32 {
+            thread::sleep(rt, Duration::from_millis(500));
+            prompt.write_all(&IDLE)?;
+        }
+        slow.set_read_timeout(Some(Duration::from_millis(300)))?;
+        assert!(rt; !is_closed(&mut slow));
+        slow.set_read_timeout(Some(Duration::from_secs(5)))?;
+        assert!(rt; is_closed(&mut slow));
+        prompt.write_all(&IDLE)?;
+        prompt.set_read_timeout(Some(Duration::from_millis(300)))?;
+        assert!(rt; !is_closed(&mut prompt));
+        assert!(rt; cue.ends(rt) == Some(Ok(())));
+        Ok(())
+    })
+}
+
+#[test]
+fn a_greeting_has_ten_seconds(rt: HostRuntime) -> Result<(), Fail> {
+    let _types = no_sockets();
+    slow_peer(&rt, rt.alloc())
+}
+
+#[test]
+fn places_and_slots_are_given_once(rt: HostRuntime) -> Result<(), Fail> {
+    let mut places = Places::<2>::new();
+    assert!(&rt; places.take() && places.take() && !places.take());
+    places.leave();
+    assert!(&rt; places.take() && !places.take());
+    let mut slots = Slots::new();
+    for slot in 0..32u8 {
+        assert!(&rt; slots.take() == Some(slot));
+    }
+    assert!(&rt; slots.take().is_none());
+    slots.put(7);
+    assert!(&rt; slots.take() == Some(7));
+    Ok(())
+}
+
+#[test]
+fn tosses_are_of_the_place(rt: HostRuntime) -> Result<(), Fail> {
+    let cluster = Cluster {
+        n: 4,
+        t: 1,
+        port: 0,
+    };
+    let member = cluster.member(rt.alloc(), 1, None).ok_or("a member")?;
+    let Tossers {
+        mut links,
+        mut desk,
+    } = tossers_of(rt.alloc(), [5; 32], &member)?;
+    assert!(&rt; links.len() == 4 && desk.len() == 32);
+    let mut third = links.pop().ok_or("a link")?;
+    let mut last = desk.pop().ok_or("a slot")?;
+    assert!(&rt; third.toss() == ChaChaTosser::from_seed([5; 32], 3).toss());
+    assert!(&rt; last.toss() == ChaChaTosser::from_seed([5; 32], 159).toss());
+    // The nineteenth record's life, of the link from member 3.
+    let mut later = tosser_for([5; 32], 19, 3);
+    assert!(&rt; later.toss() == ChaChaTosser::from_seed([5; 32], 4867).toss());
+    Ok(())
+}

@@ -1,0 +1,694 @@
+//! Worked rows over streams in memory, and over TCP on this machine.
+ghost use Rattle.std.specs.Prelude.{◌≡◌, length, []};
+ghost use Rattle.std.specs.Arc.{arc_value};
+ghost use Rattle.links.specs.Mem.{told_by, is_closed_mem};
+
+mod groups;
+
+use crate::beginnings::{at, board, header, start, take};
+use disk::MemDisk;
+use links::{
+    Gate, LinkEnd, MemStream, NetStream, Open, Point, Stream, StreamFault, greet, read_link,
+    write_all, write_link,
+};
+use node::{Board, Hub, Naming, Rack, Seat, close};
+use rounds::{Toss, Tosser};
+use std::alloc::Global;
+use std::marker::Brand;
+use std::net::{TcpListener, TcpStream};
+use std::process::Abort;
+use std::sync::atomic::{AtomicBool, AtomicUsize, Ordering};
+use std::sync::{Arc, Wait};
+use std::test::Fail;
+use std::thread;
+use std::thread::{Threads, join};
+use std::time::{Clock, Duration};
+use terms::Kind::{Echo, Initial, Ready};
+use terms::Value::One;
+use terms::{Kind, Size, Statement};
+use wire::{Message, WireFault, encode};
+
+/// A tosser whose tosses are all 0.
+#[derive(Drop)]
+struct Zeros;
+
+impl Tosser for Zeros {
+    fn toss(&mut self) -> Toss {
+        Toss(0)
+    }
+}
+
+/// A statement with the value One at question 0, origin 0, round 1 and step 1.
+fn of(kind: Kind) -> Result<Statement, Fail> {
+    at(0, 0, kind, One)
+}
+
+/// The frame of a message.
+fn frame(alloc: Global, message: &Message) -> Result<Vec<u8>, Fail> {
+    let mut bytes = Vec::new(alloc);
+    encode(message, &mut bytes)?;
+    Ok(bytes)
+}
+
+/// A stream that gives these bytes at once.
+fn of_bytes(alloc: Global, bytes: &[u8]) -> Result<MemStream, Fail> {
+    let mut stream = MemStream::new(alloc);
+    stream.give(bytes)?;
+    Ok(stream)
+}
+
+/// A stream that gives these bytes one by one.
+fn in_single_bytes(alloc: Global, bytes: &[u8]) -> Result<MemStream, Fail> {
+    let mut stream = MemStream::new(alloc);
+    for byte in bytes {
+        stream.give(&[*byte])?;
+    }
+    Ok(stream)
+}
+
+/// The Hello of a member to another.
+fn hello(cluster: u64, n: u8, from: u8, to: u8) -> Result<Message, Fail> {
+    Ok(Message::Hello {
+        cluster,
+        size: Size::new(n, 1, 1)?,
+        from,
+        to,
+    })
+}
+
+/// Greets with these bytes, all at once and byte by byte.
+fn greets(
+    rt: &(impl Abort + AllocGlobal),
+    bytes: &[u8],
+    wanted: Result<u8, LinkEnd>,
+) -> Result<(), Fail> {
+    let header = header(4, 1, 1, 1)?;
+    let mut stream = of_bytes(rt.alloc(), bytes)?;
+    assert!(rt; greet(rt.alloc(), &mut stream, &header) == wanted);
+    assert!(rt; stream.output().is_empty());
+    assert!(rt; stream.is_closed() == wanted.is_err());
+    let mut stream = in_single_bytes(rt.alloc(), bytes)?;
+    assert!(rt; greet(rt.alloc(), &mut stream, &header) == wanted);
+    assert!(rt; stream.output().is_empty());
+    Ok(())
+}
+
+#[test]
+fn greetings(rt: HostRuntime) -> Result<(), Fail> {
+    let alloc = rt.alloc();
+    let good = frame(alloc, &hello(7, 4, 0, 1)?)?;
+    let row = [0, 16, 1, 1, 0, 0, 0, 0, 0, 0, 0, 7, 4, 1, 0, 1, 0, 1];
+    assert_eq!(&rt; good.as_slice(), row.as_slice());
+    greets(&rt, &good, Ok(0))?;
+    greets(&rt, &good.as_slice()[..9], Err(LinkEnd::Ended))?;
+    greets(&rt, &[], Err(LinkEnd::Ended))?;
+    greets(
+        &rt,
+        &frame(alloc, &Message::Idle)?,
+        Err(LinkEnd::OutOfOrder),
+    )?;
+    greets(
+        &rt,
+        &frame(alloc, &Message::Welcome { next: 3 })?,
+        Err(LinkEnd::OutOfOrder),
+    )?;
+    greets(
+        &rt,
+        &frame(alloc, &Message::Statement(of(Echo)?))?,
+        Err(LinkEnd::OutOfOrder),
+    )?;
+    greets(
+        &rt,
+        &frame(alloc, &hello(8, 4, 0, 1)?)?,
+        Err(LinkEnd::Stranger),
+    )?;
+    greets(
+        &rt,
+        &frame(alloc, &hello(7, 4, 0, 2)?)?,
+        Err(LinkEnd::Stranger),
+    )?;
+    greets(
+        &rt,
+        &frame(alloc, &hello(7, 5, 0, 1)?)?,
+        Err(LinkEnd::Broken(WireFault::BadHello)),
+    )?;
+    greets(&rt, &[0, 2], Err(LinkEnd::Broken(WireFault::BadLength)))?;
+    Ok(())
+}
+
+/// What stands behind the Hello is not read.
+#[test]
+fn a_greeting_reads_eighteen_bytes(rt: HostRuntime) -> Result<(), Fail> {
+    let alloc = rt.alloc();
+    let mut bytes = frame(alloc, &hello(7, 4, 2, 1)?)?;
+    encode(&Message::Idle, &mut bytes)?;
+    let mut stream = of_bytes(alloc, &bytes)?;
+    assert!(&rt; greet(alloc, &mut stream, &header(4, 1, 1, 1)?) == Ok(2));
+    assert_eq!(&rt; stream.left().len(), 3);
+    Ok(())
+}
+
+/// A stream that fails at the k-th call, for each k, once and for good.
+#[test]
+fn a_greeting_is_lost_where_the_stream_fails(rt: HostRuntime) -> Result<(), Fail> {
+    let alloc = rt.alloc();
+    let header = header(4, 1, 1, 1)?;
+    let bytes = frame(alloc, &hello(7, 4, 2, 1)?)?;
+    for call in 0..19u64 {
+        let wanted = if call < 18 { Err(LinkEnd::Lost) } else { Ok(2) };
+        let mut stream = in_single_bytes(alloc, &bytes)?;
+        stream.fail_at(call)?;
+        assert!(&rt; greet(alloc, &mut stream, &header) == wanted);
+        let mut stream = in_single_bytes(alloc, &bytes)?;
+        stream.fail_from(call);
+        assert!(&rt; greet(alloc, &mut stream, &header) == wanted);
+    }
+    Ok(())
+}
+
+/// A session of the link from a peer, which gives these bytes: how it ended and what it wrote. The seat is put back.
+fn session<J: Naming, R: Wait + AllocGlobal>(
+    rt: &R,
+    hub: &Hub<MemDisk, J>,
+    rack: &Rack,
+    peer: u8,
+    bytes: &[u8],
+) -> Result<(u64, LinkEnd, MemStream), Fail> {
+    let mut stream = of_bytes(rt.alloc(), bytes)?;
+    let seat = take(rt, rack, peer)?;
+    let (seat, end) = read_link(rt, rt.alloc(), hub, seat, &mut stream, &Open, &mut Zeros);
+    let next = seat.next();
+    rack.put(rt, seat);
+    Ok((next, end, stream))
+}
+
+/// Links of member 1 hand in what makes it say an Echo and a Ready.
+fn hears_of_an_origin<J: Naming, R: Wait + Abort + AllocGlobal>(
+    rt: &R,
+    hub: &Hub<MemDisk, J>,
+    rack: &Rack,
+) -> Result<(), Fail> {
+    let alloc = rt.alloc();
+    let mut bytes = frame(alloc, &Message::Idle)?;
+    encode(&Message::Statement(of(Initial)?), &mut bytes)?;
+    let (next, end, stream) = session(rt, hub, rack, 0, &bytes)?;
+    assert!(rt; end == LinkEnd::Ended && next == 1 && stream.is_closed());
+    assert_eq!(rt;
+        stream.output(),
+        [0, 9, 2, 0, 0, 0, 0, 0, 0, 0, 0].as_slice()
+    );
+    let ready = frame(alloc, &Message::Statement(of(Ready)?))?;
+    let (next, end, _) = session(rt, hub, rack, 2, &ready)?;
+    assert!(rt; end == LinkEnd::Ended && next == 1);
+    // A frame that is cut short is lost, and a message out of place ends the session.
+    let (next, end, _) = session(rt, hub, rack, 3, &[0, 8, 3, 3, 0, 0, 0, 1, 1])?;
+    assert!(rt; end == LinkEnd::Ended && next == 0);
+    let mut bytes = ready;
+    encode(&Message::Welcome { next: 0 }, &mut bytes)?;
+    encode(&Message::Statement(of(Echo)?), &mut bytes)?;
+    let (next, end, _) = session(rt, hub, rack, 3, &bytes)?;
+    assert!(rt; end == LinkEnd::OutOfOrder && next == 1);
+    assert!(rt; hub.lock(rt).status() == Some((2, 0)));
+    Ok(())
+}
+
+/// Member 1 sends its Echo and its Ready over a stream that fails in the second frame, and then over another.
+fn sends<J: Naming, R: Wait + Abort + AllocGlobal>(rt: &R, board: Arc<Board>) -> Result<(), Fail>
+    requires names { arc_value board ≡ J.names }
+    requires cells { length (arc_value board) ≡ 1 }
+{
+    let alloc = rt.alloc();
+    let header = header(4, 1, 1, 1)?;
+    let (hub, seats) = Hub::<MemDisk, J>::open(
+        alloc,
+        start(alloc, MemDisk::new(alloc), &header, false)?,
+        board,
+    )?;
+    let rack = Rack::new(seats);
+    hears_of_an_origin(rt, &hub, &rack)?;
+    // The stream takes a byte a call: 18 of the Hello, a read, 13 bytes.
+    let mut stream = of_bytes(alloc, &frame(alloc, &Message::Welcome { next: 0 })?)?;
+    stream.take_at_most(1);
+    stream.fail_from(32);
+    let end = write_link(rt, alloc, &hub, 2, &mut stream, &Open);
+    assert!(rt; end == LinkEnd::Lost && stream.is_closed());
+    let mut wanted = frame(alloc, &hello(7, 4, 1, 2)?)?;
+    encode(&Message::Statement(of(Echo)?), &mut wanted)?;
+    wanted.extend_from_slice(&[0, 8, 3])?;
+    assert_eq!(rt; stream.output(), wanted.as_slice());
+    // The next session goes on where the Welcome says, and ends once the hub is shut.
+    hub.shut(rt);
+    let mut stream = of_bytes(alloc, &frame(alloc, &Message::Welcome { next: 1 })?)?;
+    let end = write_link(rt, alloc, &hub, 2, &mut stream, &Open);
+    assert!(rt; end == LinkEnd::Ended);
+    let mut wanted = frame(alloc, &hello(7, 4, 1, 2)?)?;
+    encode(&Message::Statement(of(Ready)?), &mut wanted)?;
+    assert_eq!(rt; stream.output(), wanted.as_slice());
+    assert!(rt; close(hub, rack.into_seats()).is_ok());
+    Ok(())
+}
+
+#[test]
+fn a_writer_stops_in_the_second_frame(rt: HostRuntime) -> Result<(), Fail> {
+    sends::<Brand, _>(&rt, board(&rt, 1)?)
+}
+
+/// A Hello over TCP, its closing, and a peer that says nothing.
+#[test]
+fn greets_over_tcp(rt: HostRuntime) -> Result<(), Fail> {
+    let alloc = rt.alloc();
+    let listener = TcpListener::bind(&rt, "127.0.0.1:0").map_err(|_| "a port")?;
+    let address = listener.local_addr().map_err(|_| "an address")?;
+    let dialled = TcpStream::connect(&rt, address).map_err(|_| "a connection")?;
+    let (accepted, _) = listener.accept().map_err(|_| "a connection")?;
+    let mut dialler = NetStream::new(dialled);
+    let mut listens = NetStream::with_limit(accepted, Duration::from_millis(50)).map_err(
+        |_| "a limit",
+    )?;
+    let bytes = frame(alloc, &hello(7, 4, 3, 1)?)?;
+    assert!(&rt; write_all(&mut dialler, &bytes).is_ok());
+    assert!(&rt; greet(alloc, &mut listens, &header(4, 1, 1, 1)?) == Ok(3));
+    // The next greeting doesn't come in time.
+    assert!(&rt; greet(alloc, &mut listens, &header(4, 1, 1, 1)?) == Err(LinkEnd::Lost));
+    let mut buf = [0u8; 4];
+    assert!(&rt; dialler.read(&mut buf) == Ok(0));
+    Ok(())
+}
+
+/// Holds link 1 up until link 2 has passed and the verdict was read.
+#[derive(Drop)]
+struct Turnstile<'a, R> {
+    rt: &'a R,
+    second_passed: AtomicBool,
+    verdict_read: AtomicBool,
+    gave_up: AtomicBool,
+}
+
+impl<R: Clock> Gate for Turnstile<'_, R> {
+    fn pass(&self, point: Point) {
+        match point {
+            Point::Before(1) => {
+                for _ in 0..10_000u32 {
+                    if self.second_passed.load(Ordering::SeqCst)
+                        && self.verdict_read.load(Ordering::SeqCst)
+                    {
+                        return;
+                    }
+                    thread::sleep(self.rt, Duration::from_millis(1));
+                }
+                self.gave_up.store(true, Ordering::SeqCst);
+            }
+            Point::After(2) => self.second_passed.store(true, Ordering::SeqCst),
+            _ => {}
+        }
+    }
+}
+
+/// Asks without a lock until there is a verdict, and then once more.
+fn asks<J: Naming, R: Clock>(
+    rt: &R,
+    hub: &Hub<MemDisk, J>,
+    gate: &Turnstile<R>,
+) -> Result<bool, terms::Memory> {
+    let board: &Board = hub.board();
+    let mut pass = board.pass()?;
+    for _ in 0..10_000u32 {
+        if board.ask(&mut pass, 0) == Some(true) {
+            gate.verdict_read.store(true, Ordering::SeqCst);
+            return Ok(board.ask(&mut pass, 0) == Some(true));
+        }
+        thread::sleep(rt, Duration::from_millis(1));
+    }
+    Ok(false)
+}
+
+/// A session of a reader, to which these bytes come.
+fn reads<J: Naming, R: Wait + Clock + AllocGlobal>(
+    rt: &R,
+    hub: &Hub<MemDisk, J>,
+    seat: Seat,
+    gate: &Turnstile<R>,
+    bytes: &[u8],
+) -> (Seat, LinkEnd) {
+    let mut stream = MemStream::new(rt.alloc());
+    if stream.give(bytes).is_err() {
+        return (seat, LinkEnd::Memory);
+    }
+    read_link(rt, rt.alloc(), hub, seat, &mut stream, gate, &mut Zeros)
+}
+
+/// Member 0, which decided in an earlier life: two links and an asker run at once.
+fn at_once<J: Naming + Send + Sync, R: Threads + Wait + Clock + Abort + AllocGlobal + Sync>(
+    rt: &R,
+    board: Arc<Board>,
+) -> Result<(), Fail>
+    requires names { arc_value board ≡ J.names }
+    requires cells { length (arc_value board) ≡ 1 }
+{
+    let alloc = rt.alloc();
+    let header = header(4, 1, 1, 0)?;
+    let member = start(alloc, MemDisk::new(alloc), &header, true)?;
+    let (hub, seats) = Hub::<MemDisk, J>::open(alloc, member, board)?;
+    let rack = Rack::new(seats);
+    let first = take(rt, &rack, 1)?;
+    let second = take(rt, &rack, 2)?;
+    let gate = Turnstile {
+        rt,
+        second_passed: AtomicBool::new(false),
+        verdict_read: AtomicBool::new(false),
+        gave_up: AtomicBool::new(false),
+    };
+    let echo = frame(alloc, &Message::Statement(of(Echo)?))?;
+    let bytes = echo.as_slice();
+    let ((first, first_end), ((second, second_end), asked)) = join(
+        rt,
+        || reads(rt, &hub, first, &gate, bytes),
+        || {
+            join(
+                rt,
+                || reads(rt, &hub, second, &gate, bytes),
+                || asks(rt, &hub, &gate),
+            )
+        },
+    );
+    assert!(rt; asked?);
+    assert!(rt; !gate.gave_up.load(Ordering::SeqCst));
+    assert!(rt; first_end == LinkEnd::Ended && second_end == LinkEnd::Ended);
+    assert!(rt; first.next() == 1 && second.next() == 1);
+    rack.put(rt, first);
+    rack.put(rt, second);
+    assert!(rt; close(hub, rack.into_seats()).is_ok());
+    Ok(())
+}
+
+#[test]
+fn links_and_an_asker_run_at_once(rt: HostRuntime) -> Result<(), Fail> {
+    at_once::<Brand, _>(&rt, board(&rt, 1)?)
+}
+
+/// A stream that gives these bytes one by one, takes one a call, and fails at a call: once, or from then on.
+fn failing(alloc: Global, bytes: &[u8], call: u64, once: bool) -> Result<MemStream, Fail> {
+    let mut stream = in_single_bytes(alloc, bytes)?;
+    stream.take_at_most(1);
+    if once {
+        stream.fail_at(call)?;
+    } else {
+        stream.fail_from(call);
+    }
+    Ok(stream)
+}
+
+/// Readers whose stream fails at the k-th call, for each k: what was read whole before it is handed in.
+fn reads_until_it_fails<J: Naming, R: Wait + Abort + AllocGlobal>(
+    rt: &R,
+    hub: &Hub<MemDisk, J>,
+    seat: Seat,
+    once: bool,
+) -> Result<(), Fail> {
+    let alloc = rt.alloc();
+    let mut seat = seat;
+    let mut bytes = frame(alloc, &Message::Statement(of(Initial)?))?;
+    encode(&Message::Statement(of(Ready)?), &mut bytes)?;
+    for call in 0..34u64 {
+        let before = seat.next();
+        let mut stream = failing(alloc, &bytes, call, once)?;
+        let (back, end) = read_link(rt, alloc, hub, seat, &mut stream, &Open, &mut Zeros);
+        seat = back;
+        // Eleven calls write the Welcome, twenty read the frames, and the next meets the end.
+        let wanted = if call < 32 {
+            LinkEnd::Lost
+        } else {
+            LinkEnd::Ended
+        };
+        let handed = call.saturating_sub(11).min(20) / 10;
+        assert!(rt; end == wanted && seat.next() == before.wrapping_add(handed));
+        assert!(rt; stream.output().len() as u64 == call.min(11));
+    }
+    Ok(())
+}
+
+/// Writers whose stream fails at the k-th call, for each k: a beginning of the whole was written.
+fn writes_until_it_fails<J: Naming, R: Wait + Abort + AllocGlobal>(
+    rt: &R,
+    hub: &Hub<MemDisk, J>,
+    once: bool,
+) -> Result<(), Fail> {
+    let alloc = rt.alloc();
+    let welcome = frame(alloc, &Message::Welcome { next: 0 })?;
+    let mut wanted = frame(alloc, &hello(7, 4, 1, 2)?)?;
+    encode(&Message::Statement(of(Echo)?), &mut wanted)?;
+    encode(&Message::Statement(of(Ready)?), &mut wanted)?;
+    for call in 0..51usize {
+        let mut stream = failing(alloc, &welcome, call as u64, once)?;
+        let end = write_link(rt, alloc, hub, 2, &mut stream, &Open);
+        // Eighteen calls write the Hello, eleven read the Welcome, and twenty write the frames.
+        let written = call.min(18) + call.saturating_sub(29).min(20);
+        let wanted_end = if call < 49 {
+            LinkEnd::Lost
+        } else {
+            LinkEnd::Ended
+        };
+        assert!(rt; end == wanted_end);
+        let written = written.min(wanted.len());
+        assert_eq!(rt; stream.output(), &wanted.as_slice()[..written]);
+    }
+    Ok(())
+}
+
+fn fails_at_each_call<J: Naming, R: Wait + Abort + AllocGlobal>(
+    rt: &R,
+    board: Arc<Board>,
+) -> Result<(), Fail>
+    requires names { arc_value board ≡ J.names }
+    requires cells { length (arc_value board) ≡ 1 }
+{
+    let alloc = rt.alloc();
+    let header = header(4, 1, 1, 1)?;
+    let (hub, seats) = Hub::<MemDisk, J>::open(
+        alloc,
+        start(alloc, MemDisk::new(alloc), &header, false)?,
+        board,
+    )?;
+    let rack = Rack::new(seats);
+    reads_until_it_fails(rt, &hub, take(rt, &rack, 0)?, true)?;
+    reads_until_it_fails(rt, &hub, take(rt, &rack, 2)?, false)?;
+    hub.shut(rt);
+    writes_until_it_fails(rt, &hub, true)?;
+    writes_until_it_fails(rt, &hub, false)?;
+    // A stream that takes nothing is lost.
+    let mut stream = MemStream::new(alloc);
+    stream.take_at_most(0);
+    assert!(rt; write_link(rt, alloc, &hub, 2, &mut stream, &Open) == LinkEnd::Lost);
+    assert!(rt; stream.output().is_empty());
+    Ok(())
+}
+
+#[test]
+fn sessions_fail_at_each_call(rt: HostRuntime) -> Result<(), Fail> {
+    fails_at_each_call::<Brand, _>(&rt, board(&rt, 1)?)
+}
+
+/// One Initial 10,000 times: each is handed in, and the first alone is kept.
+fn floods<J: Naming, R: Wait + Abort + AllocGlobal>(rt: &R, board: Arc<Board>) -> Result<(), Fail>
+    requires names { arc_value board ≡ J.names }
+    requires cells { length (arc_value board) ≡ 1 }
+{
+    let alloc = rt.alloc();
+    let header = header(4, 1, 1, 1)?;
+    let (hub, seats) = Hub::<MemDisk, J>::open(
+        alloc,
+        start(alloc, MemDisk::new(alloc), &header, false)?,
+        board,
+    )?;
+    let mut bytes = Vec::new(alloc);
+    for _ in 0..100u32 {
+        encode(&Message::Statement(of(Initial)?), &mut bytes)?;
+    }
+    let mut stream = MemStream::new(alloc);
+    for _ in 0..100u32 {
+        stream.give(&bytes)?;
+    }
+    let rack = Rack::new(seats);
+    let seat = take(rt, &rack, 0)?;
+    let (seat, end) = read_link(rt, alloc, &hub, seat, &mut stream, &Open, &mut Zeros);
+    assert!(rt; end == LinkEnd::Ended && seat.next() == 10_000);
+    // A journal with one record of 7 bytes in a batch has 35 bytes.
+    assert!(rt; hub.lock(rt).events() == 1 && hub.lock(rt).records().len() == 1);
+    rack.put(rt, seat);
+    assert!(rt; close(hub, rack.into_seats()).is_ok());
+    Ok(())
+}
+
+#[test]
+fn a_flood_is_one_entry(rt: HostRuntime) -> Result<(), Fail> {
+    floods::<Brand, _>(&rt, board(&rt, 1)?)
+}
+
+/// How many writes there were, for two threads to see.
+#[derive(Drop)]
+struct Writes {
+    count: AtomicUsize,
+}
+
+/// A stream whose writes are counted.
+#[derive(Drop)]
+struct Watched<'a> {
+    inner: MemStream,
+    writes: &'a Writes,
+}
+
+impl Stream for Watched<'_> {
+    ghost told = { λ watched. told_by watched.inner };
+
+    ghost is_closed = { λ watched. is_closed_mem watched.inner };
+
+    fn read(&mut self, buf: &mut [u8]) -> Result<usize, StreamFault> {
+        self.inner.read(buf)
+    }
+
+    fn write(&mut self, bytes: &[u8]) -> Result<usize, StreamFault> {
+        self.writes.count.fetch_add(1, Ordering::SeqCst);
+        self.inner.write(bytes)
+    }
+
+    fn close(&mut self) {
+        self.inner.close();
+    }
+}
+
+/// Rings until there were so many writes.
+fn rings_until<J: Naming, R: Clock>(
+    rt: &R,
+    hub: &Hub<MemDisk, J>,
+    writes: &Writes,
+    wanted: usize,
+) -> bool {
+    for _ in 0..10_000u32 {
+        if writes.count.load(Ordering::SeqCst) >= wanted {
+            return true;
+        }
+        hub.ring();
+        thread::sleep(rt, Duration::from_millis(1));
+    }
+    false
+}
+
+/// A session of a writer, whose writes are counted: what it wrote, and how it ended.
+fn writes_on<J: Naming, R: Wait + AllocGlobal>(
+    rt: &R,
+    hub: &Hub<MemDisk, J>,
+    writes: &Writes,
+    welcome: &[u8],
+) -> (Option<Vec<u8>>, LinkEnd) {
+    let alloc = rt.alloc();
+    let mut stream = MemStream::new(alloc);
+    if stream.give(welcome).is_err() {
+        return (None, LinkEnd::Memory);
+    }
+    let mut watched = Watched {
+        inner: stream,
+        writes,
+    };
+    let end = write_link(rt, alloc, hub, 0, &mut watched, &Open);
+    (Vec::from_slice(alloc, watched.inner.output()).ok(), end)
+}
+
+/// Rings until two Idles were written behind the Hello, hands two origins' Readys in, rings on, and shuts the hub.
+fn rings_and_shuts<J: Naming, R: Wait + Clock>(
+    rt: &R,
+    hub: &Hub<MemDisk, J>,
+    writes: &Writes,
+    two: Seat,
+    three: Seat,
+    said: (Statement, Statement),
+) -> bool {
+    let mut two = two;
+    let mut three = three;
+    let before = rings_until(rt, hub, writes, 3);
+    let third = hears(rt, hub, &mut two, &said.0) && hears(rt, hub, &mut three, &said.0);
+    let fifth = hears(rt, hub, &mut two, &said.1) && hears(rt, hub, &mut three, &said.1);
+    let now = writes.count.load(Ordering::SeqCst);
+    let after = rings_until(rt, hub, writes, now.saturating_add(3));
+    hub.shut(rt);
+    before && third && fifth && after
+}
+
+/// Hands a statement in.
+fn hears<J: Naming, R: Wait>(
+    rt: &R,
+    hub: &Hub<MemDisk, J>,
+    seat: &mut Seat,
+    said: &Statement,
+) -> bool {
+    hub.lock(rt).apply(seat, said, Toss(0)).is_ok()
+}
+
+/// The bytes behind the Idle frames in front of them.
+fn behind_idles(bytes: &[u8]) -> &[u8] {
+    let mut rest = bytes;
+    for _ in 0..bytes.len() {
+        if rest.len() >= 3 && rest[..3] == [0, 1, 0] {
+            rest = &rest[3..];
+        }
+    }
+    rest
+}
+
+/// What a writer wrote behind its Hello while it was woken, before four more statements were in the outbox and behind them.
+fn woken<J: Naming + Send + Sync, R: Threads + Wait + Clock + Abort + AllocGlobal + Sync>(
+    rt: &R,
+    board: Arc<Board>,
+    next: u64,
+) -> Result<Vec<u8>, Fail>
+    requires names { arc_value board ≡ J.names }
+    requires cells { length (arc_value board) ≡ 1 }
+{
+    let alloc = rt.alloc();
+    let header = header(4, 1, 1, 1)?;
+    let (hub, seats) = Hub::<MemDisk, J>::open(
+        alloc,
+        start(alloc, MemDisk::new(alloc), &header, false)?,
+        board,
+    )?;
+    let rack = Rack::new(seats);
+    let mut two = take(rt, &rack, 2)?;
+    let mut three = take(rt, &rack, 3)?;
+    // Two statements are in the outbox.
+    assert!(rt; hears(rt, &hub, &mut two, &of(Ready)?) && hears(rt, &hub, &mut three, &of(Ready)?));
+    assert!(rt; hub.lock(rt).status() == Some((2, 0)));
+    let said = (at(0, 2, Ready, One)?, at(0, 3, Ready, One)?);
+    let writes = Writes {
+        count: AtomicUsize::new(0),
+    };
+    let welcome = frame(alloc, &Message::Welcome { next })?;
+    let welcome = welcome.as_slice();
+    let ((output, end), rung) = join(
+        rt,
+        || writes_on(rt, &hub, &writes, welcome),
+        || rings_and_shuts(rt, &hub, &writes, two, three, said),
+    );
+    assert!(rt; rung && end == LinkEnd::Ended);
+    let output = output.ok_or("memory")?;
+    let greeting = frame(alloc, &hello(7, 4, 1, 0)?)?;
+    assert!(rt; output.starts_with(greeting.as_slice()) && output.len() > 18);
+    Ok(Vec::from_slice(alloc, &output.as_slice()[18..])?)
+}
+
+#[test]
+fn a_woken_writer_with_nothing_new_writes_idles(rt: HostRuntime) -> Result<(), Fail> {
+    let written = woken::<Brand, _>(&rt, board(&rt, 1)?, u64::MAX)?;
+    assert!(&rt; behind_idles(&written).is_empty());
+    Ok(())
+}
+
+#[test]
+fn a_writer_waits_for_the_number_of_the_welcome(rt: HostRuntime) -> Result<(), Fail> {
+    let written = woken::<Brand, _>(&rt, board(&rt, 1)?, 5)?;
+    let rest = behind_idles(&written);
+    // Number 5 is the last of the six statements.
+    let sixth = frame(rt.alloc(), &Message::Statement(at(0, 3, Ready, One)?))?;
+    assert!(&rt; written.len() > rest.len() && rest.len() > 10);
+    assert_eq!(&rt; &rest[..10], sixth.as_slice());
+    assert!(&rt; behind_idles(&rest[10..]).is_empty());
+    Ok(())
+}

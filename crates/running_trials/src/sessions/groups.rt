@@ -1,0 +1,168 @@
+//! The statements of a read, handed in as one group.
+ghost use Rattle.std.specs.Prelude.{◌≡◌, length};
+ghost use Rattle.std.specs.Arc.{arc_value};
+
+use super::{Zeros, frame};
+use crate::beginnings::{board, header, start, take};
+use disk::MemDisk;
+use links::{Gate, LinkEnd, MemStream, Point, read_link};
+use node::{Board, Hub, Naming, Rack, Seat, close};
+use std::alloc::Global;
+use std::marker::Brand;
+use std::process::Abort;
+use std::sync::atomic::{AtomicBool, AtomicUsize, Ordering};
+use std::sync::{Arc, Wait};
+use std::test::Fail;
+use std::thread::{self, Threads, join};
+use std::time::{Clock, Duration};
+use terms::Kind::{Initial, Ready};
+use terms::Value::One;
+use terms::{Kind, Memory, Place, Statement};
+use wire::{Message, encode};
+
+/// What two threads see of a row.
+#[derive(Drop)]
+struct Seen {
+    /// The points that were passed, a digit each: 1 before a group of member 0, 2 after one, 9 for another.
+    points: AtomicUsize,
+    /// Whether a thread waits for the bell.
+    waits: AtomicBool,
+    /// How often the bell woke it.
+    wakes: AtomicUsize,
+}
+
+impl Gate for Seen {
+    fn pass(&self, point: Point) {
+        let digit = match point {
+            Point::Before(0) => 1,
+            Point::After(0) => 2,
+            _ => 9,
+        };
+        let before = self.points.load(Ordering::SeqCst);
+        self.points.store(
+            before.wrapping_mul(10).wrapping_add(digit),
+            Ordering::SeqCst,
+        );
+    }
+}
+
+/// The frame of a statement with the value One at a question, origin 0, round 1 and step 1.
+fn said(alloc: Global, question: u16, kind: Kind) -> Result<Vec<u8>, Fail> {
+    let place = Place::new(question, 0, 1, 1).ok_or("a place")?;
+    let statement = Statement::new(kind, place, One).ok_or("a value of the step")?;
+    frame(alloc, &Message::Statement(statement))
+}
+
+/// The frames of two Initials, an Idle and a Ready.
+fn three_statements(alloc: Global) -> Result<Vec<u8>, Fail> {
+    let mut bytes = said(alloc, 0, Initial)?;
+    bytes.extend_from_slice(said(alloc, 1, Initial)?.as_slice())?;
+    encode(&Message::Idle, &mut bytes)?;
+    bytes.extend_from_slice(said(alloc, 0, Ready)?.as_slice())?;
+    Ok(bytes)
+}
+
+/// A stream that gives an Idle, and then all of these bytes in one read.
+fn behind_an_idle(alloc: Global, bytes: &[u8]) -> Result<MemStream, Memory> {
+    let mut stream = MemStream::new(alloc);
+    stream.give(&[0, 1, 0])?;
+    stream.give(bytes)?;
+    Ok(stream)
+}
+
+/// Waits for the bell until the hub is shut, and counts how often it was woken.
+fn counts_wakes<J: Naming, R: Wait>(rt: &R, hub: &Hub<MemDisk, J>, seen: &Seen) {
+    let mut book = hub.lock(rt);
+    seen.waits.store(true, Ordering::SeqCst);
+    for _ in 0..100u32 {
+        if hub.is_shut() {
+            return;
+        }
+        book = hub.wait(rt, book);
+        seen.wakes.fetch_add(1, Ordering::SeqCst);
+    }
+}
+
+/// Waits until a thread waits for the bell, or was woken by it; at most 10,000 turns of a millisecond.
+fn waits_until<R: Clock>(rt: &R, seen: &Seen, wakes: usize) -> bool {
+    for _ in 0..10_000u32 {
+        if seen.waits.load(Ordering::SeqCst) && seen.wakes.load(Ordering::SeqCst) >= wakes {
+            return true;
+        }
+        thread::sleep(rt, Duration::from_millis(1));
+    }
+    false
+}
+
+/// A session of a reader, to which these bytes come.
+fn reads<J: Naming, R: Wait + AllocGlobal>(
+    rt: &R,
+    hub: &Hub<MemDisk, J>,
+    seat: Seat,
+    seen: &Seen,
+    bytes: &[u8],
+) -> (Seat, LinkEnd) {
+    let Ok(mut stream) = behind_an_idle(rt.alloc(), bytes) else {
+        return (seat, LinkEnd::Memory);
+    };
+    read_link(rt, rt.alloc(), hub, seat, &mut stream, seen, &mut Zeros)
+}
+
+/// A session while another thread waits for the bell: how it ended, and how often that thread was woken by then.
+fn reads_and_shuts<J: Naming, R: Wait + Clock + AllocGlobal>(
+    rt: &R,
+    hub: &Hub<MemDisk, J>,
+    seat: Seat,
+    seen: &Seen,
+    bytes: &[u8],
+) -> (Seat, LinkEnd, usize) {
+    let waiting = waits_until(rt, seen, 0);
+    let (seat, end) = reads(rt, hub, seat, seen, bytes);
+    let woken = waiting && waits_until(rt, seen, 1);
+    thread::sleep(rt, Duration::from_millis(20));
+    let wakes = seen.wakes.load(Ordering::SeqCst);
+    hub.shut(rt);
+    (seat, end, if woken { wakes } else { 0 })
+}
+
+/// Member 1 of four, with two questions, reads from member 0.
+fn is_one_group<J: Naming + Send + Sync, R: Threads + Wait + Clock + Abort + AllocGlobal + Sync>(
+    rt: &R,
+    board: Arc<Board>,
+) -> Result<(), Fail>
+    requires names { arc_value board ≡ J.names }
+    requires cells { length (arc_value board) ≡ 2 }
+{
+    let alloc = rt.alloc();
+    let header = header(4, 1, 2, 1)?;
+    let (hub, seats) = Hub::<MemDisk, J>::open(
+        alloc,
+        start(alloc, MemDisk::new(alloc), &header, false)?,
+        board,
+    )?;
+    let rack = Rack::new(seats);
+    let seat = take(rt, &rack, 0)?;
+    let seen = Seen {
+        points: AtomicUsize::new(0),
+        waits: AtomicBool::new(false),
+        wakes: AtomicUsize::new(0),
+    };
+    let bytes = three_statements(alloc)?;
+    let bytes = bytes.as_slice();
+    let ((seat, end, wakes), ()) = join(
+        rt,
+        || reads_and_shuts(rt, &hub, seat, &seen, bytes),
+        || counts_wakes(rt, &hub, &seen),
+    );
+    assert!(rt; end == LinkEnd::Ended && seat.next() == 3);
+    assert!(rt; seen.points.load(Ordering::SeqCst) == 12);
+    assert!(rt; wakes == 1 && hub.lock(rt).status() == Some((2, 0)));
+    rack.put(rt, seat);
+    assert!(rt; close(hub, rack.into_seats()).is_ok());
+    Ok(())
+}
+
+#[test]
+fn a_read_of_several_statements_is_one_group(rt: HostRuntime) -> Result<(), Fail> {
+    is_one_group::<Brand, _>(&rt, board(&rt, 2)?)
+}
