@@ -76,8 +76,40 @@ fn closes<D: Disk + Drop, J: Naming>(hub: Hub<D, J>, seats: Vec<Seat>) -> bool {
     close(hub, seats).is_ok()
 }
 
-/// The first Initial is echoed, and what came before or is another's leaves no entry. A book that is refused
-/// memory, as under `rt try --test --fail-alloc N`, is stopped, and notes nothing.
+/// The first Initial is echoed, and another is a repeat. A book that is refused memory, as under
+/// `rt try --test --fail-alloc N`, is stopped and notes nothing, and the answer is false.
+fn hears_an_initial<J: Naming, R: Wait + Abort>(
+    rt: &R,
+    hub: &Hub<MemDisk, J>,
+    seat: &mut Seat,
+) -> Result<bool, Fail> {
+    let answer = hear(rt, hub, seat, &of(Initial, One)?);
+    if answer == Err(MemberFault::Memory) {
+        assert!(rt; status(rt, hub).is_none() && event(rt, hub, 0).is_none());
+        assert!(rt; seat.next() == 0);
+        return Ok(false);
+    }
+    assert!(rt; takes(&answer?, &[Record::Said(of(Echo, One)?)]));
+    let again = hear(rt, hub, seat, &of(Initial, Zero)?)?;
+    assert!(rt; again == Answer::Repeat);
+    assert!(rt; seat.peer() == 0 && seat.next() == 2);
+    Ok(true)
+}
+
+/// The book has the Initial as its one entry, and the Echo in its outbox.
+fn has_the_initial<J: Naming, R: Wait + Abort>(rt: &R, hub: &Hub<MemDisk, J>) -> Result<(), Fail> {
+    let noted = Entry::Heard {
+        from: 0,
+        statement: of(Initial, One)?,
+        toss: Toss(0),
+    };
+    assert!(rt; event(rt, hub, 0) == Some(noted) && event(rt, hub, 1).is_none());
+    assert!(rt; status(rt, hub) == Some((1, 0)) && verdict(rt, hub).is_none());
+    assert!(rt; pull(rt, hub, 0)?.len() == 1 && pull(rt, hub, 1)?.is_empty());
+    Ok(())
+}
+
+/// What came before or is another's leaves no entry; and a hub isn't closed without all seats.
 fn hears_a_peer<J: Naming, R: Wait + Abort + AllocGlobal>(
     rt: &R,
     board: Arc<Board>,
@@ -90,24 +122,10 @@ fn hears_a_peer<J: Naming, R: Wait + Abort + AllocGlobal>(
     let (hub, seats) = Hub::<MemDisk, J>::open(rt.alloc(), member, board)?;
     let rack = Rack::new(seats);
     let mut seat = take(rt, &rack, 0)?;
-    let answer = hear(rt, &hub, &mut seat, &of(Initial, One)?);
-    if answer == Err(MemberFault::Memory) {
-        assert!(rt; status(rt, &hub).is_none() && event(rt, &hub, 0).is_none());
-        assert!(rt; seat.next() == 0);
+    if !hears_an_initial(rt, &hub, &mut seat)? {
         return Ok(());
     }
-    assert!(rt; takes(&answer?, &[Record::Said(of(Echo, One)?)]));
-    let again = hear(rt, &hub, &mut seat, &of(Initial, Zero)?)?;
-    assert!(rt; again == Answer::Repeat);
-    assert!(rt; seat.peer() == 0 && seat.next() == 2);
-    let noted = Entry::Heard {
-        from: 0,
-        statement: of(Initial, One)?,
-        toss: Toss(0),
-    };
-    assert!(rt; event(rt, &hub, 0) == Some(noted) && event(rt, &hub, 1).is_none());
-    assert!(rt; status(rt, &hub) == Some((1, 0)) && verdict(rt, &hub).is_none());
-    assert!(rt; pull(rt, &hub, 0)?.len() == 1 && pull(rt, &hub, 1)?.is_empty());
+    has_the_initial(rt, &hub)?;
     let mut other = take(rt, &rack, 2)?;
     let foreign = hear(rt, &hub, &mut other, &of(Initial, One)?)?;
     assert!(rt; foreign == Answer::Foreign && other.next() == 1);

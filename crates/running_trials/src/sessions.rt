@@ -212,6 +212,43 @@ fn hears_of_an_origin<J: Naming, R: Wait + Abort + AllocGlobal>(
     Ok(())
 }
 
+/// What member 1 writes to member 2 first: its Hello, and one statement.
+fn hello_and(alloc: Global, kind: Kind) -> Result<Vec<u8>, Fail> {
+    let mut bytes = frame(alloc, &hello(7, 4, 1, 2)?)?;
+    encode(&Message::Statement(of(kind)?), &mut bytes)?;
+    Ok(bytes)
+}
+
+/// The stream takes a byte a call, and fails in the second frame: 18 calls for the Hello, a read, 13 bytes.
+fn stops_in_the_second_frame<J: Naming, R: Wait + Abort + AllocGlobal>(
+    rt: &R,
+    hub: &Hub<MemDisk, J>,
+) -> Result<(), Fail> {
+    let alloc = rt.alloc();
+    let mut stream = of_bytes(alloc, &frame(alloc, &Message::Welcome { next: 0 })?)?;
+    stream.take_at_most(1);
+    stream.fail_from(32);
+    let end = write_link(rt, alloc, hub, 2, &mut stream, &Open);
+    assert!(rt; end == LinkEnd::Lost && stream.is_closed());
+    let mut wanted = hello_and(alloc, Echo)?;
+    wanted.extend_from_slice(&[0, 8, 3])?;
+    assert_eq!(rt; stream.output(), wanted.as_slice());
+    Ok(())
+}
+
+/// The next session goes on where the Welcome says, and ends since the hub is shut.
+fn goes_on_at_the_welcome<J: Naming, R: Wait + Abort + AllocGlobal>(
+    rt: &R,
+    hub: &Hub<MemDisk, J>,
+) -> Result<(), Fail> {
+    let alloc = rt.alloc();
+    let mut stream = of_bytes(alloc, &frame(alloc, &Message::Welcome { next: 1 })?)?;
+    let end = write_link(rt, alloc, hub, 2, &mut stream, &Open);
+    assert!(rt; end == LinkEnd::Ended);
+    assert_eq!(rt; stream.output(), hello_and(alloc, Ready)?.as_slice());
+    Ok(())
+}
+
 /// Member 1 sends its Echo and its Ready over a stream that fails in the second frame, and then over another.
 fn sends<J: Naming, R: Wait + Abort + AllocGlobal>(rt: &R, board: Arc<Board>) -> Result<(), Fail>
     requires names { arc_value board ≡ J.names }
@@ -226,24 +263,9 @@ fn sends<J: Naming, R: Wait + Abort + AllocGlobal>(rt: &R, board: Arc<Board>) ->
     )?;
     let rack = Rack::new(seats);
     hears_of_an_origin(rt, &hub, &rack)?;
-    // The stream takes a byte a call: 18 of the Hello, a read, 13 bytes.
-    let mut stream = of_bytes(alloc, &frame(alloc, &Message::Welcome { next: 0 })?)?;
-    stream.take_at_most(1);
-    stream.fail_from(32);
-    let end = write_link(rt, alloc, &hub, 2, &mut stream, &Open);
-    assert!(rt; end == LinkEnd::Lost && stream.is_closed());
-    let mut wanted = frame(alloc, &hello(7, 4, 1, 2)?)?;
-    encode(&Message::Statement(of(Echo)?), &mut wanted)?;
-    wanted.extend_from_slice(&[0, 8, 3])?;
-    assert_eq!(rt; stream.output(), wanted.as_slice());
-    // The next session goes on where the Welcome says, and ends once the hub is shut.
+    stops_in_the_second_frame(rt, &hub)?;
     hub.shut(rt);
-    let mut stream = of_bytes(alloc, &frame(alloc, &Message::Welcome { next: 1 })?)?;
-    let end = write_link(rt, alloc, &hub, 2, &mut stream, &Open);
-    assert!(rt; end == LinkEnd::Ended);
-    let mut wanted = frame(alloc, &hello(7, 4, 1, 2)?)?;
-    encode(&Message::Statement(of(Ready)?), &mut wanted)?;
-    assert_eq!(rt; stream.output(), wanted.as_slice());
+    goes_on_at_the_welcome(rt, &hub)?;
     assert!(rt; close(hub, rack.into_seats()).is_ok());
     Ok(())
 }
