@@ -677,7 +677,8 @@ fn a_queue_has_an_end(rt: HostRuntime) -> Result<(), Fail> {
     Ok(())
 }
 
-/// A peer that greets, and one that sends one byte of its Hello, which is closed after ten seconds.
+/// A peer that greets, and one that sends a byte of its Hello a second: it is closed after ten seconds, though no read of it
+/// waited for long.
 fn slow_peer<R: Machine + Abort>(rt: &R, alloc: Global) -> Result<(), Fail> {
     let cluster = Cluster {
         n: 4,
@@ -694,8 +695,9 @@ fn slow_peer<R: Machine + Abort>(rt: &R, alloc: Global) -> Result<(), Fail> {
         let mut prompt = connect(rt, cluster.address(0))?;
         prompt.write_all(&HELLO)?;
         prompt.read_exact(&mut [0u8; 11])?;
-        for _ in 0..14u32 {
-            thread::sleep(rt, Duration::from_millis(500));
+        for byte in &HELLO[1..8] {
+            thread::sleep(rt, Duration::from_secs(1));
+            slow.write_all(&[*byte])?;
             prompt.write_all(&IDLE)?;
         }
         slow.set_read_timeout(Some(Duration::from_millis(300)))?;
