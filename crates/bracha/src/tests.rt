@@ -1,5 +1,6 @@
 //! The words of the command line, files, and what is printed of faults.
 
+mod manual;
 mod processes;
 
 use super::*;

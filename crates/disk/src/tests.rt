@@ -92,7 +92,7 @@ impl Rule {
 }
 
 /// Makes one call, or two where a write is not at the start of the file.
-fn device(disk: &mut MemDisk, step: Step) -> Result<(), DeviceFault> {
+fn device(disk: &mut impl Disk, step: Step) -> Result<(), DeviceFault> {
     match step {
         Step::Measure => disk.len().map(|_| ()),
         Step::Read => disk.read_at(0, &mut []),
@@ -141,6 +141,23 @@ fn passes(rt: &impl Abort, disk: &mut MemDisk, rule: &Rule, step: Step, fuse: Op
     device(disk, step).is_ok()
 }
 
+/// Runs the steps under a fuse: the disk after them, and what it is to stand for.
+fn played(rt: &(impl AllocGlobal + Abort), steps: &[Step], fuse: Option<u64>) -> (MemDisk, Rule) {
+    let mut disk = MemDisk::new(rt.alloc());
+    let mut rule = Rule::empty();
+    let mut left = fuse;
+    disk.fuse(fuse);
+    for step in steps {
+        let passed = passes(rt, &mut disk, &rule, *step, left);
+        assert!(rt; passed == (left != Some(0)), "a call under a fuse");
+        rule.step(*step, passed);
+        left = left.map(|calls| calls.saturating_sub(1));
+    }
+    assert!(rt; disk.is_fused() == fuse.is_some());
+    assert!(rt; disk.is_empty() == (rule.seen == [None; ROOM]));
+    (disk, rule)
+}
+
 /// Runs the steps under a fuse, and crashes.
 fn case(
     rt: &(impl AllocGlobal + Abort),
@@ -148,24 +165,13 @@ fn case(
     fuse: Option<u64>,
     pick: Pick,
 ) -> Result<(), AllocError> {
-    let mut disk = MemDisk::new(rt.alloc());
-    let mut rule = Rule::empty();
-    let mut left = fuse;
-    disk.fuse(fuse);
-    for (number, step) in steps.iter().enumerate() {
-        let passed = passes(rt, &mut disk, &rule, *step, left);
-        assert_eq!(rt; passed, left != Some(0), "call {number} under {fuse:?}");
-        rule.step(*step, passed);
-        left = left.map(|calls| calls.saturating_sub(1));
-    }
-    assert_eq!(rt; disk.is_fused(), fuse.is_some());
-    assert_eq!(rt; disk.is_empty(), rule.seen == [None; ROOM]);
+    let (disk, rule) = played(rt, steps, fuse);
+    let file = rule.left(pick);
     let mut crashed = disk.crash(pick)?;
     assert!(rt; !crashed.is_fused(), "the fuse is out after a crash");
-    let file = rule.left(pick);
     assert!(rt;
         content_again(&mut crashed) == Some(file),
-        "{pick:?} under {fuse:?}"
+        "what the crash leaves"
     );
     let mut again = crashed.crash(Pick::Fill(b'?'))?;
     assert!(rt;
@@ -250,17 +256,19 @@ fn clean(rt: &HostRuntime) {
 /// Writes to a new file, and reads what stands there.
 fn fill(rt: &(impl Files<File = fs::File> + Abort), path: &str) -> Result<(), Fail> {
     let mut disk = FileDisk::open(rt, path, true)?;
-    assert_eq!(rt; disk.len()?, 0);
-    disk.write_at(0, b"abcdef")?;
-    assert_eq!(rt; disk.len()?, 6);
-    disk.write_at(4, b"XYZ")?;
-    assert_eq!(rt; disk.len()?, 7);
-    disk.sync()?;
-    disk.write_at(0, b"A")?;
-    disk.sync()?;
+    for (step, length) in [
+        (Step::Measure, 0),
+        (Step::Write(0, b"abcdef"), 6),
+        (Step::Write(4, b"XYZ"), 7),
+        (Step::Sync, 7),
+        (Step::Write(0, b"A"), 7),
+        (Step::Sync, 7),
+    ] {
+        assert!(rt; device(&mut disk, step).is_ok() && disk.len() == Ok(length));
+    }
     let mut all = [0; 7];
     disk.read_at(0, &mut all)?;
-    assert_eq!(rt; all, *b"AbcdXYZ");
+    assert!(rt; all == *b"AbcdXYZ");
     Ok(())
 }
 

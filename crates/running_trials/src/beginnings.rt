@@ -7,7 +7,7 @@ ghost use Rattle.member.specs.Readers.{member_header, member_saved, MemberStands
 use disk::Disk;
 use journal::Journal;
 use member::Member;
-use node::{Board, Rack, Seat};
+use node::{Board, Hub, Naming, Rack, Seat};
 use std::alloc::Global;
 use std::sync::{Arc, Wait};
 use std::test::Fail;
@@ -51,6 +51,23 @@ pub(crate) fn board(rt: &impl AllocGlobal, questions: u16) -> Result<Arc<Board>,
     ensures { IfOk result (λ b. length (arc_value b) ≡ questions) }
 {
     Ok(Arc::new(rt.alloc(), Board::new(rt.alloc(), questions)?)?)
+}
+
+/// A hub over a member on a new disk, and its seats.
+pub(crate) fn open<D: Disk + Drop, J: Naming>(
+    alloc: Global,
+    disk: D,
+    header: &Header,
+    decided: bool,
+    board: Arc<Board>,
+) -> Result<(Hub<D, J>, Rack), Fail>
+    requires names { arc_value board ≡ J.names }
+    requires cells { length (arc_value board) ≡ header.now.size.questions }
+    requires questions { 0 < header.now.size.questions }
+{
+    let member = start(alloc, disk, header, decided)?;
+    let (hub, seats) = Hub::<D, J>::open(alloc, member, board)?;
+    Ok((hub, Rack::new(seats)))
 }
 
 /// The seat of a peer.

@@ -4,7 +4,7 @@ ghost use Rattle.std.specs.Arc.{arc_value};
 
 mod groups;
 
-use crate::beginnings::{at, board, header, start, take};
+use crate::beginnings::{at, board, header, open, take};
 use disk::{Disk, FileDisk, MemDisk};
 use member::{MemberFault, Sealed};
 use node::{Board, Entry, Hub, Naming, Rack, Seat, close};
@@ -109,6 +109,18 @@ fn has_the_initial<J: Naming, R: Wait + Abort>(rt: &R, hub: &Hub<MemDisk, J>) ->
     Ok(())
 }
 
+/// An Initial of member 0 that comes from member 2, whose seat is kept.
+fn hears_of_another<J: Naming, R: Wait + Abort>(
+    rt: &R,
+    hub: &Hub<MemDisk, J>,
+    rack: &Rack,
+) -> Result<(), Fail> {
+    let mut other = take(rt, rack, 2)?;
+    let foreign = hear(rt, hub, &mut other, &of(Initial, One)?)?;
+    assert!(rt; foreign == Answer::Foreign && other.next() == 1);
+    Ok(())
+}
+
 /// What came before or is another's leaves no entry; and a hub isn't closed without all seats.
 fn hears_a_peer<J: Naming, R: Wait + Abort + AllocGlobal>(
     rt: &R,
@@ -118,17 +130,14 @@ fn hears_a_peer<J: Naming, R: Wait + Abort + AllocGlobal>(
     requires cells { length (arc_value board) ≡ 1 }
 {
     let header = header(4, 1, 1, 1)?;
-    let member = start(rt.alloc(), MemDisk::new(rt.alloc()), &header, false)?;
-    let (hub, seats) = Hub::<MemDisk, J>::open(rt.alloc(), member, board)?;
-    let rack = Rack::new(seats);
+    let disk = MemDisk::new(rt.alloc());
+    let (hub, rack) = open::<MemDisk, J>(rt.alloc(), disk, &header, false, board)?;
     let mut seat = take(rt, &rack, 0)?;
     if !hears_an_initial(rt, &hub, &mut seat)? {
         return Ok(());
     }
     has_the_initial(rt, &hub)?;
-    let mut other = take(rt, &rack, 2)?;
-    let foreign = hear(rt, &hub, &mut other, &of(Initial, One)?)?;
-    assert!(rt; foreign == Answer::Foreign && other.next() == 1);
+    hears_of_another(rt, &hub, &rack)?;
     rack.put(rt, seat);
     // The other seat is missing.
     assert!(rt; !closes(hub, rack.into_seats()));
@@ -159,6 +168,44 @@ fn tell<D: Disk, J: Naming, R: Wait + Abort>(
     Ok(())
 }
 
+/// What the board says of a question to one who asks for the first time.
+fn asked(board: &Board, question: u16) -> Result<Option<bool>, Memory> {
+    let mut pass = board.pass()?;
+    Ok(board.ask(&mut pass, question))
+}
+
+/// The member's proposal is said, and another is answered by it. Nothing is decided.
+fn proposes<D: Disk, J: Naming, R: Wait + Abort>(rt: &R, hub: &Hub<D, J>) -> Result<(), Fail> {
+    assert!(rt; asked(hub.board(), 0)?.is_none() && asked(hub.board(), 1)?.is_none());
+    let answer = propose(rt, hub, true)?;
+    assert!(rt; takes(&answer, &[Record::Said(of(Initial, One)?)]));
+    assert!(rt; propose(rt, hub, false)? == Answer::Have(true));
+    Ok(())
+}
+
+/// The verdict stands in the book and on the board.
+fn has_settled<D: Disk, J: Naming, R: Wait + Abort>(rt: &R, hub: &Hub<D, J>) -> Result<(), Fail> {
+    assert!(rt; status(rt, hub) == Some((18, 1)) && verdict(rt, hub) == Some(true));
+    assert!(rt; event(rt, hub, 18).is_some() && event(rt, hub, 19).is_none());
+    assert!(rt; asked(hub.board(), 0)? == Some(true));
+    Ok(())
+}
+
+/// Passes learn a verdict from the book and from each other.
+fn meets<D: Disk, J: Naming, R: Wait>(rt: &R, hub: &Hub<D, J>) -> Result<(), Fail> {
+    let mut pass = hub.board().pass()?;
+    hub.lock(rt).meet(&mut pass, 0);
+    let mut other = hub.board().pass()?;
+    pass.meet(&mut other, 0);
+    Ok(())
+}
+
+/// Shuts the hub of member 0.
+fn shuts<D: Disk, J: Naming, R: Wait + Abort>(rt: &R, hub: &Hub<D, J>) {
+    hub.shut(rt);
+    assert!(rt; hub.is_shut() && hub.header().me() == 0);
+}
+
 /// A member alone decides by what it says itself.
 fn settles<D: Disk + Drop, J: Naming, R: Wait + Abort + AllocGlobal>(
     rt: &R,
@@ -169,25 +216,15 @@ fn settles<D: Disk + Drop, J: Naming, R: Wait + Abort + AllocGlobal>(
     requires cells { length (arc_value board) ≡ 1 }
 {
     let header = header(1, 0, 1, 0)?;
-    let member = start(rt.alloc(), disk, &header, false)?;
-    let (hub, seats) = Hub::<D, J>::open(rt.alloc(), member, board)?;
-    let rack = Rack::new(seats);
+    let (hub, rack) = open::<D, J>(rt.alloc(), disk, &header, false, board)?;
     let mut seat = take(rt, &rack, 0)?;
     assert!(rt; rack.take(rt, 0).is_none());
-    let mut pass = hub.board().pass()?;
-    assert!(rt; hub.board().ask(&mut pass, 0).is_none() && hub.board().ask(&mut pass, 1).is_none());
-    let answer = propose(rt, &hub, true)?;
-    assert!(rt; takes(&answer, &[Record::Said(of(Initial, One)?)]));
-    assert!(rt; propose(rt, &hub, false)? == Answer::Have(true));
+    proposes(rt, &hub)?;
     tell(rt, &hub, &mut seat)?;
-    assert!(rt; status(rt, &hub) == Some((18, 1)) && verdict(rt, &hub) == Some(true));
-    assert!(rt; event(rt, &hub, 18).is_some() && event(rt, &hub, 19).is_none());
-    assert!(rt; hub.board().ask(&mut pass, 0) == Some(true));
-    hub.lock(rt).meet(&mut pass, 0);
-    let mut other = hub.board().pass()?;
-    pass.meet(&mut other, 0);
-    hub.shut(rt);
-    assert!(rt; hub.is_shut() && hub.header().me() == 0 && seat.next() == 18);
+    has_settled(rt, &hub)?;
+    meets(rt, &hub)?;
+    shuts(rt, &hub);
+    assert!(rt; seat.next() == 18);
     rack.put(rt, seat);
     assert!(rt; closes(hub, rack.into_seats()));
     Ok(())
@@ -261,6 +298,22 @@ fn hands_in_first<J: Naming, R: Wait + Clock>(
     handed
 }
 
+/// The entry is the Echo from that member.
+fn has_noted<J: Naming, R: Wait + Abort>(
+    rt: &R,
+    hub: &Hub<MemDisk, J>,
+    entry: usize,
+    from: u8,
+) -> Result<(), Fail> {
+    let noted = Entry::Heard {
+        from,
+        statement: of(Echo, One)?,
+        toss: Toss(0),
+    };
+    assert!(rt; event(rt, hub, entry) == Some(noted));
+    Ok(())
+}
+
 /// Member 0 decided in an earlier life. One thread keeps the book until a third has read the verdict, and hands in; a
 /// second hands in after that.
 fn at_once<J: Naming + Send + Sync, R: Threads + Wait + Clock + Abort + AllocGlobal + Sync>(
@@ -271,9 +324,8 @@ fn at_once<J: Naming + Send + Sync, R: Threads + Wait + Clock + Abort + AllocGlo
     requires cells { length (arc_value board) ≡ 1 }
 {
     let header = header(4, 1, 1, 0)?;
-    let member = start(rt.alloc(), MemDisk::new(rt.alloc()), &header, true)?;
-    let (hub, seats) = Hub::<MemDisk, J>::open(rt.alloc(), member, board)?;
-    let rack = Rack::new(seats);
+    let disk = MemDisk::new(rt.alloc());
+    let (hub, rack) = open::<MemDisk, J>(rt.alloc(), disk, &header, true, board)?;
     let mut last = take(rt, &rack, 1)?;
     let mut first = take(rt, &rack, 2)?;
     let said = of(Echo, One)?;
@@ -294,12 +346,8 @@ fn at_once<J: Naming + Send + Sync, R: Threads + Wait + Clock + Abort + AllocGlo
     assert!(rt; asked && early && late);
     assert!(rt; last.next() == 1 && first.next() == 1);
     // The book's history has the links' statements in the order in which they were handed in.
-    let noted = |from| Entry::Heard {
-        from,
-        statement: said,
-        toss: Toss(0),
-    };
-    assert!(rt; event(rt, &hub, 0) == Some(noted(2)) && event(rt, &hub, 1) == Some(noted(1)));
+    has_noted(rt, &hub, 0, 2)?;
+    has_noted(rt, &hub, 1, 1)?;
     rack.put(rt, last);
     rack.put(rt, first);
     assert!(rt; closes(hub, rack.into_seats()));

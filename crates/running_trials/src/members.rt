@@ -259,6 +259,39 @@ fn no_sockets() -> (Option<TcpListener>, Option<TcpStream>) {
     (None, None)
 }
 
+/// All these members are ready, take the proposal 1, and decide so.
+fn decide<R: Machine + Abort>(
+    rt: &R,
+    cluster: Cluster,
+    cues: &[Cue; 4],
+    members: &[u8],
+) -> Result<(), Fail> {
+    for me in members {
+        assert!(rt; cues[usize::from(*me & 3)].is_ready(rt));
+        assert!(rt; comes_to(rt, cluster.desk(*me), b"PROPOSE 0 1\n", b"OK\n"));
+    }
+    for me in members {
+        assert!(rt; comes_to(rt, cluster.desk(*me), b"ASK 0\n", b"DECIDED 1\n"));
+    }
+    Ok(())
+}
+
+/// All members end within five seconds, though a client stays connected.
+fn end_all<R: Machine + Abort>(rt: &R, cluster: Cluster, cues: &[Cue; 4]) -> Result<(), Fail> {
+    let mut client = connect(rt, cluster.desk(0))?;
+    assert!(rt; answers(&mut client, b"PROPOSE 0 0\n", b"HAVE 1\n"));
+    let start = Instant::now(rt)?;
+    for cue in cues {
+        cue.end.store(true, Ordering::SeqCst);
+    }
+    for cue in cues {
+        assert!(rt; cue.ends(rt) == Some(Ok(())));
+    }
+    assert!(rt; start.elapsed(rt)? < Duration::from_secs(5));
+    assert!(rt; is_closed(&mut client));
+    Ok(())
+}
+
 /// Three members decide, and a fourth that starts later learns it, since it is dialled again.
 fn joins_late<R: Machine + Abort>(rt: &R, alloc: Global) -> Result<(), Fail> {
     let cluster = Cluster {
@@ -272,29 +305,11 @@ fn joins_late<R: Machine + Abort>(rt: &R, alloc: Global) -> Result<(), Fail> {
         let _zero = scope.spawn(move || run_to_cue(rt, alloc, cluster, 0, None, zero));
         let _one = scope.spawn(move || run_to_cue(rt, alloc, cluster, 1, None, one));
         let _two = scope.spawn(move || run_to_cue(rt, alloc, cluster, 2, None, two));
-        for me in 0..3u8 {
-            assert!(rt; cues[usize::from(me)].is_ready(rt));
-            assert!(rt; comes_to(rt, cluster.desk(me), b"PROPOSE 0 1\n", b"OK\n"));
-        }
-        for me in 0..3u8 {
-            assert!(rt; comes_to(rt, cluster.desk(me), b"ASK 0\n", b"DECIDED 1\n"));
-        }
+        decide(rt, cluster, &cues, &[0, 1, 2])?;
         let _three = scope.spawn(move || run_to_cue(rt, alloc, cluster, 3, None, three));
         assert!(rt; three.is_ready(rt));
         assert!(rt; comes_to(rt, cluster.desk(3), b"ASK 0\n", b"DECIDED 1\n"));
-        // A client stays connected.
-        let mut client = connect(rt, cluster.desk(0))?;
-        assert!(rt; answers(&mut client, b"PROPOSE 0 0\n", b"HAVE 1\n"));
-        let start = Instant::now(rt)?;
-        for cue in &cues {
-            cue.end.store(true, Ordering::SeqCst);
-        }
-        for cue in &cues {
-            assert!(rt; cue.ends(rt) == Some(Ok(())));
-        }
-        assert!(rt; start.elapsed(rt)? < Duration::from_secs(5));
-        assert!(rt; is_closed(&mut client));
-        Ok(())
+        end_all(rt, cluster, &cues)
     })
 }
 
@@ -310,6 +325,26 @@ fn links_up(events: &[LogEvent]) -> usize {
         .iter()
         .filter(|event| matches!(event, LogEvent::LinkUp(_)))
         .count()
+}
+
+/// Member 1 has stopped, the others decide, and all end.
+fn decide_beside_one<R: Machine + Abort>(
+    rt: &R,
+    cluster: Cluster,
+    cues: &[Cue; 4],
+) -> Result<(), Fail> {
+    let stopped = cluster.desk(1);
+    assert!(rt; cues[1].is_ready(rt));
+    assert!(rt; comes_to(rt, stopped, b"PROPOSE 0 0\n", b"STOPPED\n"));
+    decide(rt, cluster, cues, &[0, 2, 3])?;
+    assert!(rt; comes_to(rt, stopped, b"STATUS\n", b"STOPPED\n"));
+    // Its peers dial again meanwhile.
+    thread::sleep(rt, Duration::from_millis(2500));
+    assert!(rt; cues[1].ends(rt) == Some(Err(RunFault::Stopped)));
+    for me in [0usize, 2, 3] {
+        assert!(rt; cues[me].ends(rt) == Some(Ok(())));
+    }
+    Ok(())
 }
 
 /// Three members decide beside one whose disk fails. The log of that one has no link of a peer more than once: once it is
@@ -334,24 +369,7 @@ fn one_stops<R: Machine + Abort>(rt: &R, alloc: Global) -> Result<(), Fail> {
         });
         let _two = scope.spawn(move || run_to_cue(rt, alloc, cluster, 2, None, two));
         let _three = scope.spawn(move || run_to_cue(rt, alloc, cluster, 3, None, three));
-        for cue in &cues {
-            assert!(rt; cue.is_ready(rt));
-        }
-        assert!(rt; comes_to(rt, cluster.desk(1), b"PROPOSE 0 0\n", b"STOPPED\n"));
-        for me in [0u8, 2, 3] {
-            assert!(rt; comes_to(rt, cluster.desk(me), b"PROPOSE 0 1\n", b"OK\n"));
-        }
-        for me in [0u8, 2, 3] {
-            assert!(rt; comes_to(rt, cluster.desk(me), b"ASK 0\n", b"DECIDED 1\n"));
-        }
-        assert!(rt; comes_to(rt, cluster.desk(1), b"STATUS\n", b"STOPPED\n"));
-        // Its peers dial again meanwhile.
-        thread::sleep(rt, Duration::from_millis(2500));
-        assert!(rt; one.ends(rt) == Some(Err(RunFault::Stopped)));
-        assert!(rt; zero.ends(rt) == Some(Ok(())));
-        assert!(rt; two.ends(rt) == Some(Ok(())));
-        assert!(rt; three.ends(rt) == Some(Ok(())));
-        Ok(())
+        decide_beside_one(rt, cluster, &cues)
     })?;
     let told = kept.into_inner().events;
     assert!(rt; links_up(&told) <= 3, "told {told:?}");
@@ -393,6 +411,38 @@ fn clients<R: Machine + Abort>(
     Ok(clients)
 }
 
+/// At most 32 clients are seated, and a place that one leaves is given to the next.
+fn fill_the_desk<R: Machine + Abort>(
+    rt: &R,
+    alloc: Global,
+    desk: SocketAddr,
+) -> Result<Vec<TcpStream>, Fail> {
+    let mut seated = clients(rt, alloc, desk, 32)?;
+    assert!(rt; is_closed(&mut connect(rt, desk)?));
+    drop(seated.pop());
+    assert!(rt; comes_to(rt, desk, b"ASK 0\n", b"DECIDED 1\n"));
+    Ok(seated)
+}
+
+/// At most 64 peers that say nothing are let in. Who has greeted, or was refused, has given its place back: the last of the
+/// 64 has one.
+fn fill_the_door<R: Machine + Abort>(
+    rt: &R,
+    alloc: Global,
+    links: SocketAddr,
+) -> Result<Vec<TcpStream>, Fail> {
+    let mut silent = Vec::new(alloc);
+    for _ in 0..64u32 {
+        silent.push(connect(rt, links)?)?;
+    }
+    assert!(rt; is_closed(&mut connect(rt, links)?));
+    let mut last = silent.pop().ok_or("a peer")?;
+    last.set_read_timeout(Some(Duration::from_millis(300)))?;
+    assert!(rt; !is_closed(&mut last));
+    silent.push(last)?;
+    Ok(silent)
+}
+
 /// A member by itself, at whose doors there are too many.
 fn crowd<R: Machine + Abort>(rt: &R, alloc: Global) -> Result<(), Fail> {
     let cluster = Cluster {
@@ -411,19 +461,8 @@ fn crowd<R: Machine + Abort>(rt: &R, alloc: Global) -> Result<(), Fail> {
         // A stranger, and a second link from a member whose first is up.
         assert!(rt; is_refused(rt, links, &hello(8))?);
         assert!(rt; is_refused(rt, links, &hello(7))?);
-        let mut seated = clients(rt, alloc, desk, 32)?;
-        assert!(rt; is_closed(&mut connect(rt, desk)?));
-        drop(seated.pop());
-        assert!(rt; comes_to(rt, desk, b"ASK 0\n", b"DECIDED 1\n"));
-        let mut silent = Vec::new(alloc);
-        for _ in 0..64u32 {
-            silent.push(connect(rt, links)?)?;
-        }
-        assert!(rt; is_closed(&mut connect(rt, links)?));
-        // Who has greeted, or was refused, has given its place back: the last of the 64 has one.
-        let mut last = silent.pop().ok_or("a peer")?;
-        last.set_read_timeout(Some(Duration::from_millis(300)))?;
-        assert!(rt; !is_closed(&mut last));
+        let _seated = fill_the_desk(rt, alloc, desk)?;
+        let _silent = fill_the_door(rt, alloc, links)?;
         assert!(rt; cue.ends(rt) == Some(Ok(())));
         Ok(())
     })
@@ -435,13 +474,39 @@ fn too_many_are_closed_at_once(rt: HostRuntime) -> Result<(), Fail> {
     crowd(&rt, rt.alloc())
 }
 
-/// A member by itself that has a log, and a stranger at its door.
-fn alone<R: Machine + Abort>(rt: &R, alloc: Global) -> Result<(), Fail> {
-    let cluster = Cluster {
-        n: 1,
-        t: 0,
-        port: 47240,
-    };
+/// Who comes to a member that runs.
+#[derive(Drop)]
+enum Visitor {
+    /// A stranger, and then a client.
+    Stranger,
+    /// A peer that is dialled.
+    Dialled(TcpListener),
+    /// A peer that dials.
+    Dialling,
+}
+
+impl Visitor {
+    fn visit<R: Machine + Abort>(
+        &self,
+        rt: &R,
+        cluster: Cluster,
+        log: &Mutex<Kept>,
+    ) -> Result<(), Fail> {
+        match self {
+            Visitor::Stranger => comes_as_a_stranger(rt, cluster),
+            Visitor::Dialled(listener) => is_dialled(rt, listener, log),
+            Visitor::Dialling => dials(rt, cluster, log),
+        }
+    }
+}
+
+/// Runs member 0, lets it be visited and ends it. Gives its log.
+fn log_of<R: Machine + Abort>(
+    rt: &R,
+    alloc: Global,
+    cluster: Cluster,
+    visitor: &Visitor,
+) -> Result<Vec<LogEvent>, Fail> {
     let kept = Mutex::new(Kept {
         events: Vec::new(alloc),
     });
@@ -453,13 +518,29 @@ fn alone<R: Machine + Abort>(rt: &R, alloc: Global) -> Result<(), Fail> {
             *cue.ended.lock(rt) = Some(ended);
         });
         assert!(rt; cue.is_ready(rt));
-        assert!(rt; is_refused(rt, cluster.address(0), &hello(8))?);
-        assert!(rt; comes_to(rt, cluster.desk(0), b"PROPOSE 0 1\n", b"OK\n"));
-        assert!(rt; comes_to(rt, cluster.desk(0), b"ASK 0\n", b"DECIDED 1\n"));
+        visitor.visit(rt, cluster, log)?;
         assert!(rt; cue.ends(rt) == Some(Ok(())));
         Ok(())
     })?;
-    let told = kept.into_inner().events;
+    Ok(kept.into_inner().events)
+}
+
+/// A stranger comes, and a client.
+fn comes_as_a_stranger<R: Machine + Abort>(rt: &R, cluster: Cluster) -> Result<(), Fail> {
+    assert!(rt; is_refused(rt, cluster.address(0), &hello(8))?);
+    assert!(rt; comes_to(rt, cluster.desk(0), b"PROPOSE 0 1\n", b"OK\n"));
+    assert!(rt; comes_to(rt, cluster.desk(0), b"ASK 0\n", b"DECIDED 1\n"));
+    Ok(())
+}
+
+/// A member by itself that has a log, and a stranger at its door.
+fn alone<R: Machine + Abort>(rt: &R, alloc: Global) -> Result<(), Fail> {
+    let cluster = Cluster {
+        n: 1,
+        t: 0,
+        port: 47240,
+    };
+    let told = log_of(rt, alloc, cluster, &Visitor::Stranger)?;
     let want = [
         LogEvent::Ready(0),
         LogEvent::Refused(LinkEnd::Stranger),
@@ -500,6 +581,23 @@ fn welcome<R: Machine + Abort>(rt: &R, listener: &TcpListener) -> Result<TcpStre
     Ok(link)
 }
 
+/// A peer that is dialled welcomes the link, and leaves. Dialled again it says nothing, and leaves: no link was up, and
+/// nothing is told.
+fn is_dialled<R: Machine + Abort>(
+    rt: &R,
+    listener: &TcpListener,
+    log: &Mutex<Kept>,
+) -> Result<(), Fail> {
+    let link = welcome(rt, listener)?;
+    wait_for(rt, log, 2);
+    drop(link);
+    wait_for(rt, log, 3);
+    let (silent, _) = listener.accept()?;
+    drop(silent);
+    thread::sleep(rt, Duration::from_millis(500));
+    Ok(())
+}
+
 /// A member that has a log, and a peer that welcomes its link, leaves, and then welcomes none.
 fn peer_leaves<R: Machine + Abort>(rt: &R, alloc: Global) -> Result<(), Fail> {
     let cluster = Cluster {
@@ -508,29 +606,7 @@ fn peer_leaves<R: Machine + Abort>(rt: &R, alloc: Global) -> Result<(), Fail> {
         port: 47250,
     };
     let listener = TcpListener::bind(rt, cluster.address(1))?;
-    let kept = Mutex::new(Kept {
-        events: Vec::new(alloc),
-    });
-    let cue = Cue::new();
-    let (cue, log) = (&cue, &kept);
-    thread::scope(thread::scope_env(), rt, |scope| -> Result<(), Fail> {
-        let _run = scope.spawn(move || {
-            let ended = run_told(rt, alloc, cluster, 0, None, cue, Some(log));
-            *cue.ended.lock(rt) = Some(ended);
-        });
-        assert!(rt; cue.is_ready(rt));
-        let link = welcome(rt, &listener)?;
-        wait_for(rt, log, 2);
-        drop(link);
-        wait_for(rt, log, 3);
-        // Dialled again the peer says nothing, and leaves: no link was up, and nothing is told.
-        let (silent, _) = listener.accept()?;
-        drop(silent);
-        thread::sleep(rt, Duration::from_millis(500));
-        assert!(rt; cue.ends(rt) == Some(Ok(())));
-        Ok(())
-    })?;
-    let told = kept.into_inner().events;
+    let told = log_of(rt, alloc, cluster, &Visitor::Dialled(listener))?;
     let want = [
         LogEvent::Ready(0),
         LogEvent::LinkUpTo(1),
@@ -553,6 +629,19 @@ const HELLO: [u8; 18] = [0, 16, 1, 1, 0, 0, 0, 0, 0, 0, 0, 7, 4, 1, 0, 1, 1, 0];
 /// The Idle frame.
 const IDLE: [u8; 3] = [0, 1, 0];
 
+/// A peer dials twice, and leaves.
+fn dials<R: Machine + Abort>(rt: &R, cluster: Cluster, log: &Mutex<Kept>) -> Result<(), Fail> {
+    let mut link = connect(rt, cluster.address(0))?;
+    link.write_all(&HELLO)?;
+    let mut welcome = [0u8; 11];
+    link.read_exact(&mut welcome)?;
+    assert!(rt; welcome == [0, 9, 2, 0, 0, 0, 0, 0, 0, 0, 0]);
+    assert!(rt; is_refused(rt, cluster.address(0), &HELLO)?);
+    drop(link);
+    wait_for(rt, log, 4);
+    Ok(())
+}
+
 /// A member that has a log, and a peer that dials it twice, and leaves.
 fn peer_comes<R: Machine + Abort>(rt: &R, alloc: Global) -> Result<(), Fail> {
     let cluster = Cluster {
@@ -560,29 +649,7 @@ fn peer_comes<R: Machine + Abort>(rt: &R, alloc: Global) -> Result<(), Fail> {
         t: 1,
         port: 47260,
     };
-    let kept = Mutex::new(Kept {
-        events: Vec::new(alloc),
-    });
-    let cue = Cue::new();
-    let (cue, log) = (&cue, &kept);
-    thread::scope(thread::scope_env(), rt, |scope| -> Result<(), Fail> {
-        let _run = scope.spawn(move || {
-            let ended = run_told(rt, alloc, cluster, 0, None, cue, Some(log));
-            *cue.ended.lock(rt) = Some(ended);
-        });
-        assert!(rt; cue.is_ready(rt));
-        let mut link = connect(rt, cluster.address(0))?;
-        link.write_all(&HELLO)?;
-        let mut welcome = [0u8; 11];
-        link.read_exact(&mut welcome)?;
-        assert!(rt; welcome == [0, 9, 2, 0, 0, 0, 0, 0, 0, 0, 0]);
-        assert!(rt; is_refused(rt, cluster.address(0), &HELLO)?);
-        drop(link);
-        wait_for(rt, log, 4);
-        assert!(rt; cue.ends(rt) == Some(Ok(())));
-        Ok(())
-    })?;
-    let told = kept.into_inner().events;
+    let told = log_of(rt, alloc, cluster, &Visitor::Dialling)?;
     let want = [
         LogEvent::Ready(0),
         LogEvent::LinkUp(1),
@@ -677,6 +744,47 @@ fn a_queue_has_an_end(rt: HostRuntime) -> Result<(), Fail> {
     Ok(())
 }
 
+/// Whether the other side closed the connection, within that time.
+fn is_closed_within(stream: &mut TcpStream, limit: Duration) -> io::Result<bool> {
+    stream.set_read_timeout(Some(limit))?;
+    Ok(is_closed(stream))
+}
+
+/// A peer whose link is up.
+fn greet<R: Machine>(rt: &R, links: SocketAddr) -> io::Result<TcpStream> {
+    let mut prompt = connect(rt, links)?;
+    prompt.write_all(&HELLO)?;
+    prompt.read_exact(&mut [0u8; 11])?;
+    Ok(prompt)
+}
+
+/// Seven seconds of a peer that sends a byte of its Hello a second, beside one that is up. It is not closed by then.
+fn greet_slowly<R: Machine + Abort>(
+    rt: &R,
+    slow: &mut TcpStream,
+    prompt: &mut TcpStream,
+) -> Result<(), Fail> {
+    for byte in &HELLO[1..8] {
+        thread::sleep(rt, Duration::from_secs(1));
+        slow.write_all(&[*byte])?;
+        prompt.write_all(&IDLE)?;
+    }
+    assert!(rt; !is_closed_within(slow, Duration::from_millis(300))?);
+    Ok(())
+}
+
+/// The slow peer is closed, and the other is not.
+fn greet_and_greet_slowly<R: Machine + Abort>(rt: &R, links: SocketAddr) -> Result<(), Fail> {
+    let mut slow = connect(rt, links)?;
+    slow.write_all(&HELLO[..1])?;
+    let mut prompt = greet(rt, links)?;
+    greet_slowly(rt, &mut slow, &mut prompt)?;
+    assert!(rt; is_closed_within(&mut slow, Duration::from_secs(5))?);
+    prompt.write_all(&IDLE)?;
+    assert!(rt; !is_closed_within(&mut prompt, Duration::from_millis(300))?);
+    Ok(())
+}
+
 /// A peer that greets, and one that sends a byte of its Hello a second: it is closed after ten seconds, though no read of it
 /// waited for long.
 fn slow_peer<R: Machine + Abort>(rt: &R, alloc: Global) -> Result<(), Fail> {
@@ -690,23 +798,7 @@ fn slow_peer<R: Machine + Abort>(rt: &R, alloc: Global) -> Result<(), Fail> {
     thread::scope(thread::scope_env(), rt, |scope| -> Result<(), Fail> {
         let _run = scope.spawn(move || run_to_cue(rt, alloc, cluster, 0, None, cue));
         assert!(rt; cue.is_ready(rt));
-        let mut slow = connect(rt, cluster.address(0))?;
-        slow.write_all(&HELLO[..1])?;
-        let mut prompt = connect(rt, cluster.address(0))?;
-        prompt.write_all(&HELLO)?;
-        prompt.read_exact(&mut [0u8; 11])?;
-        for byte in &HELLO[1..8] {
-            thread::sleep(rt, Duration::from_secs(1));
-            slow.write_all(&[*byte])?;
-            prompt.write_all(&IDLE)?;
-        }
-        slow.set_read_timeout(Some(Duration::from_millis(300)))?;
-        assert!(rt; !is_closed(&mut slow));
-        slow.set_read_timeout(Some(Duration::from_secs(5)))?;
-        assert!(rt; is_closed(&mut slow));
-        prompt.write_all(&IDLE)?;
-        prompt.set_read_timeout(Some(Duration::from_millis(300)))?;
-        assert!(rt; !is_closed(&mut prompt));
+        greet_and_greet_slowly(rt, cluster.address(0))?;
         assert!(rt; cue.ends(rt) == Some(Ok(())));
         Ok(())
     })

@@ -5,7 +5,7 @@ ghost use Rattle.links.specs.Mem.{told_by, is_closed_mem};
 
 mod groups;
 
-use crate::beginnings::{at, board, header, start, take};
+use crate::beginnings::{at, board, header, open, take};
 use disk::MemDisk;
 use links::{
     Gate, LinkEnd, MemStream, NetStream, Open, Point, Stream, StreamFault, greet, read_link,
@@ -256,12 +256,7 @@ fn sends<J: Naming, R: Wait + Abort + AllocGlobal>(rt: &R, board: Arc<Board>) ->
 {
     let alloc = rt.alloc();
     let header = header(4, 1, 1, 1)?;
-    let (hub, seats) = Hub::<MemDisk, J>::open(
-        alloc,
-        start(alloc, MemDisk::new(alloc), &header, false)?,
-        board,
-    )?;
-    let rack = Rack::new(seats);
+    let (hub, rack) = open::<MemDisk, J>(alloc, MemDisk::new(alloc), &header, false, board)?;
     hears_of_an_origin(rt, &hub, &rack)?;
     stops_in_the_second_frame(rt, &hub)?;
     hub.shut(rt);
@@ -304,6 +299,17 @@ struct Turnstile<'a, R> {
     second_passed: AtomicBool,
     verdict_read: AtomicBool,
     gave_up: AtomicBool,
+}
+
+impl<R> Turnstile<'_, R> {
+    fn new(rt: &R) -> Turnstile<'_, R> {
+        Turnstile {
+            rt,
+            second_passed: AtomicBool::new(false),
+            verdict_read: AtomicBool::new(false),
+            gave_up: AtomicBool::new(false),
+        }
+    }
 }
 
 impl<R: Clock> Gate for Turnstile<'_, R> {
@@ -369,17 +375,10 @@ fn at_once<J: Naming + Send + Sync, R: Threads + Wait + Clock + Abort + AllocGlo
 {
     let alloc = rt.alloc();
     let header = header(4, 1, 1, 0)?;
-    let member = start(alloc, MemDisk::new(alloc), &header, true)?;
-    let (hub, seats) = Hub::<MemDisk, J>::open(alloc, member, board)?;
-    let rack = Rack::new(seats);
+    let (hub, rack) = open::<MemDisk, J>(alloc, MemDisk::new(alloc), &header, true, board)?;
     let first = take(rt, &rack, 1)?;
     let second = take(rt, &rack, 2)?;
-    let gate = Turnstile {
-        rt,
-        second_passed: AtomicBool::new(false),
-        verdict_read: AtomicBool::new(false),
-        gave_up: AtomicBool::new(false),
-    };
+    let gate = Turnstile::new(rt);
     let echo = frame(alloc, &Message::Statement(of(Echo)?))?;
     let bytes = echo.as_slice();
     let ((first, first_end), ((second, second_end), asked)) = join(
@@ -477,6 +476,14 @@ fn writes_until_it_fails<J: Naming, R: Wait + Abort + AllocGlobal>(
     Ok(())
 }
 
+/// A stream that takes nothing is lost.
+fn takes_nothing<J: Naming, R: Wait + Abort + AllocGlobal>(rt: &R, hub: &Hub<MemDisk, J>) {
+    let mut stream = MemStream::new(rt.alloc());
+    stream.take_at_most(0);
+    assert!(rt; write_link(rt, rt.alloc(), hub, 2, &mut stream, &Open) == LinkEnd::Lost);
+    assert!(rt; stream.output().is_empty());
+}
+
 fn fails_at_each_call<J: Naming, R: Wait + Abort + AllocGlobal>(
     rt: &R,
     board: Arc<Board>,
@@ -486,22 +493,13 @@ fn fails_at_each_call<J: Naming, R: Wait + Abort + AllocGlobal>(
 {
     let alloc = rt.alloc();
     let header = header(4, 1, 1, 1)?;
-    let (hub, seats) = Hub::<MemDisk, J>::open(
-        alloc,
-        start(alloc, MemDisk::new(alloc), &header, false)?,
-        board,
-    )?;
-    let rack = Rack::new(seats);
+    let (hub, rack) = open::<MemDisk, J>(alloc, MemDisk::new(alloc), &header, false, board)?;
     reads_until_it_fails(rt, &hub, take(rt, &rack, 0)?, true)?;
     reads_until_it_fails(rt, &hub, take(rt, &rack, 2)?, false)?;
     hub.shut(rt);
     writes_until_it_fails(rt, &hub, true)?;
     writes_until_it_fails(rt, &hub, false)?;
-    // A stream that takes nothing is lost.
-    let mut stream = MemStream::new(alloc);
-    stream.take_at_most(0);
-    assert!(rt; write_link(rt, alloc, &hub, 2, &mut stream, &Open) == LinkEnd::Lost);
-    assert!(rt; stream.output().is_empty());
+    takes_nothing(rt, &hub);
     Ok(())
 }
 
@@ -510,33 +508,27 @@ fn sessions_fail_at_each_call(rt: HostRuntime) -> Result<(), Fail> {
     fails_at_each_call::<Brand, _>(&rt, board(&rt, 1)?)
 }
 
-/// One Initial 10,000 times: each is handed in, and the first alone is kept.
+/// The frame of one Initial 10,000 times.
+fn flood(alloc: Global) -> Result<Vec<u8>, Fail> {
+    let initial = frame(alloc, &Message::Statement(of(Initial)?))?;
+    let mut bytes = Vec::new(alloc);
+    for _ in 0..10_000u32 {
+        bytes.extend_from_slice(&initial)?;
+    }
+    Ok(bytes)
+}
+
+/// Each statement of a flood is handed in, and the first alone is kept.
 fn floods<J: Naming, R: Wait + Abort + AllocGlobal>(rt: &R, board: Arc<Board>) -> Result<(), Fail>
     requires names { arc_value board ≡ J.names }
     requires cells { length (arc_value board) ≡ 1 }
 {
     let alloc = rt.alloc();
     let header = header(4, 1, 1, 1)?;
-    let (hub, seats) = Hub::<MemDisk, J>::open(
-        alloc,
-        start(alloc, MemDisk::new(alloc), &header, false)?,
-        board,
-    )?;
-    let mut bytes = Vec::new(alloc);
-    for _ in 0..100u32 {
-        encode(&Message::Statement(of(Initial)?), &mut bytes)?;
-    }
-    let mut stream = MemStream::new(alloc);
-    for _ in 0..100u32 {
-        stream.give(&bytes)?;
-    }
-    let rack = Rack::new(seats);
-    let seat = take(rt, &rack, 0)?;
-    let (seat, end) = read_link(rt, alloc, &hub, seat, &mut stream, &Open, &mut Zeros);
-    assert!(rt; end == LinkEnd::Ended && seat.next() == 10_000);
-    // A journal with one record of 7 bytes in a batch has 35 bytes.
+    let (hub, rack) = open::<MemDisk, J>(alloc, MemDisk::new(alloc), &header, false, board)?;
+    let (next, end, _) = session(rt, &hub, &rack, 0, &flood(alloc)?)?;
+    assert!(rt; end == LinkEnd::Ended && next == 10_000);
     assert!(rt; hub.lock(rt).events() == 1 && hub.lock(rt).records().len() == 1);
-    rack.put(rt, seat);
     assert!(rt; close(hub, rack.into_seats()).is_ok());
     Ok(())
 }
@@ -656,6 +648,30 @@ fn behind_idles(bytes: &[u8]) -> &[u8] {
     rest
 }
 
+/// Two Readys put an Echo and a Ready into the outbox.
+fn has_two<J: Naming, R: Wait + Abort>(
+    rt: &R,
+    hub: &Hub<MemDisk, J>,
+    two: &mut Seat,
+    three: &mut Seat,
+) -> Result<(), Fail> {
+    let ready = of(Ready)?;
+    assert!(rt; hears(rt, hub, two, &ready) && hears(rt, hub, three, &ready));
+    assert!(rt; hub.lock(rt).status() == Some((2, 0)));
+    Ok(())
+}
+
+/// What was written behind the Hello of member 1 to member 0.
+fn behind_the_greeting(
+    rt: &(impl Abort + AllocGlobal),
+    output: Option<Vec<u8>>,
+) -> Result<Vec<u8>, Fail> {
+    let output = output.ok_or("memory")?;
+    let greeting = frame(rt.alloc(), &hello(7, 4, 1, 0)?)?;
+    assert!(rt; output.starts_with(greeting.as_slice()) && output.len() > 18);
+    Ok(Vec::from_slice(rt.alloc(), &output.as_slice()[18..])?)
+}
+
 /// What a writer wrote behind its Hello while it was woken, before four more statements were in the outbox and behind them.
 fn woken<J: Naming + Send + Sync, R: Threads + Wait + Clock + Abort + AllocGlobal + Sync>(
     rt: &R,
@@ -667,17 +683,10 @@ fn woken<J: Naming + Send + Sync, R: Threads + Wait + Clock + Abort + AllocGloba
 {
     let alloc = rt.alloc();
     let header = header(4, 1, 1, 1)?;
-    let (hub, seats) = Hub::<MemDisk, J>::open(
-        alloc,
-        start(alloc, MemDisk::new(alloc), &header, false)?,
-        board,
-    )?;
-    let rack = Rack::new(seats);
+    let (hub, rack) = open::<MemDisk, J>(alloc, MemDisk::new(alloc), &header, false, board)?;
     let mut two = take(rt, &rack, 2)?;
     let mut three = take(rt, &rack, 3)?;
-    // Two statements are in the outbox.
-    assert!(rt; hears(rt, &hub, &mut two, &of(Ready)?) && hears(rt, &hub, &mut three, &of(Ready)?));
-    assert!(rt; hub.lock(rt).status() == Some((2, 0)));
+    has_two(rt, &hub, &mut two, &mut three)?;
     let said = (at(0, 2, Ready, One)?, at(0, 3, Ready, One)?);
     let writes = Writes {
         count: AtomicUsize::new(0),
@@ -690,10 +699,7 @@ fn woken<J: Naming + Send + Sync, R: Threads + Wait + Clock + Abort + AllocGloba
         || rings_and_shuts(rt, &hub, &writes, two, three, said),
     );
     assert!(rt; rung && end == LinkEnd::Ended);
-    let output = output.ok_or("memory")?;
-    let greeting = frame(alloc, &hello(7, 4, 1, 0)?)?;
-    assert!(rt; output.starts_with(greeting.as_slice()) && output.len() > 18);
-    Ok(Vec::from_slice(alloc, &output.as_slice()[18..])?)
+    behind_the_greeting(rt, output)
 }
 
 #[test]

@@ -32,16 +32,20 @@ struct Member {
     core: Core,
 }
 
-/// A statement at a place.
-fn statement(kind: Kind, place: (u16, u8, u8, u8), value: Value) -> Result<Statement, Fail> {
+/// A statement at a place. The process ends where there is none.
+fn statement(rt: &impl Abort, kind: Kind, place: (u16, u8, u8, u8), value: Value) -> Statement {
     let (question, origin, round, step) = place;
-    let place = Place::new(question, origin, round, step).ok_or("a place")?;
-    Ok(Statement::new(kind, place, value).ok_or("a value of the step")?)
+    if let Some(place) = Place::new(question, origin, round, step) {
+        if let Some(said) = Statement::new(kind, place, value) {
+            return said;
+        }
+    }
+    rt.abort()
 }
 
 /// A statement at the place of the rows.
-fn at_row(kind: Kind, value: Value) -> Result<Statement, Fail> {
-    statement(kind, (0, 0, 1, 1), value)
+fn at_row(rt: &impl Abort, kind: Kind, value: Value) -> Statement {
+    statement(rt, kind, (0, 0, 1, 1), value)
 }
 
 impl Member {
@@ -77,21 +81,16 @@ impl Member {
 }
 
 /// Whether that is answered.
-fn is_wanted(answer: &Answer, want: Want) -> Result<bool, Fail> {
+fn is_wanted(rt: &impl Abort, answer: &Answer, want: Want) -> bool {
     match (answer, want) {
-        (Answer::Repeat, Repeats) | (Answer::Foreign, IsForeign) => Ok(true),
+        (Answer::Repeat, Repeats) | (Answer::Foreign, IsForeign) => true,
         (Answer::Taken(records), Says(said)) => {
-            if records.len() != said.len() {
-                return Ok(false);
-            }
-            for (record, (kind, value)) in records.iter().zip(said) {
-                if *record != Record::Said(at_row(*kind, *value)?) {
-                    return Ok(false);
-                }
-            }
-            Ok(true)
+            records.len() == said.len()
+                && records.iter().zip(said).all(|(record, (kind, value))| {
+                    *record == Record::Said(at_row(rt, *kind, *value))
+                })
         }
-        _ => Ok(false),
+        _ => false,
     }
 }
 
@@ -105,13 +104,13 @@ fn play(
     let (n, t) = size;
     let mut records = Vec::new(rt.alloc());
     for (kind, value) in own {
-        records.push(Record::Said(at_row(*kind, *value)?))?;
+        records.push(Record::Said(at_row(rt, *kind, *value)))?;
     }
     let mut member = Member::open(rt, Size::new(n, t, 1)?, 1, &records)?;
     for (i, hearing) in hearings.iter().enumerate() {
         let (from, kind, value, want) = *hearing;
-        let answer = member.hear(rt, from, &at_row(kind, value)?)?;
-        assert!(rt; is_wanted(&answer, want)?, "at hearing {i}: {answer:?}");
+        let answer = member.hear(rt, from, &at_row(rt, kind, value))?;
+        assert!(rt; is_wanted(rt, &answer, want), "at hearing {i}: {answer:?}");
     }
     Ok(())
 }
@@ -119,12 +118,12 @@ fn play(
 /// The greatest cluster, its last question, its last member.
 #[test]
 fn largest_core_takes_part(rt: HostRuntime) -> Result<(), Fail> {
+    let own = statement(&rt, Initial, (255, 31, 1, 1), One);
     let mut member = Member::open(&rt, Size::new(32, 10, 256)?, 31, &[])?;
-    let own = statement(Initial, (255, 31, 1, 1), One)?;
     let answer = member.propose(&rt, 255, true)?;
     assert!(rt; answer == Answer::Taken(vec![in rt.alloc(); Record::Said(own); 1]?));
     for from in 0..32 {
-        let echo = statement(Echo, (255, 5, 1, 1), One)?;
+        let echo = statement(&rt, Echo, (255, 5, 1, 1), One);
         let answer = member.hear(&rt, from, &echo)?;
         assert!(rt; matches!(answer, Answer::Taken(_)), "from {from}");
     }
@@ -208,38 +207,51 @@ fn statement_at(records: &[Record], number: usize) -> Option<Statement> {
     records.iter().filter_map(said_by).nth(number)
 }
 
+/// Whether these records are brought by the statement of that number of a member alone: the ninth decides, and the last
+/// brings none.
+fn is_brought(rt: &impl Abort, number: usize, records: &[Record]) -> bool {
+    let decided = Record::Decided {
+        question: 0,
+        round: 1,
+        bit: true,
+    };
+    match number {
+        8 => records
+            == [
+                decided,
+                Record::Said(statement(rt, Initial, (0, 0, 2, 1), One)),
+            ]
+            .as_slice(),
+        17 => records.is_empty(),
+        _ => records.len() == 1,
+    }
+}
+
+/// Lets a member alone hear all that it says, from these records on.
+fn hear_all(rt: &impl Abort, member: &mut Member, records: &mut Vec<Record>) -> Result<(), Fail> {
+    for number in 0..18 {
+        let said = statement_at(records, number).ok_or("a statement")?;
+        let Answer::Taken(more) = member.hear(rt, 0, &said)? else {
+            return Err(Fail::from("an answer that is taken"));
+        };
+        assert!(rt;
+            is_brought(rt, number, &more),
+            "records of statement {number}"
+        );
+        records.extend_from_slice(&more)?;
+    }
+    Ok(())
+}
+
 #[test]
 fn member_alone_decides_in_round_one(rt: HostRuntime) -> Result<(), Fail> {
     let mut member = Member::open(&rt, Size::new(1, 0, 1)?, 0, &[])?;
-    let first = at_row(Initial, One)?;
     let mut records = Vec::new(rt.alloc());
-    records.push(Record::Said(first))?;
+    records.push(Record::Said(at_row(&rt, Initial, One)))?;
     let answer = member.propose(&rt, 0, true)?;
-    assert!(rt; is_wanted(&answer, Says(&[(Initial, One)]))?);
-    for number in 0..18 {
-        let said = statement_at(&records, number).ok_or("a statement")?;
-        let Answer::Taken(more) = member.hear(&rt, 0, &said)? else {
-            return Err(Fail::from("an answer that is taken"));
-        };
-        let want = match number {
-            8 => 2,
-            17 => 0,
-            _ => 1,
-        };
-        assert_eq!(rt; more.len(), want, "records of statement {number}");
-        if number == 8 {
-            let decided = Record::Decided {
-                question: 0,
-                round: 1,
-                bit: true,
-            };
-            let next = Record::Said(statement(Initial, (0, 0, 2, 1), One)?);
-            assert!(rt; more.as_slice() == [decided, next].as_slice());
-        }
-        records.extend_from_slice(&more)?;
-    }
-    assert!(rt; statement_at(&records, 18).is_none());
-    assert_eq!(rt; records.len(), 19);
+    assert!(rt; is_wanted(&rt, &answer, Says(&[(Initial, One)])));
+    hear_all(&rt, &mut member, &mut records)?;
+    assert!(rt; statement_at(&records, 18).is_none() && records.len() == 19);
     assert!(rt; member.core.verdict(0) == Some((1, true)));
     assert!(rt; member.core.verdict(1).is_none());
     Ok(())
@@ -247,32 +259,40 @@ fn member_alone_decides_in_round_one(rt: HostRuntime) -> Result<(), Fail> {
 
 #[test]
 fn first_proposal_stands(rt: HostRuntime) -> Result<(), Fail> {
+    let own = Record::Said(statement(&rt, Initial, (1, 2, 1, 1), Zero));
     let mut member = Member::open(&rt, Size::new(4, 1, 2)?, 2, &[])?;
-    let Answer::Taken(records) = member.propose(&rt, 1, false)? else {
-        return Err(Fail::from("an answer that is taken"));
-    };
-    let own = Record::Said(statement(Initial, (1, 2, 1, 1), Zero)?);
-    assert!(rt; records.as_slice() == [own].as_slice());
+    let answer = member.propose(&rt, 1, false)?;
+    assert!(rt;
+        matches!(&answer, Answer::Taken(records) if records.as_slice() == [own].as_slice())
+    );
     assert!(rt; member.propose(&rt, 1, true)? == Answer::Have(false));
+    Ok(())
+}
 
-    let question_two = statement(Echo, (2, 0, 1, 1), One)?;
-    let of_member_four = statement(Echo, (0, 4, 1, 1), One)?;
-    let core = &mut member.core;
+#[test]
+fn numbers_that_are_not_there_are_refused(rt: HostRuntime) -> Result<(), Fail> {
+    let question_two = statement(&rt, Echo, (2, 0, 1, 1), One);
+    let of_member_four = statement(&rt, Echo, (0, 4, 1, 1), One);
+    let mut core = Core::new(rt.alloc(), Size::new(4, 1, 2)?, 2, &[])?;
     assert!(rt; core.propose(2, true, Toss(0)) == Err(CoreFault::NoSuchQuestion));
-    assert!(rt; core.hear(4, &at_row(Echo, One)?, Toss(0)) == Err(CoreFault::NoSuchMember));
-    assert!(rt; core.hear(0, &of_member_four, Toss(0)) == Err(CoreFault::NoSuchMember));
-    assert!(rt; core.hear(0, &question_two, Toss(0)) == Err(CoreFault::NoSuchQuestion));
-    assert!(rt; core.hear(4, &question_two, Toss(0)) == Err(CoreFault::NoSuchQuestion));
+    for (from, said, fault) in [
+        (4, at_row(&rt, Echo, One), CoreFault::NoSuchMember),
+        (0, of_member_four, CoreFault::NoSuchMember),
+        (0, question_two, CoreFault::NoSuchQuestion),
+        (4, question_two, CoreFault::NoSuchQuestion),
+    ] {
+        assert!(rt; core.hear(from, &said, Toss(0)) == Err(fault));
+    }
     Ok(())
 }
 
 #[test]
 fn first_of_several_records_counts(rt: HostRuntime) -> Result<(), Fail> {
     let records = [
-        Record::Said(statement(Initial, (0, 2, 1, 1), Zero)?),
-        Record::Said(at_row(Initial, One)?),
-        Record::Said(at_row(Initial, Zero)?),
-        Record::Said(statement(Initial, (0, 0, 7, 3), Unsure)?),
+        Record::Said(statement(&rt, Initial, (0, 2, 1, 1), Zero)),
+        Record::Said(at_row(&rt, Initial, One)),
+        Record::Said(at_row(&rt, Initial, Zero)),
+        Record::Said(statement(&rt, Initial, (0, 0, 7, 3), Unsure)),
         Record::Decided {
             question: 1,
             round: 4,
@@ -307,14 +327,14 @@ fn opening(rt: &HostRuntime, me: u8, records: &[Record]) -> Result<Option<CoreFa
 
 #[test]
 fn first_bad_record_is_the_fault(rt: HostRuntime) -> Result<(), Fail> {
-    let good = Record::Said(at_row(Echo, One)?);
+    let good = Record::Said(at_row(&rt, Echo, One));
     let of_question = Record::Decided {
         question: 1,
         round: 1,
         bit: true,
     };
-    let of_origin = Record::Said(statement(Echo, (0, 4, 1, 1), One)?);
-    let of_both = Record::Said(statement(Echo, (1, 4, 1, 1), One)?);
+    let of_origin = Record::Said(statement(&rt, Echo, (0, 4, 1, 1), One));
+    let of_both = Record::Said(statement(&rt, Echo, (1, 4, 1, 1), One));
     assert!(rt; opening(&rt, 4, &[of_question])? == Some(CoreFault::NoSuchMember));
     assert!(rt;
         opening(&rt, 3, &[good, of_question, of_origin])? == Some(CoreFault::NoSuchQuestion)
@@ -334,7 +354,7 @@ fn accept_all(
     values: [Value; 4],
 ) -> Result<(), Fail> {
     for (origin, value) in (0..4).zip(values) {
-        let ready = statement(Ready, (0, origin, round, step), value)?;
+        let ready = statement(rt, Ready, (0, origin, round, step), value);
         for from in 1..4 {
             let _answer = member.hear(rt, from, &ready)?;
         }
@@ -365,7 +385,7 @@ fn coins_lead_to_round_thirty_two(rt: HostRuntime) -> Result<(), Fail> {
     let mut coins = TOSS;
     for round in 1..33 {
         for (step, value) in [(1, first), (2, Zero), (3, Unsure)] {
-            let want = Record::Said(statement(Initial, (0, 0, round, step), value)?);
+            let want = Record::Said(statement(&rt, Initial, (0, 0, round, step), value));
             assert!(rt; said.next() == Some(&want), "in round {round}, step {step}");
         }
         first = if coins % 2 == 1 { One } else { Zero };

@@ -42,8 +42,24 @@ fn feed(
     if let Ok(fed) = feeder.feed(piece, out) {
         return Ok(fed);
     }
-    assert_eq!(rt; out.len(), before, "a refused feed added messages");
+    assert!(rt; out.len() == before, "a refused feed added messages");
     Ok(feeder.feed(piece, out).ok().ok_or("memory, twice")?)
+}
+
+/// Whether a reader to which these pieces come gives those messages, and answers the last piece so.
+fn reads(
+    rt: &(impl AllocGlobal + Abort),
+    pieces: &[&[u8]],
+    messages: &[Message],
+    end: Fed,
+) -> Result<bool, Fail> {
+    let mut feeder = Feeder::new(size()?);
+    let mut out = Vec::new(rt.alloc());
+    let mut fed = Fed::More;
+    for piece in pieces {
+        fed = feed(rt, &mut feeder, piece, &mut out)?;
+    }
+    Ok(fed == end && out.as_slice() == messages)
 }
 
 /// Encodes the message, likewise.
@@ -52,7 +68,7 @@ fn encode_again(rt: &impl Abort, message: &Message, out: &mut Vec<u8>) -> Result
     if encode(message, out) == Ok(()) {
         return Ok(());
     }
-    assert_eq!(rt; out.len(), before, "a refused encode added bytes");
+    assert!(rt; out.len() == before, "a refused encode added bytes");
     encode(message, out).ok().ok_or("memory, twice")?;
     Ok(())
 }
@@ -81,9 +97,9 @@ fn encodes(rt: HostRuntime) -> Result<(), Fail> {
     for (message, frame) in rows {
         let mut out = Vec::new(rt.alloc());
         encode_again(&rt, &message, &mut out)?;
-        assert_eq!(rt; out.as_slice(), frame.as_slice());
+        assert!(rt; out.as_slice() == frame.as_slice());
         encode_again(&rt, &message, &mut out)?;
-        assert_eq!(rt; out.len(), 20);
+        assert!(rt; out.len() == 20);
     }
     Ok(())
 }
@@ -97,14 +113,16 @@ fn is_spelled(
     let mut bytes = Vec::new(rt.alloc());
     encode_again(rt, message, &mut bytes)?;
     assert!(rt; bytes.as_slice() == frame);
-    for cut in 0..=frame.len() {
-        let mut feeder = Feeder::new(size()?);
-        let mut out = Vec::new(rt.alloc());
-        assert!(rt; feed(rt, &mut feeder, &frame[..cut], &mut out)? == Fed::More);
-        assert_eq!(rt; out.len() == 1, cut == frame.len(), "cut at {cut}");
-        assert!(rt; feed(rt, &mut feeder, &frame[cut..], &mut out)? == Fed::More);
-        assert_eq!(rt; out.as_slice(), [*message].as_slice(), "cut at {cut}");
+    let messages = [*message];
+    for cut in 0..frame.len() {
+        let (front, rest) = frame.split_at(cut);
+        assert!(rt; reads(rt, &[front], &[], Fed::More)?, "cut at {cut}");
+        assert!(rt;
+            reads(rt, &[front, rest], &messages, Fed::More)?,
+            "cut at {cut}"
+        );
     }
+    assert!(rt; reads(rt, &[frame], &messages, Fed::More)?);
     Ok(())
 }
 
@@ -140,51 +158,39 @@ fn takes_any_cluster_and_any_next(rt: HostRuntime) -> Result<(), Fail> {
         to: 3,
     };
     let welcome = Message::Welcome { next: u64::MAX };
-    assert_eq!(rt; out.as_slice(), [hello, welcome].as_slice());
+    assert!(rt; out.as_slice() == [hello, welcome].as_slice());
     Ok(())
 }
 
 #[test]
 fn reads_a_frame_cut_anywhere(rt: HostRuntime) -> Result<(), Fail> {
-    for cut in 0..=FIRST.len() {
-        let mut feeder = Feeder::new(size()?);
-        let mut out = Vec::new(rt.alloc());
-        let before = feed(&rt, &mut feeder, &FIRST[..cut], &mut out)?;
-        assert!(rt; before == Fed::More, "cut at {cut}");
-        assert_eq!(rt; out.len() == 1, cut == FIRST.len(), "cut at {cut}");
-        let after = feed(&rt, &mut feeder, &FIRST[cut..], &mut out)?;
-        assert!(rt; after == Fed::More, "cut at {cut}");
-        assert_eq!(rt; out.as_slice(), [first()?].as_slice(), "cut at {cut}");
-    }
-    Ok(())
+    is_spelled(&rt, &first()?, &FIRST)
 }
 
 #[test]
 fn reads_byte_by_byte(rt: HostRuntime) -> Result<(), Fail> {
+    let first = first()?;
     let mut feeder = Feeder::new(size()?);
     let mut out = Vec::new(rt.alloc());
-    for (i, byte) in FIRST.iter().enumerate() {
-        assert_eq!(rt; out.len(), 0, "before byte {i}");
-        let fed = feed(&rt, &mut feeder, &[*byte], &mut out)?;
-        assert!(rt; fed == Fed::More, "at byte {i}");
+    for byte in &FIRST {
+        assert!(rt; out.is_empty());
+        assert!(rt; feed(&rt, &mut feeder, &[*byte], &mut out)? == Fed::More);
     }
-    assert_eq!(rt; out.as_slice(), [first()?].as_slice());
+    assert!(rt; out.as_slice() == [first].as_slice());
     Ok(())
 }
 
 #[test]
 fn gives_the_messages_before_a_fault(rt: HostRuntime) -> Result<(), Fail> {
-    let mut feeder = Feeder::new(size()?);
-    let mut out = Vec::new(rt.alloc());
+    let first = [first()?];
     let broken = Fed::Broken(WireFault::BadValue);
     let mut bytes = [0; 20];
     bytes[..10].copy_from_slice(&FIRST);
     bytes[10..].copy_from_slice(&WRONG);
-    assert!(rt; feed(&rt, &mut feeder, &bytes, &mut out)? == broken);
-    assert_eq!(rt; out.as_slice(), [first()?].as_slice());
-    assert!(rt; feed(&rt, &mut feeder, &FIRST, &mut out)? == broken);
-    assert!(rt; feed(&rt, &mut feeder, &[], &mut out)? == broken);
-    assert_eq!(rt; out.as_slice(), [first()?].as_slice());
+    assert!(rt; reads(&rt, &[&bytes], &first, broken)?);
+    // Behind a fault nothing is read.
+    assert!(rt; reads(&rt, &[&bytes, &FIRST], &first, broken)?);
+    assert!(rt; reads(&rt, &[&bytes, &FIRST, &[]], &first, broken)?);
     Ok(())
 }
 
@@ -242,17 +248,17 @@ const WRONG_BYTES: [(&[u8], WireFault); 29] = [
 #[test]
 fn breaks_at_the_first_wrong_byte(rt: HostRuntime) -> Result<(), Fail> {
     for (bytes, fault) in WRONG_BYTES {
-        let mut out = Vec::new(rt.alloc());
-        let mut whole = Feeder::new(size()?);
-        let fed = feed(&rt, &mut whole, bytes, &mut out)?;
-        assert!(rt; fed == Fed::Broken(fault), "{fault} in one piece");
         let (front, last) = bytes.split_at(bytes.len().saturating_sub(1));
-        let mut cut = Feeder::new(size()?);
-        let fed = feed(&rt, &mut cut, front, &mut out)?;
-        assert!(rt; fed == Fed::More, "{fault} before its byte");
-        let fed = feed(&rt, &mut cut, last, &mut out)?;
-        assert!(rt; fed == Fed::Broken(fault), "{fault} in a piece of its own");
-        assert_eq!(rt; out.len(), 0, "{fault}");
+        let broken = Fed::Broken(fault);
+        assert!(rt; reads(&rt, &[bytes], &[], broken)?, "{fault} in one piece");
+        assert!(rt;
+            reads(&rt, &[front], &[], Fed::More)?,
+            "{fault} before its byte"
+        );
+        assert!(rt;
+            reads(&rt, &[front, last], &[], broken)?,
+            "{fault} in two pieces"
+        );
     }
     Ok(())
 }
@@ -265,7 +271,7 @@ fn takes_as_many_questions_as_there_are(rt: HostRuntime) -> Result<(), Fail> {
     let mut feeder = Feeder::new(size);
     let frame = [0, 8, 3, 3, 0, 255, 31, 32, 3, 4];
     assert!(rt; feed(&rt, &mut feeder, &frame, &mut out)? == Fed::More);
-    assert_eq!(rt; out.as_slice(), [last].as_slice());
+    assert!(rt; out.as_slice() == [last].as_slice());
     let broken = Fed::Broken(WireFault::BadPlace);
     assert!(rt; feed(&rt, &mut feeder, &[0, 8, 3, 3, 1], &mut out)? == broken);
     Ok(())
@@ -294,18 +300,15 @@ fn names_each_fault(rt: HostRuntime) -> Result<(), Fail> {
 /// Several frames in one piece behind a held front, so that memory is refused at some of them.
 #[test]
 fn reads_what_was_encoded(rt: HostRuntime) -> Result<(), Fail> {
+    let twelve = [first()?; 12];
     let mut bytes = Vec::new(rt.alloc());
-    for _ in 0..12 {
-        encode_again(&rt, &first()?, &mut bytes)?;
+    for message in &twelve {
+        encode_again(&rt, message, &mut bytes)?;
     }
     let (front, rest) = bytes.as_slice().split_at(bytes.len().min(5));
-    let mut feeder = Feeder::new(size()?);
-    let mut out = Vec::new(rt.alloc());
-    assert!(rt; feed(&rt, &mut feeder, front, &mut out)? == Fed::More);
-    assert_eq!(rt; out.len(), 0);
-    assert!(rt; feed(&rt, &mut feeder, rest, &mut out)? == Fed::More);
-    assert_eq!(rt; out.as_slice(), [first()?; 12].as_slice());
-    assert!(rt; feed(&rt, &mut feeder, &WRONG, &mut out)? == Fed::Broken(WireFault::BadValue));
-    assert_eq!(rt; out.len(), 12);
+    let broken = Fed::Broken(WireFault::BadValue);
+    assert!(rt; reads(&rt, &[front], &[], Fed::More)?);
+    assert!(rt; reads(&rt, &[front, rest], &twelve, Fed::More)?);
+    assert!(rt; reads(&rt, &[front, rest, &WRONG], &twelve, broken)?);
     Ok(())
 }

@@ -22,15 +22,30 @@ fn header(n: u8, t: u8, me: u8) -> Result<Header, Fail> {
     Ok(Header::new(7, Size::new(n, t, 1)?, me).ok_or("a header")?)
 }
 
+/// A statement at this question, origin 0, and this round and step. The process ends where there is none.
+fn statement(
+    rt: &impl Abort,
+    question: u16,
+    kind: Kind,
+    (round, step): (u8, u8),
+    value: Value,
+) -> Statement {
+    if let Some(place) = Place::new(question, 0, round, step) {
+        if let Some(said) = Statement::new(kind, place, value) {
+            return said;
+        }
+    }
+    rt.abort()
+}
+
 /// A statement at question 0, origin 0, and this round and step.
-fn at(kind: Kind, round: u8, step: u8, value: Value) -> Result<Statement, Fail> {
-    let place = Place::new(0, 0, round, step).ok_or("a place")?;
-    Ok(Statement::new(kind, place, value).ok_or("a value of the step")?)
+fn at(rt: &impl Abort, kind: Kind, round: u8, step: u8, value: Value) -> Statement {
+    statement(rt, 0, kind, (round, step), value)
 }
 
 /// A statement at the place of most rows.
-fn of(kind: Kind, value: Value) -> Result<Statement, Fail> {
-    at(kind, 1, 1, value)
+fn of(rt: &impl Abort, kind: Kind, value: Value) -> Statement {
+    at(rt, kind, 1, 1, value)
 }
 
 /// A member on a new disk.
@@ -79,10 +94,10 @@ fn hear(
 #[test]
 fn an_initial_is_echoed_once(rt: HostRuntime) -> Result<(), Fail> {
     let mut member = start(&rt, &header(4, 1, 1)?)?;
-    let answer = hear(&rt, &mut member, 0, &of(Initial, One)?)?;
-    assert!(rt; takes(&answer, &[Record::Said(of(Echo, One)?)]));
-    assert!(rt; hands_out(&member, &[of(Echo, One)?]));
-    let again = hear(&rt, &mut member, 0, &of(Initial, One)?)?;
+    let answer = hear(&rt, &mut member, 0, &of(&rt, Initial, One))?;
+    assert!(rt; takes(&answer, &[Record::Said(of(&rt, Echo, One))]));
+    assert!(rt; hands_out(&member, &[of(&rt, Echo, One)]));
+    let again = hear(&rt, &mut member, 0, &of(&rt, Initial, One))?;
     assert!(rt; again == Answer::Repeat);
     Ok(())
 }
@@ -95,9 +110,9 @@ fn reopened(rt: &(impl AllocGlobal + Abort), calls: u64) -> Result<Member<MemDis
     let header = header(4, 1, 1)?;
     let mut member = start(rt, &header)?;
     member.fuse(Some(calls));
-    let answer = member.hear(0, &of(Initial, One)?, Toss(0));
+    let answer = member.hear(0, &of(rt, Initial, One), Toss(0));
     assert!(rt; hands_out(&member, &[]));
-    assert!(rt; member.hear(0, &of(Initial, One)?, Toss(0)) == Err(MemberFault::Stopped));
+    assert!(rt; member.hear(0, &of(rt, Initial, One), Toss(0)) == Err(MemberFault::Stopped));
     assert!(rt; member.propose(0, true, Toss(0)) == Err(MemberFault::Stopped));
     if answer != Err(MemberFault::Device) {
         answer?;
@@ -112,7 +127,7 @@ fn reopened_with_its_batch(rt: &(impl AllocGlobal + Abort)) -> Result<Member<Mem
     ensures { IfOk result (λ m. IsSound memory_disk m) }
 {
     let member = reopened(rt, 3)?;
-    if hands_out(&member, &[of(Echo, One)?]) {
+    if hands_out(&member, &[of(rt, Echo, One)]) {
         return Ok(member);
     }
     Ok(reopened(rt, 3)?)
@@ -122,47 +137,53 @@ fn reopened_with_its_batch(rt: &(impl AllocGlobal + Abort)) -> Result<Member<Mem
 fn a_batch_that_failed_in_its_first_write_is_gone(rt: HostRuntime) -> Result<(), Fail> {
     let mut member = reopened(&rt, 1)?;
     assert!(rt; hands_out(&member, &[]));
-    let answer = hear(&rt, &mut member, 0, &of(Initial, Zero)?)?;
-    assert!(rt; takes(&answer, &[Record::Said(of(Echo, Zero)?)]));
+    let answer = hear(&rt, &mut member, 0, &of(&rt, Initial, Zero))?;
+    assert!(rt; takes(&answer, &[Record::Said(of(&rt, Echo, Zero))]));
     Ok(())
 }
 
 #[test]
 fn a_batch_that_failed_in_its_last_sync_is_kept(rt: HostRuntime) -> Result<(), Fail> {
     let mut member = reopened_with_its_batch(&rt)?;
-    assert!(rt; hands_out(&member, &[of(Echo, One)?]));
-    let answer = hear(&rt, &mut member, 0, &of(Initial, Zero)?)?;
+    assert!(rt; hands_out(&member, &[of(&rt, Echo, One)]));
+    let answer = hear(&rt, &mut member, 0, &of(&rt, Initial, Zero))?;
     assert!(rt; takes(&answer, &[]));
-    assert!(rt; hands_out(&member, &[of(Echo, One)?]));
+    assert!(rt; hands_out(&member, &[of(&rt, Echo, One)]));
     Ok(())
+}
+
+/// Whether the statement of that number and its answer are those of a member by itself: the ninth decides, the last brings
+/// nothing, and the others bring something.
+fn is_of_number(rt: &impl Abort, number: usize, said: &Statement, answer: &Answer) -> bool {
+    let decided = Record::Decided {
+        question: 0,
+        round: 1,
+        bit: true,
+    };
+    let next = Record::Said(at(rt, Initial, 2, 1, One));
+    match number {
+        8 => *said == at(rt, Ready, 1, 3, SureOne) && takes(answer, &[decided, next]),
+        17 => takes(answer, &[]),
+        _ => !takes(answer, &[]),
+    }
 }
 
 #[test]
 fn a_single_member_settles_its_question(rt: HostRuntime) -> Result<(), Fail> {
     let mut member = start(&rt, &header(1, 0, 0)?)?;
     let answer = member.propose(0, true, Toss(0))?;
-    assert!(rt; takes(&answer, &[Record::Said(of(Initial, One)?)]));
+    assert!(rt; takes(&answer, &[Record::Said(of(&rt, Initial, One))]));
     assert!(rt; member.propose(0, false, Toss(0)) == Ok(Answer::Have(true)));
-    let decided = Record::Decided {
-        question: 0,
-        round: 1,
-        bit: true,
-    };
-    let next = Record::Said(at(Initial, 2, 1, One)?);
     for number in 0..18 {
         let Some(sealed) = member.outbox().get(number) else {
             return Err(Fail::from("a statement of that number"));
         };
         let said = sealed.statement();
         let answer = hear(&rt, &mut member, 0, &said)?;
-        match number {
-            8 => {
-                assert!(rt; said == at(Ready, 1, 3, SureOne)?);
-                assert!(rt; takes(&answer, &[decided, next]));
-            }
-            17 => assert!(rt; takes(&answer, &[])),
-            _ => assert!(rt; !takes(&answer, &[])),
-        }
+        assert!(rt;
+            is_of_number(&rt, number, &said, &answer),
+            "number {number}"
+        );
     }
     assert!(rt; member.outbox().len() == 18);
     assert!(rt; member.records().len() == 19);
@@ -171,28 +192,54 @@ fn a_single_member_settles_its_question(rt: HostRuntime) -> Result<(), Fail> {
     Ok(())
 }
 
+/// It hears the statement, and there is nothing to say.
+fn takes_nothing(
+    rt: &impl Abort,
+    member: &mut Member<MemDisk>,
+    from: u8,
+    said: &Statement,
+) -> Result<(), Fail>
+    requires { IsSound memory_disk member.old }
+    ensures { IsSound memory_disk member.new }
+{
+    let answer = hear(rt, member, from, said)?;
+    assert!(rt; takes(&answer, &[]));
+    Ok(())
+}
+
+/// Three Readys, of which the second is a help set: it says the Echo and the Ready.
+fn says_both(rt: &impl Abort, member: &mut Member<MemDisk>) -> Result<(), Fail>
+    requires { IsSound memory_disk member.old }
+    ensures { IsSound memory_disk member.new }
+{
+    let ready = of(rt, Ready, One);
+    takes_nothing(rt, member, 0, &ready)?;
+    let answer = hear(rt, member, 2, &ready)?;
+    assert!(rt;
+        takes(
+            &answer,
+            &[Record::Said(of(rt, Echo, One)), Record::Said(ready)]
+        )
+    );
+    takes_nothing(rt, member, 3, &ready)
+}
+
 #[test]
 fn what_was_said_is_not_said_again(rt: HostRuntime) -> Result<(), Fail> {
     let header = header(4, 1, 1)?;
     let mut member = start(&rt, &header)?;
-    let said = [of(Echo, One)?, of(Ready, One)?];
-    let ready = of(Ready, One)?;
-    assert!(rt; takes(&hear(&rt, &mut member, 0, &ready)?, &[]));
-    let answer = hear(&rt, &mut member, 2, &ready)?;
-    assert!(rt; takes(&answer, &[Record::Said(said[0]), Record::Said(said[1])]));
-    assert!(rt; takes(&hear(&rt, &mut member, 3, &ready)?, &[]));
-
+    says_both(&rt, &mut member)?;
     let (disk, records) = member.into_parts();
     assert!(rt; records.len() == 2);
     let mut member = match Member::adopt(rt.alloc(), disk.crash(Pick::Lost)?, &header) {
         Ok(member) => member,
         Err((fault, _)) => return Err(Fail::from(fault)),
     };
-    assert!(rt; takes(&hear(&rt, &mut member, 3, &of(Ready, Zero)?)?, &[]));
-    assert!(rt; takes(&hear(&rt, &mut member, 0, &ready)?, &[]));
-    assert!(rt; takes(&hear(&rt, &mut member, 2, &ready)?, &[]));
-    assert!(rt; takes(&hear(&rt, &mut member, 1, &ready)?, &[]));
-    assert!(rt; hands_out(&member, &said));
+    takes_nothing(&rt, &mut member, 3, &of(&rt, Ready, Zero))?;
+    takes_nothing(&rt, &mut member, 0, &of(&rt, Ready, One))?;
+    takes_nothing(&rt, &mut member, 2, &of(&rt, Ready, One))?;
+    takes_nothing(&rt, &mut member, 1, &of(&rt, Ready, One))?;
+    assert!(rt; hands_out(&member, &[of(&rt, Echo, One), of(&rt, Ready, One)]));
     Ok(())
 }
 
@@ -204,23 +251,45 @@ fn is_refused(answered: Option<JournalFault>, wanted: JournalFault) -> Result<bo
     }
 }
 
+/// An Initial of question 1, which a member of one question hasn't.
+fn of_no_question(rt: &impl Abort) -> Statement {
+    statement(rt, 1, Initial, (1, 1), One)
+}
+
 #[test]
-fn refusals(rt: HostRuntime) -> Result<(), Fail> {
-    let header = header(4, 1, 1)?;
-    let mut member = start(&rt, &header)?;
-    assert!(rt; member.header() == header);
-    let elsewhere = Place::new(1, 0, 1, 1).ok_or("a place")?;
-    let other = Statement::new(Initial, elsewhere, One).ok_or("a statement")?;
-    assert!(rt; member.hear(0, &other, Toss(0)) == Err(MemberFault::NoSuchQuestion));
-    assert!(rt; member.hear(4, &of(Initial, One)?, Toss(0)) == Err(MemberFault::NoSuchMember));
-    assert!(rt; member.hear(3, &of(Initial, One)?, Toss(0)) == Ok(Answer::Foreign));
+fn statements_of_others_are_refused(rt: HostRuntime) -> Result<(), Fail> {
+    let mut member = start(&rt, &header(4, 1, 1)?)?;
+    let (said, elsewhere) = (of(&rt, Initial, One), of_no_question(&rt));
+    assert!(rt; member.hear(0, &elsewhere, Toss(0)) == Err(MemberFault::NoSuchQuestion));
+    assert!(rt; member.hear(4, &said, Toss(0)) == Err(MemberFault::NoSuchMember));
+    assert!(rt; member.hear(3, &said, Toss(0)) == Ok(Answer::Foreign));
+    assert!(rt; member.records().is_empty() && !member.is_stopped());
+    Ok(())
+}
+
+#[test]
+fn a_question_that_is_not_there_is_refused(rt: HostRuntime) -> Result<(), Fail> {
+    let mut member = start(&rt, &header(4, 1, 1)?)?;
     assert!(rt; member.propose(1, true, Toss(0)) == Err(MemberFault::NoSuchQuestion));
     assert!(rt; member.verdict(0).is_none() && member.verdict(1).is_none());
     assert!(rt; member.records().is_empty() && !member.is_stopped());
+    Ok(())
+}
+
+#[test]
+fn a_member_that_was_stopped_says_so_first(rt: HostRuntime) -> Result<(), Fail> {
+    let mut member = start(&rt, &header(4, 1, 1)?)?;
     member.stop();
     assert!(rt; member.is_stopped());
-    assert!(rt; member.hear(4, &other, Toss(0)) == Err(MemberFault::Stopped));
+    assert!(rt; member.hear(4, &of_no_question(&rt), Toss(0)) == Err(MemberFault::Stopped));
+    Ok(())
+}
 
+#[test]
+fn a_journal_opens_for_its_header_alone(rt: HostRuntime) -> Result<(), Fail> {
+    let header = header(4, 1, 1)?;
+    let member = start(&rt, &header)?;
+    assert!(rt; member.header() == header);
     let another = Header::new(8, header.size(), 1).ok_or("a header")?;
     let opened = Member::open(rt.alloc(), member.into_disk(), &another);
     assert!(rt; is_refused(opened.err(), JournalFault::OtherHeader)?);
@@ -237,14 +306,14 @@ fn refusals(rt: HostRuntime) -> Result<(), Fail> {
 /// The greatest cluster, its last question, its last member.
 #[test]
 fn largest_member_takes_part(rt: HostRuntime) -> Result<(), Fail> {
-    let header = Header::new(7, Size::new(32, 10, 256)?, 31).ok_or("a header")?;
-    let mut member = start(&rt, &header)?;
     let place = Place::new(255, 31, 1, 1).ok_or("a place")?;
     let own = Statement::new(Initial, place, One).ok_or("a value of the step")?;
-    let answer = member.propose(255, true, Toss(0))?;
-    assert!(rt; takes(&answer, &[Record::Said(own)]));
     let place = Place::new(255, 5, 1, 1).ok_or("a place")?;
     let echo = Statement::new(Echo, place, One).ok_or("a value of the step")?;
+    let header = Header::new(7, Size::new(32, 10, 256)?, 31).ok_or("a header")?;
+    let mut member = start(&rt, &header)?;
+    let answer = member.propose(255, true, Toss(0))?;
+    assert!(rt; takes(&answer, &[Record::Said(own)]));
     let answer = hear(&rt, &mut member, 30, &echo)?;
     assert!(rt; takes(&answer, &[]));
     Ok(())

@@ -6,7 +6,7 @@
 use super::*;
 use std::io::{Read, Write};
 use std::net::{IpAddr, Ipv4Addr, SocketAddr};
-use std::process::{Child, Command, Stdio};
+use std::process::{Child, Command, Output, Stdio};
 use std::test::Fail;
 use std::time::Duration;
 use std::{env, thread};
@@ -66,9 +66,41 @@ fn the_words_of_a_process(rt: HostRuntime) -> Result<(), Fail> {
     Ok(())
 }
 
+/// What was printed, and what was said on the standard error.
+fn texts(output: Output) -> Result<(String, String), Fail> {
+    let printed = String::from_utf8(output.stdout).ok().ok_or("text")?;
+    let said = String::from_utf8(output.stderr).ok().ok_or("text")?;
+    Ok((printed, said))
+}
+
+/// A shell with that script, in which `$0` is the program.
+fn shell(rt: &HostRuntime, script: &str) -> Result<Command, Fail> {
+    let own = env::args(rt)?.next().ok_or("the program's name")?;
+    let mut command = Command::new(rt.alloc(), "sh")?;
+    command.arg("-c")?.arg(script)?.arg(own.as_str())?;
+    Ok(command)
+}
+
+/// What a command prints and says that has this in its environment.
+fn told_with(
+    rt: &HostRuntime,
+    mut command: Command,
+    name: &str,
+    value: &str,
+) -> Result<(String, String), Fail> {
+    texts(command.env(name, value)?.output(rt)?)
+}
+
+/// The program that a shell starts with these words of the shell's.
+fn started_by_a_shell(rt: &HostRuntime, words: &str) -> Result<(String, String), Fail> {
+    let script = format!(in rt.alloc();
+        "exec \"$0\" tests::processes::the_words_of_a_process {words}"
+    )?;
+    told_with(rt, shell(rt, script.as_str())?, ASKED, "1")
+}
+
 #[test]
 fn an_argument_that_is_no_text(rt: HostRuntime) -> Result<(), Fail> {
-    let own = env::args(&rt)?.next().ok_or("the program's name")?;
     for (bytes, line, status) in [
         ("dump 'x'", "", "last 1\nstatus 0\n"),
         // It has more bytes than are taken at first.
@@ -79,14 +111,7 @@ fn an_argument_that_is_no_text(rt: HostRuntime) -> Result<(), Fail> {
             "status 2\n",
         ),
     ] {
-        let script = format!(in rt.alloc();
-            "exec \"$0\" tests::processes::the_words_of_a_process {bytes}"
-        )?;
-        let mut command = Command::new(rt.alloc(), "sh")?;
-        command.arg("-c")?.arg(script.as_str())?.arg(own.as_str())?;
-        let output = command.env(ASKED, "1")?.output(&rt)?;
-        let printed = String::from_utf8(output.stdout).ok().ok_or("text")?;
-        let said = String::from_utf8(output.stderr).ok().ok_or("text")?;
+        let (printed, said) = started_by_a_shell(&rt, bytes)?;
         assert!(rt; printed.as_str().contains(status), "{printed} {said}");
         assert!(rt; said.as_str().contains(line), "{said}");
     }
@@ -107,39 +132,66 @@ fn ended(rt: &HostRuntime, words: &str) -> Result<String, Fail> {
     Ok(String::from_utf8(output.stdout).ok().ok_or("text")?)
 }
 
+/// Fails where this isn't so.
+fn want(is_so: bool, what: &'static str) -> Result<(), Fail> {
+    if is_so { Ok(()) } else { Err(what)? }
+}
+
+/// Whether the program prints this, among what else it prints.
+fn prints(rt: &HostRuntime, words: &str, text: &str) -> Result<bool, Fail> {
+    Ok(ended(rt, words)?.as_str().contains(text))
+}
+
+/// Writes a file.
+fn put(rt: &HostRuntime, path: &str, bytes: &[u8]) -> Result<(), Fail> {
+    fs::write(rt, path, bytes)?;
+    Ok(())
+}
+
+/// Whether the file has these bytes.
+fn has(rt: &HostRuntime, path: &str, bytes: &[u8]) -> Result<bool, Fail> {
+    Ok(fs::read(rt, path)?.as_slice() == bytes)
+}
+
+/// Whether there is a file of that name.
+fn is_there(rt: &HostRuntime, path: &str) -> bool {
+    fs::metadata(rt, path).is_ok()
+}
+
+/// Removes files, each of which is there.
+fn remove(rt: &HostRuntime, paths: &[&str]) -> Result<(), Fail> {
+    for path in paths {
+        fs::remove_file(rt, *path)?;
+    }
+    Ok(())
+}
+
 /// A file of the tests, in the folder that they are run in.
 const JOURNAL: &str = "bracha_tests_closed.journal";
 
 /// A journal of no records: cluster 7, n 4, t 1, one question, member 1.
 const EMPTY: [u8; 25] = *b"BRACHAJ1\0\0\0\0\0\0\0\x07\x04\x01\0\x01\x01\0\0\0\0";
 
+/// A script of a member by itself, which proposes once.
+const ONE_PROPOSAL: &str = "n 1\nt 0\nquestions 1\nliars\nseed 1\npropose 0 0 1\n";
+
 /// The settings of its member.
 const SETTINGS: &str = "bracha_tests_closed.toml";
 
 /// What the program says on its standard error, started with its input and output closed.
 fn said_when_closed(rt: &HostRuntime, words: &str) -> Result<String, Fail> {
-    let own = env::args(rt)?.next().ok_or("the program's name")?;
     let script = "exec \"$0\" tests::processes::a_process <&- >&-";
-    let mut command = Command::new(rt.alloc(), "sh")?;
-    command.arg("-c")?.arg(script)?.arg(own.as_str())?;
-    command.env(WORDS, words)?;
-    let output = command.output(rt)?;
-    Ok(String::from_utf8(output.stderr).ok().ok_or("text")?)
+    let (_, said) = told_with(rt, shell(rt, script)?, WORDS, words)?;
+    Ok(said)
 }
 
 #[test]
 fn closed_streams_leave_files_alone(rt: HostRuntime) -> Result<(), Fail> {
-    fs::write(&rt, JOURNAL, EMPTY.as_slice())?;
-    let settings = format!(in rt.alloc();
-        "cluster = 7\nn = 4\nt = 1\nquestions = 1\nme = 1\njournal = '{JOURNAL}'\npeers = ['127.0.0.1:47120', '127.0.0.1:47121', '127.0.0.1:47122', '127.0.0.1:47123']\ndesk = '127.0.0.1:47131'\nseed = '0000000000000000000000000000000000000000000000000000000000000001'\n"
-    )?;
-    fs::write(&rt, SETTINGS, settings.as_str())?;
+    put(&rt, JOURNAL, &EMPTY)?;
+    let settings = settings_of_four(&rt, JOURNAL, 7)?;
+    put(&rt, SETTINGS, settings.as_str().as_bytes())?;
     let script = "bracha_tests_closed.script";
-    fs::write(
-        &rt,
-        script,
-        "n 1\nt 0\nquestions 1\nliars\nseed 1\npropose 0 0 1\n",
-    )?;
+    put(&rt, script, ONE_PROPOSAL.as_bytes())?;
     for words in [
         "bracha dump bracha_tests_closed.journal",
         "bracha run bracha_tests_closed.toml",
@@ -148,21 +200,14 @@ fn closed_streams_leave_files_alone(rt: HostRuntime) -> Result<(), Fail> {
     ] {
         let said = said_when_closed(&rt, words)?;
         assert!(rt; said.as_str().contains("bracha: stream"), "said {said}");
-        let bytes = fs::read(&rt, JOURNAL)?;
-        assert!(rt; bytes.as_slice() == EMPTY.as_slice());
+        assert!(rt; has(&rt, JOURNAL, &EMPTY)?);
     }
-    for path in [SETTINGS, JOURNAL, script] {
-        fs::remove_file(&rt, path)?;
-    }
-    Ok(())
+    remove(&rt, &[SETTINGS, JOURNAL, script])
 }
 
 /// What the program prints on its standard output, with its status last, and on its standard error.
 fn told(rt: &HostRuntime, words: &str) -> Result<(String, String), Fail> {
-    let output = program(rt, words)?.stdin(Stdio::null()).output(rt)?;
-    let printed = String::from_utf8(output.stdout).ok().ok_or("text")?;
-    let said = String::from_utf8(output.stderr).ok().ok_or("text")?;
-    Ok((printed, said))
+    texts(program(rt, words)?.stdin(Stdio::null()).output(rt)?)
 }
 
 /// Whether the program ends by that fault and status: one line, on the standard error alone.
@@ -184,7 +229,7 @@ fn fails(rt: &HostRuntime, words: &str, fault: &str) -> Result<bool, Fail> {
 
 #[test]
 fn faults_of_words_and_files(rt: HostRuntime) -> Result<(), Fail> {
-    fs::write(&rt, "bracha_tests_bytes.toml", [0xff, 0x0a].as_slice())?;
+    put(&rt, "bracha_tests_bytes.toml", &[0xff, 0x0a])?;
     for (words, fault) in [
         ("bracha dump bracha_tests_none.journal", "file"),
         ("bracha init bracha_tests_none.toml", "file"),
@@ -216,9 +261,8 @@ fn faults_of_words_and_files(rt: HostRuntime) -> Result<(), Fail> {
         assert!(rt; fails(&rt, words, fault)?, "{words}");
     }
     // A file that isn't there isn't made.
-    assert!(rt; fs::metadata(&rt, "bracha_tests_none.journal").is_err());
-    fs::remove_file(&rt, "bracha_tests_bytes.toml")?;
-    Ok(())
+    assert!(rt; !is_there(&rt, "bracha_tests_none.journal"));
+    remove(&rt, &["bracha_tests_bytes.toml"])
 }
 
 /// What the program says on its standard error behind the line of its fault, with the option or with the environment's word.
@@ -237,30 +281,45 @@ fn told_more(rt: &HostRuntime, words: &str, by_environment: bool) -> Result<Stri
     Ok(String::from_utf8(output.stderr).ok().ok_or("text")?)
 }
 
+/// The files of which second lines tell, and what they hold.
+const TOLD: [(&str, &[u8]); 7] = [
+    ("bracha_tests_more_text.toml", b"cluster = 7\nn = = 4\n"),
+    ("bracha_tests_more_bytes.toml", b"n\xff"),
+    (
+        "bracha_tests_more_key.toml",
+        b"n = 4\n\ncluster = 'seven'\n",
+    ),
+    (
+        "bracha_tests_more.script",
+        b"n 1\nt 0\nquestions 1\nliars\nseed 1\n\ndelivr 0 0 next\n",
+    ),
+    ("bracha_tests_more_end.script", b"n 4\nt 1\n"),
+    ("bracha_tests_more_lines.script", b"n 4\r\nt 1\r\n"),
+    ("bracha_tests_more.journal", b"BRACHAJ1"),
+];
+
+/// Whether both lines are told, by the option and by the environment, and without them the first alone.
+fn has_second_line(rt: &HostRuntime, words: &str, lines: &str) -> Result<bool, Fail> {
+    for by_environment in [false, true] {
+        if !told_more(rt, words, by_environment)?
+            .as_str()
+            .contains(lines)
+        {
+            return Ok(false);
+        }
+    }
+    let plain = format!(in rt.alloc(); "bracha {words}")?;
+    let (_, said) = told(rt, plain.as_str())?;
+    let (first, second) = lines.split_once('\n').ok_or("two lines")?;
+    Ok(said.as_str().contains(first) && !said.as_str().contains(second.trim_end()))
+}
+
 #[test]
 fn a_second_line_names_the_thing(rt: HostRuntime) -> Result<(), Fail> {
-    let (text, bytes, key) = (
-        "bracha_tests_more_text.toml",
-        "bracha_tests_more_bytes.toml",
-        "bracha_tests_more_key.toml",
-    );
-    let (script, journal) = ("bracha_tests_more.script", "bracha_tests_more.journal");
-    let (end, lines) = (
-        "bracha_tests_more_end.script",
-        "bracha_tests_more_lines.script",
-    );
-    fs::write(&rt, text, "cluster = 7\nn = = 4\n")?;
-    fs::write(&rt, bytes, [0x6e, 0xff].as_slice())?;
-    fs::write(&rt, key, "n = 4\n\ncluster = 'seven'\n")?;
-    fs::write(
-        &rt,
-        script,
-        "n 1\nt 0\nquestions 1\nliars\nseed 1\n\ndelivr 0 0 next\n",
-    )?;
-    fs::write(&rt, end, "n 4\nt 1\n")?;
-    fs::write(&rt, lines, "n 4\r\nt 1\r\n")?;
-    fs::write(&rt, journal, "BRACHAJ1")?;
-    for (words, said) in [
+    for (path, bytes) in TOLD {
+        put(&rt, path, bytes)?;
+    }
+    for (words, lines) in [
         (
             "init bracha_tests_none.toml",
             "bracha: file\nbracha_tests_none.toml: read: No such file or directory (os error 2)\n",
@@ -310,21 +369,10 @@ fn a_second_line_names_the_thing(rt: HostRuntime) -> Result<(), Fail> {
             "bracha: address\nlocalhost: not HOST:PORT\n",
         ),
     ] {
-        for by_environment in [false, true] {
-            let told = told_more(&rt, words, by_environment)?;
-            assert!(rt; told.as_str().contains(said), "{words}: {told}");
-        }
-        // Without the option there is one line.
-        let plain = format!(in rt.alloc(); "bracha {words}")?;
-        let (_, told) = self::told(&rt, plain.as_str())?;
-        let mut lines = said.split('\n');
-        let first = lines.next().ok_or("a line")?;
-        let second = lines.next().ok_or("a second line")?;
-        assert!(rt; told.as_str().contains(first), "{words}: {told}");
-        assert!(rt; !told.as_str().contains(second), "{words}: {told}");
+        assert!(rt; has_second_line(&rt, words, lines)?, "{words}");
     }
-    for path in [text, bytes, key, script, end, lines, journal] {
-        fs::remove_file(&rt, path)?;
+    for (path, _) in TOLD {
+        remove(&rt, &[path])?;
     }
     Ok(())
 }
@@ -333,16 +381,27 @@ fn a_second_line_names_the_thing(rt: HostRuntime) -> Result<(), Fail> {
 const ODD: [u8; 45] =
     *b"BRACHAJ1\0\0\0\0\0\0\0\x07\x04\x01\0\x01\x01\0\0\0\x01\0\x01\x02\0\0\0\x01\x01\x01\x01\0\x01\x09\0\0\0\x01\x01\x01\0";
 
+/// Whether the second line says this of the file.
+fn places(
+    rt: &HostRuntime,
+    words: &str,
+    journal: &str,
+    place: &str,
+    by_environment: bool,
+) -> Result<bool, Fail> {
+    let line = format!(in rt.alloc(); "\n{journal}: {place}\n")?;
+    let told = told_more(rt, words, by_environment)?;
+    Ok(told.as_str().contains(line.as_str()))
+}
+
 #[test]
 fn a_second_line_shows_the_bytes_of_a_journal(rt: HostRuntime) -> Result<(), Fail> {
-    let (path, other, journal) = (
+    let (path, journal) = (
         "bracha_tests_bytes_of.toml",
-        "bracha_tests_bytes_of_other.toml",
         "bracha_tests_bytes_of.journal",
     );
-    fs::write(&rt, path, settings_of_four(&rt, journal, 7)?.as_str())?;
-    fs::write(&rt, other, settings_of_four(&rt, journal, 8)?.as_str())?;
-    let front = "42 52 41 43 48 41 4a 31 00 00 00 00 00 00 00 07 ..";
+    let settings = settings_of_four(&rt, journal, 7)?;
+    put(&rt, path, settings.as_str().as_bytes())?;
     let odd = "byte 34: bytes 01 00 01 09 00 00 00 01 01 01 00: journal BadRecord";
     for (bytes, words, place) in [
         (ODD.as_slice(), "dump bracha_tests_bytes_of.journal", odd),
@@ -364,43 +423,62 @@ fn a_second_line_shows_the_bytes_of_a_journal(rt: HostRuntime) -> Result<(), Fai
             "byte 24: bytes 01 00 01 02 00 00 00 01 01 01: journal CutShort",
         ),
     ] {
-        fs::write(&rt, journal, bytes)?;
-        let line = format!(in rt.alloc(); "\n{journal}: {place}\n")?;
-        let told = told_more(&rt, words, false)?;
-        assert!(rt; told.as_str().contains(line.as_str()), "{words}: {told}");
+        put(&rt, journal, bytes)?;
+        assert!(rt; places(&rt, words, journal, place, false)?, "{words}");
     }
-    fs::write(&rt, journal, EMPTY.as_slice())?;
+    remove(&rt, &[path, journal])
+}
+
+#[test]
+fn a_second_line_shows_the_front_of_a_journal(rt: HostRuntime) -> Result<(), Fail> {
+    let (path, other, journal) = (
+        "bracha_tests_front.toml",
+        "bracha_tests_front_other.toml",
+        "bracha_tests_front.journal",
+    );
+    for (path, cluster) in [(path, 7), (other, 8)] {
+        let settings = settings_of_four(&rt, journal, cluster)?;
+        put(&rt, path, settings.as_str().as_bytes())?;
+    }
+    put(&rt, journal, &EMPTY)?;
+    let front = "byte 0: bytes 42 52 41 43 48 41 4a 31 00 00 00 00 00 00 00 07 ..: journal";
     for (words, fault) in [
-        ("init bracha_tests_bytes_of.toml", "NotEmpty"),
-        ("check bracha_tests_bytes_of_other.toml", "OtherHeader"),
+        ("init bracha_tests_front.toml", "NotEmpty"),
+        ("check bracha_tests_front_other.toml", "OtherHeader"),
     ] {
-        let line = format!(in rt.alloc(); "\n{journal}: byte 0: bytes {front}: journal {fault}\n")?;
-        let told = told_more(&rt, words, true)?;
-        assert!(rt; told.as_str().contains(line.as_str()), "{words}: {told}");
+        let place = format!(in rt.alloc(); "{front} {fault}")?;
+        assert!(rt;
+            places(&rt, words, journal, place.as_str(), true)?,
+            "{words}"
+        );
     }
-    for path in [path, other, journal] {
-        fs::remove_file(&rt, path)?;
-    }
-    Ok(())
+    remove(&rt, &[path, other, journal])
+}
+
+/// Starts the program with that input, and keeps what it prints and says.
+fn piped(rt: &HostRuntime, words: &str, input: Stdio) -> Result<Child, Fail> {
+    let mut command = program(rt, words)?;
+    command
+        .stdin(input)
+        .stdout(Stdio::piped())
+        .stderr(Stdio::piped());
+    Ok(command.spawn(rt)?)
 }
 
 #[test]
 fn a_desk_that_hangs_up_is_no_answer(rt: HostRuntime) -> Result<(), Fail> {
     let address = SocketAddr::new(IpAddr::V4(Ipv4Addr::new(127, 0, 0, 1)), 47137);
     let desk = TcpListener::bind(&rt, address)?;
-    let mut command = program(&rt, "bracha --verbose status 127.0.0.1:47137")?;
-    command
-        .stdin(Stdio::null())
-        .stdout(Stdio::piped())
-        .stderr(Stdio::piped());
-    let child = command.spawn(&rt)?;
+    let child = piped(
+        &rt,
+        "bracha --verbose status 127.0.0.1:47137",
+        Stdio::null(),
+    )?;
     let (mut client, _) = desk.accept()?;
     // What isn't a whole line is no reply.
     client.write_all(b"UP 3 0")?;
     drop(client);
-    let output = child.wait_with_output(rt.alloc())?;
-    let printed = String::from_utf8(output.stdout).ok().ok_or("text")?;
-    let said = String::from_utf8(output.stderr).ok().ok_or("text")?;
+    let (printed, said) = texts(child.wait_with_output(rt.alloc())?)?;
     assert!(rt; !printed.as_str().contains("UP"), "{printed}");
     assert!(rt; printed.as_str().contains("status 1\n"), "{printed}");
     let lines = "bracha: no answer\n127.0.0.1:47137: connected, but no whole reply came\n";
@@ -411,18 +489,12 @@ fn a_desk_that_hangs_up_is_no_answer(rt: HostRuntime) -> Result<(), Fail> {
 #[test]
 fn a_journal_that_another_has_is_named(rt: HostRuntime) -> Result<(), Fail> {
     let journal = "bracha_tests_locked.journal";
-    fs::write(&rt, journal, EMPTY.as_slice())?;
+    put(&rt, journal, &EMPTY)?;
     let file = fs::File::open(&rt, journal)?;
     file.try_lock()?;
-    let told = told_more(&rt, "dump bracha_tests_locked.journal", false)?;
-    assert!(rt;
-        told.as_str().contains(
-            "bracha: file\nbracha_tests_locked.journal: open: another process has it\n"
-        ),
-        "{told}"
-    );
-    fs::remove_file(&rt, journal)?;
-    Ok(())
+    let lines = "bracha: file\nbracha_tests_locked.journal: open: another process has it\n";
+    assert!(rt; has_second_line(&rt, "dump bracha_tests_locked.journal", lines)?);
+    remove(&rt, &[journal])
 }
 
 /// The settings of member 1 of four, one question, of a cluster of this number.
@@ -439,34 +511,26 @@ fn settings_alone(rt: &HostRuntime, journal: &str, port: u16) -> Result<String, 
     )?)
 }
 
-#[test]
-fn a_member_alone_tells_its_life(rt: HostRuntime) -> Result<(), Fail> {
-    let (path, journal) = ("bracha_tests_alone.toml", "bracha_tests_alone.journal");
-    let _ = fs::remove_file(&rt, journal);
-    fs::write(&rt, path, settings_alone(&rt, journal, 47138)?.as_str())?;
-    assert!(rt;
-        ended(&rt, "bracha init bracha_tests_alone.toml")?
-            .as_str()
-            .contains("status 0\n")
-    );
-    let mut command = program(&rt, "bracha run --log bracha_tests_alone.toml")?;
-    command
-        .stdin(Stdio::piped())
-        .stdout(Stdio::piped())
-        .stderr(Stdio::piped());
-    let child = command.spawn(&rt)?;
-    let mut proposed = false;
+/// Proposes 1 until the member takes it, for five seconds at most.
+fn is_proposed(rt: &HostRuntime, words: &str) -> Result<bool, Fail> {
     for _ in 0..100u32 {
-        thread::sleep(&rt, Duration::from_millis(50));
-        if ended(&rt, "bracha propose 127.0.0.1:47139 0 1")?
-            .as_str()
-            .contains("OK\n")
-        {
-            proposed = true;
-            break;
+        thread::sleep(rt, Duration::from_millis(50));
+        if prints(rt, words, "OK\n")? {
+            return Ok(true);
         }
     }
-    assert!(rt; proposed);
+    Ok(false)
+}
+
+/// What a member by itself says on the standard error, which takes a proposal and whose input then ends.
+fn said_in_a_life(rt: &HostRuntime) -> Result<String, Fail> {
+    let child = piped(
+        rt,
+        "bracha run --log bracha_tests_alone.toml",
+        Stdio::piped(),
+    )?;
+    let proposed = is_proposed(rt, "bracha propose 127.0.0.1:47139 0 1")?;
+    want(proposed, "a proposal that is taken")?;
     // What the desk refuses is printed, with status 1.
     for (words, said) in [
         (
@@ -480,41 +544,42 @@ fn a_member_alone_tells_its_life(rt: HostRuntime) -> Result<(), Fail> {
         ("bracha ask 127.0.0.1:47139 1", "ERR 2 question\nstatus 1\n"),
         ("bracha propose 127.0.0.1:47139 0 0", "HAVE 1\nstatus 0\n"),
     ] {
-        let text = ended(&rt, words)?;
-        assert!(rt; text.as_str().contains(said), "{words}: {text}");
+        want(prints(rt, words, said)?, "what the desk refuses")?;
     }
-    thread::sleep(&rt, Duration::from_millis(2500));
-    let output = child.wait_with_output(rt.alloc())?;
-    let said = String::from_utf8(output.stderr).ok().ok_or("text")?;
-    assert!(rt;
-        said.as_str().contains("ready member 0\ndecided 0 1\nend\n"),
-        "{said}"
-    );
+    thread::sleep(rt, Duration::from_millis(2500));
+    let (_, said) = texts(child.wait_with_output(rt.alloc())?)?;
+    Ok(said)
+}
+
+#[test]
+fn a_member_alone_tells_its_life(rt: HostRuntime) -> Result<(), Fail> {
+    let (path, journal) = ("bracha_tests_alone.toml", "bracha_tests_alone.journal");
+    let _ = fs::remove_file(&rt, journal);
+    let settings = settings_alone(&rt, journal, 47138)?;
+    put(&rt, path, settings.as_str().as_bytes())?;
+    assert!(rt; prints(&rt, "bracha init bracha_tests_alone.toml", "status 0\n")?);
+    let said = said_in_a_life(&rt)?;
+    let life = "ready member 0\ndecided 0 1\nend\n";
+    assert!(rt; said.as_str().contains(life), "{said}");
     // In its next life the decision isn't told again.
     let (_, said) = told(&rt, "bracha run --log bracha_tests_alone.toml")?;
     assert!(rt; said.as_str().contains("ready member 0\nend\n"), "{said}");
-    fs::remove_file(&rt, path)?;
-    fs::remove_file(&rt, journal)?;
-    Ok(())
+    remove(&rt, &[path, journal])
 }
 
 #[test]
 fn init_makes_the_journal_once(rt: HostRuntime) -> Result<(), Fail> {
     let (path, journal) = ("bracha_tests_init.toml", "bracha_tests_init.journal");
     let _ = fs::remove_file(&rt, journal);
-    let settings = format!(in rt.alloc();
-        "cluster = 7\nn = 4\nt = 1\nquestions = 1\nme = 1\njournal = '{journal}'\npeers = ['127.0.0.1:47120', '127.0.0.1:47121', '127.0.0.1:47122', '127.0.0.1:47123']\ndesk = '127.0.0.1:47131'\nseed = '0000000000000000000000000000000000000000000000000000000000000001'\n"
-    )?;
-    fs::write(&rt, path, settings.as_str())?;
-    let words = format!(in rt.alloc(); "bracha init {path}")?;
-    assert!(rt; ended(&rt, words.as_str())?.as_str().contains("status 0\n"));
-    assert!(rt; fs::read(&rt, journal)?.as_slice() == EMPTY.as_slice());
-    assert!(rt; fails(&rt, words.as_str(), "journal NotEmpty")?);
-    assert!(rt; fs::read(&rt, journal)?.as_slice() == EMPTY.as_slice());
-    assert!(rt; fs::read(&rt, path)?.as_slice() == settings.as_str().as_bytes());
-    fs::remove_file(&rt, path)?;
-    fs::remove_file(&rt, journal)?;
-    Ok(())
+    let settings = settings_of_four(&rt, journal, 7)?;
+    put(&rt, path, settings.as_str().as_bytes())?;
+    let words = "bracha init bracha_tests_init.toml";
+    assert!(rt; prints(&rt, words, "status 0\n")?);
+    assert!(rt; has(&rt, journal, &EMPTY)?);
+    assert!(rt; fails(&rt, words, "journal NotEmpty")?);
+    assert!(rt; has(&rt, journal, &EMPTY)?);
+    assert!(rt; has(&rt, path, settings.as_str().as_bytes())?);
+    remove(&rt, &[path, journal])
 }
 
 /// A journal of no records: cluster 7, one member, one question.
@@ -523,25 +588,19 @@ const ALONE: [u8; 25] = *b"BRACHAJ1\0\0\0\0\0\0\0\x07\x01\0\0\x01\0\0\0\0\0";
 #[test]
 fn a_member_that_stays_outlives_its_input(rt: HostRuntime) -> Result<(), Fail> {
     let (path, journal) = ("bracha_tests_stay.toml", "bracha_tests_stay.journal");
-    fs::write(&rt, path, settings_alone(&rt, journal, 47136)?.as_str())?;
-    fs::write(&rt, journal, ALONE.as_slice())?;
-    let mut command = program(&rt, "bracha run --stay --log bracha_tests_stay.toml")?;
-    command
-        .stdin(Stdio::null())
-        .stdout(Stdio::piped())
-        .stderr(Stdio::piped());
-    let mut child = command.spawn(&rt)?;
+    let settings = settings_alone(&rt, journal, 47136)?;
+    put(&rt, path, settings.as_str().as_bytes())?;
+    put(&rt, journal, &ALONE)?;
+    let words = "bracha run --stay --log bracha_tests_stay.toml";
+    let mut child = piped(&rt, words, Stdio::null())?;
     wait_ready(&mut child, 0, &rt)?;
     thread::sleep(&rt, Duration::from_millis(2000));
     assert!(rt; child.try_wait()?.is_none(), "the member has ended");
     child.kill()?;
-    let output = child.wait_with_output(rt.alloc())?;
-    let said = String::from_utf8(output.stderr).ok().ok_or("text")?;
+    let (_, said) = texts(child.wait_with_output(rt.alloc())?)?;
     assert!(rt; said.as_str().contains("ready member 0\n"), "{said}");
     assert!(rt; !said.as_str().contains("end\n"), "{said}");
-    fs::remove_file(&rt, path)?;
-    fs::remove_file(&rt, journal)?;
-    Ok(())
+    remove(&rt, &[path, journal])
 }
 
 /// What `check` prints of a member of cluster 7 whose journal is this file.
@@ -552,46 +611,43 @@ fn said_of(rt: &HostRuntime, journal: &str) -> Result<String, Fail> {
 }
 
 #[test]
-fn check_changes_nothing(rt: HostRuntime) -> Result<(), Fail> {
+fn check_makes_no_journal(rt: HostRuntime) -> Result<(), Fail> {
     let (path, journal) = ("bracha_tests_check.toml", "bracha_tests_check.journal");
     let _ = fs::remove_file(&rt, journal);
-    let settings = format!(in rt.alloc();
-        "cluster = 7\nn = 4\nt = 1\nquestions = 1\nme = 1\njournal = '{journal}'\npeers = ['127.0.0.1:47120', '127.0.0.1:47121', '127.0.0.1:47122', '127.0.0.1:47123']\ndesk = '127.0.0.1:47131'\nseed = '0000000000000000000000000000000000000000000000000000000000000001'\n"
-    )?;
-    fs::write(&rt, path, settings.as_str())?;
-    let words = format!(in rt.alloc(); "bracha check {path}")?;
-    let said = said_of(&rt, journal)?;
-    // There is no journal yet, and none is made.
-    assert!(rt; fails(&rt, words.as_str(), "file")?);
-    assert!(rt; ended(&rt, words.as_str())?.as_str().contains(said.as_str()));
-    assert!(rt; fs::metadata(&rt, journal).is_err());
+    let settings = settings_of_four(&rt, journal, 7)?;
+    put(&rt, path, settings.as_str().as_bytes())?;
+    let words = "bracha check bracha_tests_check.toml";
+    assert!(rt; fails(&rt, words, "file")?);
+    assert!(rt; prints(&rt, words, said_of(&rt, journal)?.as_str())?);
+    assert!(rt; !is_there(&rt, journal));
     assert!(rt; fails(&rt, "bracha run bracha_tests_check.toml", "file")?);
-    assert!(rt;
-        fs::metadata(&rt, journal).is_err(),
-        "a journal that run made"
-    );
+    assert!(rt; !is_there(&rt, journal), "a journal that run made");
+    remove(&rt, &[path])
+}
+
+#[test]
+fn check_leaves_a_journal_as_it_is(rt: HostRuntime) -> Result<(), Fail> {
+    let (path, journal) = ("bracha_tests_leaves.toml", "bracha_tests_leaves.journal");
+    let settings = settings_of_four(&rt, journal, 7)?;
+    put(&rt, path, settings.as_str().as_bytes())?;
+    let words = "bracha check bracha_tests_leaves.toml";
     for (bytes, fault) in [
         (&EMPTY[..24], "journal CutShort"),
         (&EMPTY[..20], "journal BadHeader"),
     ] {
-        fs::write(&rt, journal, bytes)?;
-        assert!(rt; fails(&rt, words.as_str(), fault)?, "{fault}");
-        assert!(rt; fs::read(&rt, journal)?.as_slice() == bytes);
+        put(&rt, journal, bytes)?;
+        assert!(rt; fails(&rt, words, fault)?, "{fault}");
+        assert!(rt; has(&rt, journal, bytes)?);
     }
-    fs::write(&rt, journal, EMPTY.as_slice())?;
+    put(&rt, journal, &EMPTY)?;
     // Another has the journal open, and its lock.
     let file = fs::File::open(&rt, journal)?;
     file.try_lock()?;
+    let said = said_of(&rt, journal)?;
     let whole = format!(in rt.alloc(); "{said}records 0\nstatus 0\n")?;
-    assert!(rt;
-        ended(&rt, words.as_str())?
-            .as_str()
-            .contains(whole.as_str())
-    );
-    assert!(rt; fs::read(&rt, journal)?.as_slice() == EMPTY.as_slice());
-    fs::remove_file(&rt, path)?;
-    fs::remove_file(&rt, journal)?;
-    Ok(())
+    assert!(rt; prints(&rt, words, whole.as_str())?);
+    assert!(rt; has(&rt, journal, &EMPTY)?);
+    remove(&rt, &[path, journal])
 }
 
 #[test]
@@ -601,16 +657,10 @@ fn pages_go_into_their_files(rt: HostRuntime) -> Result<(), Fail> {
         "bracha_tests_pages.trace",
         "bracha_tests_pages.svg",
     );
-    fs::write(
-        &rt,
-        script,
-        "n 1\nt 0\nquestions 1\nliars\nseed 1\npropose 0 0 1\n",
-    )?;
+    put(&rt, script, ONE_PROPOSAL.as_bytes())?;
     let words = format!(in rt.alloc(); "bracha simulate --trace {trace} --chart {chart} {script}")?;
-    let (printed, _) = told(&rt, words.as_str())?;
-    assert!(rt; printed.as_str().contains("events 1 skipped 0\nstatus 0\n"));
-    let line = "1 propose 0 0 1: done: initial 0 0 1 1 one\n";
-    assert!(rt; fs::read(&rt, trace)?.as_slice() == line.as_bytes());
+    assert!(rt; prints(&rt, words.as_str(), "events 1 skipped 0\nstatus 0\n")?);
+    assert!(rt; has(&rt, trace, b"1 propose 0 0 1: done: initial 0 0 1 1 one\n")?);
     assert!(rt; fs::read(&rt, chart)?.as_slice().starts_with(b"<svg "));
     // A page that can't be written is told before anything is printed.
     for (option, fault) in [("--trace", "trace"), ("--chart", "chart")] {
@@ -618,20 +668,15 @@ fn pages_go_into_their_files(rt: HostRuntime) -> Result<(), Fail> {
             "bracha simulate {option} bracha_tests_none/page {script}"
         )?;
         assert!(rt; fails(&rt, words.as_str(), fault)?);
-        let (printed, _) = told(&rt, words.as_str())?;
-        assert!(rt; !printed.as_str().contains("events"));
+        assert!(rt; !prints(&rt, words.as_str(), "events")?);
     }
-    for path in [script, trace, chart] {
-        fs::remove_file(&rt, path)?;
-    }
-    Ok(())
+    remove(&rt, &[script, trace, chart])
 }
 
 #[test]
 fn pages_keep_off_other_files(rt: HostRuntime) -> Result<(), Fail> {
     let (script, folder) = ("bracha_tests_apart.script", "bracha_tests_apart");
-    let text = "n 1\nt 0\nquestions 1\nliars\nseed 1\npropose 0 0 1\n";
-    fs::write(&rt, script, text)?;
+    put(&rt, script, ONE_PROPOSAL.as_bytes())?;
     let _ = fs::remove_dir_all(&rt, folder);
     fs::create_dir(&rt, folder)?;
     let link = "bracha_tests_apart/link";
@@ -659,22 +704,17 @@ fn pages_keep_off_other_files(rt: HostRuntime) -> Result<(), Fail> {
         let words = format!(in rt.alloc(); "bracha simulate {options} {script}")?;
         let fault = format!(in rt.alloc(); "same file {path}")?;
         assert!(rt; ends_by(&rt, words.as_str(), fault.as_str(), 2)?, "{words}");
-        assert!(rt; fs::read(&rt, script)?.as_slice() == text.as_bytes());
-        assert!(rt; fs::metadata(&rt, "bracha_tests_apart/a").is_err());
+        assert!(rt; has(&rt, script, ONE_PROPOSAL.as_bytes())?);
+        assert!(rt; !is_there(&rt, "bracha_tests_apart/a"));
     }
     fs::remove_dir_all(&rt, folder)?;
-    fs::remove_file(&rt, script)?;
-    Ok(())
+    remove(&rt, &[script])
 }
 
 #[test]
 fn a_page_goes_to_the_output(rt: HostRuntime) -> Result<(), Fail> {
     let (script, chart) = ("bracha_tests_output.script", "bracha_tests_output.svg");
-    fs::write(
-        &rt,
-        script,
-        "n 1\nt 0\nquestions 1\nliars\nseed 1\npropose 0 0 1\n",
-    )?;
+    put(&rt, script, ONE_PROPOSAL.as_bytes())?;
     let words = format!(in rt.alloc(); "bracha simulate --trace - --chart {chart} {script}")?;
     let (printed, said) = told(&rt, words.as_str())?;
     let page = "1 propose 0 0 1: done: initial 0 0 1 1 one\nstatus 0\n";
@@ -682,11 +722,8 @@ fn a_page_goes_to_the_output(rt: HostRuntime) -> Result<(), Fail> {
     assert!(rt; !printed.as_str().contains("events"), "{printed}");
     assert!(rt; said.as_str().contains("events 1 skipped 0\n"), "{said}");
     assert!(rt; fs::read(&rt, chart)?.as_slice().starts_with(b"<svg "));
-    for path in [script, chart] {
-        fs::remove_file(&rt, path)?;
-    }
-    assert!(rt; fs::metadata(&rt, "-").is_err());
-    Ok(())
+    assert!(rt; !is_there(&rt, "-"));
+    remove(&rt, &[script, chart])
 }
 
 /// Whether the words behind the program's name are taken.
@@ -791,16 +828,13 @@ fn decision(rt: &HostRuntime, member: u8, question: u16) -> Result<String, Fail>
 fn settle(rt: &HostRuntime, question: u16) -> Result<(), Fail> {
     for member in 0..4u8 {
         let words = format!(in rt.alloc(); "bracha propose 127.0.0.1:4711{member} {question} 1")?;
-        let text = ended(rt, words.as_str())?;
-        if !text.as_str().contains("OK\nstatus 0\n") {
-            return Err("a proposal that is taken")?;
-        }
+        let taken = prints(rt, words.as_str(), "OK\nstatus 0\n")?;
+        want(taken, "a proposal that is taken")?;
     }
     for member in 0..4u8 {
         let text = decision(rt, member, question)?;
-        if !text.as_str().contains("DECIDED 1\nstatus 0\n") {
-            return Err("the decision 1")?;
-        }
+        let decided = text.as_str().contains("DECIDED 1\nstatus 0\n");
+        want(decided, "the decision 1")?;
     }
     Ok(())
 }
@@ -839,34 +873,53 @@ fn decisions(rt: &HostRuntime, member: u8) -> Result<Vec<String>, Fail> {
     Ok(found)
 }
 
+/// Makes the settings and the journal of each member.
+fn init_all(rt: &HostRuntime) -> Result<(), Fail> {
+    for member in 0..4u8 {
+        write_settings(rt, member)?;
+        let words = format!(in rt.alloc(); "bracha init {FOLDER}/{member}.toml")?;
+        want(prints(rt, words.as_str(), "status 0\n")?, "the end of init")?;
+    }
+    Ok(())
+}
+
+/// Member 2 settles question 0 with the others, ends with its input, is started again, and still knows. Then it is killed.
+fn settle_and_be_killed(rt: &HostRuntime) -> Result<(), Fail> {
+    let second = start(rt, 2)?;
+    settle(rt, 0)?;
+    let text = end_of(second, rt)?;
+    want(text.as_str().contains("status 0\n"), "the end of member 2")?;
+    let mut again = start(rt, 2)?;
+    let text = decision(rt, 2, 0)?;
+    let known = text.as_str().contains("DECIDED 1\nstatus 0\n");
+    want(known, "a decision that member 2 knows")?;
+    again.kill()?;
+    again.wait()?;
+    Ok(())
+}
+
+/// The member's journal has two decisions for 1, and as many records as are counted.
+fn has_decided_twice(rt: &HostRuntime, member: u8) -> Result<(), Fail> {
+    let found = decisions(rt, member)?;
+    want(found.len() == 2, "two decisions")?;
+    want(is_counted(rt, member)?, "a count of the records")?;
+    for line in found.as_slice() {
+        want(line.as_str().ends_with(" 1"), "decisions for 1")?;
+    }
+    Ok(())
+}
+
 #[test]
 fn four_processes_decide(rt: HostRuntime) -> Result<(), Fail> {
     let _ = fs::remove_dir_all(&rt, FOLDER);
     fs::create_dir(&rt, FOLDER)?;
+    init_all(&rt)?;
     let mut children = Vec::new(rt.alloc());
-    for member in 0..4u8 {
-        write_settings(&rt, member)?;
-        let words = format!(in rt.alloc(); "bracha init {FOLDER}/{member}.toml")?;
-        let text = ended(&rt, words.as_str())?;
-        assert!(rt; text.as_str().contains("status 0\n"), "init of {member}");
-    }
     for member in [0, 1, 3] {
         children.push(start(&rt, member)?)?;
     }
-    let second = start(&rt, 2)?;
-    settle(&rt, 0)?;
-    // Member 2 ends with its input, is started again, and still knows.
-    let text = end_of(second, &rt)?;
-    assert!(rt; text.as_str().contains("status 0\n"), "the end of member 2");
-    let mut again = start(&rt, 2)?;
-    let text = decision(&rt, 2, 0)?;
-    assert!(rt;
-        text.as_str().contains("DECIDED 1\nstatus 0\n"),
-        "member 2 said {text}"
-    );
-    // It is killed, is started again, and goes on with the others.
-    again.kill()?;
-    again.wait()?;
+    settle_and_be_killed(&rt)?;
+    // Started once more it goes on with the others.
     children.push(start(&rt, 2)?)?;
     settle(&rt, 1)?;
     assert!(rt; is_up(&rt, 2, 2)?, "the status of member 2");
@@ -875,12 +928,7 @@ fn four_processes_decide(rt: HostRuntime) -> Result<(), Fail> {
         assert!(rt; text.as_str().contains("status 0\n"), "the end of a member");
     }
     for member in 0..4u8 {
-        let found = decisions(&rt, member)?;
-        assert!(rt; found.len() == 2, "decisions of {member}");
-        assert!(rt; is_counted(&rt, member)?, "records of {member}");
-        for line in found.as_slice() {
-            assert!(rt; line.as_str().ends_with(" 1"), "{line}");
-        }
+        has_decided_twice(&rt, member)?;
     }
     fs::remove_dir_all(&rt, FOLDER)?;
     Ok(())

@@ -224,6 +224,21 @@ fn passes(disk: &mut MemDisk, step: Step, fuse: Option<u64>) -> bool {
     super::device(disk, step).is_ok()
 }
 
+/// A step of both disks.
+fn step_of_both(
+    rt: &(impl AllocGlobal + Abort),
+    step: Step,
+    disk: &mut MemDisk,
+    listing: &mut Listing,
+) -> Result<(), AllocError> {
+    let fuse = listing.fuse;
+    let passed = listing.step(step)?;
+    assert!(rt; passes(disk, step, fuse) == passed);
+    let seen = content(rt.alloc(), disk, listing.fuse)?;
+    assert!(rt; seen[..] == listing.file()?.seen[..], "what reads give");
+    Ok(())
+}
+
 /// Some steps of both disks, and then a crash.
 fn life(
     rt: &(impl AllocGlobal + Abort),
@@ -232,18 +247,13 @@ fn life(
     listing: &mut Listing,
 ) -> Result<MemDisk, AllocError> {
     for _ in 0..12 {
-        let step = draws.step();
-        let fuse = listing.fuse;
-        let passed = listing.step(step)?;
-        assert_eq!(rt; passes(&mut disk, step, fuse), passed);
-        let seen = content(rt.alloc(), &mut disk, listing.fuse)?;
-        assert!(rt; seen[..] == listing.file()?.seen[..], "what reads give");
+        step_of_both(rt, draws.step(), &mut disk, listing)?;
     }
     let pick = draws.pick();
     let mut crashed = disk.crash(pick)?;
     listing.crash(pick)?;
     let left = content(rt.alloc(), &mut crashed, None)?;
-    assert!(rt; left[..] == listing.start[..], "{pick:?}");
+    assert!(rt; left[..] == listing.start[..], "what the crash leaves");
     Ok(crashed)
 }
 

@@ -54,8 +54,7 @@ fn apply_all<J: Naming, R: Wait + Abort>(
 {
     let answers = hub.lock(rt).apply_all(seat, events);
     if let Err(MemberFault::Memory) = answers {
-        assert!(rt; status(rt, hub).is_none() && event(rt, hub, 0).is_none());
-        assert!(rt; seat.next() == 0);
+        assert!(rt; is_stopped(rt, hub) && seat.next() == 0);
     }
     answers
 }
@@ -71,6 +70,26 @@ fn are_answers(answers: &[Answer]) -> Result<bool, Fail> {
     )
 }
 
+/// The book's entries are the group's first two statements, which were answered.
+fn has_the_group<J: Naming, R: Wait + Abort>(rt: &R, hub: &Hub<MemDisk, J>) -> Result<(), Fail> {
+    assert!(rt; status(rt, hub) == Some((2, 0)));
+    for (entry, (statement, toss)) in group()?.into_iter().take(2).enumerate() {
+        let noted = Entry::Heard {
+            from: 0,
+            statement,
+            toss,
+        };
+        assert!(rt; event(rt, hub, entry) == Some(noted));
+    }
+    assert!(rt; event(rt, hub, 2).is_none());
+    Ok(())
+}
+
+/// The book is stopped, and noted nothing.
+fn is_stopped<J: Naming, R: Wait>(rt: &R, hub: &Hub<MemDisk, J>) -> bool {
+    status(rt, hub).is_none() && event(rt, hub, 0).is_none()
+}
+
 /// Four calls of the device pass, and the fifth would fail.
 fn is_one_batch<J: Naming, R: Wait + Abort + AllocGlobal>(
     rt: &R,
@@ -81,18 +100,9 @@ fn is_one_batch<J: Naming, R: Wait + Abort + AllocGlobal>(
 {
     let (hub, rack) = open::<J, R>(rt, board, 4)?;
     let mut seat = take(rt, &rack, 0)?;
-    let group = group()?;
-    let answers = apply_all(rt, &hub, &mut seat, &group)?;
-    assert!(rt; are_answers(&answers)?);
-    assert!(rt; seat.next() == 4 && status(rt, &hub) == Some((2, 0)));
-    let noted = |(statement, toss)| Entry::Heard {
-        from: 0,
-        statement,
-        toss,
-    };
-    assert!(rt; event(rt, &hub, 0) == Some(noted(group[0])));
-    assert!(rt; event(rt, &hub, 1) == Some(noted(group[1])));
-    assert!(rt; event(rt, &hub, 2).is_none());
+    let answers = apply_all(rt, &hub, &mut seat, &group()?)?;
+    assert!(rt; are_answers(&answers)? && seat.next() == 4);
+    has_the_group(rt, &hub)?;
     // What is proposed has a record to save.
     assert!(rt; propose(rt, &hub, true) == Err(MemberFault::Device));
     rack.put(rt, seat);
@@ -134,11 +144,11 @@ fn is_refused<J: Naming, R: Wait + Abort + AllocGlobal>(
     requires names { arc_value board ≡ J.names }
     requires cells { length (arc_value board) ≡ 2 }
 {
+    let group = group()?;
     let (hub, rack) = open::<J, R>(rt, board, calls)?;
     let mut seat = take(rt, &rack, 0)?;
-    assert!(rt; apply_all(rt, &hub, &mut seat, &group()?) == Err(MemberFault::Device));
-    assert!(rt; seat.next() == 0 && status(rt, &hub).is_none());
-    assert!(rt; event(rt, &hub, 0).is_none());
+    assert!(rt; apply_all(rt, &hub, &mut seat, &group) == Err(MemberFault::Device));
+    assert!(rt; is_stopped(rt, &hub) && seat.next() == 0);
     assert!(rt; apply_all(rt, &hub, &mut seat, &[]) == Err(MemberFault::Stopped));
     rack.put(rt, seat);
     assert!(rt; close(hub, rack.into_seats()).is_ok());

@@ -3,7 +3,7 @@ ghost use Rattle.std.specs.Prelude.{◌≡◌, length};
 ghost use Rattle.std.specs.Arc.{arc_value};
 
 use super::{Zeros, frame};
-use crate::beginnings::{board, header, start, take};
+use crate::beginnings::{board, header, open, take};
 use disk::MemDisk;
 use links::{Gate, LinkEnd, MemStream, Point, read_link};
 use node::{Board, Hub, Naming, Rack, Seat, close};
@@ -29,6 +29,16 @@ struct Seen {
     waits: AtomicBool,
     /// How often the bell woke it.
     wakes: AtomicUsize,
+}
+
+impl Seen {
+    fn new() -> Seen {
+        Seen {
+            points: AtomicUsize::new(0),
+            waits: AtomicBool::new(false),
+            wakes: AtomicUsize::new(0),
+        }
+    }
 }
 
 impl Gate for Seen {
@@ -135,18 +145,9 @@ fn is_one_group<J: Naming + Send + Sync, R: Threads + Wait + Clock + Abort + All
 {
     let alloc = rt.alloc();
     let header = header(4, 1, 2, 1)?;
-    let (hub, seats) = Hub::<MemDisk, J>::open(
-        alloc,
-        start(alloc, MemDisk::new(alloc), &header, false)?,
-        board,
-    )?;
-    let rack = Rack::new(seats);
+    let (hub, rack) = open::<MemDisk, J>(alloc, MemDisk::new(alloc), &header, false, board)?;
     let seat = take(rt, &rack, 0)?;
-    let seen = Seen {
-        points: AtomicUsize::new(0),
-        waits: AtomicBool::new(false),
-        wakes: AtomicUsize::new(0),
-    };
+    let seen = Seen::new();
     let bytes = three_statements(alloc)?;
     let bytes = bytes.as_slice();
     let ((seat, end, wakes), ()) = join(

@@ -3,25 +3,24 @@ ghost use Rattle.std.specs.Prelude.{◌≤◌, length, IfOk};
 ghost use Rattle.member.specs.Memory.{memory_disk};
 ghost use Rattle.member.specs.Sound.{IsSound};
 
-use super::{hands_out, header, hear, of, start, takes};
+use super::{hands_out, header, hear, of, of_no_question, start, statement, takes};
 use disk::{Disk, MemDisk, Pick};
 use member::{Member, MemberFault};
 use questions::Answer;
 use rounds::Toss;
-use std::alloc::Global;
 use std::process::Abort;
 use std::test::Fail;
 use terms::Kind::{Echo, Initial, Ready};
 use terms::Value::One;
-use terms::{Header, Place, Record, Size, Statement};
+use terms::{Header, Record, Size, Statement};
 
 /// What is heard as a group: the Initial One of member 0, and its Ready from 2 and from 3.
-fn events() -> Result<[(u8, Statement, Toss); 3], Fail> {
-    Ok([
-        (0, of(Initial, One)?, Toss(0)),
-        (2, of(Ready, One)?, Toss(0)),
-        (3, of(Ready, One)?, Toss(0)),
-    ])
+fn events(rt: &impl Abort) -> [(u8, Statement, Toss); 3] {
+    [
+        (0, of(rt, Initial, One), Toss(0)),
+        (2, of(rt, Ready, One), Toss(0)),
+        (3, of(rt, Ready, One), Toss(0)),
+    ]
 }
 
 /// The answers to a group. One that is refused memory stops the member, and hands nothing out.
@@ -43,15 +42,13 @@ fn hear_all(
 }
 
 /// Whether the answers are those to the three statements: the Echo, nothing, the Ready.
-fn are_answers(answers: &[Answer]) -> Result<bool, Fail> {
+fn are_answers(rt: &impl Abort, answers: &[Answer]) -> bool {
     let [first, second, third] = answers else {
-        return Ok(false);
+        return false;
     };
-    Ok(
-        takes(first, &[Record::Said(of(Echo, One)?)])
-            && takes(second, &[])
-            && takes(third, &[Record::Said(of(Ready, One)?)]),
-    )
+    takes(first, &[Record::Said(of(rt, Echo, One))])
+        && takes(second, &[])
+        && takes(third, &[Record::Said(of(rt, Ready, One))])
 }
 
 /// Whether no call of the device is left: a proposal has a record to save.
@@ -70,9 +67,9 @@ fn has_no_call_left(member: &mut Member<MemDisk>) -> Result<bool, Fail>
 fn a_group_is_four_calls_and_one_batch(rt: HostRuntime) -> Result<(), Fail> {
     let mut member = start(&rt, &header(4, 1, 1)?)?;
     member.fuse(Some(4));
-    let answers = hear_all(&rt, &mut member, &events()?)?;
-    assert!(rt; are_answers(&answers)?);
-    assert!(rt; hands_out(&member, &[of(Echo, One)?, of(Ready, One)?]));
+    let answers = hear_all(&rt, &mut member, &events(&rt))?;
+    assert!(rt; are_answers(&rt, &answers));
+    assert!(rt; hands_out(&member, &[of(&rt, Echo, One), of(&rt, Ready, One)]));
     assert!(rt; has_no_call_left(&mut member)?);
     member.fuse(None);
     assert!(rt; member.into_disk().len() == Ok(42));
@@ -83,10 +80,10 @@ fn a_group_is_four_calls_and_one_batch(rt: HostRuntime) -> Result<(), Fail> {
 fn one_by_one_they_are_eight_calls_and_two_batches(rt: HostRuntime) -> Result<(), Fail> {
     let mut member = start(&rt, &header(4, 1, 1)?)?;
     member.fuse(Some(8));
-    hear(&rt, &mut member, 0, &of(Initial, One)?)?;
-    hear(&rt, &mut member, 2, &of(Ready, One)?)?;
-    hear(&rt, &mut member, 3, &of(Ready, One)?)?;
-    assert!(rt; hands_out(&member, &[of(Echo, One)?, of(Ready, One)?]));
+    hear(&rt, &mut member, 0, &of(&rt, Initial, One))?;
+    hear(&rt, &mut member, 2, &of(&rt, Ready, One))?;
+    hear(&rt, &mut member, 3, &of(&rt, Ready, One))?;
+    assert!(rt; hands_out(&member, &[of(&rt, Echo, One), of(&rt, Ready, One)]));
     assert!(rt; has_no_call_left(&mut member)?);
     member.fuse(None);
     assert!(rt; member.into_disk().len() == Ok(45));
@@ -106,14 +103,14 @@ fn an_empty_group_is_no_call(rt: HostRuntime) -> Result<(), Fail> {
 #[test]
 fn a_repeat_and_a_foreign_one_in_a_group(rt: HostRuntime) -> Result<(), Fail> {
     let mut member = start(&rt, &header(4, 1, 1)?)?;
-    let initial = of(Initial, One)?;
+    let initial = of(&rt, Initial, One);
     let group = [
         (3, initial, Toss(0)),
         (0, initial, Toss(0)),
         (0, initial, Toss(0)),
     ];
     let answers = hear_all(&rt, &mut member, &group)?;
-    let echo = Record::Said(of(Echo, One)?);
+    let echo = Record::Said(of(&rt, Echo, One));
     let is_so = match answers.as_slice() {
         [Answer::Foreign, taken, Answer::Repeat] => takes(taken, &[echo]),
         _ => false,
@@ -139,9 +136,8 @@ fn refuses(
 #[test]
 fn a_bad_number_in_a_group_leaves_all_unheard(rt: HostRuntime) -> Result<(), Fail> {
     let mut member = start(&rt, &header(4, 1, 1)?)?;
-    let elsewhere = Place::new(1, 0, 1, 1).ok_or("a place")?;
-    let other = Statement::new(Initial, elsewhere, One).ok_or("a statement")?;
-    let [first, second, _] = events()?;
+    let other = of_no_question(&rt);
+    let [first, second, _] = events(&rt);
     let toss = Toss(0);
     let question = MemberFault::NoSuchQuestion;
     let no_member = MemberFault::NoSuchMember;
@@ -154,8 +150,8 @@ fn a_bad_number_in_a_group_leaves_all_unheard(rt: HostRuntime) -> Result<(), Fai
             no_member
         )
     );
-    let answer = hear(&rt, &mut member, 0, &of(Initial, One)?)?;
-    assert!(rt; takes(&answer, &[Record::Said(of(Echo, One)?)]));
+    let answer = hear(&rt, &mut member, 0, &of(&rt, Initial, One))?;
+    assert!(rt; takes(&answer, &[Record::Said(of(&rt, Echo, One))]));
     Ok(())
 }
 
@@ -164,7 +160,7 @@ fn a_stopped_member_hears_no_group(rt: HostRuntime) -> Result<(), Fail> {
     let mut member = start(&rt, &header(4, 1, 1)?)?;
     member.stop();
     assert!(rt; member.hear_all(&[]).err() == Some(MemberFault::Stopped));
-    let group = [(4, of(Initial, One)?, Toss(0))];
+    let group = [(4, of(&rt, Initial, One), Toss(0))];
     assert!(rt; member.hear_all(&group).err() == Some(MemberFault::Stopped));
     Ok(())
 }
@@ -179,7 +175,7 @@ fn after_a_crash(
     let header = header(4, 1, 1)?;
     let mut member = start(rt, &header)?;
     member.fuse(Some(calls));
-    let fault = member.hear_all(&events()?).err();
+    let fault = member.hear_all(&events(rt)).err();
     if fault.is_some() {
         assert!(rt; hands_out(&member, &[]));
         assert!(rt; member.is_stopped());
@@ -219,13 +215,12 @@ fn a_stop_at_each_call_of_a_group(rt: HostRuntime) -> Result<(), Fail> {
 }
 
 /// The Initial One of member 0 for each of 256 questions.
-fn of_all_questions(alloc: Global) -> Result<Vec<(u8, Statement, Toss)>, Fail>
+fn of_all_questions(rt: &(impl AllocGlobal + Abort)) -> Result<Vec<(u8, Statement, Toss)>, Fail>
     ensures { IfOk result (λ events. length events.items ≤ 256) }
 {
-    let mut events = Vec::new(alloc);
+    let mut events = Vec::new(rt.alloc());
     for question in 0..256 {
-        let place = Place::new(question, 0, 1, 1).ok_or("a place")?;
-        let initial = Statement::new(Initial, place, One).ok_or("a statement")?;
+        let initial = statement(rt, question, Initial, (1, 1), One);
         events.push((0, initial, Toss(0)))?;
     }
     Ok(events)
@@ -236,7 +231,7 @@ fn the_largest_group_is_one_batch(rt: HostRuntime) -> Result<(), Fail> {
     let header = Header::new(7, Size::new(4, 1, 256)?, 1).ok_or("a header")?;
     let mut member = start(&rt, &header)?;
     member.fuse(Some(4));
-    let events = of_all_questions(rt.alloc())?;
+    let events = of_all_questions(&rt)?;
     let answers = hear_all(&rt, &mut member, &events)?;
     assert!(rt; answers.len() == 256);
     assert!(rt; member.outbox().len() == 256);

@@ -100,16 +100,21 @@ impl Pages {
 
     /// Whether each has the option of that name: `\-\-name` in the man page, `-l name` for fish.
     fn have_option(&self, alloc: Global, name: &str) -> Result<bool, Fail> {
-        let hyphens = format!(in alloc; "--{name}")?;
-        let escaped = format!(in alloc; "\\-\\-{name}")?;
-        let fish = str::from_utf8(&self.fish).ok().ok_or("text")?;
-        let long = format!(in alloc; "-l {name} ")?;
         Ok(
-            has_word(&self.page, escaped.as_str())
-                && has_word(&self.bash, hyphens.as_str())
-                && has_word(&self.zsh, hyphens.as_str())
-                && fish.contains(long.as_str()),
+            has_word(&self.page, format!(in alloc; "\\-\\-{name}")?.as_str())
+                && self.have_hyphened(format!(in alloc; "--{name}")?.as_str())
+                && self.has_fish(format!(in alloc; "-l {name} ")?.as_str()),
         )
+    }
+
+    /// Whether the completions of bash and zsh have the option, with its hyphens.
+    fn have_hyphened(&self, option: &str) -> bool {
+        has_word(&self.bash, option) && has_word(&self.zsh, option)
+    }
+
+    /// Whether this stands in the completion of fish.
+    fn has_fish(&self, words: &str) -> bool {
+        str::from_utf8(&self.fish).is_ok_and(|fish| fish.contains(words))
     }
 }
 
