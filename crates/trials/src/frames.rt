@@ -122,7 +122,7 @@ fn is_spelled(
             "cut at {cut}"
         );
     }
-    assert!(rt; reads(rt, &[frame], &messages, Fed::More)?);
+    assert!(rt; reads(rt, &[frame, &[]], &messages, Fed::More)?);
     Ok(())
 }
 
