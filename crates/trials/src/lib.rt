@@ -8,6 +8,8 @@ mod broadcasts;
 #[cfg(test)]
 mod counts;
 #[cfg(test)]
+mod decisions;
+#[cfg(test)]
 mod documents;
 #[cfg(test)]
 mod draws;
