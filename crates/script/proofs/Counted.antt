@@ -1,8 +1,8 @@
 -- What orders stand for, and how many events that is.
-use Rattle.std.proofs.Common.{ℕ, zero, suc, ◌≡◌, ◌+◌, ◌*◌, ◌-◌, ◌<◌, ◌≤◌, ◌^◌, min, refl, sym, ap, ◌∙◌, subst, arith, inl, inr, ◌⊎◌, List, [], ◌∷◌, ◌++◌, length, drop, Result, Ok, Err, IfOk, IfErr}
+use Rattle.std.proofs.Common.{ℕ, ◌≡◌, ◌+◌, ◌*◌, ◌-◌, ◌<◌, ◌≤◌, ◌^◌, min, refl, sym, ap, ◌∙◌, subst, arith, inl, inr, ◌⊎◌, List, [], ◌∷◌, ◌++◌, length, drop, Result, Ok, Err, IfOk}
 use Rattle.vocabulary.specs.Terms.{Size}
 use Rattle.sim.specs.declared.TheConstants.{MOST_EVENTS}
-use Rattle.script.specs.Words.{ScriptFault, Line, Order, words_of, ScriptStep, SaysStep, Once, Rounds, Random, Made, after_step, how_many, turns, LeadsBy, BreakBy, numbered, order_step, made_by}
+use Rattle.script.specs.Words.{ScriptFault, Line, Order, words_of, ScriptStep, SaysStep, Once, Rounds, Random, Made, after_step, how_many, LeadsBy, BreakBy, numbered, order_step, made_by}
 use Rattle.script.specs.declared.fault.ScriptFault.TheVariants as faults
 use Rattle.script.proofs.Counting.{length-add, length-rounds, length-draws, uncut}
 use Rattle.script.proofs.Leading.{Reached, line_at, reached_start, reached_next, broken_or_refused}
@@ -13,14 +13,6 @@ pub length-after_step : (size : Size) (correct : List ℕ) (step : ScriptStep) (
 length-after_step size correct (Once act) made = length-add act made
 length-after_step size correct (Rounds k) made = length-rounds k correct made
 length-after_step size correct (Random k) made = length-draws size k made
-
--- a step that takes no turn stands for nothing
-pub over_step : (size : Size) (correct : List ℕ) (step : ScriptStep) (made : Made) → turns step ≡ 0 → after_step size correct step made ≡ made
-over_step size correct (Once act) made h = absurd (omega (arith, h))
-over_step size correct (Rounds zero) made h = refl
-over_step size correct (Rounds (suc k)) made h = absurd (omega (arith, h))
-over_step size correct (Random zero) made h = refl
-over_step size correct (Random (suc k)) made h = absurd (omega (arith, h))
 
 -- one order more
 pub made_more : (size : Size) (correct : List ℕ) (orders : List Order) (order : Order) (made : Made)

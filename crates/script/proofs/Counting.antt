@@ -1,5 +1,5 @@
 -- How many events there are, and events in turn.
-use Rattle.std.proofs.Common.{ℕ, zero, suc, ◌≡◌, ◌+◌, ◌*◌, ◌-◌, ◌<◌, ◌≤◌, refl, sym, ap, ◌∙◌, subst, arith, List, [], ◌∷◌, ◌++◌, length, drop, length-append, get_or, add-one, ◌^◌, min, mul-le-mul_left}
+use Rattle.std.proofs.Common.{ℕ, zero, suc, ◌≡◌, ◌+◌, ◌*◌, ◌-◌, ◌<◌, ◌≤◌, refl, sym, ap, ◌∙◌, subst, arith, List, [], ◌∷◌, ◌++◌, length, drop, length-append, get_or, add-one, ◌^◌, min}
 use Rattle.sim.specs.declared.TheConstants.{MOST_EVENTS}
 use Rattle.std.proofs.Math.Seq.{drop-cons}
 use Rattle.sim.specs.declared.events.Which.TheVariants.{Next}
@@ -74,15 +74,6 @@ round-next members i made h =
 -- one time less
 pub less-one : (n i : ℕ) → i < n → n - i ≡ suc (n - (i + 1))
 less-one n i h = omega arith
-
-pub less-one-times : (n i m : ℕ) → i < n → (n - i) * m ≡ m + (n - (i + 1)) * m
-less-one-times n i m h = subst (λ k. k * m ≡ m + (n - (i + 1)) * m) (sym (less-one n i h)) (omega arith)
-
--- one round of many
-pub times-next : (n i : ℕ) (acts : List Act) (made : Made) → i < n
-    → adds (times (n - i) acts) made ≡ adds (times (n - (i + 1)) acts) (adds acts made)
-times-next n i acts made h =
-    ap (λ k. adds (times k acts) made) (less-one n i h) ∙ adds-append acts (times (n - (i + 1)) acts) made
 
 -- one drawn event of many
 pub draws-next : (size : Size) (n i : ℕ) (made : Made) → i < n

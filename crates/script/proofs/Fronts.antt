@@ -2,8 +2,7 @@
 use Rattle.std.proofs.Common.{ℕ, zero, suc, ◌≡◌, refl, sym, ap, ◌∙◌, List, [], ◌∷◌, ◌++◌, append_assoc, append-nil}
 use Rattle.rand_chacha.specs.ChaCha.{ChaCha}
 use Rattle.vocabulary.specs.Terms.{Size}
-use Rattle.script.specs.Words.{Act, TossedAct, drawn, tossed, ScriptStep, Once, Rounds, Random, Made, add, add_drawn, adds, draws, round, times, turns, after_step, after_steps, events_of}
-use Rattle.script.proofs.Counted.{over_step}
+use Rattle.script.specs.Words.{Act, TossedAct, drawn, tossed, ScriptStep, Once, Rounds, Random, Made, add, add_drawn, adds, draws, round, times, after_step, after_steps, events_of}
 
 -- with these events in front
 abbrev pub behind : List TossedAct → Made → Made
@@ -50,9 +49,3 @@ first_events size correct step rest steps stream now same =
     ap (λ (m : Made). (after_steps size correct steps m).events) (sym same)
     ∙ (ap (λ (m : Made). (after_steps size correct (rest ∷ steps) m).events) front
     ∙ ap (λ (m : Made). m.events) (steps_behind size correct (rest ∷ steps) now.events none))
-
--- a step that stands for nothing
-pub no_events : (size : Size) (correct : List ℕ) (step : ScriptStep) (steps : List ScriptStep) (stream : ChaCha) → turns step ≡ 0
-    → events_of size correct (step ∷ steps) stream ≡ events_of size correct steps stream
-no_events size correct step steps stream h =
-    ap (λ (m : Made). (after_steps size correct steps m).events) (over_step size correct step (record { events = []; stream = stream }) h)

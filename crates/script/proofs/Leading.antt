@@ -53,9 +53,6 @@ numbered_drop zero lines = refl
 numbered_drop (suc k) [] = refl
 numbered_drop (suc k) (line ∷ lines) = numbered_drop k lines
 
-pub numbered_none : (k : ℕ) (lines : List Line) → length lines ≤ k → [] ≡ drop k (numbered lines)
-numbered_none k lines h = ap numbered (sym (drop_all k lines h)) ∙ numbered_drop k lines
-
 pub numbered_from : (k : ℕ) (lines : List Line) → numbered (take (length lines - k) (drop k lines)) ≡ drop k (numbered lines)
 numbered_from k lines =
     let l = length-drop k lines in

@@ -1,9 +1,9 @@
 -- A script whose events are made as they are asked for.
-use Rattle.std.proofs.Common.{ℕ, ◌≡◌, ◌<◌, ◌⊎◌, inl, inr, refl, ap, ◌∙◌, arith, List, [], ◌∷◌, ◌++◌, length, map}
+use Rattle.std.proofs.Common.{ℕ, ◌≡◌, refl, arith, List, [], ◌∷◌, ◌++◌, length, map}
 use Rattle.rand_chacha.specs.ChaCha.{ChaCha}
 use Rattle.vocabulary.specs.Terms.{Size}
-use Rattle.script.specs.Words.{Order, Made, after_step, turns, order_step, events_of, left_of, turns_of, all_turns}
-use Rattle.script.proofs.Fronts.{first_events, no_events}
+use Rattle.script.specs.Words.{Order, Made, after_step, order_step, left_of}
+use Rattle.script.proofs.Fronts.{first_events}
 
 pub none_left : {X : Type 0} (l : List X) → length l ≡ 0 → l ≡ []
 none_left [] h = refl

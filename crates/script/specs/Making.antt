@@ -93,10 +93,6 @@ pub record Becomes (to now : Made) : Type 0 where
 abbrev pub IsOver : Made → ScriptFault → Type 0
 IsOver to fault = (MOST_EVENTS < length to.events) × (fault ≡ faults.Events)
 
--- the same, or memory was refused
-abbrev pub Fails : Made → ScriptFault → Type 0
-Fails to fault = (fault ≡ faults.Memory) ⊎ IsOver to fault
-
 -- the line says a step, and that leads from what there was to what there is
 abbrev pub LeadsBy : Size → List ℕ → Made → ℕ × List ℕ → Made → Type 0
 LeadsBy size correct before line after =

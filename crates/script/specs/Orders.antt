@@ -1,6 +1,5 @@
 -- What orders and lines in the code stand for.
 use Rattle.std.specs.Prelude.{ℕ, Bool, true, false, List, [], ◌∷◌, map}
-use denote.Ref.{Bor}
 use Rattle.vocabulary.specs.Terms.{Size}
 use Rattle.script.specs.declared.step.Order.{Order}
 use Rattle.script.specs.declared.step.Order.TheVariants as order

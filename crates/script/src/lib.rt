@@ -22,10 +22,6 @@ mod step;
 mod values;
 
 pub use fault::ScriptFault;
-use head::{HEAD_LINES, Head};
-use lines::Lines;
-use making::Making;
-use orders::orders;
 use sim::{Event, MOST_EVENTS};
 pub use source::Source;
 use std::alloc::{AllocError, Global};
@@ -67,16 +63,5 @@ pub fn read(alloc: Global, text: &[u8]) -> Result<Script, ScriptFault>
     ensures few { IfOk result (λ script. length script.events.items ≤ MOST_EVENTS) }
     ensures fault { IfErr result (λ fault. (fault ≡ ScriptFault.Memory) ⊎ IsFirstFault text.now fault) }
 {
-    let lines = Lines::of(alloc, text)?;
-    let Head { size, liars, seed } = Head::read(alloc, &lines)?;
-    let correct = correct_members(alloc, size.n(), &liars)?;
-    let orders = orders(alloc, &correct, lines.behind(HEAD_LINES))?;
-    let mut making = Making::new(alloc, seed);
-    making.take_all(alloc, size, &correct, orders)?;
-    let events = making.into_events();
-    Ok(Script {
-        size,
-        liars,
-        events,
-    })
+    Source::of(alloc, text)?.into_script(alloc)
 }

@@ -1,9 +1,9 @@
 //! The events that a script's lines stand for.
 
-ghost use Rattle.std.specs.Prelude.{ℕ, List, ◌≡◌, ◌⊎◌, ◌<◌, [], map, OnOk, IfOk, IfErr};
+ghost use Rattle.std.specs.Prelude.{ℕ, List, ◌≡◌, ◌⊎◌, ◌<◌, ◌++◌, [], map, OnOk, IfOk, IfErr};
 ghost use Rattle.vocabulary.specs.Terms.{Size};
 ghost use Rattle.script.specs.Acts.{act_of, tossed_act};
-ghost use Rattle.script.specs.Orders.{order_step, made_by};
+ghost use Rattle.script.specs.Orders.{order_step};
 ghost use Rattle.script.specs.Making.{Made, add, add_drawn, adds, draws, row, round, times, turns, after_step};
 
 use crate::draw::{Draw, UNDRAWN};
@@ -95,17 +95,6 @@ impl Making {
         Ok(())
     }
 
-    /// Adds so many rounds.
-    fn add_rounds(&mut self, count: u64, members: &[u8]) -> Result<(), ScriptFault>
-        ensures ok { OnOk result (self.new ≡ adds (times count (round members.now)) self.old) }
-        ensures err { IfErr result (λ fault. fault ≡ ScriptFault.Memory) }
-    {
-        for number in 0..count {
-            self.add_round(members)?;
-        }
-        Ok(())
-    }
-
     /// Adds so many drawn events.
     fn add_all_drawn(&mut self, alloc: Global, size: Size, count: u64) -> Result<(), ScriptFault>
         ensures ok { OnOk result (self.new ≡ draws size count self.old) }
@@ -113,41 +102,6 @@ impl Making {
     {
         for number in 0..count {
             self.add_drawn(alloc, size)?;
-        }
-        Ok(())
-    }
-
-    /// Adds what the order stands for.
-    fn take(
-        &mut self,
-        alloc: Global,
-        size: Size,
-        correct: &[u8],
-        order: Order,
-    ) -> Result<(), ScriptFault>
-        ensures ok { OnOk result (self.new ≡ after_step size correct.now (order_step order) self.old) }
-        ensures err { IfErr result (λ fault. fault ≡ ScriptFault.Memory) }
-    {
-        match order {
-            Order::Once(event) => self.add(event),
-            Order::Rounds(count) => self.add_rounds(count, correct),
-            Order::Random(count) => self.add_all_drawn(alloc, size, count),
-        }
-    }
-
-    /// Adds what the orders stand for, in turn.
-    pub fn take_all(
-        &mut self,
-        alloc: Global,
-        size: Size,
-        correct: &[u8],
-        orders: Vec<Order>,
-    ) -> Result<(), ScriptFault>
-        ensures ok { OnOk result (self.new ≡ made_by size correct.now orders.items self.old) }
-        ensures err { IfErr result (λ fault. fault ≡ ScriptFault.Memory) }
-    {
-        for order in orders {
-            self.take(alloc, size, correct, order)?;
         }
         Ok(())
     }
@@ -220,18 +174,20 @@ impl Making {
         self.events.clear();
     }
 
+    /// Moves the events behind those. What is drawn next stays.
+    pub fn move_to(&mut self, events: &mut Vec<Event>) -> Result<(), ScriptFault>
+        ensures events { OnOk result (map tossed_act events.new.items ≡ map tossed_act events.old.items ++ self.old.events) }
+        ensures stays { OnOk result (self.new ≡ record { events = []; stream = self.old.stream }) }
+        ensures memory { IfErr result (λ fault. fault ≡ ScriptFault.Memory) }
+    {
+        events.append(&mut self.events)?;
+        Ok(())
+    }
+
     /// The events.
     pub fn events(&self) -> &[Event]
         ensures { map tossed_act result.now ≡ self.now.events }
     {
         &self.events
-    }
-
-    /// All events.
-    pub fn into_events(self) -> Vec<Event>
-        ensures { map tossed_act result.items ≡ self.events }
-    {
-        let Making { events, draw: _ } = self;
-        events
     }
 }

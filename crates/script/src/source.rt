@@ -7,13 +7,13 @@ ghost use Rattle.script.specs.Making.{turns};
 ghost use Rattle.script.specs.Orders.{order_step};
 ghost use Rattle.script.specs.Scripts.{IsTold, IsFirstFault};
 
-use crate::correct_members;
 use crate::fault::ScriptFault;
 use crate::head::{HEAD_LINES, Head};
 use crate::lines::Lines;
 use crate::making::Making;
 use crate::orders::orders;
 use crate::step::Order;
+use crate::{Script, correct_members};
 use sim::Event;
 use std::alloc::Global;
 use std::marker::Model;
@@ -127,6 +127,38 @@ impl Source {
         ensures { map tossed_act result.now ≡ self.now.batch }
     {
         self.making.events()
+    }
+
+    /// Moves the events that were made last behind those.
+    fn move_batch(&mut self, events: &mut Vec<Event>) -> Result<(), ScriptFault>
+        ensures events { OnOk result (map tossed_act events.new.items ≡ map tossed_act events.old.items ++ self.old.batch) }
+        ensures stays { OnOk result (self.new ≡ record self.old { batch = [] }) }
+        ensures memory { IfErr result (λ fault. fault ≡ ScriptFault.Memory) }
+    {
+        self.making.move_to(events)
+    }
+
+    /// The script of all events that are left.
+    ///
+    /// # Errors
+    ///
+    /// [`ScriptFault::Memory`] where memory was refused.
+    pub fn into_script(self, alloc: Global) -> Result<Script, ScriptFault>
+        ensures cluster { IfOk result (λ script. (script.size ≡ self.size) × (script.liars.items ≡ self.liars)) }
+        ensures events { IfOk result (λ script. map tossed_act script.events.items ≡ self.left) }
+        ensures memory { IfErr result (λ fault. fault ≡ ScriptFault.Memory) }
+    {
+        let mut source = self;
+        let mut events = Vec::new(alloc);
+        'batches: while source.more(alloc)? {
+            source.move_batch(&mut events)?;
+        }
+        let Source { size, liars, .. } = source;
+        Ok(Script {
+            size,
+            liars,
+            events,
+        })
     }
 }
 
