@@ -145,6 +145,29 @@ fn run_logged<D: Disk + Send, J: Naming + Send + Sync, O: Operator, L: Log + Sen
     ended
 }
 
+/// Runs a member whose threads share this: tells the operator that it is ready, and then starts them.
+fn run_shared<D: Disk + Send, J: Naming + Send + Sync, O: Operator, L: Log + Send, R: Machine>(
+    rt: &R,
+    operator: &mut O,
+    log: Option<&Mutex<L>>,
+    it: &Shared<D, J>,
+    listener: &TcpListener,
+    desk: &TcpListener,
+) -> Result<(), RunFault> {
+    if log.is_some() {
+        begin_telling(rt, it)?;
+    }
+    operator.ready()?;
+    match log {
+        Some(log) => run_logged(rt, operator, log, it, listener, desk)?,
+        None => run_threads(rt, operator, it, listener, desk)?,
+    }
+    if it.hub.lock(rt).is_stopped() {
+        return Err(RunFault::Stopped);
+    }
+    Ok(())
+}
+
 /// Runs a member whose board has been named.
 fn run_named<
     D: Disk + Drop + Send,
@@ -170,18 +193,7 @@ fn run_named<
 {
     let (listener, desk) = listeners;
     let shared = share::<D, J>(alloc, member, board, peers, seed)?;
-    if log.is_some() {
-        begin_telling(rt, &shared)?;
-    }
-    operator.ready()?;
-    match log {
-        Some(log) => run_logged(rt, operator, log, &shared, &listener, &desk)?,
-        None => run_threads(rt, operator, &shared, &listener, &desk)?,
-    }
-    if shared.hub.lock(rt).is_stopped() {
-        return Err(RunFault::Stopped);
-    }
-    Ok(())
+    run_shared(rt, operator, log, &shared, &listener, &desk)
 }
 
 /// Tells what is left to tell when all threads have ended, and the end.

@@ -141,14 +141,22 @@ impl<D: Disk, J: Naming> Shared<D, J> {
         unreachable!()
     }
 
+    /// Waits for about a second; false where the end came in between.
+    fn waits<R: Machine>(&self, rt: &R) -> bool {
+        for _ in 0..10u32 {
+            if self.is_closing() {
+                return false;
+            }
+            thread::sleep(rt, Duration::from_millis(100));
+        }
+        true
+    }
+
     /// Ticks and rings the bell about once a second, and gives peers up that don't greet, until the end.
     pub(crate) fn tick_on<R: Machine>(&self, rt: &R) {
         for _ in rt.forever() {
-            for _ in 0..10u32 {
-                if self.is_closing() {
-                    return;
-                }
-                thread::sleep(rt, Duration::from_millis(100));
+            if !self.waits(rt) {
+                return;
             }
             self.tick(rt);
             self.sockets.lock(rt).tick();
