@@ -1,5 +1,5 @@
 -- Bytes that are a batch, and bytes that are none.
-use Rattle.std.proofs.Common.{◌≡◌, ℕ, ◌+◌, ◌*◌, ◌%◌, ◌/◌, ◌≤◌, List, [], ◌∷◌, ◌++◌, ◌-◌, ◌<◌, length, get_or, take, drop, refl, sym, ◌∙◌, ap, subst, arith, append_assoc, append-nil, length-append, min, take_at, drop_at}
+use Rattle.std.proofs.Common.{◌≡◌, ℕ, ◌+◌, ◌*◌, ◌%◌, ◌/◌, ◌≤◌, List, [], ◌∷◌, ◌++◌, ◌-◌, ◌<◌, length, get_or, take, drop, sym, ◌∙◌, ap, subst, arith, append_assoc, append-nil, length-append, min, take_at, drop_at}
 use Rattle.std.proofs.lemmas.List.{take_more}
 use Rattle.std.proofs.lemmas.List.Concat.{flat_map-append}
 use Rattle.std.specs.List.{flat_map}
@@ -75,10 +75,6 @@ skip_one h bytes behind rest first then = record {
       absurd (omega (arith, size, first.gated));
   last = then.last;
 }
-
--- none in front
-pub skip_none : (h : Header) (bytes : List ℕ) → NoBatch h bytes → IsSkipped h bytes bytes
-skip_none h bytes none = record { batches = []; good = tt; is = refl; gated = λ h. refl; last = none }
 
 -- the bytes of the header, and those behind them
 pub header_front : (h : Header) (file : List ℕ) (n : ℕ) → HasHeader h file → n ≡ min 24 (length file) → (take n file ≡ header_text h) × (file ≡ header_text h ++ drop n file)

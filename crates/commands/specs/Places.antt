@@ -1,7 +1,6 @@
 -- Where in a text a fault is.
-use Rattle.std.specs.Prelude.{ℕ, ◌≡◌, ◌⊎◌, ◌==◌, ◌-◌, ◌≤◌, List, length, map, take, slice_get, IsSomeAnd, Option, Some, None}
+use Rattle.std.specs.Prelude.{ℕ, ◌≡◌, ◌⊎◌, ◌==◌, ◌-◌, ◌≤◌, List, length, take, slice_get, IsSomeAnd, Option, Some, None}
 use Rattle.std.specs.List.{AllByRecursion, slice_split}
-use denote.Ref.{Bor}
 pub use Rattle.words.specs.Sentences.{texts}
 
 -- what stands before, between and behind the bytes 10

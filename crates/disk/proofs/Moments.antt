@@ -27,12 +27,3 @@ leaves_more Q more leaves = record {
   each = λ file left. more file (leaves.each file left);
   before = λ t file le left. ⊎_elim (λ was. inl was) (λ now. inr (more file now)) (leaves.before t file le left);
 }
-
--- one run, and then another
-pub leaves_then : {D : Type 0} {moment : D → ℕ} {since : D → ℕ → List ℕ → Type 0} {old mid new : D} {P Q : List ℕ → Type 0} (R : List ℕ → Type 0) → ((file : List ℕ) → P file → R file) → ((file : List ℕ) → Q file → R file) → LeavesOnly moment since old mid P → LeavesOnly moment since mid new Q → LeavesOnly moment since old new R
-leaves_then R first then_ one two = record {
-  later = omega (arith, one.later, two.later);
-  each = λ file left. ⊎_elim (λ was. first file (one.each file was)) (λ now. then_ file now) (two.before _ file one.later left);
-  before = λ t file le left.
-      ⊎_elim (λ was. ⊎_elim (λ before. inl before) (λ now. inr (first file now)) (one.before t file le was)) (λ now. inr (then_ file now)) (two.before t file (omega (arith, le, one.later)) left);
-}

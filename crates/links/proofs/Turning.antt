@@ -1,20 +1,19 @@
 -- One turn of a reader, and the turns before it.
-use Rattle.std.proofs.Common.{◌≡◌, ℕ, ◌+◌, ◌<◌, ◌≤◌, List, [], ◌∷◌, ◌++◌, length, take, drop, get_or, refl, sym, ap, ◌∙◌, subst, arith, Bool, true, false, append_assoc, append-nil, ◌⊎◌, inl, inr, take-append-drop}
+use Rattle.std.proofs.Common.{◌≡◌, ℕ, List, [], ◌∷◌, ◌++◌, length, take, refl, sym, ap, ◌∙◌, subst, arith, true, false, append_assoc, append-nil, ◌⊎◌, inl, inr}
 use Rattle.std.specs.List.{flat_map}
 use Rattle.vocabulary.specs.Terms.{Size, Statement, IsSize}
 use Rattle.wire.specs.declared.message.Message.{Message}
 use Rattle.wire.specs.declared.message.WireFault.{WireFault}
-use Rattle.wire.specs.declared.feeder.Fed.{Fed}
 use Rattle.wire.specs.declared.feeder.Fed.TheVariants as fed
 use Rattle.wire.specs.Words.{frame_bytes, AreBytes, IsPartial, End, Rest, Broken, ReadsMessages, Feeds, FeederFields, answer_of, Took}
-use Rattle.wire.proofs.Telling.{from_places, bytes_front, bytes_back}
+use Rattle.wire.proofs.Telling.{bytes_back}
 use Rattle.wire.proofs.Whole.{HasReading, each_reads, joins}
 use Rattle.node.specs.Firsts.{SeatView, HandsIn, IsLawfulSeat}
 use Rattle.node.proofs.Handing.{hands_nothing}
 use Rattle.links.specs.Told.{Told, has_read, has_failed, has_ended}
 use Rattle.links.specs.declared.ends.LinkEnd.{LinkEnd}
 use Rattle.links.specs.declared.ends.LinkEnd.TheVariants as end
-use Rattle.links.specs.Handing.{in_order, all_in_place, HandsInSome, HandsInFewer, HandsInAll, ends_whole, told_at, IsOpenEnd, HasCause, ReadsUntil}
+use Rattle.links.specs.Handing.{in_order, all_in_place, HandsInSome, HandsInFewer, HandsInAll, told_at, HasCause, ReadsUntil}
 use Rattle.links.specs.Turns.{Waits, ReadsOn, ReadsOff}
 use Rattle.links.proofs.Orders.{HandsSoFar, hands_all, hands_more, hands_part, hands_fewer_of, all_in_place-append}
 
@@ -31,10 +30,6 @@ read_both old a b = ap (λ (l : List ℕ). record old { taken = l }) (append_ass
 bytes_both : (a b : List ℕ) → AreBytes a → AreBytes b → AreBytes (a ++ b)
 bytes_both [] b p q = q
 bytes_both (x ∷ a) b p q = (p.0, bytes_both a b p.1 q)
-
--- the front of a buffer is bytes
-pub bytes_taken : (n : ℕ) (buf : List ℕ) → ((i : ℕ) → get_or buf i 0 < 256) → AreBytes (take n buf)
-bytes_taken n buf h = bytes_front (take n buf) (drop n buf) (subst AreBytes (sym (take-append-drop n buf)) (from_places buf h))
 
 -- a rest with nothing behind it
 nothing_more : (feeder : FeederFields) (rest : List ℕ) → Waits feeder rest → ReadsMessages feeder.size (rest ++ []) [] (Rest rest)

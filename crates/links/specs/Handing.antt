@@ -1,12 +1,12 @@
 -- What a reader of a link hands in.
-use Rattle.std.specs.Prelude.{ℕ, ◌≡◌, ◌⊎◌, ◌<◌, ◌≤◌, List, [], ◌∷◌, ◌++◌, length, take, Bool, true, false}
-use Rattle.vocabulary.specs.Terms.{Size, Header, Statement}
+use Rattle.std.specs.Prelude.{ℕ, ◌≡◌, ◌⊎◌, ◌<◌, ◌≤◌, List, [], ◌∷◌, length, take, Bool, true, false}
+use Rattle.vocabulary.specs.Terms.{Size, Statement}
 use Rattle.wire.specs.declared.message.Message.{Message}
 use Rattle.wire.specs.declared.message.Message.TheVariants as message
 use Rattle.wire.specs.Texts.{frame_bytes}
 use Rattle.wire.specs.Reading.{End, Rest, Broken, ReadsMessages}
 use Rattle.node.specs.Firsts.{SeatView, HandsIn}
-use Rattle.links.specs.Told.{Told, has_read, has_written, has_failed, has_ended, BreaksOff}
+use Rattle.links.specs.Told.{Told, has_read, has_written, has_failed, has_ended}
 use Rattle.links.specs.Sending.{FailsToWrite}
 use Rattle.links.specs.declared.ends.LinkEnd.{LinkEnd}
 use Rattle.links.specs.declared.ends.LinkEnd.TheVariants as end

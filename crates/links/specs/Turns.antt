@@ -1,5 +1,5 @@
 -- One turn of a reader.
-use Rattle.std.specs.Prelude.{ℕ, ◌≡◌, List, [], ◌++◌, Bool, true}
+use Rattle.std.specs.Prelude.{ℕ, ◌≡◌, List, ◌++◌, true}
 use Rattle.vocabulary.specs.Terms.{Size, IsSize}
 use Rattle.wire.specs.declared.message.Message.{Message}
 use Rattle.wire.specs.Reading.{AreBytes, IsPartial, End, Rest, ReadsMessages}

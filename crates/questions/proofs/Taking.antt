@@ -34,10 +34,6 @@ is_none-true : {A : Type 0} (o : Option A) → is_none o ≡ true → o ≡ None
 is_none-true None h = refl
 is_none-true (Some x) h = cc
 
-is_none-false : {A : Type 0} (o : Option A) → is_none o ≡ false → o ≡ None → ⊥
-is_none-false None h e = cc
-is_none-false (Some x) h e = cc
-
 pub news_parts : (past : Past) (from : ℕ) (s : Statement) → heard_as past from s ≡ News → IsNews past from s
 news_parts past from s h = step (is_foreign from s) (is_none (got past.heard from s.kind s.place)) refl refl h
   where

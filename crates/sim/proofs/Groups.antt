@@ -1,9 +1,8 @@
 -- Statements that go as one group.
-use Rattle.std.proofs.Common.{◌≡◌, ◌<◌, ◌≤◌, ◌+◌, ◌||◌, ℕ, zero, suc, Option, Some, None, Bool, true, false, List, [], ◌∷◌, ◌++◌, length, length-append, get_or, refl, sym, ap, ◌∙◌, arith, map, min, drop, take, take_all}
+use Rattle.std.proofs.Common.{◌≡◌, ◌<◌, ◌≤◌, ◌+◌, ◌||◌, ℕ, zero, suc, Option, Some, None, Bool, true, false, List, [], ◌∷◌, ◌++◌, length, length-append, get_or, refl, sym, ap, ◌∙◌, arith, map, min, drop, take}
 use Rattle.std.specs.List.{AllByRecursion}
 use Rattle.std.proofs.Math.Nat.{zero-add}
 use Rattle.std.proofs.Math.Seq.{drop-nil}
-use Rattle.std.proofs.lemmas.List.{map_more}
 use Rattle.vocabulary.specs.Terms.{Size, Statement, Record, Said, Decided, has_said, statement_eq, IsWellFormed}
 use Rattle.terms.proofs.Same.{statement_eq-same}
 use Rattle.rounds.specs.declared.tosses.Toss.{Toss}
@@ -56,9 +55,6 @@ pub record TakenSoFar (records : List Record) (number i : ℕ) (taken : List Sta
   pub taken_are : taken ≡ take i (drop number (all_said records))
   pub place_is : place ≡ number + i
   pub count : length taken ≡ i
-
-pub none_taken : (records : List Record) (number : ℕ) → TakenSoFar records number 0 [] number
-none_taken records number = record { taken_are = refl; place_is = omega arith; count = refl }
 
 module _ (records : List Record) (number i : ℕ) (taken : List Statement) (place : ℕ) (so : TakenSoFar records number i taken place) where
   pub one_taken : (s : Statement) (more : List Statement) (next : ℕ) → nth_said records place ≡ Some s → more ≡ taken ++ s ∷ [] → next ≡ place + 1
@@ -151,20 +147,3 @@ all_come size c from toss (s ∷ statements) h = (h.0.0, all_come size c from to
 pub record CarriedSoFar (from : ℕ) (toss : Toss) (statements : List Statement) (i : ℕ) (all : List (ℕ × Statement × Toss)) (end : End) : Type 0 where
   pub all_are : all ≡ map (λ s. (from, s, toss)) (take i statements)
   pub end_is : end ≡ Rest []
-
-pub none_carried : (from : ℕ) (toss : Toss) (statements : List Statement) (end : End) → end ≡ Rest [] → CarriedSoFar from toss statements 0 [] end
-none_carried from toss statements end e = record { all_are = refl; end_is = e }
-
-pub one_carried : (from : ℕ) (toss : Toss) (statements : List Statement) (i : ℕ) (all more : List (ℕ × Statement × Toss)) (end last : End) (s : Statement)
-    → CarriedSoFar from toss statements i all end → i < length statements → s ≡ get_or statements i s → more ≡ all ++ (from, s, toss) ∷ [] → last ≡ Rest []
-    → CarriedSoFar from toss statements (i + 1) more last
-one_carried from toss statements i all more end last s so l at m e = record {
-  all_are = m ∙ ap (λ (xs : List (ℕ × Statement × Toss)). xs ++ (from, s, toss) ∷ []) so.all_are
-      ∙ ap (λ (x : Statement). map (λ y. (from, y, toss)) (take i statements) ++ (from, x, toss) ∷ []) at
-      ∙ sym (map_more (λ y. (from, y, toss)) statements i s l);
-  end_is = e;
-}
-
-pub all_carried : (from : ℕ) (toss : Toss) (statements : List Statement) (i : ℕ) (all : List (ℕ × Statement × Toss)) (end : End)
-    → CarriedSoFar from toss statements i all end → length statements ≤ i → all ≡ map (λ s. (from, s, toss)) statements
-all_carried from toss statements i all end so l = so.all_are ∙ ap (λ (xs : List Statement). map (λ s. (from, s, toss)) xs) (take_all i statements l)

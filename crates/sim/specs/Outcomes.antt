@@ -7,9 +7,9 @@ use Rattle.disk.specs.declared.memory.MemDisk.{MemDisk}
 use Rattle.disk.specs.Memory.{fuse_left, memory_state}
 use Rattle.world.specs.World.{World, Step, IsRun, start, after_all}
 use Rattle.sim.specs.declared.events.Event.{Event}
-use Rattle.sim.specs.declared.events.Event.TheVariants.{Propose, Deliver, DeliverAll, LieBytes, Fuse, Crash, Restart, Reset}
+use Rattle.sim.specs.declared.events.Event.TheVariants.{Propose}
 use Rattle.sim.specs.declared.events.Mark.{Mark}
-use Rattle.sim.specs.declared.events.Mark.TheVariants.{Done, Failed, Skipped}
+use Rattle.sim.specs.declared.events.Mark.TheVariants.{Skipped}
 use Rattle.sim.specs.Scene.{Scene, opening}
 use Rattle.sim.specs.Runs.{IsRunOf}
 

@@ -11,7 +11,7 @@ use Rattle.sim.specs.declared.events.Event.TheVariants.{Propose, Deliver, Delive
 use Rattle.sim.specs.declared.events.Which.{Which}
 use Rattle.sim.specs.declared.events.Which.TheVariants.{Next, At}
 use Rattle.sim.specs.declared.events.Mark.{Mark}
-use Rattle.sim.specs.declared.events.Mark.TheVariants.{Done, Failed, Skipped}
+use Rattle.sim.specs.declared.events.Mark.TheVariants.{Done, Skipped}
 use Rattle.sim.specs.declared.events.Reason.{Reason}
 use Rattle.sim.specs.declared.events.Reason.TheVariants.{NoSuch, WrongSide, NotUp, Running, Nothing}
 use Rattle.sim.specs.declared.tasks.Instruction.{Instruction}

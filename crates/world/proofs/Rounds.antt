@@ -12,12 +12,6 @@ use Rattle.world.proofs.Good.{IsProposed, AtLeast-mono, shown_backed}
 use Rattle.world.proofs.Invariant.{WorldOk, member_good, sent_said, has_initial}
 use Rattle.world.proofs.Broadcast.{one_backed, backed_echos}
 
-plain≢sure : (v u : Bool) → plain v ≡ sure u → ⊥
-plain≢sure true true e = cc
-plain≢sure true false e = cc
-plain≢sure false true e = cc
-plain≢sure false false e = cc
-
 plain-one : (v u : Bool) → plain v ≡ plain u → v ≡ u
 plain-one true true e = refl
 plain-one true false e = cc

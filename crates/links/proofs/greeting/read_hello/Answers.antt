@@ -1,9 +1,7 @@
-use Rattle.std.proofs.Common.{rules, ◌≡◌, ℕ, ap, sym, ◌∙◌}
+use Rattle.std.proofs.Common.{rules, ◌≡◌, ℕ, ap, ◌∙◌}
 use Rattle.wire.specs.Texts.{frame_bytes}
 use Rattle.wire.specs.declared.message.Message.TheVariants as message
-use Rattle.vocabulary.specs.Terms.{Header, Size}
 use Rattle.links.specs.Told.{has_read}
-use Rattle.links.specs.Greeting.{Rebuffs}
 use Rattle.links.proofs.Greetings.{hello_alone, unheard}
 use Rattle.links.proofs.greeting.read_hello.Goals as goal
 

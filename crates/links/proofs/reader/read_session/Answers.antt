@@ -1,5 +1,5 @@
 use Rattle.std.proofs.Common.{rules, ◌≡◌, inr, ◌∙◌, ap, subst}
-use Rattle.vocabulary.specs.Terms.{Header, Size, IsSize}
+use Rattle.vocabulary.specs.Terms.{Header, IsSize}
 use Rattle.wire.specs.Texts.{frame_bytes}
 use Rattle.wire.specs.declared.message.Message.TheVariants as message
 use Rattle.wire.proofs.Frames.{partial0}

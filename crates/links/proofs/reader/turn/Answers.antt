@@ -1,4 +1,4 @@
-use Rattle.std.proofs.Common.{rules, ◌≡◌, ℕ, List, sym, ap, ◌∙◌, subst, take, false, Err}
+use Rattle.std.proofs.Common.{rules, ◌≡◌, List, sym, ap, ◌∙◌, subst, take, false, Err}
 use Rattle.links.specs.declared.ends.LinkEnd.{LinkEnd}
 use Rattle.wire.specs.declared.message.Message.{Message}
 use Rattle.links.specs.Told.{has_read, has_ended}
