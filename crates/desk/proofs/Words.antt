@@ -1,6 +1,6 @@
 -- What a text asks, it asks in one way.
-use Rattle.std.proofs.Common.{ℕ, ◌≡◌, ◌<◌, ◌≤◌, ◌^◌, ◌++◌, arith, refl, sym, ◌∙◌, subst, ap, Bool, false, true, Option, Some, None, List, [], ◌∷◌, codes, get_or}
-use Rattle.std.specs.Str.Parse.{AllDigits, digits_value}
+use Rattle.std.proofs.Common.{ℕ, ◌≡◌, ◌<◌, ◌^◌, ◌++◌, arith, refl, sym, ◌∙◌, subst, ap, Bool, Option, Some, None, List, ◌∷◌, codes, get_or}
+use Rattle.std.specs.Str.Parse.{digits_value}
 use Rattle.std.proofs.lemmas.Int.Digits.{digits_value-lt}
 use Rattle.std.proofs.Math.Nat.{pow-le-pow_right}
 use Rattle.desk.specs.declared.line.LineRequest.{LineRequest}

@@ -1,10 +1,10 @@
 -- How bytes make a line.
-use Rattle.std.specs.Prelude.{ℕ, ◌==◌, nat_lt, List, [], ◌∷◌, ◌++◌, length, if◌then◌else◌}
+use Rattle.std.specs.Prelude.{ℕ, ◌≡◌, ◌==◌, ◌<◌, ◌≤◌, false, List, [], ◌∷◌, ◌++◌, length}
 use Rattle.desk.specs.declared.held.LineStep.{LineStep}
 use Rattle.desk.specs.declared.held.LineStep.TheVariants.{More, Ends, TooLong}
 
 -- what a byte does to the line that is held, and what is held then
-abbrev pub taken : List ℕ → ℕ → LineStep × List ℕ
-taken held byte =
-    if byte == 10 then (Ends, held)
-    else (if nat_lt (length held) 4096 then (More, held ++ byte ∷ []) else (TooLong, held))
+abbrev pub Takes : List ℕ → ℕ → LineStep → List ℕ → Type 0
+Takes held byte More new = ((byte == 10) ≡ false) × (length held < 4096) × (new ≡ held ++ byte ∷ [])
+Takes held byte Ends new = (byte ≡ 10) × (new ≡ held)
+Takes held byte TooLong new = ((byte == 10) ≡ false) × (4096 ≤ length held) × (new ≡ held)

@@ -3,3 +3,5 @@ pub mod Commands
 pub mod Replies
 pub mod Answers
 pub mod Held
+pub mod Sessions
+pub mod Turns

@@ -2,7 +2,7 @@
 
 ghost use Rattle.std.specs.Prelude.{◌≡◌, nat_lt, Ok, Err, if◌then◌else◌};
 ghost use Rattle.desk.specs.Lines.{LineAsks};
-ghost use Rattle.desk.specs.Commands.{command_for, proposal_for, AsksNothing};
+ghost use Rattle.desk.specs.Commands.{command_for, proposal_for, AsksNothing, Parses};
 ghost use Rattle.desk.specs.declared.line.LineRequest.{LineRequest};
 ghost use Rattle.desk.specs.declared.reply.Reply.TheVariants.{BadLine, BadQuestion};
 
@@ -69,6 +69,7 @@ fn command_for(asked: LineRequest, questions: u16) -> Result<Command, Reply>
 pub fn parse(line: &[u8], size: Size) -> Result<Command, Reply>
     ensures asked { (asked : LineRequest) → LineAsks line.now asked → result ≡ command_for size.questions asked }
     ensures none { AsksNothing line.now → result ≡ Err BadLine }
+    ensures either { Parses size.questions line.now result }
 {
     match read(line) {
         Some(asked) => command_for(asked, size.questions()),

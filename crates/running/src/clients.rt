@@ -2,7 +2,7 @@
 
 use crate::machine::Machine;
 use crate::shared::{Chair, Shared};
-use crate::sockets::Client;
+use crate::sockets::client_stream;
 use desk::{DeskEnd, serve};
 use disk::Disk;
 use node::{Board, Naming};
@@ -17,7 +17,7 @@ fn serve_chair<D: Disk, J: Naming, R: Machine>(
 ) -> Option<DeskEnd> {
     let tosser = it.desk_tossers.get(usize::from(chair.slot))?;
     let socket = it.sockets.lock(rt).copy(chair.place)?;
-    let Ok(mut client) = Client::new(socket) else {
+    let Ok(mut client) = client_stream(socket) else {
         return None;
     };
     let board: &Board = it.hub.board();

@@ -1,14 +1,11 @@
 //! The sockets of a member, which its end shuts down.
 
+use links::NetStream;
 use std::alloc::Global;
 use std::io;
-use std::io::{ErrorKind, Read, Write};
 use std::net::{Shutdown, TcpListener, TcpStream};
 use std::os::fd::OwnedFd;
 use std::time::Duration;
-
-/// How often a call that a signal interrupted is made again.
-const TRIES: u32 = 1_000_000;
 
 /// How many ticks, of about a second, a peer has for its whole greeting.
 const GREETING_TICKS: u8 = 10;
@@ -140,47 +137,11 @@ pub(crate) fn shut_listener(listener: &TcpListener) {
     }
 }
 
-/// A client's socket. A read or write that a signal interrupts is made again.
-#[derive(Drop)]
-pub(crate) struct Client {
-    socket: TcpStream,
-}
-
-impl Client {
-    /// The client at this socket, whose bytes leave at once, however few they are. One that says nothing for ten minutes,
-    /// or takes nothing for ten seconds, is given up: the read or the write fails.
-    pub(crate) fn new(socket: TcpStream) -> io::Result<Client> {
-        socket.set_nodelay(true)?;
-        socket.set_read_timeout(Some(Duration::from_secs(600)))?;
-        socket.set_write_timeout(Some(Duration::from_secs(10)))?;
-        Ok(Client { socket })
-    }
-}
-
-impl Read for Client {
-    fn read(&mut self, buf: &mut [u8]) -> io::Result<usize> {
-        for _ in 0..TRIES {
-            match self.socket.read(buf) {
-                Err(error) if error.kind() == ErrorKind::Interrupted => {}
-                done => return done,
-            }
-        }
-        Err(io::Error::from(ErrorKind::Interrupted))
-    }
-}
-
-impl Write for Client {
-    fn write(&mut self, buf: &[u8]) -> io::Result<usize> {
-        for _ in 0..TRIES {
-            match self.socket.write(buf) {
-                Err(error) if error.kind() == ErrorKind::Interrupted => {}
-                done => return done,
-            }
-        }
-        Err(io::Error::from(ErrorKind::Interrupted))
-    }
-
-    fn flush(&mut self) -> io::Result<()> {
-        self.socket.flush()
-    }
+/// The stream of the client at this socket, whose bytes leave at once, however few they are. One that says nothing for ten
+/// minutes, or takes nothing for ten seconds, is given up: the read or the write fails.
+pub(crate) fn client_stream(socket: TcpStream) -> io::Result<NetStream> {
+    socket.set_nodelay(true)?;
+    socket.set_read_timeout(Some(Duration::from_secs(600)))?;
+    socket.set_write_timeout(Some(Duration::from_secs(10)))?;
+    Ok(NetStream::new(socket))
 }

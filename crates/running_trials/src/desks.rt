@@ -1,5 +1,5 @@
 //! Worked rows of lines and replies, and sessions over a stream in memory.
-ghost use Rattle.std.specs.Prelude.{◌≡◌, ◌≤◌, false, length, vec_len, IfOk, []};
+ghost use Rattle.std.specs.Prelude.{◌≡◌, false, length, IfOk, []};
 ghost use Rattle.std.specs.Arc.{arc_value};
 ghost use Rattle.member.specs.Memory.{memory_disk};
 ghost use Rattle.member.specs.Sound.{IsSound};
@@ -8,12 +8,11 @@ ghost use Rattle.member.specs.Readers.{member_header, member_saved, member_is_st
 use crate::beginnings::{board, header};
 use desk::{Command, DeskEnd, Reply, answer, parse, serve};
 use disk::MemDisk;
+use links::MemStream;
 use member::Member;
 use node::{Board, Hub, Naming, Seat};
 use rounds::{ChaChaTosser, Toss};
 use std::alloc::{AllocError, Global};
-use std::io;
-use std::io::{Read, Write};
 use std::marker::Brand;
 use std::process::Abort;
 use std::sync::{Arc, Wait};
@@ -189,50 +188,31 @@ fn a_disk_that_fails_stops_the_member(rt: HostRuntime) -> Result<(), Fail> {
     stops::<Brand, _>(&rt, board)
 }
 
-/// A stream that gives its input in pieces, and keeps what is written.
-#[derive(Drop)]
-struct Client {
-    input: Vec<u8>,
-    at: usize,
-    piece: usize,
-    output: Vec<u8>,
-    ghost within: { at ≤ vec_len input },
+/// A stream that gives these bytes in pieces of so many, one at least.
+fn in_pieces(alloc: Global, input: &[u8], piece: usize) -> Result<MemStream, Fail> {
+    let mut client = MemStream::new(alloc);
+    for bytes in input.chunks(piece.max(1)) {
+        client.give(bytes)?;
+    }
+    Ok(client)
 }
 
-impl Client {
-    fn new(alloc: Global, input: &[u8], piece: usize) -> Result<Client, AllocError> {
-        Ok(Client {
-            input: Vec::from_slice(alloc, input)?,
-            at: 0,
-            piece,
-            output: Vec::new(alloc),
-        })
-    }
-
-    fn output(&self) -> &[u8] {
-        self.output.as_slice()
-    }
-}
-
-impl Read for Client {
-    fn read(&mut self, buf: &mut [u8]) -> io::Result<usize> {
-        let rest = &self.input[self.at..];
-        let count = buf.len().min(self.piece).min(rest.len());
-        buf[..count].copy_from_slice(&rest[..count]);
-        self.at += count;
-        Ok(count)
-    }
-}
-
-impl Write for Client {
-    fn write(&mut self, buf: &[u8]) -> io::Result<usize> {
-        self.output.extend_from_slice(buf)?;
-        Ok(buf.len())
-    }
-
-    fn flush(&mut self) -> io::Result<()> {
-        Ok(())
-    }
+/// The session of this client writes this, and ends so.
+fn serves<J: Naming, R: Wait + Abort>(
+    rt: &R,
+    alloc: Global,
+    hub: &Hub<MemDisk, J>,
+    client: &mut MemStream,
+    written: &str,
+    end: DeskEnd,
+) -> Result<(), Fail> {
+    let board: &Board = hub.board();
+    let mut pass = board.pass()?;
+    let mut tosser = ChaChaTosser::from_seed([0; 32], 0);
+    let ended = serve(rt, alloc, hub, &mut pass, &mut tosser, client);
+    assert!(rt; ended == end, "{ended:?}");
+    assert_eq!(rt; client.output(), written.as_bytes());
+    Ok(())
 }
 
 /// A session whose input comes in pieces of so many bytes, writes this and ends so.
@@ -244,14 +224,8 @@ fn session<J: Naming, R: Wait + Abort + AllocGlobal>(
     written: &str,
     end: DeskEnd,
 ) -> Result<(), Fail> {
-    let board: &Board = hub.board();
-    let mut pass = board.pass()?;
-    let mut tosser = ChaChaTosser::from_seed([0; 32], 0);
-    let mut client = Client::new(rt.alloc(), input, piece)?;
-    let ended = serve(rt, rt.alloc(), hub, &mut pass, &mut tosser, &mut client);
-    assert!(rt; ended == end);
-    assert_eq!(rt; client.output(), written.as_bytes());
-    Ok(())
+    let mut client = in_pieces(rt.alloc(), input, piece)?;
+    serves(rt, rt.alloc(), hub, &mut client, written, end)
 }
 
 /// A line of so many bytes, and one behind it.
@@ -286,4 +260,38 @@ fn answers_sessions<J: Naming, R: Wait + Abort + AllocGlobal>(
 fn a_session_answers_each_line(rt: HostRuntime) -> Result<(), Fail> {
     let board = board(&rt, 1)?;
     answers_sessions::<Brand, _>(&rt, board)
+}
+
+fn loses_clients<J: Naming, R: Wait + Abort + AllocGlobal>(
+    rt: &R,
+    board: Arc<Board>,
+) -> Result<(), Fail>
+    requires names { arc_value board ≡ J.names }
+    requires cells { length (arc_value board) ≡ 1 }
+{
+    let (hub, _seats) = Hub::<MemDisk, J>::open(rt.alloc(), member_of_one(rt, None)?, board)?;
+    // A read, a write for each of the lines, and the read of the end.
+    for (call, written, end) in [
+        (0, "", DeskEnd::Lost),
+        (1, "", DeskEnd::Lost),
+        (2, "UNDECIDED\n", DeskEnd::Lost),
+        (3, "UNDECIDED\nERR 1 line\n", DeskEnd::Lost),
+        (4, "UNDECIDED\nERR 1 line\n", DeskEnd::Ended),
+    ] {
+        let mut client = in_pieces(rt.alloc(), b"ASK 0\nASK\n", 512)?;
+        client.fail_at(call)?;
+        serves(rt, rt.alloc(), &hub, &mut client, written, end)?;
+    }
+    for (most, written, end) in [(0, "", DeskEnd::Lost), (1, "UNDECIDED\n", DeskEnd::Ended)] {
+        let mut client = in_pieces(rt.alloc(), b"ASK 0", 512)?;
+        client.take_at_most(most);
+        serves(rt, rt.alloc(), &hub, &mut client, written, end)?;
+    }
+    Ok(())
+}
+
+#[test]
+fn a_session_ends_where_its_stream_fails(rt: HostRuntime) -> Result<(), Fail> {
+    let board = board(&rt, 1)?;
+    loses_clients::<Brand, _>(&rt, board)
 }

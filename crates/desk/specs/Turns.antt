@@ -1,0 +1,27 @@
+-- A client's session under way.
+use Rattle.std.specs.Prelude.{ℕ, ◌≡◌, Bool, Option, List, ◌++◌}
+use Rattle.std.specs.List.{All}
+use Rattle.words.specs.Lines.{line}
+use Rattle.links.specs.Told.{Told, has_written, BreaksOff}
+use Rattle.desk.specs.Replies.{reply_text}
+use Rattle.desk.specs.Sessions.{Exchange, IsExchange, IsLine, exchanged}
+use Rattle.desk.specs.declared.reply.Reply.{Reply}
+
+-- a reply's line was written, one that fits
+pub record Says (Fits : Reply → Type 0) (old new : Told) : Type 0 where
+  pub reply : Reply
+  pub fits : Fits reply
+  pub wrote : new ≡ has_written old (line (reply_text reply))
+
+-- the write of such a line failed
+pub record FailsToSay (Fits : Reply → Type 0) (old new : Told) : Type 0 where
+  pub reply : Reply
+  pub fits : Fits reply
+  pub broke : BreaksOff old new (line (reply_text reply))
+
+-- Lines were answered, the line that is held isn't yet, and more was read behind it.
+pub record Serving (D : Type 0) (questions : ℕ) (known : List (Option Bool)) (old now : Told) (held more : List ℕ) : Type 0 where
+  pub exchanges : List Exchange
+  pub each : All (IsExchange D questions known) exchanges
+  pub is_line : IsLine held
+  pub told : now ≡ exchanged old exchanges (held ++ more)
