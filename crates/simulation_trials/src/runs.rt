@@ -1,7 +1,13 @@
-//! Worked scripts. Under `rt try --test --fail-alloc N` a run that is refused memory is to answer so.
-use disk::{MemDisk, Pick};
+//! Worked scripts. A run that is refused memory is made again: so under `rt try --test --fail-alloc N` it is to answer so.
+use Deed::{At, Crash, Fuse, Group, Lie, Next, Propose, Reset, Restart};
+use Part::{Rounds, Rows, Times};
+use Start::{Empty, Fused, Used};
+use disk::{Disk, MemDisk, Pick};
 use rounds::Toss;
-use sim::{Cluster, Event, MOST_IN_GROUP, Mark, Outcome, Reason, SimFault, Which, run};
+use sim::Mark::{Done, Failed, Skipped};
+use sim::Reason::{NoSuch, NotUp, Nothing, Running, WrongSide};
+use sim::{Cluster, Event, MOST_IN_GROUP, Mark, Outcome, SimFault, Which, run};
+use std::alloc::{AllocError, Global};
 use std::process::Abort;
 use std::test::Fail;
 use terms::{Kind, Place, Record, Size, Statement, Value};
@@ -9,82 +15,153 @@ use terms::{Kind, Place, Record, Size, Statement, Value};
 /// The toss of all events.
 const TOSS: Toss = Toss(0);
 
+/// An event of a script.
+#[derive(Clone, Copy)]
+enum Deed<'a> {
+    /// To the member that bit is proposed on that question.
+    Propose(u8, u16, bool),
+    /// The next statement of a link is delivered, from and to.
+    Next(u8, u8),
+    /// The one of that number is.
+    At(u8, u8, u64),
+    /// As many of the next ones are, as a group.
+    Group(u8, u8, u16),
+    /// The liar sends those bytes to the member.
+    Lie(u8, u8, &'a [u8]),
+    /// The member's disk lets so many calls pass, or all.
+    Fuse(u8, Option<u64>),
+    /// The member crashes, and its disk leaves that.
+    Crash(u8, Pick),
+    /// The member is opened again.
+    Restart(u8),
+    /// A link starts anew, from and to.
+    Reset(u8, u8),
+}
+
+/// A deed, what becomes of it, and how many records it saves.
+type Row<'a> = (Deed<'a>, Mark, usize);
+
+fn event(alloc: Global, deed: Deed) -> Result<Event, AllocError> {
+    Ok(match deed {
+        Propose(member, question, bit) => Event::Propose {
+            member,
+            question,
+            bit,
+            toss: TOSS,
+        },
+        Next(from, to) => deliver(from, to, Which::Next),
+        At(from, to, number) => deliver(from, to, Which::At(number)),
+        Group(from, to, count) => Event::DeliverAll {
+            from,
+            to,
+            count,
+            toss: TOSS,
+        },
+        Lie(liar, to, bytes) => Event::LieBytes {
+            liar,
+            to,
+            bytes: Vec::from_slice(alloc, bytes)?,
+            toss: TOSS,
+        },
+        Fuse(member, calls) => Event::Fuse { member, calls },
+        Crash(member, pick) => Event::Crash { member, pick },
+        Restart(member) => Event::Restart { member },
+        Reset(from, to) => Event::Reset { from, to },
+    })
+}
+
+fn deliver(from: u8, to: u8, which: Which) -> Event {
+    Event::Deliver {
+        from,
+        to,
+        which,
+        toss: TOSS,
+    }
+}
+
+/// A part of a script.
+#[derive(Clone, Copy)]
+enum Part<'a> {
+    /// The deeds of the rows.
+    Rows(&'a [Row<'a>]),
+    /// Those deeds, so many times.
+    Times(u32, &'a [Deed<'a>]),
+    /// So many times each of so many members delivers to each what is next.
+    Rounds(u32, u8),
+}
+
+fn add(alloc: Global, script: &mut Vec<Event>, deed: Deed) -> Result<(), AllocError> {
+    let event = event(alloc, deed)?;
+    Ok(script.push(event)?)
+}
+
+fn add_all(alloc: Global, script: &mut Vec<Event>, deeds: &[Deed]) -> Result<(), AllocError> {
+    for deed in deeds {
+        add(alloc, script, *deed)?;
+    }
+    Ok(())
+}
+
+fn add_round(alloc: Global, script: &mut Vec<Event>, members: u8) -> Result<(), AllocError> {
+    for from in 0..members {
+        for to in 0..members {
+            add(alloc, script, Next(from, to))?;
+        }
+    }
+    Ok(())
+}
+
+fn add_part(alloc: Global, script: &mut Vec<Event>, part: Part) -> Result<(), AllocError> {
+    match part {
+        Rows(rows) => {
+            for (deed, _, _) in rows {
+                add(alloc, script, *deed)?;
+            }
+        }
+        Times(times, deeds) => {
+            for _ in 0..times {
+                add_all(alloc, script, deeds)?;
+            }
+        }
+        Rounds(times, members) => {
+            for _ in 0..times {
+                add_round(alloc, script, members)?;
+            }
+        }
+    }
+    Ok(())
+}
+
+/// The script of these parts.
+fn script_of(alloc: Global, parts: &[Part]) -> Result<Vec<Event>, AllocError> {
+    let mut script = Vec::new(alloc);
+    for part in parts {
+        add_part(alloc, &mut script, *part)?;
+    }
+    Ok(script)
+}
+
 /// Empty disks, one for each member.
-fn disks(rt: &impl AllocGlobal, count: u8) -> Result<Vec<MemDisk>, SimFault> {
-    let mut disks = Vec::new(rt.alloc());
+fn disks(alloc: Global, count: u8) -> Result<Vec<MemDisk>, AllocError> {
+    let mut disks = Vec::new(alloc);
     for _ in 0..count {
-        disks.push(MemDisk::new(rt.alloc()))?;
+        disks.push(MemDisk::new(alloc))?;
     }
     Ok(disks)
 }
 
 /// A run over empty disks.
-fn once(
-    rt: &impl AllocGlobal,
-    size: Size,
-    liars: &[u8],
-    script: &[Event],
-) -> Result<Outcome, SimFault> {
-    run(rt.alloc(), size, liars, disks(rt, size.n())?, script)
+fn once(alloc: Global, size: Size, liars: &[u8], parts: &[Part]) -> Result<Outcome, SimFault> {
+    let script = script_of(alloc, parts)?;
+    run(alloc, size, liars, disks(alloc, size.n())?, &script)
 }
 
 /// A run over empty disks. If memory is refused, it is run again.
-fn outcome(
-    rt: &impl AllocGlobal,
-    size: Size,
-    liars: &[u8],
-    script: &[Event],
-) -> Result<Outcome, Fail> {
-    match once(rt, size, liars, script) {
-        Err(SimFault::Memory) => Ok(once(rt, size, liars, script)?),
-        result => Ok(result?),
+fn outcome(alloc: Global, size: Size, liars: &[u8], parts: &[Part]) -> Result<Outcome, SimFault> {
+    match once(alloc, size, liars, parts) {
+        Err(SimFault::Memory) => once(alloc, size, liars, parts),
+        result => result,
     }
-}
-
-fn propose(member: u8, bit: bool) -> Event {
-    Event::Propose {
-        member,
-        question: 0,
-        bit,
-        toss: TOSS,
-    }
-}
-
-fn next(from: u8, to: u8) -> Event {
-    Event::Deliver {
-        from,
-        to,
-        which: Which::Next,
-        toss: TOSS,
-    }
-}
-
-fn at(from: u8, to: u8, number: u64) -> Event {
-    Event::Deliver {
-        from,
-        to,
-        which: Which::At(number),
-        toss: TOSS,
-    }
-}
-
-fn group(from: u8, to: u8, count: u16) -> Event {
-    Event::DeliverAll {
-        from,
-        to,
-        count,
-        toss: TOSS,
-    }
-}
-
-fn lie(rt: &impl AllocGlobal, liar: u8, to: u8, bytes: &[u8]) -> Result<Event, Fail> {
-    let bytes = Vec::from_slice(rt.alloc(), bytes)?;
-    Ok(Event::LieBytes {
-        liar,
-        to,
-        bytes,
-        toss: TOSS,
-    })
 }
 
 fn four() -> Result<Size, Fail> {
@@ -96,232 +173,180 @@ fn count(marks: &[Mark], wanted: Mark) -> usize {
     marks.iter().filter(|mark| **mark == wanted).count()
 }
 
+/// The records that the event of that number saved.
+fn saved_by(outcome: &Outcome, number: usize) -> &[Record] {
+    match outcome.saved.get(number) {
+        Some(records) => records.as_slice(),
+        None => &[],
+    }
+}
+
+/// What became of the events is what the rows say.
+fn compare(rt: &impl Abort, outcome: &Outcome, rows: &[Row]) {
+    assert!(rt; outcome.marks.len() == rows.len());
+    assert!(rt; outcome.saved.len() == rows.len());
+    for (at, (_, mark, saved)) in rows.iter().enumerate() {
+        assert!(rt; outcome.marks.get(at) == Some(mark), "row {at}");
+        assert!(rt; saved_by(outcome, at).len() == *saved, "row {at}");
+    }
+}
+
+/// Plays the rows over empty disks.
+fn play(
+    rt: &(impl Abort + AllocGlobal),
+    size: Size,
+    liars: &[u8],
+    rows: &[Row],
+) -> Result<Outcome, Fail> {
+    let outcome = outcome(rt.alloc(), size, liars, &[Rows(rows)])?;
+    compare(rt, &outcome, rows);
+    Ok(outcome)
+}
+
 #[test]
 fn each_reason(rt: HostRuntime) -> Result<(), Fail> {
-    let mut script = Vec::new(rt.alloc());
-    script.push(propose(1, true))?;
-    script.push(next(1, 0))?;
-    script.push(next(1, 0))?;
-    script.push(Event::Crash {
-        member: 0,
-        pick: Pick::Lost,
-    })?;
-    script.push(at(1, 0, 0))?;
-    script.push(Event::Restart { member: 0 })?;
-    script.push(Event::Restart { member: 0 })?;
-    script.push(next(1, 0))?;
-    script.push(next(3, 0))?;
-    script.push(lie(&rt, 3, 0, &[0xff])?)?;
-    script.push(lie(&rt, 3, 0, &[0, 1, 0])?)?;
-    script.push(Event::Reset { from: 3, to: 0 })?;
-    script.push(lie(&rt, 3, 0, &[0, 1, 0])?)?;
-    script.push(Event::Fuse {
-        member: 4,
-        calls: None,
-    })?;
-    // It said its one Echo in its first life.
-    script.push(at(0, 1, 0))?;
-    script.push(at(0, 1, 1))?;
-    let outcome = outcome(&rt, four()?, &[3], &script)?;
-    let wanted = [
-        Mark::Done,
-        Mark::Done,
-        Mark::Skipped(Reason::Nothing),
-        Mark::Done,
-        Mark::Skipped(Reason::NotUp),
-        Mark::Done,
-        Mark::Skipped(Reason::Running),
-        Mark::Done,
-        Mark::Skipped(Reason::WrongSide),
-        Mark::Done,
-        Mark::Skipped(Reason::Nothing),
-        Mark::Done,
-        Mark::Done,
-        Mark::Skipped(Reason::NoSuch),
-        Mark::Done,
-        Mark::Skipped(Reason::Nothing),
-    ];
-    assert!(rt; outcome.marks.as_slice() == &wanted[..]);
+    let outcome = play(
+        &rt,
+        four()?,
+        &[3],
+        &[
+            (Propose(1, 0, true), Done, 1),
+            (Next(1, 0), Done, 1),
+            (Next(1, 0), Skipped(Nothing), 0),
+            (Crash(0, Pick::Lost), Done, 0),
+            (At(1, 0, 0), Skipped(NotUp), 0),
+            (Restart(0), Done, 0),
+            (Restart(0), Skipped(Running), 0),
+            (Next(1, 0), Done, 0),
+            (Next(3, 0), Skipped(WrongSide), 0),
+            (Lie(3, 0, &[0xff]), Done, 0),
+            (Lie(3, 0, &[0, 1, 0]), Skipped(Nothing), 0),
+            (Reset(3, 0), Done, 0),
+            (Lie(3, 0, &[0, 1, 0]), Done, 0),
+            (Fuse(4, None), Skipped(NoSuch), 0),
+            // It said its one Echo in its first life.
+            (At(0, 1, 0), Done, 0),
+            (At(0, 1, 1), Skipped(Nothing), 0),
+        ],
+    )?;
     assert!(rt; outcome.verdicts.is_empty());
+    Ok(())
+}
+
+/// The verdicts are these, and so many events there were, were skipped since there was nothing, and were done.
+fn comes_to(
+    rt: &impl Abort,
+    outcome: &Outcome,
+    verdicts: &[(u8, u16, u8, bool)],
+    (events, nothing, done): (usize, usize, usize),
+) {
+    assert!(rt; outcome.verdicts.as_slice() == verdicts);
+    assert!(rt; outcome.marks.len() == events);
+    assert!(rt; count(&outcome.marks, Skipped(Nothing)) == nothing);
+    assert!(rt; count(&outcome.marks, Done) == done);
+}
+
+/// A member alone decides by twenty such deliveries.
+fn decides_by(rt: &(impl Abort + AllocGlobal), delivery: Deed) -> Result<(), Fail> {
+    let parts = [Times(1, &[Propose(0, 0, true)]), Times(20, &[delivery])];
+    let outcome = outcome(rt.alloc(), Size::new(1, 0, 1)?, &[], &parts)?;
+    comes_to(rt, &outcome, &[(0, 0, 1, true)], (21, 2, 19));
     Ok(())
 }
 
 #[test]
 fn a_single_member_decides(rt: HostRuntime) -> Result<(), Fail> {
-    let mut script = Vec::new(rt.alloc());
-    script.push(propose(0, true))?;
-    for _ in 0..20 {
-        script.push(next(0, 0))?;
-    }
-    let size = Size::new(1, 0, 1)?;
-    let outcome = outcome(&rt, size, &[], &script)?;
-    assert!(rt; outcome.verdicts.as_slice() == &[(0, 0, 1, true)][..]);
-    assert_eq!(rt; outcome.marks.len(), 21);
-    assert_eq!(rt; count(&outcome.marks, Mark::Skipped(Reason::Nothing)), 2);
-    assert_eq!(rt; count(&outcome.marks, Mark::Done), 19);
-    Ok(())
+    decides_by(&rt, Next(0, 0))
 }
 
 #[test]
 fn a_single_member_decides_by_groups(rt: HostRuntime) -> Result<(), Fail> {
-    let mut script = Vec::new(rt.alloc());
-    script.push(propose(0, true))?;
-    for _ in 0..20 {
-        script.push(group(0, 0, MOST_IN_GROUP))?;
-    }
-    let size = Size::new(1, 0, 1)?;
-    let outcome = outcome(&rt, size, &[], &script)?;
-    assert!(rt; outcome.verdicts.as_slice() == &[(0, 0, 1, true)][..]);
-    assert_eq!(rt; count(&outcome.marks, Mark::Skipped(Reason::Nothing)), 2);
-    assert_eq!(rt; count(&outcome.marks, Mark::Done), 19);
-    Ok(())
-}
-
-fn propose_on(question: u16) -> Event {
-    Event::Propose {
-        member: 1,
-        question,
-        bit: true,
-        toss: TOSS,
-    }
-}
-
-fn fuse(member: u8, calls: u64) -> Event {
-    Event::Fuse {
-        member,
-        calls: Some(calls),
-    }
+    decides_by(&rt, Group(0, 0, MOST_IN_GROUP))
 }
 
 #[test]
 fn a_group_is_one_batch(rt: HostRuntime) -> Result<(), Fail> {
-    let script = [
-        propose_on(0),
-        propose_on(1),
-        propose_on(2),
-        // The calls of one batch.
-        fuse(0, 4),
-        group(1, 0, 256),
-        group(1, 0, 256),
-        propose(0, true),
-    ];
-    let outcome = outcome(&rt, Size::new(4, 1, 3)?, &[], &script)?;
-    let wanted = [
-        Mark::Done,
-        Mark::Done,
-        Mark::Done,
-        Mark::Done,
-        Mark::Done,
-        Mark::Skipped(Reason::Nothing),
-        Mark::Failed,
-    ];
-    assert!(rt; outcome.marks.as_slice() == &wanted[..]);
-    let saved: Vec<usize> = counts(&rt, &outcome.saved)?;
-    assert!(rt; saved.as_slice() == &[1, 1, 1, 0, 3, 0, 0][..]);
+    play(
+        &rt,
+        Size::new(4, 1, 3)?,
+        &[],
+        &[
+            (Propose(1, 0, true), Done, 1),
+            (Propose(1, 1, true), Done, 1),
+            (Propose(1, 2, true), Done, 1),
+            // The calls of one batch.
+            (Fuse(0, Some(4)), Done, 0),
+            (Group(1, 0, 256), Done, 3),
+            (Group(1, 0, 256), Skipped(Nothing), 0),
+            (Propose(0, 0, true), Failed, 0),
+        ],
+    )?;
     Ok(())
 }
 
 #[test]
 fn a_group_has_so_many_at_most(rt: HostRuntime) -> Result<(), Fail> {
-    let script = [
-        propose_on(0),
-        propose_on(1),
-        propose_on(2),
-        group(1, 0, 0),
-        group(1, 0, 2),
-        group(1, 0, 2),
-        group(1, 0, 2),
-        // To itself: what it said before the event.
-        group(1, 1, 65535),
-        group(1, 1, 65535),
-        group(1, 4, 1),
-        group(4, 1, 1),
-        group(1, 3, 1),
-        group(3, 1, 1),
-        Event::Crash {
-            member: 1,
-            pick: Pick::Lost,
-        },
-        group(0, 1, 1),
-        // What it said is delivered while it is down.
-        group(1, 2, 5),
-    ];
-    let outcome = outcome(&rt, Size::new(4, 1, 3)?, &[3], &script)?;
-    let wanted = [
-        Mark::Done,
-        Mark::Done,
-        Mark::Done,
-        Mark::Skipped(Reason::Nothing),
-        Mark::Done,
-        Mark::Done,
-        Mark::Skipped(Reason::Nothing),
-        Mark::Done,
-        Mark::Done,
-        Mark::Skipped(Reason::NoSuch),
-        Mark::Skipped(Reason::NoSuch),
-        Mark::Skipped(Reason::WrongSide),
-        Mark::Skipped(Reason::WrongSide),
-        Mark::Done,
-        Mark::Skipped(Reason::NotUp),
-        Mark::Done,
-    ];
-    assert!(rt; outcome.marks.as_slice() == &wanted[..]);
-    let saved: Vec<usize> = counts(&rt, &outcome.saved)?;
-    assert!(rt; saved.as_slice() == &[1, 1, 1, 0, 2, 1, 0, 3, 0, 0, 0, 0, 0, 0, 0, 3][..]);
+    play(
+        &rt,
+        Size::new(4, 1, 3)?,
+        &[3],
+        &[
+            (Propose(1, 0, true), Done, 1),
+            (Propose(1, 1, true), Done, 1),
+            (Propose(1, 2, true), Done, 1),
+            (Group(1, 0, 0), Skipped(Nothing), 0),
+            (Group(1, 0, 2), Done, 2),
+            (Group(1, 0, 2), Done, 1),
+            (Group(1, 0, 2), Skipped(Nothing), 0),
+            // To itself: what it said before the event.
+            (Group(1, 1, 65535), Done, 3),
+            (Group(1, 1, 65535), Done, 0),
+            (Group(1, 4, 1), Skipped(NoSuch), 0),
+            (Group(4, 1, 1), Skipped(NoSuch), 0),
+            (Group(1, 3, 1), Skipped(WrongSide), 0),
+            (Group(3, 1, 1), Skipped(WrongSide), 0),
+            (Crash(1, Pick::Lost), Done, 0),
+            (Group(0, 1, 1), Skipped(NotUp), 0),
+            // What it said is delivered while it is down.
+            (Group(1, 2, 5), Done, 3),
+        ],
+    )?;
     Ok(())
 }
 
 #[test]
 fn a_group_fails_as_a_whole(rt: HostRuntime) -> Result<(), Fail> {
-    let script = [
-        propose_on(0),
-        propose_on(1),
-        fuse(0, 1),
-        group(1, 0, 2),
-        next(1, 0),
-        Event::Fuse {
-            member: 0,
-            calls: None,
-        },
-        Event::Restart { member: 0 },
-        group(1, 0, 2),
-    ];
-    let outcome = outcome(&rt, Size::new(4, 1, 3)?, &[], &script)?;
-    let wanted = [
-        Mark::Done,
-        Mark::Done,
-        Mark::Done,
-        Mark::Failed,
-        Mark::Skipped(Reason::NotUp),
-        Mark::Done,
-        Mark::Done,
-        Mark::Done,
-    ];
-    assert!(rt; outcome.marks.as_slice() == &wanted[..]);
-    let saved: Vec<usize> = counts(&rt, &outcome.saved)?;
-    assert!(rt; saved.as_slice() == &[1, 1, 0, 0, 0, 0, 0, 2][..]);
+    play(
+        &rt,
+        Size::new(4, 1, 3)?,
+        &[],
+        &[
+            (Propose(1, 0, true), Done, 1),
+            (Propose(1, 1, true), Done, 1),
+            (Fuse(0, Some(1)), Done, 0),
+            (Group(1, 0, 2), Failed, 0),
+            (Next(1, 0), Skipped(NotUp), 0),
+            (Fuse(0, None), Done, 0),
+            (Restart(0), Done, 0),
+            (Group(1, 0, 2), Done, 2),
+        ],
+    )?;
     Ok(())
 }
 
 #[test]
 fn a_fuse_stops_a_member(rt: HostRuntime) -> Result<(), Fail> {
-    let script = [
-        Event::Fuse {
-            member: 1,
-            calls: Some(4),
-        },
-        propose(1, true),
-        next(1, 1),
-        next(1, 1),
-    ];
-    let outcome = outcome(&rt, four()?, &[], &script)?;
-    let wanted = [
-        Mark::Done,
-        Mark::Done,
-        Mark::Failed,
-        Mark::Skipped(Reason::NotUp),
-    ];
-    assert!(rt; outcome.marks.as_slice() == &wanted[..]);
+    play(
+        &rt,
+        four()?,
+        &[],
+        &[
+            (Fuse(1, Some(4)), Done, 0),
+            (Propose(1, 0, true), Done, 1),
+            (Next(1, 1), Failed, 0),
+            (Next(1, 1), Skipped(NotUp), 0),
+        ],
+    )?;
     Ok(())
 }
 
@@ -331,28 +356,27 @@ const LIES: [u8; 30] = [
     0x03, 0x01, 0x02, 0x00, 0x00, 0x08, 0x03, 0x01, 0x00, 0x00, 0x03, 0x01, 0x03, 0x02,
 ];
 
+/// A run of four of whom member 3 lies: after the deeds each of the others delivers to each, many times.
+fn against_a_liar(rt: &(impl Abort + AllocGlobal), deeds: &[Deed]) -> Result<Outcome, Fail> {
+    let parts = [Times(1, deeds), Rounds(500, 3)];
+    Ok(outcome(rt.alloc(), four()?, &[3], &parts)?)
+}
+
 #[test]
 fn three_decide_in_spite_of_a_liar(rt: HostRuntime) -> Result<(), Fail> {
-    let mut script = Vec::new(rt.alloc());
-    for member in 0..3 {
-        script.push(propose(member, true))?;
-    }
-    for to in 0..3 {
-        script.push(lie(&rt, 3, to, &LIES)?)?;
-    }
-    for _ in 0..500 {
-        for from in 0..3 {
-            for to in 0..3 {
-                script.push(next(from, to))?;
-            }
-        }
-    }
-    let outcome = outcome(&rt, four()?, &[3], &script)?;
+    let outcome = against_a_liar(
+        &rt,
+        &[
+            Propose(0, 0, true),
+            Propose(1, 0, true),
+            Propose(2, 0, true),
+            Lie(3, 0, &LIES[..]),
+            Lie(3, 1, &LIES[..]),
+            Lie(3, 2, &LIES[..]),
+        ],
+    )?;
     let wanted = [(0, 0, 1, true), (1, 0, 1, true), (2, 0, 1, true)];
-    assert!(rt; outcome.verdicts.as_slice() == &wanted[..]);
-    assert_eq!(rt; outcome.marks.len(), 4506);
-    assert_eq!(rt; count(&outcome.marks, Mark::Skipped(Reason::Nothing)), 4068);
-    assert_eq!(rt; count(&outcome.marks, Mark::Done), 438);
+    comes_to(&rt, &outcome, &wanted, (4506, 4068, 438));
     Ok(())
 }
 
@@ -365,50 +389,36 @@ const PICKS: [Pick; 5] = [
     Pick::Fill(0xff),
 ];
 
-/// Member 1 has a fuse of that length, and all of so many members deliver; it crashes, is opened again, and all go on.
-fn with_fuse(
-    rt: &impl AllocGlobal,
-    members: u8,
+/// Member 1 has a fuse of that length, and all of so many members deliver; it crashes, is opened again, and all go on. Then
+/// as many have verdicts, all of one bit.
+fn agree(
+    rt: &(impl Abort + AllocGlobal),
+    (n, t): (u8, u8),
+    proposals: &[Deed],
     calls: u64,
     pick: Pick,
-) -> Result<Vec<Event>, Fail> {
-    let mut script = Vec::new(rt.alloc());
-    script.push(Event::Fuse {
-        member: 1,
-        calls: Some(calls),
-    })?;
-    for member in 0..members {
-        script.push(propose(member, member != 2))?;
-    }
-    for round in 0..70 {
-        if round == 10 {
-            script.push(Event::Crash { member: 1, pick })?;
-            script.push(Event::Restart { member: 1 })?;
-            script.push(propose(1, true))?;
-        }
-        for from in 0..members {
-            for to in 0..members {
-                script.push(next(from, to))?;
-            }
-        }
-    }
-    Ok(script)
-}
-
-/// The verdicts are these many, and all of one bit.
-fn agree(rt: &impl Abort, outcome: &Outcome, count: usize) {
-    assert_eq!(rt; outcome.verdicts.len(), count);
+) -> Result<(), Fail> {
+    let parts = [
+        Times(1, &[Fuse(1, Some(calls))]),
+        Times(1, proposals),
+        Rounds(10, n),
+        Times(1, &[Crash(1, pick), Restart(1), Propose(1, 0, true)]),
+        Rounds(60, n),
+    ];
+    let outcome = outcome(rt.alloc(), Size::new(n, t, 1)?, &[], &parts)?;
+    assert_eq!(rt; outcome.verdicts.len(), usize::from(n));
     for (_, _, _, bit) in &outcome.verdicts {
-        assert!(rt; *bit == outcome.verdicts[0].3);
+        assert!(rt; *bit == outcome.verdicts[0].3, "at {calls}");
     }
+    Ok(())
 }
 
 #[test]
 fn two_agree_in_spite_of_each_fuse_and_crash(rt: HostRuntime) -> Result<(), Fail> {
+    let proposals = [Propose(0, 0, true), Propose(1, 0, true)];
     for calls in 0..8 {
         for pick in PICKS {
-            let script = with_fuse(&rt, 2, calls, pick)?;
-            agree(&rt, &outcome(&rt, Size::new(2, 0, 1)?, &[], &script)?, 2);
+            agree(&rt, (2, 0), &proposals, calls, pick)?;
         }
     }
     Ok(())
@@ -416,10 +426,32 @@ fn two_agree_in_spite_of_each_fuse_and_crash(rt: HostRuntime) -> Result<(), Fail
 
 #[test]
 fn four_agree_in_spite_of_fuses_and_crashes(rt: HostRuntime) -> Result<(), Fail> {
+    let proposals = [
+        Propose(0, 0, true),
+        Propose(1, 0, true),
+        Propose(2, 0, false),
+        Propose(3, 0, true),
+    ];
     for (calls, pick) in PICKS.iter().enumerate() {
-        let script = with_fuse(&rt, 4, calls as u64, *pick)?;
-        agree(&rt, &outcome(&rt, four()?, &[], &script)?, 4);
+        agree(&rt, (4, 1), &proposals, calls as u64, *pick)?;
     }
+    Ok(())
+}
+
+/// A member alone decides, though its disk fails once, after so many calls.
+fn decides_after(rt: &(impl Abort + AllocGlobal), calls: u64, pick: Pick) -> Result<(), Fail> {
+    let parts = [
+        Times(1, &[Fuse(0, Some(calls)), Propose(0, 0, true)]),
+        Times(8, &[Next(0, 0)]),
+        Times(1, &[Crash(0, pick), Restart(0), Propose(0, 0, true)]),
+        Times(18, &[Next(0, 0)]),
+    ];
+    let outcome = outcome(rt.alloc(), Size::new(1, 0, 1)?, &[], &parts)?;
+    assert!(rt;
+        outcome.verdicts.as_slice() == &[(0, 0, 1, true)][..],
+        "at {calls}"
+    );
+    assert!(rt; count(&outcome.marks, Failed) == 1, "at {calls}");
     Ok(())
 }
 
@@ -427,24 +459,7 @@ fn four_agree_in_spite_of_fuses_and_crashes(rt: HostRuntime) -> Result<(), Fail>
 fn a_single_member_decides_in_spite_of_its_fuse(rt: HostRuntime) -> Result<(), Fail> {
     for calls in 0..8 {
         for pick in PICKS {
-            let mut script = Vec::new(rt.alloc());
-            script.push(Event::Fuse {
-                member: 0,
-                calls: Some(calls),
-            })?;
-            script.push(propose(0, true))?;
-            for _ in 0..8 {
-                script.push(next(0, 0))?;
-            }
-            script.push(Event::Crash { member: 0, pick })?;
-            script.push(Event::Restart { member: 0 })?;
-            script.push(propose(0, true))?;
-            for _ in 0..18 {
-                script.push(next(0, 0))?;
-            }
-            let outcome = outcome(&rt, Size::new(1, 0, 1)?, &[], &script)?;
-            assert!(rt; outcome.verdicts.as_slice() == &[(0, 0, 1, true)][..]);
-            assert!(rt; count(&outcome.marks, Mark::Failed) == 1, "at {calls}");
+            decides_after(&rt, calls, pick)?;
         }
     }
     Ok(())
@@ -459,204 +474,195 @@ fn initial(round: u8, step: u8) -> Result<Record, Fail> {
 
 #[test]
 fn saves_what_an_event_made_it_say(rt: HostRuntime) -> Result<(), Fail> {
-    let mut script = Vec::new(rt.alloc());
-    script.push(propose(0, true))?;
-    for _ in 0..18 {
-        script.push(next(0, 0))?;
-    }
-    let outcome = outcome(&rt, Size::new(1, 0, 1)?, &[], &script)?;
     let decided = Record::Decided {
         question: 0,
         round: 1,
         bit: true,
     };
+    let first = [initial(1, 1)?];
+    let tenth = [decided, initial(2, 1)?];
+    let parts = [Times(1, &[Propose(0, 0, true)]), Times(18, &[Next(0, 0)])];
+    let outcome = outcome(rt.alloc(), Size::new(1, 0, 1)?, &[], &parts)?;
     assert_eq!(rt; outcome.saved.len(), 19);
-    assert!(rt; outcome.saved[0].as_slice() == &[initial(1, 1)?][..]);
-    assert!(rt; outcome.saved[9].as_slice() == &[decided, initial(2, 1)?][..]);
-    assert!(rt; outcome.saved[18].is_empty());
+    assert!(rt; saved_by(&outcome, 0) == &first[..]);
+    assert!(rt; saved_by(&outcome, 9) == &tenth[..]);
+    assert!(rt; saved_by(&outcome, 18).is_empty());
     Ok(())
+}
+
+/// A batch fails after so many calls and the disk crashes; the member is opened again, and the same is proposed.
+fn restarted(rt: &(impl Abort + AllocGlobal), calls: u64, pick: Pick) -> Result<Outcome, Fail> {
+    let deeds = [
+        Fuse(0, Some(calls)),
+        Propose(0, 0, true),
+        Crash(0, pick),
+        Restart(0),
+        Propose(0, 0, true),
+    ];
+    let outcome = outcome(rt.alloc(), Size::new(1, 0, 1)?, &[], &[Times(1, &deeds)])?;
+    assert_eq!(rt; outcome.saved.len(), 5);
+    assert_eq!(rt; count(&outcome.marks, Failed), 1);
+    assert!(rt; saved_by(&outcome, 1).is_empty());
+    Ok(outcome)
 }
 
 #[test]
 fn a_restart_saves_what_the_disk_kept(rt: HostRuntime) -> Result<(), Fail> {
-    for (calls, pick, kept) in [
+    let first = [initial(1, 1)?];
+    let rows = [
         (3, Pick::Kept, true),
         (3, Pick::Lost, false),
         (2, Pick::Kept, false),
         (2, Pick::Fill(0), false),
         (2, Pick::Fill(0x7f), true),
         (2, Pick::Fill(0xff), true),
-    ] {
-        let script = [
-            Event::Fuse {
-                member: 0,
-                calls: Some(calls),
-            },
-            propose(0, true),
-            Event::Crash { member: 0, pick },
-            Event::Restart { member: 0 },
-            propose(0, true),
-        ];
-        let outcome = outcome(&rt, Size::new(1, 0, 1)?, &[], &script)?;
-        let first = [initial(1, 1)?];
-        let empty: &[Record] = &[];
-        let (opened, proposed) = if kept {
-            (&first[..], empty)
-        } else {
-            (empty, &first[..])
-        };
-        assert_eq!(rt; outcome.saved.len(), 5);
-        assert_eq!(rt; count(&outcome.marks, Mark::Failed), 1);
-        assert!(rt; outcome.saved[1].is_empty());
-        assert!(rt; outcome.saved[3].as_slice() == opened);
-        assert!(rt; outcome.saved[4].as_slice() == proposed);
+    ];
+    for (at, (calls, pick, kept)) in rows.iter().enumerate() {
+        let outcome = restarted(&rt, *calls, *pick)?;
+        // Event 3 opens it again, and event 4 proposes.
+        let (full, empty) = if *kept { (3, 4) } else { (4, 3) };
+        assert!(rt; saved_by(&outcome, full) == &first[..], "row {at}");
+        assert!(rt; saved_by(&outcome, empty).is_empty(), "row {at}");
     }
     Ok(())
 }
 
 #[test]
 fn a_fuse_is_set_while_a_member_is_down(rt: HostRuntime) -> Result<(), Fail> {
-    let restart = || Event::Restart { member: 0 };
-    let crash = Event::Crash {
-        member: 0,
-        pick: Pick::Lost,
-    };
-    let fuse = |calls| Event::Fuse { member: 0, calls };
-    let script = [crash, fuse(Some(0)), restart(), fuse(None), restart()];
-    let outcome = outcome(&rt, four()?, &[], &script)?;
-    let wanted = [Mark::Done, Mark::Done, Mark::Failed, Mark::Done, Mark::Done];
-    assert!(rt; outcome.marks.as_slice() == &wanted[..]);
+    play(
+        &rt,
+        four()?,
+        &[],
+        &[
+            (Crash(0, Pick::Lost), Done, 0),
+            (Fuse(0, Some(0)), Done, 0),
+            (Restart(0), Failed, 0),
+            (Fuse(0, None), Done, 0),
+            (Restart(0), Done, 0),
+        ],
+    )?;
     Ok(())
 }
 
 /// The greatest cluster, its last question, its last member. It is run once: with ample memory nothing is refused.
 #[test]
 fn largest_cluster_runs(rt: HostRuntime) -> Result<(), Fail> {
-    let propose = Event::Propose {
-        member: 31,
-        question: 255,
-        bit: true,
-        toss: TOSS,
-    };
-    let script = [propose, next(31, 30), next(31, 31), next(30, 31)];
-    let outcome = once(&rt, Size::new(32, 10, 256)?, &[0, 1], &script)?;
-    assert_eq!(rt; count(&outcome.marks, Mark::Done), 4);
     // An Initial, and the Echos of two.
-    let saved = outcome
-        .saved
-        .iter()
-        .filter(|saved| saved.len() == 1)
-        .count();
-    assert_eq!(rt; saved, 3);
+    let rows = [
+        (Propose(31, 255, true), Done, 1),
+        (Next(31, 30), Done, 1),
+        (Next(31, 31), Done, 1),
+        (Next(30, 31), Done, 0),
+    ];
+    let outcome = once(rt.alloc(), Size::new(32, 10, 256)?, &[0, 1], &[Rows(&rows)])?;
+    compare(&rt, &outcome, &rows);
+    Ok(())
+}
+
+/// Plays the deeds, each of which is to be marked so and to save those records.
+fn play_on(
+    rt: &(impl Abort + AllocGlobal),
+    cluster: &mut Cluster,
+    rows: &[(Deed, Mark, &[Record])],
+) -> Result<(), Fail> {
+    for (at, (deed, mark, saved)) in rows.iter().enumerate() {
+        let event = event(rt.alloc(), *deed)?;
+        let found = cluster.play(rt.alloc(), &event)?;
+        assert!(rt; found == *mark, "row {at}");
+        assert!(rt; cluster.saved() == *saved, "row {at}");
+    }
     Ok(())
 }
 
 #[test]
 fn events_are_played_one_after_another(rt: HostRuntime) -> Result<(), Fail> {
     let size = Size::new(1, 0, 1)?;
-    let mut cluster = Cluster::open(rt.alloc(), size, &[], disks(&rt, 1)?)?;
-    let proposed = cluster.play(rt.alloc(), &propose(0, true))?;
-    assert!(rt; proposed == Mark::Done);
-    assert!(rt; cluster.saved() == &[initial(1, 1)?][..]);
-    let skipped = cluster.play(rt.alloc(), &next(0, 1))?;
-    assert!(rt; skipped == Mark::Skipped(Reason::NoSuch));
-    assert!(rt; cluster.saved().is_empty());
+    let first = [initial(1, 1)?];
+    let disks = disks(rt.alloc(), 1)?;
+    let mut cluster = Cluster::open(rt.alloc(), size, &[], disks)?;
+    play_on(
+        &rt,
+        &mut cluster,
+        &[
+            (Propose(0, 0, true), Done, &first),
+            (Next(0, 1), Skipped(NoSuch), &[]),
+        ],
+    )?;
     let verdicts = cluster.verdicts(rt.alloc())?;
     assert!(rt; verdicts.is_empty());
     Ok(())
 }
 
 /// A liar speaks, a disk fails, crashes and is opened again.
-fn many_sided(rt: &impl AllocGlobal, size: Size) -> Result<Outcome, SimFault> {
-    let bytes = Vec::from_slice(rt.alloc(), &LIES[..10])?;
-    let script = [
-        propose(0, true),
-        propose(1, true),
-        Event::LieBytes {
-            liar: 3,
-            to: 0,
-            bytes,
-            toss: TOSS,
-        },
-        next(1, 0),
-        Event::Fuse {
-            member: 1,
-            calls: Some(1),
-        },
-        next(0, 1),
-        Event::Crash {
-            member: 1,
-            pick: Pick::Fill(0x7f),
-        },
-        Event::Restart { member: 1 },
-        next(0, 1),
-    ];
-    once(rt, size, &[3], &script)
-}
-
 #[test]
 fn refused_memory_is_answered_so(rt: HostRuntime) -> Result<(), Fail> {
-    let size = four()?;
-    let outcome = match many_sided(&rt, size) {
-        Err(SimFault::Memory) => many_sided(&rt, size)?,
-        result => result?,
-    };
-    let wanted = [
-        Mark::Done,
-        Mark::Done,
-        Mark::Done,
-        Mark::Done,
-        Mark::Done,
-        Mark::Failed,
-        Mark::Done,
-        Mark::Done,
-        Mark::Done,
-    ];
-    assert!(rt; outcome.marks.as_slice() == &wanted[..]);
-    let saved: Vec<usize> = counts(&rt, &outcome.saved)?;
-    assert!(rt; saved.as_slice() == &[1, 1, 1, 1, 0, 0, 0, 0, 1][..]);
+    play(
+        &rt,
+        four()?,
+        &[3],
+        &[
+            (Propose(0, 0, true), Done, 1),
+            (Propose(1, 0, true), Done, 1),
+            (Lie(3, 0, &LIES[..10]), Done, 1),
+            (Next(1, 0), Done, 1),
+            (Fuse(1, Some(1)), Done, 0),
+            (Next(0, 1), Failed, 0),
+            (Crash(1, Pick::Fill(0x7f)), Done, 0),
+            (Restart(1), Done, 0),
+            (Next(0, 1), Done, 1),
+        ],
+    )?;
     Ok(())
 }
 
-/// How many records each event saved.
-fn counts(rt: &impl AllocGlobal, saved: &[Vec<Record>]) -> Result<Vec<usize>, SimFault> {
-    let mut counts = Vec::new(rt.alloc());
-    for records in saved {
-        counts.push(records.len())?;
+/// The disks that a run starts with.
+#[derive(Clone, Copy)]
+enum Start {
+    /// So many empty ones.
+    Empty(u8),
+    /// Four empty ones, the third of which lets so many calls pass.
+    Fused(u64),
+    /// Four, the last of which has a byte.
+    Used,
+}
+
+/// Prepares one of four empty disks.
+fn prepare(disks: &mut [MemDisk], which: Start) -> Result<(), Fail> {
+    match which {
+        Empty(_) => {}
+        Fused(calls) => disks.get_mut(2).ok_or("a disk")?.fuse(Some(calls)),
+        Used => disks.get_mut(3).ok_or("a disk")?.write_at(0, &[0])?,
     }
-    Ok(counts)
+    Ok(())
+}
+
+/// How many verdicts a run of no events has over the disks.
+fn verdicts_of(alloc: Global, liars: &[u8], which: Start) -> Result<Result<usize, SimFault>, Fail> {
+    let size = four()?;
+    let count = if let Empty(count) = which { count } else { 4 };
+    let mut disks = disks(alloc, count)?;
+    prepare(&mut disks, which)?;
+    let outcome = run(alloc, size, liars, disks, &[]);
+    Ok(outcome.map(|outcome| outcome.verdicts.len()))
 }
 
 #[test]
 fn faults(rt: HostRuntime) -> Result<(), Fail> {
-    let size = four()?;
-    for liars in [&[4][..], &[1, 1][..], &[0, 1][..]] {
-        let fault = run(rt.alloc(), size, liars, disks(&rt, 4)?, &[]);
-        assert!(rt; fault == Err(SimFault::BadLiars));
+    let rows: [(&[u8], Start, Result<usize, SimFault>); 9] = [
+        (&[4], Empty(4), Err(SimFault::BadLiars)),
+        (&[1, 1], Empty(4), Err(SimFault::BadLiars)),
+        (&[0, 1], Empty(4), Err(SimFault::BadLiars)),
+        (&[], Empty(3), Err(SimFault::BadDisks)),
+        (&[], Empty(5), Err(SimFault::BadDisks)),
+        (&[], Fused(2), Err(SimFault::Device)),
+        (&[], Fused(5), Err(SimFault::Device)),
+        (&[], Fused(6), Ok(0)),
+        (&[3], Used, Err(SimFault::BadDisks)),
+    ];
+    for (at, (liars, which, wanted)) in rows.iter().enumerate() {
+        let found = verdicts_of(rt.alloc(), liars, *which)?;
+        assert!(rt; found == *wanted, "row {at}");
     }
-    let few = run(rt.alloc(), size, &[], disks(&rt, 3)?, &[]);
-    assert!(rt; few == Err(SimFault::BadDisks));
-    let many = run(rt.alloc(), size, &[], disks(&rt, 5)?, &[]);
-    assert!(rt; many == Err(SimFault::BadDisks));
-    for (calls, wanted) in [
-        (2, Err(SimFault::Device)),
-        (5, Err(SimFault::Device)),
-        (6, Ok(0)),
-    ] {
-        let mut disks = disks(&rt, 4)?;
-        assert_eq!(rt; disks.len(), 4);
-        disks[2].fuse(Some(calls));
-        let outcome = run(rt.alloc(), size, &[], disks, &[]);
-        assert!(rt;
-            outcome.map(|outcome| outcome.verdicts.len()) == wanted,
-            "at {calls}"
-        );
-    }
-    let mut disks = disks(&rt, 4)?;
-    assert_eq!(rt; disks.len(), 4);
-    disk::Disk::write_at(&mut disks[3], 0, &[0])?;
-    let used = run(rt.alloc(), size, &[3], disks, &[]);
-    assert!(rt; used == Err(SimFault::BadDisks));
     let names = format!(in rt.alloc(); "{} {}", SimFault::BadLiars, SimFault::Full)?;
     assert_eq!(rt; names.as_str(), "BadLiars Full");
     Ok(())
