@@ -1,5 +1,7 @@
 //! Worked scripts, and what can't be run.
 
+use crate::pictures::CRASH;
+use End::{Events, Line, Sim, Status};
 use commands::{SimulateFault, print_verdicts, simulate_pages, simulate_text, takes_output};
 use script::ScriptFault;
 use sim::SimFault;
@@ -17,6 +19,42 @@ fn simulated(alloc: Global, script: &str) -> Result<(String, Result<u8, Simulate
     Ok((text, result))
 }
 
+/// How `simulate` ends.
+#[derive(Clone, Copy)]
+enum End {
+    /// With that status.
+    Status(u8),
+    /// That line isn't one.
+    Line(u64),
+    /// There are too many events.
+    Events,
+    /// The numbers make no size.
+    Size(SizeFault),
+    /// The script can't be run.
+    Sim(SimFault),
+}
+
+impl End {
+    /// Whether it ended so.
+    fn is(self, ended: &Result<u8, SimulateFault>) -> bool {
+        match ended {
+            Ok(status) => matches!(self, Status(wanted) if wanted == *status),
+            Err(SimulateFault::Line(line)) => matches!(self, Line(wanted) if wanted == *line),
+            Err(SimulateFault::Size(size)) => matches!(self, End::Size(wanted) if wanted == *size),
+            Err(SimulateFault::Sim(sim)) => matches!(self, Sim(wanted) if wanted == *sim),
+            Err(SimulateFault::Events) => matches!(self, Events),
+            Err(_) => false,
+        }
+    }
+}
+
+/// Whether `simulate` prints that of the script, and ends so.
+fn prints(alloc: Global, script: &str, want: &str, end: End) -> bool {
+    let mut output = Vec::new(alloc);
+    let result = simulate_text(alloc, script.as_bytes(), &mut output);
+    output.as_slice() == want.as_bytes() && end.is(&result)
+}
+
 /// Member 3 of four lies: it sends Initials of its own at once to each of the others.
 const ONE_LIAR: &str = "n 4
 t 1
@@ -32,31 +70,9 @@ lie 3 2 000803010000030101000008030100000301020000080301000003010302
 rounds 500
 ";
 
-/// A crash, a restart, and events that are skipped for each reason.
-const FOURTEEN_LINES: &str = "n 4
-t 1
-questions 1
-liars 3
-seed 1
-propose 1 0 1
-deliver 1 0 next
-deliver 1 0 next
-crash 0 lost
-deliver 1 0 0
-restart 0
-restart 0
-deliver 1 0 next
-deliver 3 0 next
-lie 3 0 ff
-lie 3 0 000100
-reset 3 0
-lie 3 0 000100
-fuse 4 off
-";
-
 #[test]
-fn prints_verdicts_and_counts(rt: HostRuntime) -> Result<(), Fail> {
-    for (script, want) in [
+fn prints_verdicts_and_counts(rt: HostRuntime) {
+    let rows = [
         (
             ONE_LIAR,
             "member 0 question 0 round 1 bit 1\nmember 1 question 0 round 1 bit 1\nmember 2 question 0 round 1 bit 1\nevents 4506 skipped 4068\n",
@@ -65,46 +81,43 @@ fn prints_verdicts_and_counts(rt: HostRuntime) -> Result<(), Fail> {
             "n 1\nt 0\nquestions 1\nliars\nseed 7\npropose 0 0 1\nrounds 20\n",
             "member 0 question 0 round 1 bit 1\nevents 21 skipped 2\n",
         ),
-        (FOURTEEN_LINES, "events 14 skipped 6\n"),
+        (CRASH, "events 14 skipped 6\n"),
         (
             "n 4\nt 1\nquestions 1\nliars\nseed 1\n",
             "events 0 skipped 0\n",
         ),
-    ] {
-        let (text, result) = simulated(rt.alloc(), script)?;
-        assert_eq!(rt; text.as_str(), want);
-        assert!(rt; matches!(&result, Ok(0)));
+    ];
+    for (at, (script, want)) in rows.iter().enumerate() {
+        assert!(rt; prints(rt.alloc(), script, want, Status(0)), "row {at}");
+    }
+}
+
+/// The verdicts of the script, beside a trace or with none.
+fn verdicts(alloc: Global, script: &str, trace: bool) -> Result<String, SimulateFault> {
+    Ok(simulate_pages(alloc, script.as_bytes(), trace, false)?.verdicts)
+}
+
+#[test]
+fn a_trace_changes_no_verdict(rt: HostRuntime) -> Result<(), Fail> {
+    for script in [ONE_LIAR, CRASH] {
+        let alone = verdicts(rt.alloc(), script, false)?;
+        let traced = verdicts(rt.alloc(), script, true)?;
+        assert_eq!(rt; alone.as_str(), traced.as_str());
     }
     Ok(())
 }
 
 /// A member alone has one statement more after each, so its groups are what `rounds` delivers.
 #[test]
-fn a_trace_changes_no_verdict(rt: HostRuntime) -> Result<(), Fail> {
-    for script in [ONE_LIAR, FOURTEEN_LINES] {
-        let alone = simulate_pages(rt.alloc(), script.as_bytes(), false, false)?;
-        let traced = simulate_pages(rt.alloc(), script.as_bytes(), true, false)?;
-        assert_eq!(rt; alone.verdicts.as_str(), traced.verdicts.as_str());
-    }
-    Ok(())
-}
-
-#[test]
 fn groups_of_a_member_alone_print_the_same(rt: HostRuntime) -> Result<(), Fail> {
     let head = "n 1\nt 0\nquestions 1\nliars\nseed 7\npropose 0 0 1\n";
     let groups = "group 0 0 256\n".repeat(rt.alloc(), 20)?;
     let script = format!(in rt.alloc(); "{head}{groups}")?;
-    let (text, result) = simulated(rt.alloc(), script.as_str())?;
-    assert!(rt; matches!(&result, Ok(0)));
-    assert_eq!(rt;
-        text.as_str(),
-        "member 0 question 0 round 1 bit 1\nevents 21 skipped 2\n"
-    );
+    let want = "member 0 question 0 round 1 bit 1\nevents 21 skipped 2\n";
+    assert!(rt; prints(rt.alloc(), script.as_str(), want, Status(0)));
     for line in ["group 0 0 0", "group 0 0 257"] {
         let script = format!(in rt.alloc(); "{head}{line}\n")?;
-        let (text, result) = simulated(rt.alloc(), script.as_str())?;
-        assert!(rt; matches!(&result, Err(SimulateFault::Line(7))));
-        assert_eq!(rt; text.as_str(), "");
+        assert!(rt; prints(rt.alloc(), script.as_str(), "", Line(7)), "{line}");
     }
     Ok(())
 }
@@ -131,29 +144,25 @@ fn runs_a_million_events(rt: HostRuntime) -> Result<(), Fail> {
 }
 
 #[test]
-fn prints_nothing_of_what_cannot_be_run(rt: HostRuntime) -> Result<(), Fail> {
-    let (text, result) = simulated(
-        rt.alloc(),
-        "n 4\nt 1\nquestions 1\nliars 3\nseed 1\nrestart\n",
-    )?;
-    assert!(rt; matches!(&result, Err(SimulateFault::Line(6))));
-    assert_eq!(rt; text.as_str(), "");
-    let (text, result) = simulated(rt.alloc(), "n 3\nt 1\nquestions 1\n")?;
-    assert!(rt; matches!(&result, Err(SimulateFault::Size(SizeFault::TooManyLiars))));
-    assert_eq!(rt; text.as_str(), "");
-    let (text, result) = simulated(
-        rt.alloc(),
-        "n 4\nt 1\nquestions 1\nliars\nseed 1\nrandom 1000001\n",
-    )?;
-    assert!(rt; matches!(&result, Err(SimulateFault::Events)));
-    assert_eq!(rt; text.as_str(), "");
-    let (text, result) = simulated(
-        rt.alloc(),
-        "n 4\nt 1\nquestions 1\nliars 2 3\nseed 1\nrandom 10\n",
-    )?;
-    assert!(rt; matches!(&result, Err(SimulateFault::Sim(SimFault::BadLiars))));
-    assert_eq!(rt; text.as_str(), "");
-    Ok(())
+fn prints_nothing_of_what_cannot_be_run(rt: HostRuntime) {
+    let rows = [
+        ("n 4\nt 1\nquestions 1\nliars 3\nseed 1\nrestart\n", Line(6)),
+        (
+            "n 3\nt 1\nquestions 1\n",
+            End::Size(SizeFault::TooManyLiars),
+        ),
+        (
+            "n 4\nt 1\nquestions 1\nliars\nseed 1\nrandom 1000001\n",
+            Events,
+        ),
+        (
+            "n 4\nt 1\nquestions 1\nliars 2 3\nseed 1\nrandom 10\n",
+            Sim(SimFault::BadLiars),
+        ),
+    ];
+    for (at, (script, end)) in rows.iter().enumerate() {
+        assert!(rt; prints(rt.alloc(), script, "", *end), "row {at}");
+    }
 }
 
 /// A writer that takes nothing.
@@ -178,8 +187,18 @@ fn ends_where_the_output_fails(rt: HostRuntime) -> Result<(), Fail> {
     Ok(())
 }
 
+/// Whether the verdicts, put aside or not, stand so in the output and among the errors.
+fn puts(alloc: Global, aside: bool, printed: &str, said: &str) -> bool {
+    let mut output = Vec::new(alloc);
+    let mut errors = Vec::new(alloc);
+    let ended = print_verdicts(aside, "events", &mut output, &mut errors);
+    matches!(&ended, Ok(0))
+        && output.as_slice() == printed.as_bytes()
+        && errors.as_slice() == said.as_bytes()
+}
+
 #[test]
-fn a_page_takes_the_output(rt: HostRuntime) -> Result<(), Fail> {
+fn a_page_takes_the_output(rt: HostRuntime) {
     for (trace, chart, want) in [
         (None, None, false),
         (Some("-"), None, true),
@@ -190,15 +209,8 @@ fn a_page_takes_the_output(rt: HostRuntime) -> Result<(), Fail> {
     ] {
         assert!(rt; takes_output(trace, chart) == want);
     }
-    for (aside, printed, said) in [(false, "events", ""), (true, "", "events")] {
-        let mut output = Vec::new(rt.alloc());
-        let mut errors = Vec::new(rt.alloc());
-        let result = print_verdicts(aside, "events", &mut output, &mut errors);
-        assert!(rt; matches!(&result, Ok(0)));
-        assert!(rt; output.as_slice() == printed.as_bytes());
-        assert!(rt; errors.as_slice() == said.as_bytes());
-    }
-    Ok(())
+    assert!(rt; puts(rt.alloc(), false, "events", ""));
+    assert!(rt; puts(rt.alloc(), true, "", "events"));
 }
 
 #[test]

@@ -1,22 +1,17 @@
 //! Charts of worked scripts.
 
-use disk::MemDisk;
+use crate::pictures::{CRASH, run_of};
 use report::chart_text;
 use std::alloc::Global;
+use std::process::Abort;
 use std::test::Fail;
 
-/// The events of the script, what became of them, and the chart.
+/// The chart of a run of the script.
 pub(crate) fn drawn(alloc: Global, script: &str) -> Result<String, Fail> {
     let script = script::read(alloc, script.as_bytes())
         .ok()
         .ok_or("a script")?;
-    let mut disks = Vec::new(alloc);
-    for _ in 0..script.size.n() {
-        disks.push(MemDisk::new(alloc))?;
-    }
-    let outcome = sim::run(alloc, script.size, &script.liars, disks, &script.events)
-        .ok()
-        .ok_or("a run")?;
+    let outcome = run_of(alloc, &script)?;
     let chart = chart_text(
         alloc,
         script.size,
@@ -33,27 +28,17 @@ fn count(chart: &str, words: &str) -> usize {
     chart.matches(words).count()
 }
 
-/// A crash, a restart, and events that are skipped for each reason.
-const CRASH: &str = "n 4
-t 1
-questions 1
-liars 3
-seed 1
-propose 1 0 1
-deliver 1 0 next
-deliver 1 0 next
-crash 0 lost
-deliver 1 0 0
-restart 0
-restart 0
-deliver 1 0 next
-deliver 3 0 next
-lie 3 0 ff
-lie 3 0 000100
-reset 3 0
-lie 3 0 000100
-fuse 4 off
-";
+/// The words of each row stand so often in the chart.
+fn compare(rt: &impl Abort, chart: &str, rows: &[(&str, usize)]) {
+    for (at, (words, times)) in rows.iter().enumerate() {
+        assert!(rt; count(chart, words) == *times, "row {at}");
+    }
+}
+
+/// Whether the words stand once in the chart of the script.
+fn draws(alloc: Global, script: &str, words: &str) -> Result<bool, Fail> {
+    Ok(count(drawn(alloc, script)?.as_str(), words) == 1)
+}
 
 #[test]
 fn draws_a_crash(rt: HostRuntime) -> Result<(), Fail> {
@@ -61,7 +46,7 @@ fn draws_a_crash(rt: HostRuntime) -> Result<(), Fail> {
     let chart = chart.as_str();
     assert!(rt; chart.starts_with("<svg "));
     assert!(rt; chart.ends_with("</svg>\n"));
-    for (words, times) in [
+    let rows = [
         (">member 0<", 1),
         (">member 1<", 1),
         (">member 2<", 1),
@@ -84,9 +69,8 @@ fn draws_a_crash(rt: HostRuntime) -> Result<(), Fail> {
         // Member 0 is down between the crash and the restart alone; the other dashed line is the legend's.
         ("class=\"down\"", 2),
         ("class=\"down\" d=\"M110 138V174\"", 1),
-    ] {
-        assert!(rt; count(chart, words) == times, "at {words}");
-    }
+    ];
+    compare(&rt, chart, &rows);
     Ok(())
 }
 
@@ -111,8 +95,7 @@ fn draws_disks_that_fail_and_decisions(rt: HostRuntime) -> Result<(), Fail> {
         ),
     ] {
         let script = format!(in rt.alloc(); "{head}{events}")?;
-        let chart = drawn(rt.alloc(), script.as_str())?;
-        assert!(rt; count(chart.as_str(), words) == 1, "at {words}");
+        assert!(rt; draws(rt.alloc(), script.as_str(), words)?, "at {words}");
     }
     Ok(())
 }
@@ -134,15 +117,14 @@ deliver 1 0 next
 group 1 1 256
 ";
     let chart = drawn(rt.alloc(), script)?;
-    for (words, times) in [
+    let rows = [
         (">group of 3<", 1),
         (">says 3 echos<", 1),
         (">initial 3 1 1 1 one<", 1),
         (">group of 4<", 1),
         (">says 4 echos<", 1),
-    ] {
-        assert!(rt; count(chart.as_str(), words) == times, "at {words}");
-    }
+    ];
+    compare(&rt, chart.as_str(), &rows);
     Ok(())
 }
 
@@ -173,24 +155,30 @@ fn names_the_statements_of_liars(rt: HostRuntime) -> Result<(), Fail> {
         ("000902000000000000000000", ">000902000000000000000000<"),
     ] {
         let script = format!(in rt.alloc(); "{head}lie 3 0 {bytes}\n")?;
-        let chart = drawn(rt.alloc(), script.as_str())?;
-        assert!(rt; count(chart.as_str(), words) == 1, "at {bytes}");
+        assert!(rt; draws(rt.alloc(), script.as_str(), words)?, "at {bytes}");
     }
     Ok(())
 }
 
+/// The chart of so many events that have a row each.
+fn rows_of(alloc: Global, count: usize) -> Result<String, Fail> {
+    let events = "fuse 0 off\n".repeat(alloc, count)?;
+    let script = format!(in alloc; "n 1\nt 0\nquestions 1\nliars\nseed 1\n{events}")?;
+    drawn(alloc, script.as_str())
+}
+
 #[test]
 fn heads_stand_again_after_forty_rows(rt: HostRuntime) -> Result<(), Fail> {
-    let head = "n 1\nt 0\nquestions 1\nliars\nseed 1\n";
-    let forty = "fuse 0 off\n".repeat(rt.alloc(), 40)?;
-    let script = format!(in rt.alloc(); "{head}{forty}")?;
-    let chart = drawn(rt.alloc(), script.as_str())?;
-    assert!(rt; count(chart.as_str(), ">member 0<") == 1);
-    assert!(rt; count(chart.as_str(), "y=\"1470\" class=\"number\" dy=\"4\">40<") == 1);
-    let script = format!(in rt.alloc(); "{head}{forty}fuse 0 off\n")?;
-    let chart = drawn(rt.alloc(), script.as_str())?;
-    assert!(rt; count(chart.as_str(), ">member 0<") == 2);
-    assert!(rt; count(chart.as_str(), "y=\"1506\" class=\"head\">member 0<") == 1);
-    assert!(rt; count(chart.as_str(), "y=\"1542\" class=\"number\" dy=\"4\">41<") == 1);
+    let forty = [
+        (">member 0<", 1),
+        ("y=\"1470\" class=\"number\" dy=\"4\">40<", 1),
+    ];
+    compare(&rt, rows_of(rt.alloc(), 40)?.as_str(), &forty);
+    let more = [
+        (">member 0<", 2),
+        ("y=\"1506\" class=\"head\">member 0<", 1),
+        ("y=\"1542\" class=\"number\" dy=\"4\">41<", 1),
+    ];
+    compare(&rt, rows_of(rt.alloc(), 41)?.as_str(), &more);
     Ok(())
 }

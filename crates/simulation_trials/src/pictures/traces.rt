@@ -1,6 +1,6 @@
 //! Traces of worked scripts: of a run, and of marks and saved records that are written by hand.
 
-use disk::MemDisk;
+use crate::pictures::{CRASH, run_of};
 use report::trace_text;
 use sim::{Event, Mark, Reason};
 use std::alloc::Global;
@@ -35,40 +35,18 @@ fn saved_of(alloc: Global, lists: &[&[Record]]) -> Result<Vec<Vec<Record>>, Fail
     Ok(saved)
 }
 
-/// The events of a crash and a restart.
-const CRASH: &str = "propose 1 0 1
-deliver 1 0 next
-deliver 1 0 next
-crash 0 lost
-deliver 1 0 0
-restart 0
-restart 0
-deliver 1 0 next
-deliver 3 0 next
-lie 3 0 ff
-lie 3 0 000100
-reset 3 0
-lie 3 0 000100
-fuse 4 off
-";
-
 /// The trace of a run of the script.
-fn traced(alloc: Global, script: &[u8]) -> Result<String, Fail> {
-    let script = script::read(alloc, script).ok().ok_or("a script")?;
-    let mut disks = Vec::new(alloc);
-    for _ in 0..script.size.n() {
-        disks.push(MemDisk::new(alloc))?;
-    }
-    let outcome = sim::run(alloc, script.size, &script.liars, disks, &script.events)
+fn traced(alloc: Global, script: &str) -> Result<String, Fail> {
+    let script = script::read(alloc, script.as_bytes())
         .ok()
-        .ok_or("a run")?;
+        .ok_or("a script")?;
+    let outcome = run_of(alloc, &script)?;
     Ok(trace_text(alloc, &script.events, &outcome.marks, &outcome.saved)?)
 }
 
 #[test]
 fn writes_a_line_for_each_event(rt: HostRuntime) -> Result<(), Fail> {
-    let script = format!(in rt.alloc(); "{HEAD}{CRASH}")?;
-    let text = traced(rt.alloc(), script.as_bytes())?;
+    let text = traced(rt.alloc(), CRASH)?;
     assert_eq!(rt;
         text.as_str(),
         "1 propose 1 0 1: done: initial 0 1 1 1 one
@@ -94,7 +72,7 @@ fn writes_a_line_for_each_event(rt: HostRuntime) -> Result<(), Fail> {
 fn writes_a_group_as_one_event(rt: HostRuntime) -> Result<(), Fail> {
     let script =
         "n 4\nt 1\nquestions 2\nliars 3\nseed 1\npropose 1 0 1\npropose 1 1 1\ngroup 1 0 256\ngroup 1 0 1\n";
-    let text = traced(rt.alloc(), script.as_bytes())?;
+    let text = traced(rt.alloc(), script)?;
     assert_eq!(rt;
         text.as_str(),
         "1 propose 1 0 1: done: initial 0 1 1 1 one
@@ -106,12 +84,23 @@ fn writes_a_group_as_one_event(rt: HostRuntime) -> Result<(), Fail> {
     Ok(())
 }
 
+/// Whether that is the trace of the lines' events with these marks and saved records.
+fn writes(
+    alloc: Global,
+    lines: &str,
+    marks: &[Mark],
+    saved: &[&[Record]],
+    want: &str,
+) -> Result<bool, Fail> {
+    let events = events_of(alloc, lines)?;
+    let saved = saved_of(alloc, saved)?;
+    Ok(trace_text(alloc, &events, marks, &saved)?.as_str() == want)
+}
+
 #[test]
 fn writes_the_other_words(rt: HostRuntime) -> Result<(), Fail> {
-    let alloc = rt.alloc();
     let lines =
         "fuse 2 7\npropose 2 0 0\ncrash 2 kept\ncrash 2 fill 7F\ndeliver 0 2 012\nlie 3 255 0AfF\n";
-    let events = events_of(alloc, lines)?;
     let marks = [
         Mark::Done,
         Mark::Failed,
@@ -126,40 +115,30 @@ fn writes_the_other_words(rt: HostRuntime) -> Result<(), Fail> {
         bit: true,
     };
     let records = [one(Kind::Echo)?, one(Kind::Ready)?, decided];
-    let none: &[Record] = &[];
-    let saved = saved_of(alloc, &[none, none, none, none, &records, none])?;
-    let text = trace_text(alloc, &events, &marks, &saved)?;
-    assert_eq!(rt;
-        text.as_str(),
-        "1 fuse 2 7: done
+    let saved: [&[Record]; 6] = [&[], &[], &[], &[], &records, &[]];
+    let want = "1 fuse 2 7: done
 2 propose 2 0 0: failed
 3 crash 2 kept: done
 4 crash 2 fill 7f: done
 5 deliver 0 2 12: done: echo 0 1 1 1 one, ready 0 1 1 1 one, decided 9 2 1
 6 lie 3 255 0aff: skipped no-such
-"
-    );
+";
+    assert!(rt; writes(rt.alloc(), lines, &marks, &saved, want)?);
     Ok(())
 }
 
 #[test]
 fn goes_as_far_as_the_shortest(rt: HostRuntime) -> Result<(), Fail> {
-    let alloc = rt.alloc();
-    let events = events_of(alloc, "restart 0\nrestart 1\nrestart 2\n")?;
+    let lines = "restart 0\nrestart 1\nrestart 2\n";
     let marks = [Mark::Done, Mark::Done, Mark::Done, Mark::Done];
-    let none: &[Record] = &[];
-    let saved = saved_of(alloc, &[none, none])?;
-    for (marks, saved, want) in [
-        (
-            marks.as_slice(),
-            saved.as_slice(),
-            "1 restart 0: done\n2 restart 1: done\n",
-        ),
-        (&marks[..1], saved.as_slice(), "1 restart 0: done\n"),
-        (marks.as_slice(), &saved[..0], ""),
-    ] {
-        let text = trace_text(alloc, &events, marks, saved)?;
-        assert_eq!(rt; text.as_str(), want);
+    let saved: [&[Record]; 2] = [&[], &[]];
+    let rows: [(&[Mark], &[&[Record]], &str); 3] = [
+        (&marks, &saved, "1 restart 0: done\n2 restart 1: done\n"),
+        (&marks[..1], &saved, "1 restart 0: done\n"),
+        (&marks, &[], ""),
+    ];
+    for (at, (marks, saved, want)) in rows.iter().enumerate() {
+        assert!(rt; writes(rt.alloc(), lines, marks, saved, want)?, "row {at}");
     }
     Ok(())
 }
