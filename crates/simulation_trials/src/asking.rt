@@ -1,6 +1,7 @@
 //! A client's line, and what it makes of the reply.
 
 use commands::{TalkFault, ask_line, propose_line, status_line, talk};
+use std::alloc::Global;
 use std::io;
 use std::io::Write;
 use std::test::Fail;
@@ -22,8 +23,20 @@ impl Write for Ended {
     }
 }
 
+/// Whether a client that asks of question 65535 sends its line, prints that of the reply, and ends with the status.
+fn prints(alloc: Global, line: &str, reply: &str, printed: &str, status: u8) -> bool {
+    let mut sent = Vec::new(alloc);
+    let mut output = Vec::new(alloc);
+    let mut rest = reply.as_bytes();
+    let ended = talk(alloc, line, &mut sent, &mut rest, &mut output);
+    ended == Ok(status)
+        && output.as_slice() == printed.as_bytes()
+        && sent.as_slice() == "ASK 65535\n".as_bytes()
+}
+
 #[test]
 fn prints_the_reply(rt: HostRuntime) -> Result<(), Fail> {
+    let line = ask_line(rt.alloc(), 65535)?;
     for (reply, printed, status) in [
         ("OK\n", "OK\n", 0),
         ("HAVE 1\n", "HAVE 1\n", 0),
@@ -36,19 +49,10 @@ fn prints_the_reply(rt: HostRuntime) -> Result<(), Fail> {
         ("ok\n", "ok\n", 1),
         ("\n", "\n", 1),
     ] {
-        let mut sent = Vec::new(rt.alloc());
-        let mut output = Vec::new(rt.alloc());
-        let line = ask_line(rt.alloc(), 65535)?;
-        let result = talk(
-            rt.alloc(),
-            line.as_str(),
-            &mut sent,
-            &mut reply.as_bytes(),
-            &mut output,
+        assert!(rt;
+            prints(rt.alloc(), line.as_str(), reply, printed, status),
+            "at {reply:?}"
         );
-        assert!(rt; result == Ok(status), "at {reply:?}");
-        assert!(rt; output.as_slice() == printed.as_bytes(), "at {reply:?}");
-        assert!(rt; sent.as_slice() == "ASK 65535\n".as_bytes());
     }
     let line = propose_line(rt.alloc(), 0, 2)?;
     assert_eq!(rt; line.as_str(), "PROPOSE 0 2\n");
@@ -56,34 +60,31 @@ fn prints_the_reply(rt: HostRuntime) -> Result<(), Fail> {
     Ok(())
 }
 
+/// What a client that asks makes of the reply, with that connection and that output.
+fn asked<S: Write, W: Write>(
+    alloc: Global,
+    reply: &[u8],
+    sent: &mut S,
+    output: &mut W,
+) -> Result<u8, TalkFault> {
+    let mut rest = reply;
+    talk(alloc, "ASK 0\n", sent, &mut rest, output)
+}
+
 #[test]
 fn names_what_ends_it(rt: HostRuntime) -> Result<(), Fail> {
     let long = [b'A'; 65];
-    for reply in ["".as_bytes(), "OK".as_bytes(), long.as_slice()] {
-        let mut sent = Vec::new(rt.alloc());
-        let mut output = Vec::new(rt.alloc());
-        let mut rest = reply;
-        let result = talk(rt.alloc(), "ASK 0\n", &mut sent, &mut rest, &mut output);
-        assert!(rt; result == Err(TalkFault::NoAnswer));
-        assert!(rt; output.is_empty());
-    }
-    let mut output = Vec::new(rt.alloc());
-    let refused = talk(
-        rt.alloc(),
-        "ASK 0\n",
-        &mut Ended,
-        &mut "OK\n".as_bytes(),
-        &mut output,
-    );
-    assert!(rt; refused == Err(TalkFault::NoAnswer));
     let mut sent = Vec::new(rt.alloc());
-    let torn = talk(
-        rt.alloc(),
-        "ASK 0\n",
-        &mut sent,
-        &mut "OK\n".as_bytes(),
-        &mut Ended,
-    );
+    let mut output = Vec::new(rt.alloc());
+    let replies: [&[u8]; 3] = [b"", b"OK", &long];
+    for (at, reply) in replies.iter().enumerate() {
+        let found = asked(rt.alloc(), reply, &mut sent, &mut output);
+        assert!(rt; found == Err(TalkFault::NoAnswer), "row {at}");
+        assert!(rt; output.is_empty(), "row {at}");
+    }
+    let refused = asked(rt.alloc(), b"OK\n", &mut Ended, &mut output);
+    assert!(rt; refused == Err(TalkFault::NoAnswer));
+    let torn = asked(rt.alloc(), b"OK\n", &mut sent, &mut Ended);
     assert!(rt; torn == Err(TalkFault::Stream));
     for (fault, want) in [
         (TalkFault::NoAnswer, "no answer"),

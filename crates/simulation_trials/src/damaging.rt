@@ -2,6 +2,7 @@
 
 use commands::{bytes_at, fault_place};
 use journal::JournalFault;
+use journal::JournalFault::{BadRecord, CutShort};
 use std::alloc::{AllocError, Global};
 use std::test::Fail;
 
@@ -24,32 +25,35 @@ fn journal(alloc: Global, one: &[u8], two: &[u8], end: &[u8]) -> Result<Vec<u8>,
     Ok(file)
 }
 
-/// Where a file of the header and these, cut short, goes wrong.
-fn cut(alloc: Global, one: &[u8], two: &[u8], end: &[u8]) -> Result<Option<usize>, Fail> {
+/// Where a file of the header and these goes wrong with that fault.
+fn place_of(
+    alloc: Global,
+    fault: JournalFault,
+    (one, two, end): (&[u8], &[u8], &[u8]),
+) -> Result<Option<usize>, Fail> {
     let file = journal(alloc, one, two, end)?;
-    Ok(fault_place(alloc, JournalFault::CutShort, &file)?)
-}
-
-/// Where a file of the header and these, with a bad record, goes wrong.
-fn bad(alloc: Global, one: &[u8], two: &[u8], end: &[u8]) -> Result<Option<usize>, Fail> {
-    let file = journal(alloc, one, two, end)?;
-    Ok(fault_place(alloc, JournalFault::BadRecord, &file)?)
+    Ok(fault_place(alloc, fault, &file)?)
 }
 
 #[test]
 fn a_file_goes_wrong_behind_its_batches(rt: HostRuntime) -> Result<(), Fail> {
-    let alloc = rt.alloc();
-    // No gate at all, and one that opens nothing.
-    assert!(rt; cut(alloc, &[], &[], &[])? == Some(24));
-    assert!(rt; cut(alloc, &BATCH, &[], &[1])? == Some(34));
-    // A batch with no gate behind it, and one that lacks a byte.
-    assert!(rt; cut(alloc, &BATCH, &[], &[])? == Some(24));
-    assert!(rt; cut(alloc, &BATCH, &BATCH, &BATCH[..9])? == Some(44));
-    // A record that is none, in the second batch and in the first.
-    assert!(rt; bad(alloc, &BATCH, &ODD, &[0])? == Some(34));
-    assert!(rt; bad(alloc, &ODD, &BATCH, &[0])? == Some(24));
-    // A count of 0.
-    assert!(rt; bad(alloc, &BATCH, &[1, 0, 0], &[0])? == Some(34));
+    let rows: [(JournalFault, (&[u8], &[u8], &[u8]), usize); 7] = [
+        // No gate at all, and one that opens nothing.
+        (CutShort, (&[], &[], &[]), 24),
+        (CutShort, (&BATCH, &[], &[1]), 34),
+        // A batch with no gate behind it, and one that lacks a byte.
+        (CutShort, (&BATCH, &[], &[]), 24),
+        (CutShort, (&BATCH, &BATCH, &BATCH[..9]), 44),
+        // A record that is none, in the second batch and in the first.
+        (BadRecord, (&BATCH, &ODD, &[0]), 34),
+        (BadRecord, (&ODD, &BATCH, &[0]), 24),
+        // A count of 0.
+        (BadRecord, (&BATCH, &[1, 0, 0], &[0]), 34),
+    ];
+    for (at, (fault, parts, place)) in rows.iter().enumerate() {
+        let found = place_of(rt.alloc(), *fault, *parts)?;
+        assert!(rt; found == Some(*place), "row {at}");
+    }
     Ok(())
 }
 
@@ -77,23 +81,25 @@ fn other_faults_are_of_the_start_or_of_no_place(rt: HostRuntime) -> Result<(), F
 
 #[test]
 fn bytes_are_shown_in_digits(rt: HostRuntime) -> Result<(), Fail> {
-    for (file, place, want) in [
-        (b"\x0a\xff".as_slice(), 0, "bytes 0a ff"),
-        (b"\x0a\xff".as_slice(), 1, "bytes ff"),
-        (b"\x0a\xff".as_slice(), 2, "end of file"),
-        (b"\x0a\xff".as_slice(), 3, "end of file"),
+    let rows: [(&[u8], usize, &str); 6] = [
+        (b"\x0a\xff", 0, "bytes 0a ff"),
+        (b"\x0a\xff", 1, "bytes ff"),
+        (b"\x0a\xff", 2, "end of file"),
+        (b"\x0a\xff", 3, "end of file"),
         (
-            b"\x000123456789abcdef".as_slice(),
+            b"\x000123456789abcdef",
             1,
             "bytes 30 31 32 33 34 35 36 37 38 39 61 62 63 64 65 66",
         ),
         (
-            b"\x000123456789abcdef".as_slice(),
+            b"\x000123456789abcdef",
             0,
             "bytes 00 30 31 32 33 34 35 36 37 38 39 61 62 63 64 65 ..",
         ),
-    ] {
-        assert_eq!(rt; bytes_at(rt.alloc(), file, place)?.as_str(), want);
+    ];
+    for (at, (file, place, want)) in rows.iter().enumerate() {
+        let shown = bytes_at(rt.alloc(), file, *place)?;
+        assert!(rt; shown.as_str() == *want, "row {at}");
     }
     Ok(())
 }

@@ -5,7 +5,8 @@
 use rounds::Toss;
 use script::{Script, ScriptFault, Source, read};
 use sim::Event;
-use std::alloc::Global;
+use std::alloc::{AllocError, Global};
+use std::process::Abort;
 use std::test::Fail;
 use terms::{Size, SizeFault};
 
@@ -37,6 +38,20 @@ fn toss_of(event: &Event) -> Option<Toss> {
     }
 }
 
+/// Whether that is the event's line.
+fn is_line(alloc: Global, event: &Event, want: &str) -> Result<bool, AllocError> {
+    Ok(format!(in alloc; "{event}")?.as_str() == want)
+}
+
+/// Whether the line stands for one event, whose line is the other.
+fn stands_for(rt: &HostRuntime, line: &str, want: &str) -> Result<bool, Fail> {
+    let script = behind_head(rt, line)?.ok().ok_or("a script")?;
+    match script.events.as_slice() {
+        [event] => Ok(is_line(rt.alloc(), event, want)?),
+        _ => Ok(false),
+    }
+}
+
 #[test]
 fn each_line_is_its_event(rt: HostRuntime) -> Result<(), Fail> {
     let lines = [
@@ -62,14 +77,14 @@ fn each_line_is_its_event(rt: HostRuntime) -> Result<(), Fail> {
         ("reset 1 2", "reset 1 2"),
     ];
     for (line, want) in lines {
-        let script = behind_head(&rt, line)?.ok().ok_or("a script")?;
-        assert_eq!(rt; script.events.len(), 1);
-        for event in &script.events {
-            let text = format!(in rt.alloc(); "{event}")?;
-            assert_eq!(rt; text.as_str(), want);
-        }
+        assert!(rt; stands_for(&rt, line, want)?, "{line}");
     }
     Ok(())
+}
+
+/// n, t, and how many questions there are.
+fn numbers(size: Size) -> (u8, u8, u16) {
+    (size.n(), size.t(), size.questions())
 }
 
 #[test]
@@ -77,9 +92,7 @@ fn skips_empty_lines_and_remarks(rt: HostRuntime) -> Result<(), Fail> {
     let text =
         b"# a script\n\nn 4\nt 1\n#\nquestions 1\n\n\nliars\nseed 18446744073709551615\n\n#restart 0\nrestart 1";
     let script = read_again(&rt, text).ok().ok_or("a script")?;
-    assert_eq!(rt; script.size.n(), 4);
-    assert_eq!(rt; script.size.t(), 1);
-    assert_eq!(rt; script.size.questions(), 1);
+    assert!(rt; numbers(script.size) == (4, 1, 1));
     assert_eq!(rt; script.liars.len(), 0);
     assert!(rt; script.events.as_slice() == [Event::Restart { member: 1 }].as_slice());
     Ok(())
@@ -93,6 +106,12 @@ fn lists_liars_as_they_stand(rt: HostRuntime) -> Result<(), Fail> {
     Ok(())
 }
 
+/// Whether the event is the delivery of what is next.
+fn delivers(alloc: Global, event: &Event, from: u8, to: u8) -> Result<bool, AllocError> {
+    let want = format!(in alloc; "deliver {from} {to} next")?;
+    is_line(alloc, event, want.as_str())
+}
+
 #[test]
 fn rounds_go_over_the_links_of_correct_members(rt: HostRuntime) -> Result<(), Fail> {
     let text = b"n 4\nt 1\nquestions 1\nliars 1\nseed 5\nrounds 2\n";
@@ -103,9 +122,7 @@ fn rounds_go_over_the_links_of_correct_members(rt: HostRuntime) -> Result<(), Fa
         for from in members {
             for to in members {
                 let event = events.next().ok_or("an event")?;
-                let text = format!(in rt.alloc(); "{event}")?;
-                let want = format!(in rt.alloc(); "deliver {from} {to} next")?;
-                assert_eq!(rt; text.as_str(), want.as_str());
+                assert!(rt; delivers(rt.alloc(), event, from, to)?, "{from} to {to}");
             }
         }
     }
@@ -157,19 +174,34 @@ const DRAWN: [(&str, Option<u64>); 40] = [
     ("deliver 1 0 next", Some(0xf853971bd60b8ed1)),
 ];
 
-#[test]
-fn draws_events(rt: HostRuntime) -> Result<(), Fail> {
-    let script = behind_head(&rt, "random 40\n")?.ok().ok_or("a script")?;
-    assert_eq!(rt; script.events.len(), DRAWN.len());
-    for (event, (line, toss)) in script.events.iter().zip(DRAWN) {
-        let text = format!(in rt.alloc(); "{event}")?;
-        assert_eq!(rt; text.as_str(), line);
+/// The events have those lines and those tosses.
+fn compare_drawn(
+    rt: &(impl Abort + AllocGlobal),
+    events: &[Event],
+    drawn: &[(&str, Option<u64>)],
+) -> Result<(), Fail> {
+    for (event, (line, toss)) in events.iter().zip(drawn) {
+        assert!(rt; is_line(rt.alloc(), event, line)?, "line of {event}");
         assert!(rt;
-            toss_of(event).map(|toss| toss.0) == toss,
+            toss_of(event).map(|toss| toss.0) == *toss,
             "toss of {event}"
         );
     }
     Ok(())
+}
+
+#[test]
+fn draws_events(rt: HostRuntime) -> Result<(), Fail> {
+    let script = behind_head(&rt, "random 40\n")?.ok().ok_or("a script")?;
+    assert_eq!(rt; script.events.len(), DRAWN.len());
+    compare_drawn(&rt, &script.events, &DRAWN)
+}
+
+/// The events have those tosses.
+fn compare(rt: &impl Abort, events: &[Event], want: &[Option<u64>]) {
+    for (event, toss) in events.iter().zip(want) {
+        assert!(rt; toss_of(event).map(|toss| toss.0) == *toss, "{event}");
+    }
 }
 
 /// Lines of events draw their tosses in turn, from the same words; a group draws one, as a delivery does.
@@ -189,9 +221,7 @@ fn draws_a_toss_for_each_event_that_needs_one(rt: HostRuntime) -> Result<(), Fai
     ] {
         let script = behind_head(&rt, lines)?.ok().ok_or("a script")?;
         assert_eq!(rt; script.events.len(), want.len());
-        for (event, toss) in script.events.iter().zip(want) {
-            assert!(rt; toss_of(event).map(|toss| toss.0) == toss, "{event}");
-        }
+        compare(&rt, &script.events, &want);
     }
     Ok(())
 }
@@ -258,6 +288,12 @@ fn names_the_first_fault(rt: HostRuntime) -> Result<(), Fail> {
     Ok(())
 }
 
+/// The fault of a script in which that is the third line of events, and the next one bad.
+fn fault_of(rt: &HostRuntime, line: &str) -> Result<Option<ScriptFault>, Fail> {
+    let text = format!(in rt.alloc(); "# once\nrestart 0\n{line}\nnonsense\n")?;
+    Ok(behind_head(rt, text.as_str())?.err())
+}
+
 #[test]
 fn names_a_bad_line_of_events(rt: HostRuntime) -> Result<(), Fail> {
     for line in [
@@ -303,9 +339,10 @@ fn names_a_bad_line_of_events(rt: HostRuntime) -> Result<(), Fail> {
         "restart 0\r",
         "n 4",
     ] {
-        let text = format!(in rt.alloc(); "# once\nrestart 0\n{line}\nnonsense\n")?;
-        let fault = behind_head(&rt, text.as_str())?.err();
-        assert!(rt; fault == Some(ScriptFault::Line(8)), "{line}");
+        assert!(rt;
+            fault_of(&rt, line)? == Some(ScriptFault::Line(8)),
+            "{line}"
+        );
     }
     Ok(())
 }
