@@ -13,15 +13,32 @@ use terms::{Kind, Memory, Place, Record, Size, Statement, Value};
 /// The toss of all proposals.
 const TOSS: u64 = 0x903d_f1a0_ade0_b876;
 
-/// What a member is to answer to a statement: what it says at the statement's place, or that it takes nothing.
+/// What a member is to answer.
 #[derive(Clone, Copy)]
 enum Want<'a> {
+    /// It says these at the place of the rows.
     Says(&'a [(Kind, Value)]),
+    /// It adds these records.
+    Adds(&'a [Record]),
+    /// That bit was proposed before.
+    Has(bool),
+    /// It heard the like before.
     Repeats,
+    /// The statement is another's.
     IsForeign,
 }
 
-use Want::{IsForeign, Repeats, Says};
+/// What a member is asked.
+#[derive(Clone, Copy)]
+enum Row<'a> {
+    /// A bit is proposed for that question, and it answers so.
+    Propose(u16, bool, Want<'a>),
+    /// The decision of that question.
+    Verdict(u16, Option<(u8, bool)>),
+}
+
+use Row::{Propose, Verdict};
+use Want::{Adds, Has, IsForeign, Repeats, Says};
 
 /// A sender, the kind and the value of its statement at the place of the row, and what is to be answered.
 type Hearing<'a> = (u8, Kind, Value, Want<'a>);
@@ -62,11 +79,16 @@ impl Member {
         answer: Result<Answer, CoreFault>,
     ) -> Result<Answer, Fail> {
         if answer == Err(CoreFault::Memory) {
-            let again = self.core.propose(0, true, Toss(0));
-            assert!(rt; again == Err(CoreFault::Failed));
-            assert!(rt; self.core.verdict(0).is_none());
+            self.has_failed(rt);
         }
         Ok(answer?)
+    }
+
+    /// It answers nothing more.
+    fn has_failed(&mut self, rt: &impl Abort) {
+        let again = self.core.propose(0, true, Toss(0));
+        assert!(rt; again == Err(CoreFault::Failed));
+        assert!(rt; self.core.verdict(0).is_none());
     }
 
     fn hear(&mut self, rt: &impl Abort, from: u8, said: &Statement) -> Result<Answer, Fail> {
@@ -78,20 +100,54 @@ impl Member {
         let answer = self.core.propose(question, bit, Toss(TOSS));
         self.answer(rt, answer)
     }
+
+    /// Whether it answers the row so.
+    fn holds(&mut self, rt: &impl Abort, row: Row) -> Result<bool, Fail> {
+        match row {
+            Propose(question, bit, want) => {
+                Ok(is_wanted(rt, &self.propose(rt, question, bit)?, want))
+            }
+            Verdict(question, verdict) => Ok(self.core.verdict(question) == verdict),
+        }
+    }
+
+    /// Goes through the rows in turn.
+    fn play(&mut self, rt: &impl Abort, rows: &[Row]) -> Result<(), Fail> {
+        for (at, row) in rows.iter().enumerate() {
+            assert!(rt; self.holds(rt, *row)?, "row {at}");
+        }
+        Ok(())
+    }
+
+    /// Takes the statement of each of 32 members.
+    fn take_of_all(&mut self, rt: &impl Abort, said: &Statement) -> Result<(), Fail> {
+        for from in 0..32 {
+            let answer = self.hear(rt, from, said)?;
+            assert!(rt; matches!(answer, Answer::Taken(_)), "from {from}");
+        }
+        Ok(())
+    }
 }
 
 /// Whether that is answered.
 fn is_wanted(rt: &impl Abort, answer: &Answer, want: Want) -> bool {
     match (answer, want) {
         (Answer::Repeat, Repeats) | (Answer::Foreign, IsForeign) => true,
-        (Answer::Taken(records), Says(said)) => {
-            records.len() == said.len()
-                && records.iter().zip(said).all(|(record, (kind, value))| {
-                    *record == Record::Said(at_row(rt, *kind, *value))
-                })
-        }
+        (Answer::Have(has), Has(bit)) => *has == bit,
+        (Answer::Taken(records), Adds(wanted)) => records.as_slice() == wanted,
+        (Answer::Taken(records), Says(said)) => are_said(rt, records, said),
         _ => false,
     }
+}
+
+/// Whether the records are these statements at the place of the rows.
+fn are_said(rt: &impl Abort, records: &[Record], said: &[(Kind, Value)]) -> bool {
+    for (record, (kind, value)) in records.iter().zip(said) {
+        if *record != Record::Said(at_row(rt, *kind, *value)) {
+            return false;
+        }
+    }
+    records.len() == said.len()
 }
 
 /// Lets a member that opens with those statements of its own hear others in turn.
@@ -118,16 +174,11 @@ fn play(
 /// The greatest cluster, its last question, its last member.
 #[test]
 fn largest_core_takes_part(rt: HostRuntime) -> Result<(), Fail> {
-    let own = statement(&rt, Initial, (255, 31, 1, 1), One);
+    let own = Record::Said(statement(&rt, Initial, (255, 31, 1, 1), One));
+    let echo = statement(&rt, Echo, (255, 5, 1, 1), One);
     let mut member = Member::open(&rt, Size::new(32, 10, 256)?, 31, &[])?;
-    let answer = member.propose(&rt, 255, true)?;
-    assert!(rt; answer == Answer::Taken(vec![in rt.alloc(); Record::Said(own); 1]?));
-    for from in 0..32 {
-        let echo = statement(&rt, Echo, (255, 5, 1, 1), One);
-        let answer = member.hear(&rt, from, &echo)?;
-        assert!(rt; matches!(answer, Answer::Taken(_)), "from {from}");
-    }
-    Ok(())
+    member.play(&rt, &[Propose(255, true, Adds(&[own]))])?;
+    member.take_of_all(&rt, &echo)
 }
 
 #[test]
@@ -260,13 +311,13 @@ fn member_alone_decides_in_round_one(rt: HostRuntime) -> Result<(), Fail> {
 #[test]
 fn first_proposal_stands(rt: HostRuntime) -> Result<(), Fail> {
     let own = Record::Said(statement(&rt, Initial, (1, 2, 1, 1), Zero));
-    let mut member = Member::open(&rt, Size::new(4, 1, 2)?, 2, &[])?;
-    let answer = member.propose(&rt, 1, false)?;
-    assert!(rt;
-        matches!(&answer, Answer::Taken(records) if records.as_slice() == [own].as_slice())
-    );
-    assert!(rt; member.propose(&rt, 1, true)? == Answer::Have(false));
-    Ok(())
+    Member::open(&rt, Size::new(4, 1, 2)?, 2, &[])?.play(
+        &rt,
+        &[
+            Propose(1, false, Adds(&[own])),
+            Propose(1, true, Has(false)),
+        ],
+    )
 }
 
 #[test]
@@ -309,12 +360,15 @@ fn first_of_several_records_counts(rt: HostRuntime) -> Result<(), Fail> {
             bit: true,
         },
     ];
-    let mut member = Member::open(&rt, Size::new(4, 1, 2)?, 0, &records)?;
-    assert!(rt; member.propose(&rt, 0, false)? == Answer::Have(true));
-    assert!(rt; member.core.verdict(0) == Some((2, false)));
-    assert!(rt; member.core.verdict(1) == Some((4, true)));
-    assert!(rt; member.core.verdict(2).is_none());
-    Ok(())
+    Member::open(&rt, Size::new(4, 1, 2)?, 0, &records)?.play(
+        &rt,
+        &[
+            Propose(0, false, Has(true)),
+            Verdict(0, Some((2, false))),
+            Verdict(1, Some((4, true))),
+            Verdict(2, None),
+        ],
+    )
 }
 
 /// The fault of opening as that member of four with those records.
@@ -335,13 +389,28 @@ fn first_bad_record_is_the_fault(rt: HostRuntime) -> Result<(), Fail> {
     };
     let of_origin = Record::Said(statement(&rt, Echo, (0, 4, 1, 1), One));
     let of_both = Record::Said(statement(&rt, Echo, (1, 4, 1, 1), One));
-    assert!(rt; opening(&rt, 4, &[of_question])? == Some(CoreFault::NoSuchMember));
-    assert!(rt;
-        opening(&rt, 3, &[good, of_question, of_origin])? == Some(CoreFault::NoSuchQuestion)
-    );
-    assert!(rt; opening(&rt, 3, &[good, of_origin, of_question])? == Some(CoreFault::NoSuchMember));
-    assert!(rt; opening(&rt, 3, &[of_both])? == Some(CoreFault::NoSuchQuestion));
-    assert!(rt; opening(&rt, 3, &[good])?.is_none());
+    let (no_member, no_question) = (CoreFault::NoSuchMember, CoreFault::NoSuchQuestion);
+    for (at, row) in [
+        (4, [of_question].as_slice(), Some(no_member)),
+        (
+            3,
+            [good, of_question, of_origin].as_slice(),
+            Some(no_question),
+        ),
+        (
+            3,
+            [good, of_origin, of_question].as_slice(),
+            Some(no_member),
+        ),
+        (3, [of_both].as_slice(), Some(no_question)),
+        (3, [good].as_slice(), None),
+    ]
+    .iter()
+    .enumerate()
+    {
+        let (me, records, fault) = *row;
+        assert!(rt; opening(&rt, me, records)? == fault, "row {at}");
+    }
     Ok(())
 }
 

@@ -25,6 +25,13 @@ const KEYS: [(&str, &str); 9] = [
     ),
 ];
 
+/// Adds the line of a key.
+fn add_line(alloc: Global, text: &mut String, key: &str, value: &str) -> Result<(), Fail> {
+    let line = format!(in alloc; "{} = {}\n", key, value)?;
+    text.push_str(line.as_str())?;
+    Ok(())
+}
+
 /// The text of those settings with other values for these keys. A key with the value `-` is left out.
 fn text(alloc: Global, changes: &[(&str, &str)]) -> Result<String, Fail> {
     let mut text = String::from_str(alloc, "# a comment\nother = 'left alone'\n")?;
@@ -36,8 +43,7 @@ fn text(alloc: Global, changes: &[(&str, &str)]) -> Result<String, Fail> {
             }
         }
         if value != "-" {
-            let line = format!(in alloc; "{} = {}\n", *key, value)?;
-            text.push_str(line.as_str())?;
+            add_line(alloc, &mut text, *key, value)?;
         }
     }
     Ok(text)

@@ -57,20 +57,24 @@ fn decided_in(record: &Record, question: u16) -> Option<u8> {
 
 /// How many of the messages in the set, of which member a is one if bit a is set, are of that value.
 fn votes(messages: &Messages, set: u8, value: Value) -> usize {
-    messages
-        .iter()
-        .zip([1, 2, 4, 8])
-        .filter(|(m, bit)| set & *bit != 0 && **m == Some(value))
-        .count()
+    let mut found = 0_usize;
+    for (message, bit) in messages.iter().zip([1, 2, 4, 8]) {
+        if set & bit != 0 && *message == Some(value) {
+            found = found.saturating_add(1);
+        }
+    }
+    found
 }
 
 /// How many of the members in the set have a message.
 fn present(messages: &Messages, set: u8) -> usize {
-    messages
-        .iter()
-        .zip([1, 2, 4, 8])
-        .filter(|(m, bit)| set & *bit != 0 && m.is_some())
-        .count()
+    let mut found = 0_usize;
+    for (message, bit) in messages.iter().zip([1, 2, 4, 8]) {
+        if set & bit != 0 && message.is_some() {
+            found = found.saturating_add(1);
+        }
+    }
+    found
 }
 
 /// Whether these messages of that step give the value.
@@ -237,7 +241,7 @@ impl Past {
 
     /// Adds the decision of the least round, and of that round of 0 before 1, that may be made.
     fn decide(&mut self, answer: &mut Vec<Record>, question: u16) -> Result<(), Fail> {
-        for round in 1..=ROUNDS {
+        for round in 1..ROUNDS + 1 {
             let third = self.valid(question, 3 * round + 3)?;
             for (bit, sure) in [(false, SureZero), (true, SureOne)] {
                 if self.decided(question).is_none() && votes(&third, 15, sure) >= THREE {
@@ -255,7 +259,7 @@ impl Past {
 
     /// Adds the own Initials that may be said, each after those before it.
     fn begin(&mut self, answer: &mut Vec<Record>, question: u16, toss: Toss) -> Result<(), Fail> {
-        for number in 5..=3 * ROUNDS + 3 {
+        for number in 5..3 * ROUNDS + 4 {
             if let Some(next) = self.next(question, number, toss)? {
                 self.add(answer, &Record::Said(next))?;
             }
