@@ -5,6 +5,7 @@ ghost use Rattle.std.specs.Arc.{arc_value};
 mod groups;
 
 use crate::beginnings::{at, board, header, open, take};
+use Told::{Counts, Foreign, Have, Repeat, Says};
 use disk::{Disk, FileDisk, MemDisk};
 use member::{MemberFault, Sealed};
 use node::{Board, Entry, Hub, Naming, Rack, Seat, close};
@@ -27,9 +28,32 @@ fn of(kind: Kind, value: Value) -> Result<Statement, Fail> {
     at(0, 0, kind, value)
 }
 
-/// Whether these records are answered.
-fn takes(answer: &Answer, records: &[Record]) -> bool {
-    matches!(answer, Answer::Taken(taken) if taken.as_slice() == records)
+/// What a book answers.
+#[derive(Clone, Copy, PartialEq, Eq)]
+enum Told {
+    /// The event counts, and its one record is that the member said this.
+    Says(Statement),
+    /// The event counts, with other records or none.
+    Counts,
+    /// As [`Answer::Repeat`].
+    Repeat,
+    /// As [`Answer::Foreign`].
+    Foreign,
+    /// As [`Answer::Have`].
+    Have(bool),
+}
+
+/// What the answer tells.
+fn told_by(answered: Result<Answer, MemberFault>) -> Result<Told, MemberFault> {
+    Ok(match answered? {
+        Answer::Taken(records) => match records.as_slice() {
+            [Record::Said(said)] => Says(*said),
+            _ => Counts,
+        },
+        Answer::Repeat => Repeat,
+        Answer::Foreign => Foreign,
+        Answer::Have(bit) => Have(bit),
+    })
 }
 
 // The calls of a book that is lent for one call, without their contracts.
@@ -39,16 +63,16 @@ fn hear<D: Disk, J: Naming, R: Wait>(
     hub: &Hub<D, J>,
     seat: &mut Seat,
     said: &Statement,
-) -> Result<Answer, MemberFault> {
-    hub.lock(rt).apply(seat, said, Toss(0))
+) -> Result<Told, MemberFault> {
+    told_by(hub.lock(rt).apply(seat, said, Toss(0)))
 }
 
 fn propose<D: Disk, J: Naming, R: Wait>(
     rt: &R,
     hub: &Hub<D, J>,
     bit: bool,
-) -> Result<Answer, MemberFault> {
-    hub.lock(rt).propose(0, bit, Toss(0))
+) -> Result<Told, MemberFault> {
+    told_by(hub.lock(rt).propose(0, bit, Toss(0)))
 }
 
 fn status<D: Disk, J: Naming, R: Wait>(rt: &R, hub: &Hub<D, J>) -> Option<(u64, u16)> {
@@ -83,15 +107,15 @@ fn hears_an_initial<J: Naming, R: Wait + Abort>(
     hub: &Hub<MemDisk, J>,
     seat: &mut Seat,
 ) -> Result<bool, Fail> {
-    let answer = hear(rt, hub, seat, &of(Initial, One)?);
+    let (first, other, echo) = (of(Initial, One)?, of(Initial, Zero)?, of(Echo, One)?);
+    let answer = hear(rt, hub, seat, &first);
     if answer == Err(MemberFault::Memory) {
         assert!(rt; status(rt, hub).is_none() && event(rt, hub, 0).is_none());
         assert!(rt; seat.next() == 0);
         return Ok(false);
     }
-    assert!(rt; takes(&answer?, &[Record::Said(of(Echo, One)?)]));
-    let again = hear(rt, hub, seat, &of(Initial, Zero)?)?;
-    assert!(rt; again == Answer::Repeat);
+    assert!(rt; answer? == Says(echo));
+    assert!(rt; hear(rt, hub, seat, &other)? == Repeat);
     assert!(rt; seat.peer() == 0 && seat.next() == 2);
     Ok(true)
 }
@@ -115,13 +139,30 @@ fn hears_of_another<J: Naming, R: Wait + Abort>(
     hub: &Hub<MemDisk, J>,
     rack: &Rack,
 ) -> Result<(), Fail> {
+    let said = of(Initial, One)?;
     let mut other = take(rt, rack, 2)?;
-    let foreign = hear(rt, hub, &mut other, &of(Initial, One)?)?;
-    assert!(rt; foreign == Answer::Foreign && other.next() == 1);
+    let answer = hear(rt, hub, &mut other, &said)?;
+    assert!(rt; answer == Foreign && other.next() == 1);
     Ok(())
 }
 
-/// What came before or is another's leaves no entry; and a hub isn't closed without all seats.
+/// What came before or is another's leaves no entry. Whether there was memory.
+fn hears_two_peers<J: Naming, R: Wait + Abort>(
+    rt: &R,
+    hub: &Hub<MemDisk, J>,
+    rack: &Rack,
+) -> Result<bool, Fail> {
+    let mut seat = take(rt, rack, 0)?;
+    let heard = hears_an_initial(rt, hub, &mut seat)?;
+    rack.put(rt, seat);
+    if heard {
+        has_the_initial(rt, hub)?;
+        hears_of_another(rt, hub, rack)?;
+    }
+    Ok(heard)
+}
+
+/// A hub isn't closed without all seats.
 fn hears_a_peer<J: Naming, R: Wait + Abort + AllocGlobal>(
     rt: &R,
     board: Arc<Board>,
@@ -132,15 +173,10 @@ fn hears_a_peer<J: Naming, R: Wait + Abort + AllocGlobal>(
     let header = header(4, 1, 1, 1)?;
     let disk = MemDisk::new(rt.alloc());
     let (hub, rack) = open::<MemDisk, J>(rt.alloc(), disk, &header, false, board)?;
-    let mut seat = take(rt, &rack, 0)?;
-    if !hears_an_initial(rt, &hub, &mut seat)? {
-        return Ok(());
+    if hears_two_peers(rt, &hub, &rack)? {
+        // The other seat is missing.
+        assert!(rt; !closes(hub, rack.into_seats()));
     }
-    has_the_initial(rt, &hub)?;
-    hears_of_another(rt, &hub, &rack)?;
-    rack.put(rt, seat);
-    // The other seat is missing.
-    assert!(rt; !closes(hub, rack.into_seats()));
     Ok(())
 }
 
@@ -148,6 +184,16 @@ fn hears_a_peer<J: Naming, R: Wait + Abort + AllocGlobal>(
 fn a_statement_is_heard_once(rt: HostRuntime) -> Result<(), Fail> {
     node::laws::links();
     hears_a_peer::<Brand, _>(&rt, board(&rt, 1)?)
+}
+
+/// The statement of that number in the outbox.
+fn said_at<D: Disk, J: Naming, R: Wait>(
+    rt: &R,
+    hub: &Hub<D, J>,
+    number: u64,
+) -> Result<Sealed, Fail> {
+    let pulled = pull(rt, hub, number)?;
+    Ok(*pulled.first().ok_or("a statement of that number")?)
 }
 
 /// Tells the member all that it says itself, which number 8 brings to its decision.
@@ -158,11 +204,10 @@ fn tell<D: Disk, J: Naming, R: Wait + Abort>(
 ) -> Result<(), Fail> {
     for number in 0..18u64 {
         assert!(rt; verdict(rt, hub).is_some() == (number > 8));
-        let pulled = pull(rt, hub, number)?;
-        let said = pulled.first().ok_or("a statement of that number")?;
+        let said = said_at(rt, hub, number)?;
         assert!(rt; said.number() == number);
         let answer = hear(rt, hub, seat, &said.statement())?;
-        assert!(rt; matches!(answer, Answer::Taken(_)));
+        assert!(rt; matches!(answer, Says(_) | Counts));
         hub.ring();
     }
     Ok(())
@@ -176,10 +221,10 @@ fn asked(board: &Board, question: u16) -> Result<Option<bool>, Memory> {
 
 /// The member's proposal is said, and another is answered by it. Nothing is decided.
 fn proposes<D: Disk, J: Naming, R: Wait + Abort>(rt: &R, hub: &Hub<D, J>) -> Result<(), Fail> {
+    let initial = of(Initial, One)?;
     assert!(rt; asked(hub.board(), 0)?.is_none() && asked(hub.board(), 1)?.is_none());
-    let answer = propose(rt, hub, true)?;
-    assert!(rt; takes(&answer, &[Record::Said(of(Initial, One)?)]));
-    assert!(rt; propose(rt, hub, false)? == Answer::Have(true));
+    assert!(rt; propose(rt, hub, true)? == Says(initial));
+    assert!(rt; propose(rt, hub, false)? == Have(true));
     Ok(())
 }
 
@@ -206,6 +251,24 @@ fn shuts<D: Disk, J: Naming, R: Wait + Abort>(rt: &R, hub: &Hub<D, J>) {
     assert!(rt; hub.is_shut() && hub.header().me() == 0);
 }
 
+/// The member takes a proposal, hears what it says itself, and settles its question.
+fn proposes_and_settles<D: Disk, J: Naming, R: Wait + Abort>(
+    rt: &R,
+    hub: &Hub<D, J>,
+    rack: &Rack,
+) -> Result<(), Fail> {
+    let mut seat = take(rt, rack, 0)?;
+    assert!(rt; rack.take(rt, 0).is_none());
+    proposes(rt, hub)?;
+    tell(rt, hub, &mut seat)?;
+    has_settled(rt, hub)?;
+    meets(rt, hub)?;
+    shuts(rt, hub);
+    assert!(rt; seat.next() == 18);
+    rack.put(rt, seat);
+    Ok(())
+}
+
 /// A member alone decides by what it says itself.
 fn settles<D: Disk + Drop, J: Naming, R: Wait + Abort + AllocGlobal>(
     rt: &R,
@@ -217,15 +280,7 @@ fn settles<D: Disk + Drop, J: Naming, R: Wait + Abort + AllocGlobal>(
 {
     let header = header(1, 0, 1, 0)?;
     let (hub, rack) = open::<D, J>(rt.alloc(), disk, &header, false, board)?;
-    let mut seat = take(rt, &rack, 0)?;
-    assert!(rt; rack.take(rt, 0).is_none());
-    proposes(rt, &hub)?;
-    tell(rt, &hub, &mut seat)?;
-    has_settled(rt, &hub)?;
-    meets(rt, &hub)?;
-    shuts(rt, &hub);
-    assert!(rt; seat.next() == 18);
-    rack.put(rt, seat);
+    proposes_and_settles(rt, &hub, &rack)?;
     assert!(rt; closes(hub, rack.into_seats()));
     Ok(())
 }
@@ -314,8 +369,49 @@ fn has_noted<J: Naming, R: Wait + Abort>(
     Ok(())
 }
 
-/// Member 0 decided in an earlier life. One thread keeps the book until a third has read the verdict, and hands in; a
-/// second hands in after that.
+/// One thread keeps the book until a third has read the verdict, and hands in; a second hands in after that.
+fn hand_in_at_once<J: Naming + Send + Sync, R: Threads + Wait + Clock + Abort + Sync>(
+    rt: &R,
+    hub: &Hub<MemDisk, J>,
+    last: &mut Seat,
+    first: &mut Seat,
+) -> Result<(), Fail> {
+    let said = of(Echo, One)?;
+    let passed = AtomicBool::new(false);
+    let read = AtomicBool::new(false);
+    let board: &Board = hub.board();
+    let (late, (early, asked)) = join(
+        rt,
+        || hands_in_last(rt, hub, last, &said, &passed, &read),
+        || {
+            join(
+                rt,
+                || hands_in_first(rt, hub, first, &said, &passed, &read),
+                || asks(rt, board, &read),
+            )
+        },
+    );
+    assert!(rt; asked && early && late);
+    assert!(rt; last.next() == 1 && first.next() == 1);
+    Ok(())
+}
+
+/// The book's history has the links' statements in the order in which they were handed in.
+fn keeps_their_order<J: Naming + Send + Sync, R: Threads + Wait + Clock + Abort + Sync>(
+    rt: &R,
+    hub: &Hub<MemDisk, J>,
+    rack: &Rack,
+) -> Result<(), Fail> {
+    let mut last = take(rt, rack, 1)?;
+    let mut first = take(rt, rack, 2)?;
+    hand_in_at_once(rt, hub, &mut last, &mut first)?;
+    rack.put(rt, last);
+    rack.put(rt, first);
+    has_noted(rt, hub, 0, 2)?;
+    has_noted(rt, hub, 1, 1)
+}
+
+/// Member 0 decided in an earlier life.
 fn at_once<J: Naming + Send + Sync, R: Threads + Wait + Clock + Abort + AllocGlobal + Sync>(
     rt: &R,
     board: Arc<Board>,
@@ -326,30 +422,7 @@ fn at_once<J: Naming + Send + Sync, R: Threads + Wait + Clock + Abort + AllocGlo
     let header = header(4, 1, 1, 0)?;
     let disk = MemDisk::new(rt.alloc());
     let (hub, rack) = open::<MemDisk, J>(rt.alloc(), disk, &header, true, board)?;
-    let mut last = take(rt, &rack, 1)?;
-    let mut first = take(rt, &rack, 2)?;
-    let said = of(Echo, One)?;
-    let passed = AtomicBool::new(false);
-    let read = AtomicBool::new(false);
-    let board: &Board = hub.board();
-    let (late, (early, asked)) = join(
-        rt,
-        || hands_in_last(rt, &hub, &mut last, &said, &passed, &read),
-        || {
-            join(
-                rt,
-                || hands_in_first(rt, &hub, &mut first, &said, &passed, &read),
-                || asks(rt, board, &read),
-            )
-        },
-    );
-    assert!(rt; asked && early && late);
-    assert!(rt; last.next() == 1 && first.next() == 1);
-    // The book's history has the links' statements in the order in which they were handed in.
-    has_noted(rt, &hub, 0, 2)?;
-    has_noted(rt, &hub, 1, 1)?;
-    rack.put(rt, last);
-    rack.put(rt, first);
+    keeps_their_order(rt, &hub, &rack)?;
     assert!(rt; closes(hub, rack.into_seats()));
     Ok(())
 }

@@ -2,7 +2,7 @@
 ghost use Rattle.std.specs.Prelude.{◌≡◌, ◌≤◌, length};
 ghost use Rattle.std.specs.Arc.{arc_value};
 
-use super::{event, propose, status, takes};
+use super::{event, propose, status};
 use crate::beginnings::{at, board, header, start, take};
 use disk::MemDisk;
 use member::MemberFault;
@@ -59,6 +59,11 @@ fn apply_all<J: Naming, R: Wait + Abort>(
     answers
 }
 
+/// Whether these records are answered.
+fn takes(answer: &Answer, records: &[Record]) -> bool {
+    matches!(answer, Answer::Taken(taken) if taken.as_slice() == records)
+}
+
 /// Whether these are the answers to the group: two Echoes, and nothing for the others.
 fn are_answers(answers: &[Answer]) -> Result<bool, Fail> {
     let [first, second, Answer::Repeat, Answer::Foreign] = answers else {
@@ -70,19 +75,31 @@ fn are_answers(answers: &[Answer]) -> Result<bool, Fail> {
     )
 }
 
+/// Whether the book's entry is that event, heard from member 0.
+fn notes<J: Naming, R: Wait>(
+    rt: &R,
+    hub: &Hub<MemDisk, J>,
+    entry: usize,
+    heard: &(Statement, Toss),
+) -> bool {
+    let (statement, toss) = *heard;
+    let noted = Entry::Heard {
+        from: 0,
+        statement,
+        toss,
+    };
+    event(rt, hub, entry) == Some(noted)
+}
+
 /// The book's entries are the group's first two statements, which were answered.
-fn has_the_group<J: Naming, R: Wait + Abort>(rt: &R, hub: &Hub<MemDisk, J>) -> Result<(), Fail> {
+fn has_the_group<J: Naming, R: Wait + Abort>(
+    rt: &R,
+    hub: &Hub<MemDisk, J>,
+    group: &[(Statement, Toss); 4],
+) {
     assert!(rt; status(rt, hub) == Some((2, 0)));
-    for (entry, (statement, toss)) in group()?.into_iter().take(2).enumerate() {
-        let noted = Entry::Heard {
-            from: 0,
-            statement,
-            toss,
-        };
-        assert!(rt; event(rt, hub, entry) == Some(noted));
-    }
+    assert!(rt; notes(rt, hub, 0, &group[0]) && notes(rt, hub, 1, &group[1]));
     assert!(rt; event(rt, hub, 2).is_none());
-    Ok(())
 }
 
 /// The book is stopped, and noted nothing.
@@ -90,73 +107,102 @@ fn is_stopped<J: Naming, R: Wait>(rt: &R, hub: &Hub<MemDisk, J>) -> bool {
     status(rt, hub).is_none() && event(rt, hub, 0).is_none()
 }
 
-/// Four calls of the device pass, and the fifth would fail.
-fn is_one_batch<J: Naming, R: Wait + Abort + AllocGlobal>(
+/// What a group comes to.
+#[derive(Clone, Copy)]
+enum Outcome {
+    /// It is taken.
+    Taken,
+    /// It has no statement.
+    Empty,
+    /// The device refuses it.
+    Refused,
+}
+
+/// The group is answered as it should be.
+fn is_answered<J: Naming, R: Wait + Abort>(
+    rt: &R,
+    hub: &Hub<MemDisk, J>,
+    seat: &mut Seat,
+    group: &[(Statement, Toss); 4],
+) -> Result<bool, Fail> {
+    let answers = apply_all(rt, hub, seat, group)?;
+    are_answers(&answers)
+}
+
+/// The group is taken, and then what is proposed has a record to save.
+fn is_taken<J: Naming, R: Wait + Abort>(
+    rt: &R,
+    hub: &Hub<MemDisk, J>,
+    seat: &mut Seat,
+) -> Result<(), Fail> {
+    let group = group()?;
+    assert!(rt; is_answered(rt, hub, seat, &group)? && seat.next() == 4);
+    has_the_group(rt, hub, &group);
+    assert!(rt; propose(rt, hub, true) == Err(MemberFault::Device));
+    Ok(())
+}
+
+/// A group of no statement has no answer, and the book has no entry.
+fn is_empty<J: Naming, R: Wait + Abort>(
+    rt: &R,
+    hub: &Hub<MemDisk, J>,
+    seat: &mut Seat,
+) -> Result<(), Fail> {
+    let answers = apply_all(rt, hub, seat, &[])?;
+    assert!(rt; answers.is_empty() && seat.next() == 0);
+    assert!(rt; status(rt, hub) == Some((0, 0)) && event(rt, hub, 0).is_none());
+    Ok(())
+}
+
+/// The device fails while the group is saved, and then the book is stopped.
+fn is_refused<J: Naming, R: Wait + Abort>(
+    rt: &R,
+    hub: &Hub<MemDisk, J>,
+    seat: &mut Seat,
+) -> Result<(), Fail> {
+    let group = group()?;
+    assert!(rt; matches!(apply_all(rt, hub, seat, &group), Err(MemberFault::Device)));
+    assert!(rt; is_stopped(rt, hub) && seat.next() == 0);
+    assert!(rt; matches!(apply_all(rt, hub, seat, &[]), Err(MemberFault::Stopped)));
+    Ok(())
+}
+
+/// A group of member 0 comes to this, where so many calls of the device pass.
+fn comes_to<J: Naming, R: Wait + Abort + AllocGlobal>(
     rt: &R,
     board: Arc<Board>,
+    calls: u64,
+    outcome: Outcome,
 ) -> Result<(), Fail>
     requires names { arc_value board ≡ J.names }
     requires cells { length (arc_value board) ≡ 2 }
 {
-    let (hub, rack) = open::<J, R>(rt, board, 4)?;
+    let (hub, rack) = open::<J, R>(rt, board, calls)?;
     let mut seat = take(rt, &rack, 0)?;
-    let answers = apply_all(rt, &hub, &mut seat, &group()?)?;
-    assert!(rt; are_answers(&answers)? && seat.next() == 4);
-    has_the_group(rt, &hub)?;
-    // What is proposed has a record to save.
-    assert!(rt; propose(rt, &hub, true) == Err(MemberFault::Device));
+    match outcome {
+        Outcome::Taken => is_taken(rt, &hub, &mut seat)?,
+        Outcome::Empty => is_empty(rt, &hub, &mut seat)?,
+        Outcome::Refused => is_refused(rt, &hub, &mut seat)?,
+    }
     rack.put(rt, seat);
     assert!(rt; close(hub, rack.into_seats()).is_ok());
     Ok(())
 }
 
+/// Four calls of the device pass, and the fifth would fail.
 #[test]
 fn a_group_is_four_calls_and_one_batch(rt: HostRuntime) -> Result<(), Fail> {
-    is_one_batch::<Brand, _>(&rt, board(&rt, 2)?)
-}
-
-fn is_no_call<J: Naming, R: Wait + Abort + AllocGlobal>(
-    rt: &R,
-    board: Arc<Board>,
-) -> Result<(), Fail>
-    requires names { arc_value board ≡ J.names }
-    requires cells { length (arc_value board) ≡ 2 }
-{
-    let (hub, rack) = open::<J, R>(rt, board, 0)?;
-    let mut seat = take(rt, &rack, 0)?;
-    let answers = apply_all(rt, &hub, &mut seat, &[])?;
-    assert!(rt; answers.is_empty() && seat.next() == 0);
-    assert!(rt; status(rt, &hub) == Some((0, 0)) && event(rt, &hub, 0).is_none());
-    Ok(())
+    comes_to::<Brand, _>(&rt, board(&rt, 2)?, 4, Outcome::Taken)
 }
 
 #[test]
 fn an_empty_group_is_no_call_and_no_entry(rt: HostRuntime) -> Result<(), Fail> {
-    is_no_call::<Brand, _>(&rt, board(&rt, 2)?)
+    comes_to::<Brand, _>(&rt, board(&rt, 2)?, 0, Outcome::Empty)
 }
 
 /// The device fails in the call, before anything stands for good or after.
-fn is_refused<J: Naming, R: Wait + Abort + AllocGlobal>(
-    rt: &R,
-    board: Arc<Board>,
-    calls: u64,
-) -> Result<(), Fail>
-    requires names { arc_value board ≡ J.names }
-    requires cells { length (arc_value board) ≡ 2 }
-{
-    let group = group()?;
-    let (hub, rack) = open::<J, R>(rt, board, calls)?;
-    let mut seat = take(rt, &rack, 0)?;
-    assert!(rt; apply_all(rt, &hub, &mut seat, &group) == Err(MemberFault::Device));
-    assert!(rt; is_stopped(rt, &hub) && seat.next() == 0);
-    assert!(rt; apply_all(rt, &hub, &mut seat, &[]) == Err(MemberFault::Stopped));
-    rack.put(rt, seat);
-    assert!(rt; close(hub, rack.into_seats()).is_ok());
-    Ok(())
-}
-
 #[test]
 fn a_refused_group_leaves_history_and_seat(rt: HostRuntime) -> Result<(), Fail> {
-    is_refused::<Brand, _>(&rt, board(&rt, 2)?, 0)?;
-    is_refused::<Brand, _>(&rt, board(&rt, 2)?, 3)
+    comes_to::<Brand, _>(&rt, board(&rt, 2)?, 0, Outcome::Refused)?;
+    comes_to::<Brand, _>(&rt, board(&rt, 2)?, 3, Outcome::Refused)
 }

@@ -1,5 +1,5 @@
 use Rattle.std.specs.Arc.{arc_value}
 use Rattle.running_trials.proofs.books.groups.an_empty_group_is_no_call_and_no_entry.Given as goal
 
-abbrev pub ghosts-is_no_call : goal.ghosts-is_no_call
-ghosts-is_no_call g a = record { names = arc_value a.board }
+abbrev pub ghosts-comes_to : goal.ghosts-comes_to
+ghosts-comes_to g a = record { names = arc_value a.board }
