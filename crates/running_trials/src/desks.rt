@@ -6,6 +6,7 @@ ghost use Rattle.member.specs.Sound.{IsSound};
 ghost use Rattle.member.specs.Readers.{member_header, member_saved, member_is_stopped, MemberStandsFor};
 
 use crate::beginnings::{board, header};
+use Row::{Line, Told};
 use desk::{Command, DeskEnd, Reply, answer, parse, serve};
 use disk::MemDisk;
 use links::MemStream;
@@ -129,63 +130,84 @@ fn deliver<J: Naming, R: Wait>(rt: &R, hub: &Hub<MemDisk, J>, seat: &mut Seat) -
     Ok(())
 }
 
-fn answers_rows<J: Naming, R: Wait + Abort + AllocGlobal>(
+/// What comes to a member with a desk.
+#[derive(Clone, Copy)]
+enum Row<'a> {
+    /// That line, which the desk answers so.
+    Line(&'a str, Reply),
+    /// All that the member says itself.
+    Told,
+}
+
+/// Goes through the rows in turn.
+fn play<J: Naming, R: Wait + Abort>(
+    rt: &R,
+    hub: &Hub<MemDisk, J>,
+    seat: &mut Seat,
+    rows: &[Row],
+) -> Result<(), Fail> {
+    for (at, row) in rows.iter().enumerate() {
+        match *row {
+            Line(line, reply) => assert!(rt; replies(rt, hub, line) == reply, "row {at}"),
+            Told => deliver(rt, hub, seat)?,
+        }
+    }
+    Ok(())
+}
+
+/// Rows of a member by itself, on a new disk of which so many calls pass.
+fn plays<J: Naming, R: Wait + Abort + AllocGlobal>(
     rt: &R,
     board: Arc<Board>,
+    calls: Option<u64>,
+    rows: &[Row],
 ) -> Result<(), Fail>
     requires names { arc_value board ≡ J.names }
     requires cells { length (arc_value board) ≡ 1 }
 {
-    let member = member_of_one(rt, None)?;
+    let member = member_of_one(rt, calls)?;
     let (hub, mut seats) = Hub::<MemDisk, J>::open(rt.alloc(), member, board)?;
     let mut seat = seats.pop().ok_or("a seat")?;
-    assert!(rt; replies(rt, &hub, "PROPOSE 0 1") == Reply::Taken);
-    assert!(rt; replies(rt, &hub, "PROPOSE 0 0") == Reply::Have(true));
-    assert!(rt; replies(rt, &hub, "ASK 0") == Reply::Undecided);
-    deliver(rt, &hub, &mut seat)?;
-    assert!(rt; replies(rt, &hub, "ASK 0") == Reply::Decided(true));
-    let up = Reply::Up {
-        statements: 18,
-        decided: 1,
-    };
-    assert!(rt; replies(rt, &hub, "STATUS") == up);
-    assert!(rt; replies(rt, &hub, "ASK 9") == Reply::BadQuestion);
-    assert!(rt; replies(rt, &hub, "PROPOSE 0 2") == Reply::BadBit);
-    assert!(rt; replies(rt, &hub, "ask 0") == Reply::BadLine);
-    Ok(())
+    play(rt, &hub, &mut seat, rows)
 }
 
 #[test]
 fn a_desk_of_one_member(rt: HostRuntime) -> Result<(), Fail> {
+    let up = Reply::Up {
+        statements: 18,
+        decided: 1,
+    };
+    let rows = [
+        Line("PROPOSE 0 1", Reply::Taken),
+        Line("PROPOSE 0 0", Reply::Have(true)),
+        Line("ASK 0", Reply::Undecided),
+        Told,
+        Line("ASK 0", Reply::Decided(true)),
+        Line("STATUS", up),
+        Line("ASK 9", Reply::BadQuestion),
+        Line("PROPOSE 0 2", Reply::BadBit),
+        Line("ask 0", Reply::BadLine),
+    ];
     let board = board(&rt, 1)?;
-    answers_rows::<Brand, _>(&rt, board)
-}
-
-fn stops<J: Naming, R: Wait + Abort + AllocGlobal>(rt: &R, board: Arc<Board>) -> Result<(), Fail>
-    requires names { arc_value board ≡ J.names }
-    requires cells { length (arc_value board) ≡ 1 }
-{
-    let member = member_of_one(rt, Some(0))?;
-    let (hub, _seats) = Hub::<MemDisk, J>::open(rt.alloc(), member, board)?;
-    assert!(rt; replies(rt, &hub, "PROPOSE 1 1") == Reply::BadQuestion);
-    assert!(rt;
-        replies(rt, &hub, "STATUS")
-            == Reply::Up {
-                statements: 0,
-                decided: 0,
-            }
-    );
-    for line in ["PROPOSE 0 1", "PROPOSE 0 1", "STATUS"] {
-        assert!(rt; replies(rt, &hub, line) == Reply::Stopped);
-    }
-    assert!(rt; replies(rt, &hub, "ASK 0") == Reply::Undecided);
-    Ok(())
+    plays::<Brand, _>(&rt, board, None, &rows)
 }
 
 #[test]
 fn a_disk_that_fails_stops_the_member(rt: HostRuntime) -> Result<(), Fail> {
+    let up = Reply::Up {
+        statements: 0,
+        decided: 0,
+    };
+    let rows = [
+        Line("PROPOSE 1 1", Reply::BadQuestion),
+        Line("STATUS", up),
+        Line("PROPOSE 0 1", Reply::Stopped),
+        Line("PROPOSE 0 1", Reply::Stopped),
+        Line("STATUS", Reply::Stopped),
+        Line("ASK 0", Reply::Undecided),
+    ];
     let board = board(&rt, 1)?;
-    stops::<Brand, _>(&rt, board)
+    plays::<Brand, _>(&rt, board, Some(0), &rows)
 }
 
 /// A stream that gives these bytes in pieces of so many, one at least.
@@ -228,11 +250,39 @@ fn session<J: Naming, R: Wait + Abort + AllocGlobal>(
     serves(rt, rt.alloc(), hub, &mut client, written, end)
 }
 
-/// A line of so many bytes, and one behind it.
-fn long_line(alloc: Global, length: usize) -> Result<Vec<u8>, AllocError> {
-    let mut line = vec![in alloc; b'A'; length]?;
-    line.extend_from_slice(b"\nASK 0\n")?;
-    Ok(line)
+/// A session of a line of so many bytes, and one behind it.
+fn long_session<J: Naming, R: Wait + Abort + AllocGlobal>(
+    rt: &R,
+    hub: &Hub<MemDisk, J>,
+    length: usize,
+    piece: usize,
+    written: &str,
+    end: DeskEnd,
+) -> Result<(), Fail> {
+    let mut lines = vec![in rt.alloc(); b'A'; length]?;
+    lines.extend_from_slice(b"\nASK 0\n")?;
+    session(rt, hub, &lines, piece, written, end)
+}
+
+/// Lines in pieces of several lengths, a line of the longest, and one that is longer.
+fn sessions<J: Naming, R: Wait + Abort + AllocGlobal>(
+    rt: &R,
+    hub: &Hub<MemDisk, J>,
+) -> Result<(), Fail> {
+    let lines = b"ASK 0\r\nPROPOSE 0 0\n\nASK 00000\nASK 000000\nASK  0\nSTATUS";
+    let written = "UNDECIDED\nHAVE 1\nERR 1 line\nUNDECIDED\nERR 1 line\nERR 1 line\nUP 1 0\n";
+    for piece in [1usize, 2, 3, 7, 512] {
+        session(rt, hub, lines.as_slice(), piece, written, DeskEnd::Ended)?;
+    }
+    long_session(
+        rt,
+        hub,
+        4096,
+        100,
+        "ERR 1 line\nUNDECIDED\n",
+        DeskEnd::Ended,
+    )?;
+    long_session(rt, hub, 4097, 512, "ERR 1 line\n", DeskEnd::TooLong)
 }
 
 fn answers_sessions<J: Naming, R: Wait + Abort + AllocGlobal>(
@@ -244,16 +294,7 @@ fn answers_sessions<J: Naming, R: Wait + Abort + AllocGlobal>(
 {
     let (hub, _seats) = Hub::<MemDisk, J>::open(rt.alloc(), member_of_one(rt, None)?, board)?;
     assert!(rt; replies(rt, &hub, "PROPOSE 0 1") == Reply::Taken);
-    let lines = b"ASK 0\r\nPROPOSE 0 0\n\nASK 00000\nASK 000000\nASK  0\nSTATUS";
-    let written = "UNDECIDED\nHAVE 1\nERR 1 line\nUNDECIDED\nERR 1 line\nERR 1 line\nUP 1 0\n";
-    for piece in [1usize, 2, 3, 7, 512] {
-        session(rt, &hub, lines.as_slice(), piece, written, DeskEnd::Ended)?;
-    }
-    let fits = long_line(rt.alloc(), 4096)?;
-    let written = "ERR 1 line\nUNDECIDED\n";
-    session(rt, &hub, &fits, 100, written, DeskEnd::Ended)?;
-    let longer = long_line(rt.alloc(), 4097)?;
-    session(rt, &hub, &longer, 512, "ERR 1 line\n", DeskEnd::TooLong)
+    sessions(rt, &hub)
 }
 
 #[test]

@@ -1,5 +1,5 @@
 use Rattle.std.specs.Arc.{arc_value}
 use Rattle.running_trials.proofs.desks.a_desk_of_one_member.Given as goal
 
-abbrev pub ghosts-answers_rows : goal.ghosts-answers_rows
-ghosts-answers_rows g a = record { names = arc_value a.board }
+abbrev pub ghosts-plays : goal.ghosts-plays
+ghosts-plays g a = record { names = arc_value a.board }

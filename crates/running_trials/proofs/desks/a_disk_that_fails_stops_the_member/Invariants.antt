@@ -1,5 +1,5 @@
 use Rattle.std.specs.Arc.{arc_value}
 use Rattle.running_trials.proofs.desks.a_disk_that_fails_stops_the_member.Given as goal
 
-abbrev pub ghosts-stops : goal.ghosts-stops
-ghosts-stops g a = record { names = arc_value a.board }
+abbrev pub ghosts-plays : goal.ghosts-plays
+ghosts-plays g a = record { names = arc_value a.board }
