@@ -50,6 +50,15 @@ fn frame(alloc: Global, message: &Message) -> Result<Vec<u8>, Fail> {
     Ok(bytes)
 }
 
+/// The frames of messages, one after another.
+fn frames(alloc: Global, messages: &[Message]) -> Result<Vec<u8>, Fail> {
+    let mut bytes = Vec::new(alloc);
+    for message in messages {
+        encode(message, &mut bytes)?;
+    }
+    Ok(bytes)
+}
+
 /// A stream that gives these bytes at once.
 fn of_bytes(alloc: Global, bytes: &[u8]) -> Result<MemStream, Fail> {
     let mut stream = MemStream::new(alloc);
@@ -76,74 +85,64 @@ fn hello(cluster: u64, n: u8, from: u8, to: u8) -> Result<Message, Fail> {
     })
 }
 
-/// Greets with these bytes, all at once and byte by byte.
-fn greets(
-    rt: &(impl Abort + AllocGlobal),
-    bytes: &[u8],
+/// Whether a greeting ends so, which writes nothing and closes a stream that it refuses.
+fn ends_so(
+    alloc: Global,
+    stream: &mut MemStream,
     wanted: Result<u8, LinkEnd>,
-) -> Result<(), Fail> {
+) -> Result<bool, Fail> {
     let header = header(4, 1, 1, 1)?;
-    let mut stream = of_bytes(rt.alloc(), bytes)?;
-    assert!(rt; greet(rt.alloc(), &mut stream, &header) == wanted);
-    assert!(rt; stream.output().is_empty());
-    assert!(rt; stream.is_closed() == wanted.is_err());
-    let mut stream = in_single_bytes(rt.alloc(), bytes)?;
-    assert!(rt; greet(rt.alloc(), &mut stream, &header) == wanted);
-    assert!(rt; stream.output().is_empty());
+    let end = greet(alloc, stream, &header);
+    Ok(end == wanted && stream.output().is_empty() && stream.is_closed() == wanted.is_err())
+}
+
+/// Whether a greeting with these bytes ends so, all at once and byte by byte.
+fn greets(alloc: Global, bytes: &[u8], wanted: Result<u8, LinkEnd>) -> Result<bool, Fail> {
+    let at_once = ends_so(alloc, &mut of_bytes(alloc, bytes)?, wanted)?;
+    Ok(at_once && ends_so(alloc, &mut in_single_bytes(alloc, bytes)?, wanted)?)
+}
+
+/// A Hello, a beginning of it, and what begins no frame.
+fn greet_with_bytes(rt: &(impl Abort + AllocGlobal)) -> Result<(), Fail> {
+    let alloc = rt.alloc();
+    let good = frame(alloc, &hello(7, 4, 0, 1)?)?;
+    let row = [0, 16, 1, 1, 0, 0, 0, 0, 0, 0, 0, 7, 4, 1, 0, 1, 0, 1];
+    assert_eq!(rt; good.as_slice(), row.as_slice());
+    assert!(rt; greets(alloc, &row[..9], Err(LinkEnd::Ended))?);
+    assert!(rt; greets(alloc, &[], Err(LinkEnd::Ended))?);
+    assert!(rt; greets(alloc, &[0, 2], Err(LinkEnd::Broken(WireFault::BadLength)))?);
     Ok(())
 }
 
 #[test]
 fn greetings(rt: HostRuntime) -> Result<(), Fail> {
-    let alloc = rt.alloc();
-    let good = frame(alloc, &hello(7, 4, 0, 1)?)?;
-    let row = [0, 16, 1, 1, 0, 0, 0, 0, 0, 0, 0, 7, 4, 1, 0, 1, 0, 1];
-    assert_eq!(&rt; good.as_slice(), row.as_slice());
-    greets(&rt, &good, Ok(0))?;
-    greets(&rt, &good.as_slice()[..9], Err(LinkEnd::Ended))?;
-    greets(&rt, &[], Err(LinkEnd::Ended))?;
-    greets(
-        &rt,
-        &frame(alloc, &Message::Idle)?,
-        Err(LinkEnd::OutOfOrder),
-    )?;
-    greets(
-        &rt,
-        &frame(alloc, &Message::Welcome { next: 3 })?,
-        Err(LinkEnd::OutOfOrder),
-    )?;
-    greets(
-        &rt,
-        &frame(alloc, &Message::Statement(of(Echo)?))?,
-        Err(LinkEnd::OutOfOrder),
-    )?;
-    greets(
-        &rt,
-        &frame(alloc, &hello(8, 4, 0, 1)?)?,
-        Err(LinkEnd::Stranger),
-    )?;
-    greets(
-        &rt,
-        &frame(alloc, &hello(7, 4, 0, 2)?)?,
-        Err(LinkEnd::Stranger),
-    )?;
-    greets(
-        &rt,
-        &frame(alloc, &hello(7, 5, 0, 1)?)?,
-        Err(LinkEnd::Broken(WireFault::BadHello)),
-    )?;
-    greets(&rt, &[0, 2], Err(LinkEnd::Broken(WireFault::BadLength)))?;
-    Ok(())
+    let rows = [
+        (hello(7, 4, 0, 1)?, Ok(0)),
+        (Message::Idle, Err(LinkEnd::OutOfOrder)),
+        (Message::Welcome { next: 3 }, Err(LinkEnd::OutOfOrder)),
+        (Message::Statement(of(Echo)?), Err(LinkEnd::OutOfOrder)),
+        (hello(8, 4, 0, 1)?, Err(LinkEnd::Stranger)),
+        (hello(7, 4, 0, 2)?, Err(LinkEnd::Stranger)),
+        (
+            hello(7, 5, 0, 1)?,
+            Err(LinkEnd::Broken(WireFault::BadHello)),
+        ),
+    ];
+    for (row, (message, wanted)) in rows.into_iter().enumerate() {
+        let bytes = frame(rt.alloc(), &message)?;
+        assert!(&rt; greets(rt.alloc(), &bytes, wanted)?, "row {row}");
+    }
+    greet_with_bytes(&rt)
 }
 
 /// What stands behind the Hello is not read.
 #[test]
 fn a_greeting_reads_eighteen_bytes(rt: HostRuntime) -> Result<(), Fail> {
     let alloc = rt.alloc();
-    let mut bytes = frame(alloc, &hello(7, 4, 2, 1)?)?;
-    encode(&Message::Idle, &mut bytes)?;
-    let mut stream = of_bytes(alloc, &bytes)?;
-    assert!(&rt; greet(alloc, &mut stream, &header(4, 1, 1, 1)?) == Ok(2));
+    let header = header(4, 1, 1, 1)?;
+    let hello = hello(7, 4, 2, 1)?;
+    let mut stream = of_bytes(alloc, &frames(alloc, &[hello, Message::Idle])?)?;
+    assert!(&rt; greet(alloc, &mut stream, &header) == Ok(2));
     assert_eq!(&rt; stream.left().len(), 3);
     Ok(())
 }
@@ -156,30 +155,31 @@ fn a_greeting_is_lost_where_the_stream_fails(rt: HostRuntime) -> Result<(), Fail
     let bytes = frame(alloc, &hello(7, 4, 2, 1)?)?;
     for call in 0..19u64 {
         let wanted = if call < 18 { Err(LinkEnd::Lost) } else { Ok(2) };
-        let mut stream = in_single_bytes(alloc, &bytes)?;
-        stream.fail_at(call)?;
-        assert!(&rt; greet(alloc, &mut stream, &header) == wanted);
-        let mut stream = in_single_bytes(alloc, &bytes)?;
-        stream.fail_from(call);
-        assert!(&rt; greet(alloc, &mut stream, &header) == wanted);
+        for once in [true, false] {
+            let mut stream = failing(alloc, &bytes, call, once)?;
+            assert!(&rt; greet(alloc, &mut stream, &header) == wanted, "call {call}");
+        }
     }
     Ok(())
 }
 
-/// A session of the link from a peer, which gives these bytes: how it ended and what it wrote. The seat is put back.
+/// Whether a session of the link from a peer, which gives these bytes, ends so, the seat's next number being this one. It
+/// writes a Welcome. The seat is put back.
 fn session<J: Naming, R: Wait + AllocGlobal>(
     rt: &R,
     hub: &Hub<MemDisk, J>,
     rack: &Rack,
     peer: u8,
     bytes: &[u8],
-) -> Result<(u64, LinkEnd, MemStream), Fail> {
+    ends: (LinkEnd, u64),
+) -> Result<bool, Fail> {
     let mut stream = of_bytes(rt.alloc(), bytes)?;
     let seat = take(rt, rack, peer)?;
     let (seat, end) = read_link(rt, rt.alloc(), hub, seat, &mut stream, &Open, &mut Zeros);
     let next = seat.next();
     rack.put(rt, seat);
-    Ok((next, end, stream))
+    let welcome = [0, 9, 2, 0, 0, 0, 0, 0, 0, 0, 0];
+    Ok((end, next) == ends && stream.is_closed() && stream.output() == welcome.as_slice())
 }
 
 /// Links of member 1 hand in what makes it say an Echo and a Ready.
@@ -188,35 +188,37 @@ fn hears_of_an_origin<J: Naming, R: Wait + Abort + AllocGlobal>(
     hub: &Hub<MemDisk, J>,
     rack: &Rack,
 ) -> Result<(), Fail> {
-    let alloc = rt.alloc();
-    let mut bytes = frame(alloc, &Message::Idle)?;
-    encode(&Message::Statement(of(Initial)?), &mut bytes)?;
-    let (next, end, stream) = session(rt, hub, rack, 0, &bytes)?;
-    assert!(rt; end == LinkEnd::Ended && next == 1 && stream.is_closed());
-    assert_eq!(rt;
-        stream.output(),
-        [0, 9, 2, 0, 0, 0, 0, 0, 0, 0, 0].as_slice()
-    );
-    let ready = frame(alloc, &Message::Statement(of(Ready)?))?;
-    let (next, end, _) = session(rt, hub, rack, 2, &ready)?;
-    assert!(rt; end == LinkEnd::Ended && next == 1);
+    let initial = Message::Statement(of(Initial)?);
+    let ready = Message::Statement(of(Ready)?);
+    let echo = Message::Statement(of(Echo)?);
+    let bytes = frames(rt.alloc(), &[Message::Idle, initial])?;
+    assert!(rt; session(rt, hub, rack, 0, &bytes, (LinkEnd::Ended, 1))?);
+    let bytes = frames(rt.alloc(), &[ready])?;
+    assert!(rt; session(rt, hub, rack, 2, &bytes, (LinkEnd::Ended, 1))?);
     // A frame that is cut short is lost, and a message out of place ends the session.
-    let (next, end, _) = session(rt, hub, rack, 3, &[0, 8, 3, 3, 0, 0, 0, 1, 1])?;
-    assert!(rt; end == LinkEnd::Ended && next == 0);
-    let mut bytes = ready;
-    encode(&Message::Welcome { next: 0 }, &mut bytes)?;
-    encode(&Message::Statement(of(Echo)?), &mut bytes)?;
-    let (next, end, _) = session(rt, hub, rack, 3, &bytes)?;
-    assert!(rt; end == LinkEnd::OutOfOrder && next == 1);
+    let cut = [0, 8, 3, 3, 0, 0, 0, 1, 1];
+    assert!(rt; session(rt, hub, rack, 3, &cut, (LinkEnd::Ended, 0))?);
+    let bytes = frames(rt.alloc(), &[ready, Message::Welcome { next: 0 }, echo])?;
+    assert!(rt; session(rt, hub, rack, 3, &bytes, (LinkEnd::OutOfOrder, 1))?);
     assert!(rt; hub.lock(rt).status() == Some((2, 0)));
     Ok(())
 }
 
 /// What member 1 writes to member 2 first: its Hello, and one statement.
 fn hello_and(alloc: Global, kind: Kind) -> Result<Vec<u8>, Fail> {
-    let mut bytes = frame(alloc, &hello(7, 4, 1, 2)?)?;
-    encode(&Message::Statement(of(kind)?), &mut bytes)?;
-    Ok(bytes)
+    frames(alloc, &[hello(7, 4, 1, 2)?, Message::Statement(of(kind)?)])
+}
+
+/// Whether a session of the link to member 2 ends so, having written this.
+fn writer_ends<J: Naming, R: Wait + AllocGlobal>(
+    rt: &R,
+    hub: &Hub<MemDisk, J>,
+    stream: &mut MemStream,
+    wanted: LinkEnd,
+    written: &[u8],
+) -> bool {
+    let end = write_link(rt, rt.alloc(), hub, 2, stream, &Open);
+    end == wanted && stream.is_closed() && stream.output() == written
 }
 
 /// The stream takes a byte a call, and fails in the second frame: 18 calls for the Hello, a read, 13 bytes.
@@ -225,14 +227,12 @@ fn stops_in_the_second_frame<J: Naming, R: Wait + Abort + AllocGlobal>(
     hub: &Hub<MemDisk, J>,
 ) -> Result<(), Fail> {
     let alloc = rt.alloc();
+    let mut wanted = hello_and(alloc, Echo)?;
+    wanted.extend_from_slice(&[0, 8, 3])?;
     let mut stream = of_bytes(alloc, &frame(alloc, &Message::Welcome { next: 0 })?)?;
     stream.take_at_most(1);
     stream.fail_from(32);
-    let end = write_link(rt, alloc, hub, 2, &mut stream, &Open);
-    assert!(rt; end == LinkEnd::Lost && stream.is_closed());
-    let mut wanted = hello_and(alloc, Echo)?;
-    wanted.extend_from_slice(&[0, 8, 3])?;
-    assert_eq!(rt; stream.output(), wanted.as_slice());
+    assert!(rt; writer_ends(rt, hub, &mut stream, LinkEnd::Lost, &wanted));
     Ok(())
 }
 
@@ -242,32 +242,59 @@ fn goes_on_at_the_welcome<J: Naming, R: Wait + Abort + AllocGlobal>(
     hub: &Hub<MemDisk, J>,
 ) -> Result<(), Fail> {
     let alloc = rt.alloc();
+    let wanted = hello_and(alloc, Ready)?;
     let mut stream = of_bytes(alloc, &frame(alloc, &Message::Welcome { next: 1 })?)?;
-    let end = write_link(rt, alloc, hub, 2, &mut stream, &Open);
-    assert!(rt; end == LinkEnd::Ended);
-    assert_eq!(rt; stream.output(), hello_and(alloc, Ready)?.as_slice());
+    assert!(rt; writer_ends(rt, hub, &mut stream, LinkEnd::Ended, &wanted));
     Ok(())
 }
 
 /// Member 1 sends its Echo and its Ready over a stream that fails in the second frame, and then over another.
-fn sends<J: Naming, R: Wait + Abort + AllocGlobal>(rt: &R, board: Arc<Board>) -> Result<(), Fail>
+fn sends<J: Naming, R: Wait + Abort + AllocGlobal>(
+    rt: &R,
+    hub: &Hub<MemDisk, J>,
+    rack: &Rack,
+) -> Result<(), Fail> {
+    hears_of_an_origin(rt, hub, rack)?;
+    stops_in_the_second_frame(rt, hub)?;
+    hub.shut(rt);
+    goes_on_at_the_welcome(rt, hub)
+}
+
+/// What is tried with member 1 of four.
+#[derive(Clone, Copy)]
+enum Trial {
+    /// It sends what it says.
+    Sends,
+    /// Its streams fail.
+    Fails,
+    /// It is flooded.
+    Flood,
+}
+
+/// Tries member 1 of four on a new disk, whose seats are all put back.
+fn tries<J: Naming, R: Wait + Abort + AllocGlobal>(
+    rt: &R,
+    board: Arc<Board>,
+    trial: Trial,
+) -> Result<(), Fail>
     requires names { arc_value board ≡ J.names }
     requires cells { length (arc_value board) ≡ 1 }
 {
     let alloc = rt.alloc();
     let header = header(4, 1, 1, 1)?;
     let (hub, rack) = open::<MemDisk, J>(alloc, MemDisk::new(alloc), &header, false, board)?;
-    hears_of_an_origin(rt, &hub, &rack)?;
-    stops_in_the_second_frame(rt, &hub)?;
-    hub.shut(rt);
-    goes_on_at_the_welcome(rt, &hub)?;
+    match trial {
+        Trial::Sends => sends(rt, &hub, &rack)?,
+        Trial::Fails => fail_at_each_call(rt, &hub, &rack)?,
+        Trial::Flood => is_flooded(rt, &hub, &rack)?,
+    }
     assert!(rt; close(hub, rack.into_seats()).is_ok());
     Ok(())
 }
 
 #[test]
 fn a_writer_stops_in_the_second_frame(rt: HostRuntime) -> Result<(), Fail> {
-    sends::<Brand, _>(&rt, board(&rt, 1)?)
+    tries::<Brand, _>(&rt, board(&rt, 1)?, Trial::Sends)
 }
 
 /// A Hello over TCP, its closing, and a peer that says nothing.
@@ -365,7 +392,38 @@ fn reads<J: Naming, R: Wait + Clock + AllocGlobal>(
     read_link(rt, rt.alloc(), hub, seat, &mut stream, gate, &mut Zeros)
 }
 
-/// Member 0, which decided in an earlier life: two links and an asker run at once.
+/// Two links and an asker run at once, each of the links with an Echo.
+fn run_at_once<J: Naming + Send + Sync, R: Threads + Wait + Clock + Abort + AllocGlobal + Sync>(
+    rt: &R,
+    hub: &Hub<MemDisk, J>,
+    rack: &Rack,
+) -> Result<(), Fail> {
+    let echo = frame(rt.alloc(), &Message::Statement(of(Echo)?))?;
+    let bytes = echo.as_slice();
+    let gate = Turnstile::new(rt);
+    let first = take(rt, rack, 1)?;
+    let second = take(rt, rack, 2)?;
+    let ((first, first_end), ((second, second_end), asked)) = join(
+        rt,
+        || reads(rt, hub, first, &gate, bytes),
+        || {
+            join(
+                rt,
+                || reads(rt, hub, second, &gate, bytes),
+                || asks(rt, hub, &gate),
+            )
+        },
+    );
+    assert!(rt; first_end == LinkEnd::Ended && second_end == LinkEnd::Ended);
+    assert!(rt; first.next() == 1 && second.next() == 1);
+    rack.put(rt, first);
+    rack.put(rt, second);
+    assert!(rt; asked?);
+    assert!(rt; !gate.gave_up.load(Ordering::SeqCst));
+    Ok(())
+}
+
+/// Member 0, which decided in an earlier life.
 fn at_once<J: Naming + Send + Sync, R: Threads + Wait + Clock + Abort + AllocGlobal + Sync>(
     rt: &R,
     board: Arc<Board>,
@@ -376,28 +434,7 @@ fn at_once<J: Naming + Send + Sync, R: Threads + Wait + Clock + Abort + AllocGlo
     let alloc = rt.alloc();
     let header = header(4, 1, 1, 0)?;
     let (hub, rack) = open::<MemDisk, J>(alloc, MemDisk::new(alloc), &header, true, board)?;
-    let first = take(rt, &rack, 1)?;
-    let second = take(rt, &rack, 2)?;
-    let gate = Turnstile::new(rt);
-    let echo = frame(alloc, &Message::Statement(of(Echo)?))?;
-    let bytes = echo.as_slice();
-    let ((first, first_end), ((second, second_end), asked)) = join(
-        rt,
-        || reads(rt, &hub, first, &gate, bytes),
-        || {
-            join(
-                rt,
-                || reads(rt, &hub, second, &gate, bytes),
-                || asks(rt, &hub, &gate),
-            )
-        },
-    );
-    assert!(rt; asked?);
-    assert!(rt; !gate.gave_up.load(Ordering::SeqCst));
-    assert!(rt; first_end == LinkEnd::Ended && second_end == LinkEnd::Ended);
-    assert!(rt; first.next() == 1 && second.next() == 1);
-    rack.put(rt, first);
-    rack.put(rt, second);
+    run_at_once(rt, &hub, &rack)?;
     assert!(rt; close(hub, rack.into_seats()).is_ok());
     Ok(())
 }
@@ -419,31 +456,46 @@ fn failing(alloc: Global, bytes: &[u8], call: u64, once: bool) -> Result<MemStre
     Ok(stream)
 }
 
-/// Readers whose stream fails at the k-th call, for each k: what was read whole before it is handed in.
+/// A reader whose stream fails at the call: what was read whole before it is handed in. Gives its seat back.
 fn reads_until_it_fails<J: Naming, R: Wait + Abort + AllocGlobal>(
     rt: &R,
     hub: &Hub<MemDisk, J>,
     seat: Seat,
+    stream: &mut MemStream,
+    call: u64,
+) -> Seat {
+    let before = seat.next();
+    let (seat, end) = read_link(rt, rt.alloc(), hub, seat, stream, &Open, &mut Zeros);
+    // Eleven calls write the Welcome, twenty read the frames, and the next meets the end.
+    let wanted = if call < 32 {
+        LinkEnd::Lost
+    } else {
+        LinkEnd::Ended
+    };
+    let handed = call.saturating_sub(11).min(20) / 10;
+    assert!(rt;
+        end == wanted && seat.next() == before.wrapping_add(handed),
+        "call {call}"
+    );
+    assert!(rt; stream.output().len() as u64 == call.min(11), "call {call}");
+    seat
+}
+
+/// Readers whose stream fails at the k-th call, for each k.
+fn read_until_they_fail<J: Naming, R: Wait + Abort + AllocGlobal>(
+    rt: &R,
+    hub: &Hub<MemDisk, J>,
+    rack: &Rack,
+    peer: u8,
     once: bool,
 ) -> Result<(), Fail> {
     let alloc = rt.alloc();
-    let mut seat = seat;
-    let mut bytes = frame(alloc, &Message::Statement(of(Initial)?))?;
-    encode(&Message::Statement(of(Ready)?), &mut bytes)?;
+    let initial = Message::Statement(of(Initial)?);
+    let bytes = frames(alloc, &[initial, Message::Statement(of(Ready)?)])?;
     for call in 0..34u64 {
-        let before = seat.next();
         let mut stream = failing(alloc, &bytes, call, once)?;
-        let (back, end) = read_link(rt, alloc, hub, seat, &mut stream, &Open, &mut Zeros);
-        seat = back;
-        // Eleven calls write the Welcome, twenty read the frames, and the next meets the end.
-        let wanted = if call < 32 {
-            LinkEnd::Lost
-        } else {
-            LinkEnd::Ended
-        };
-        let handed = call.saturating_sub(11).min(20) / 10;
-        assert!(rt; end == wanted && seat.next() == before.wrapping_add(handed));
-        assert!(rt; stream.output().len() as u64 == call.min(11));
+        let seat = take(rt, rack, peer)?;
+        rack.put(rt, reads_until_it_fails(rt, hub, seat, &mut stream, call));
     }
     Ok(())
 }
@@ -456,22 +508,23 @@ fn writes_until_it_fails<J: Naming, R: Wait + Abort + AllocGlobal>(
 ) -> Result<(), Fail> {
     let alloc = rt.alloc();
     let welcome = frame(alloc, &Message::Welcome { next: 0 })?;
-    let mut wanted = frame(alloc, &hello(7, 4, 1, 2)?)?;
-    encode(&Message::Statement(of(Echo)?), &mut wanted)?;
-    encode(&Message::Statement(of(Ready)?), &mut wanted)?;
+    let echo = Message::Statement(of(Echo)?);
+    let ready = Message::Statement(of(Ready)?);
+    let wanted = frames(alloc, &[hello(7, 4, 1, 2)?, echo, ready])?;
     for call in 0..51usize {
         let mut stream = failing(alloc, &welcome, call as u64, once)?;
-        let end = write_link(rt, alloc, hub, 2, &mut stream, &Open);
         // Eighteen calls write the Hello, eleven read the Welcome, and twenty write the frames.
         let written = call.min(18) + call.saturating_sub(29).min(20);
-        let wanted_end = if call < 49 {
+        let end = if call < 49 {
             LinkEnd::Lost
         } else {
             LinkEnd::Ended
         };
-        assert!(rt; end == wanted_end);
-        let written = written.min(wanted.len());
-        assert_eq!(rt; stream.output(), &wanted.as_slice()[..written]);
+        let written = &wanted.as_slice()[..written.min(wanted.len())];
+        assert!(rt;
+            writer_ends(rt, hub, &mut stream, end, written),
+            "call {call}"
+        );
     }
     Ok(())
 }
@@ -480,32 +533,27 @@ fn writes_until_it_fails<J: Naming, R: Wait + Abort + AllocGlobal>(
 fn takes_nothing<J: Naming, R: Wait + Abort + AllocGlobal>(rt: &R, hub: &Hub<MemDisk, J>) {
     let mut stream = MemStream::new(rt.alloc());
     stream.take_at_most(0);
-    assert!(rt; write_link(rt, rt.alloc(), hub, 2, &mut stream, &Open) == LinkEnd::Lost);
-    assert!(rt; stream.output().is_empty());
+    assert!(rt; writer_ends(rt, hub, &mut stream, LinkEnd::Lost, &[]));
 }
 
-fn fails_at_each_call<J: Naming, R: Wait + Abort + AllocGlobal>(
+/// Readers first, and writers once the hub is shut.
+fn fail_at_each_call<J: Naming, R: Wait + Abort + AllocGlobal>(
     rt: &R,
-    board: Arc<Board>,
-) -> Result<(), Fail>
-    requires names { arc_value board ≡ J.names }
-    requires cells { length (arc_value board) ≡ 1 }
-{
-    let alloc = rt.alloc();
-    let header = header(4, 1, 1, 1)?;
-    let (hub, rack) = open::<MemDisk, J>(alloc, MemDisk::new(alloc), &header, false, board)?;
-    reads_until_it_fails(rt, &hub, take(rt, &rack, 0)?, true)?;
-    reads_until_it_fails(rt, &hub, take(rt, &rack, 2)?, false)?;
+    hub: &Hub<MemDisk, J>,
+    rack: &Rack,
+) -> Result<(), Fail> {
+    read_until_they_fail(rt, hub, rack, 0, true)?;
+    read_until_they_fail(rt, hub, rack, 2, false)?;
     hub.shut(rt);
-    writes_until_it_fails(rt, &hub, true)?;
-    writes_until_it_fails(rt, &hub, false)?;
-    takes_nothing(rt, &hub);
+    writes_until_it_fails(rt, hub, true)?;
+    writes_until_it_fails(rt, hub, false)?;
+    takes_nothing(rt, hub);
     Ok(())
 }
 
 #[test]
 fn sessions_fail_at_each_call(rt: HostRuntime) -> Result<(), Fail> {
-    fails_at_each_call::<Brand, _>(&rt, board(&rt, 1)?)
+    tries::<Brand, _>(&rt, board(&rt, 1)?, Trial::Fails)
 }
 
 /// The frame of one Initial 10,000 times.
@@ -519,23 +567,20 @@ fn flood(alloc: Global) -> Result<Vec<u8>, Fail> {
 }
 
 /// Each statement of a flood is handed in, and the first alone is kept.
-fn floods<J: Naming, R: Wait + Abort + AllocGlobal>(rt: &R, board: Arc<Board>) -> Result<(), Fail>
-    requires names { arc_value board ≡ J.names }
-    requires cells { length (arc_value board) ≡ 1 }
-{
-    let alloc = rt.alloc();
-    let header = header(4, 1, 1, 1)?;
-    let (hub, rack) = open::<MemDisk, J>(alloc, MemDisk::new(alloc), &header, false, board)?;
-    let (next, end, _) = session(rt, &hub, &rack, 0, &flood(alloc)?)?;
-    assert!(rt; end == LinkEnd::Ended && next == 10_000);
+fn is_flooded<J: Naming, R: Wait + Abort + AllocGlobal>(
+    rt: &R,
+    hub: &Hub<MemDisk, J>,
+    rack: &Rack,
+) -> Result<(), Fail> {
+    let bytes = flood(rt.alloc())?;
+    assert!(rt; session(rt, hub, rack, 0, &bytes, (LinkEnd::Ended, 10_000))?);
     assert!(rt; hub.lock(rt).events() == 1 && hub.lock(rt).records().len() == 1);
-    assert!(rt; close(hub, rack.into_seats()).is_ok());
     Ok(())
 }
 
 #[test]
 fn a_flood_is_one_entry(rt: HostRuntime) -> Result<(), Fail> {
-    floods::<Brand, _>(&rt, board(&rt, 1)?)
+    tries::<Brand, _>(&rt, board(&rt, 1)?, Trial::Flood)
 }
 
 /// How many writes there were, for two threads to see.
@@ -673,6 +718,31 @@ fn behind_the_greeting(
 }
 
 /// What a writer wrote behind its Hello while it was woken, before four more statements were in the outbox and behind them.
+fn wakes<J: Naming + Send + Sync, R: Threads + Wait + Clock + Abort + AllocGlobal + Sync>(
+    rt: &R,
+    hub: &Hub<MemDisk, J>,
+    rack: &Rack,
+    next: u64,
+) -> Result<Vec<u8>, Fail> {
+    let said = (at(0, 2, Ready, One)?, at(0, 3, Ready, One)?);
+    let welcome = frame(rt.alloc(), &Message::Welcome { next })?;
+    let welcome = welcome.as_slice();
+    let writes = Writes {
+        count: AtomicUsize::new(0),
+    };
+    let mut two = take(rt, rack, 2)?;
+    let mut three = take(rt, rack, 3)?;
+    has_two(rt, hub, &mut two, &mut three)?;
+    let ((output, end), rung) = join(
+        rt,
+        || writes_on(rt, hub, &writes, welcome),
+        || rings_and_shuts(rt, hub, &writes, two, three, said),
+    );
+    assert!(rt; rung && end == LinkEnd::Ended);
+    behind_the_greeting(rt, output)
+}
+
+/// Member 1 of four, whose writer is woken.
 fn woken<J: Naming + Send + Sync, R: Threads + Wait + Clock + Abort + AllocGlobal + Sync>(
     rt: &R,
     board: Arc<Board>,
@@ -684,22 +754,7 @@ fn woken<J: Naming + Send + Sync, R: Threads + Wait + Clock + Abort + AllocGloba
     let alloc = rt.alloc();
     let header = header(4, 1, 1, 1)?;
     let (hub, rack) = open::<MemDisk, J>(alloc, MemDisk::new(alloc), &header, false, board)?;
-    let mut two = take(rt, &rack, 2)?;
-    let mut three = take(rt, &rack, 3)?;
-    has_two(rt, &hub, &mut two, &mut three)?;
-    let said = (at(0, 2, Ready, One)?, at(0, 3, Ready, One)?);
-    let writes = Writes {
-        count: AtomicUsize::new(0),
-    };
-    let welcome = frame(alloc, &Message::Welcome { next })?;
-    let welcome = welcome.as_slice();
-    let ((output, end), rung) = join(
-        rt,
-        || writes_on(rt, &hub, &writes, welcome),
-        || rings_and_shuts(rt, &hub, &writes, two, three, said),
-    );
-    assert!(rt; rung && end == LinkEnd::Ended);
-    behind_the_greeting(rt, output)
+    wakes(rt, &hub, &rack, next)
 }
 
 #[test]

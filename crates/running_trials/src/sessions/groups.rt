@@ -135,7 +135,29 @@ fn reads_and_shuts<J: Naming, R: Wait + Clock + AllocGlobal>(
     (seat, end, if woken { wakes } else { 0 })
 }
 
-/// Member 1 of four, with two questions, reads from member 0.
+/// What comes from member 0 is handed in as one group, and wakes a thread once.
+fn reads_one_group<J: Naming + Send + Sync, R: Threads + Wait + Clock + Abort + AllocGlobal + Sync>(
+    rt: &R,
+    hub: &Hub<MemDisk, J>,
+    rack: &Rack,
+) -> Result<(), Fail> {
+    let bytes = three_statements(rt.alloc())?;
+    let bytes = bytes.as_slice();
+    let seen = Seen::new();
+    let seat = take(rt, rack, 0)?;
+    let ((seat, end, wakes), ()) = join(
+        rt,
+        || reads_and_shuts(rt, hub, seat, &seen, bytes),
+        || counts_wakes(rt, hub, &seen),
+    );
+    assert!(rt; end == LinkEnd::Ended && seat.next() == 3);
+    assert!(rt; seen.points.load(Ordering::SeqCst) == 12);
+    assert!(rt; wakes == 1 && hub.lock(rt).status() == Some((2, 0)));
+    rack.put(rt, seat);
+    Ok(())
+}
+
+/// Member 1 of four, with two questions.
 fn is_one_group<J: Naming + Send + Sync, R: Threads + Wait + Clock + Abort + AllocGlobal + Sync>(
     rt: &R,
     board: Arc<Board>,
@@ -146,19 +168,7 @@ fn is_one_group<J: Naming + Send + Sync, R: Threads + Wait + Clock + Abort + All
     let alloc = rt.alloc();
     let header = header(4, 1, 2, 1)?;
     let (hub, rack) = open::<MemDisk, J>(alloc, MemDisk::new(alloc), &header, false, board)?;
-    let seat = take(rt, &rack, 0)?;
-    let seen = Seen::new();
-    let bytes = three_statements(alloc)?;
-    let bytes = bytes.as_slice();
-    let ((seat, end, wakes), ()) = join(
-        rt,
-        || reads_and_shuts(rt, &hub, seat, &seen, bytes),
-        || counts_wakes(rt, &hub, &seen),
-    );
-    assert!(rt; end == LinkEnd::Ended && seat.next() == 3);
-    assert!(rt; seen.points.load(Ordering::SeqCst) == 12);
-    assert!(rt; wakes == 1 && hub.lock(rt).status() == Some((2, 0)));
-    rack.put(rt, seat);
+    reads_one_group(rt, &hub, &rack)?;
     assert!(rt; close(hub, rack.into_seats()).is_ok());
     Ok(())
 }

@@ -2,5 +2,5 @@ use Rattle.std.specs.Arc.{arc_value}
 use Rattle.running_trials.proofs.sessions.a_flood_is_one_entry.Given as goal
 
 -- the board that was just made
-abbrev pub ghosts-floods : goal.ghosts-floods
-ghosts-floods g a = record { names = arc_value a.board }
+abbrev pub ghosts-tries : goal.ghosts-tries
+ghosts-tries g a = record { names = arc_value a.board }

@@ -2,5 +2,5 @@ use Rattle.std.specs.Arc.{arc_value}
 use Rattle.running_trials.proofs.sessions.a_writer_stops_in_the_second_frame.Given as goal
 
 -- the board that was just made
-abbrev pub ghosts-sends : goal.ghosts-sends
-ghosts-sends g a = record { names = arc_value a.board }
+abbrev pub ghosts-tries : goal.ghosts-tries
+ghosts-tries g a = record { names = arc_value a.board }

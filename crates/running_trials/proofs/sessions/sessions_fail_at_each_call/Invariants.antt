@@ -2,5 +2,5 @@ use Rattle.std.specs.Arc.{arc_value}
 use Rattle.running_trials.proofs.sessions.sessions_fail_at_each_call.Given as goal
 
 -- the board that was just made
-abbrev pub ghosts-fails_at_each_call : goal.ghosts-fails_at_each_call
-ghosts-fails_at_each_call g a = record { names = arc_value a.board }
+abbrev pub ghosts-tries : goal.ghosts-tries
+ghosts-tries g a = record { names = arc_value a.board }
