@@ -9,7 +9,7 @@ use links::LinkEnd;
 use member::Member;
 use rounds::{ChaChaTosser, Tosser};
 use running::{
-    Addresses, Log, LogEvent, Machine, Operator, Places, Queue, RunFault, Slots, Standing, Tossers,
+    Addresses, Log, LogEvent, Machine, Operator, Places, Queue, RunFault, Slots, Standing,
     run_member, tosser_for, tossers_of,
 };
 use std::alloc::Global;
@@ -177,10 +177,10 @@ fn run_told<R: Machine>(
     cue: &Cue,
     log: Option<&Mutex<Kept>>,
 ) -> Result<(), RunFault> {
+    let addresses = cluster.addresses(alloc, me)?;
     let Some(member) = cluster.member(alloc, me, calls) else {
         return Err(RunFault::Memory);
     };
-    let addresses = cluster.addresses(alloc, me)?;
     let mut prompter = Prompter { rt, cue };
     run_member(rt, alloc, member, addresses, [me; 32], &mut prompter, log)
 }
@@ -254,6 +254,11 @@ fn is_closed(stream: &mut TcpStream) -> bool {
     }
 }
 
+/// Whether who connects is closed at once.
+fn is_turned_away<R: Machine>(rt: &R, address: SocketAddr) -> io::Result<bool> {
+    Ok(is_closed(&mut connect(rt, address)?))
+}
+
 /// No sockets. A test names their types by it, which the borrow checker wants where a runtime is taken as a [`Machine`].
 fn no_sockets() -> (Option<TcpListener>, Option<TcpStream>) {
     (None, None)
@@ -292,6 +297,13 @@ fn end_all<R: Machine + Abort>(rt: &R, cluster: Cluster, cues: &[Cue; 4]) -> Res
     Ok(())
 }
 
+/// The fourth member has the decision, and all end.
+fn learns<R: Machine + Abort>(rt: &R, cluster: Cluster, cues: &[Cue; 4]) -> Result<(), Fail> {
+    assert!(rt; cues[3].is_ready(rt));
+    assert!(rt; comes_to(rt, cluster.desk(3), b"ASK 0\n", b"DECIDED 1\n"));
+    end_all(rt, cluster, cues)
+}
+
 /// Three members decide, and a fourth that starts later learns it, since it is dialled again.
 fn joins_late<R: Machine + Abort>(rt: &R, alloc: Global) -> Result<(), Fail> {
     let cluster = Cluster {
@@ -300,16 +312,22 @@ fn joins_late<R: Machine + Abort>(rt: &R, alloc: Global) -> Result<(), Fail> {
         port: 47200,
     };
     let cues = [Cue::new(), Cue::new(), Cue::new(), Cue::new()];
-    let [zero, one, two, three] = &cues;
+    let cues = &cues;
     thread::scope(thread::scope_env(), rt, |scope| -> Result<(), Fail> {
-        let _zero = scope.spawn(move || run_to_cue(rt, alloc, cluster, 0, None, zero));
-        let _one = scope.spawn(move || run_to_cue(rt, alloc, cluster, 1, None, one));
-        let _two = scope.spawn(move || run_to_cue(rt, alloc, cluster, 2, None, two));
-        decide(rt, cluster, &cues, &[0, 1, 2])?;
-        let _three = scope.spawn(move || run_to_cue(rt, alloc, cluster, 3, None, three));
-        assert!(rt; three.is_ready(rt));
-        assert!(rt; comes_to(rt, cluster.desk(3), b"ASK 0\n", b"DECIDED 1\n"));
-        end_all(rt, cluster, &cues)
+        for me in 0..3u8 {
+            let cue = &cues[usize::from(me)];
+            let runs = scope
+                .spawn(move || run_to_cue(rt, alloc, cluster, me, None, cue))
+                .is_ok();
+            assert!(rt; runs);
+        }
+        decide(rt, cluster, cues, &[0, 1, 2])?;
+        let three = &cues[3];
+        let runs = scope
+            .spawn(move || run_to_cue(rt, alloc, cluster, 3, None, three))
+            .is_ok();
+        assert!(rt; runs);
+        learns(rt, cluster, cues)
     })
 }
 
@@ -347,30 +365,46 @@ fn decide_beside_one<R: Machine + Abort>(
     Ok(())
 }
 
-/// Three members decide beside one whose disk fails. The log of that one has no link of a peer more than once: once it is
-/// stopped it takes none in, however often it is dialled.
-fn one_stops<R: Machine + Abort>(rt: &R, alloc: Global) -> Result<(), Fail> {
+/// Three members decide beside one whose disk fails, which has a log.
+fn run_beside_one<R: Machine + Abort>(
+    rt: &R,
+    alloc: Global,
+    log: &Mutex<Kept>,
+) -> Result<(), Fail> {
     let cluster = Cluster {
         n: 4,
         t: 1,
         port: 47210,
     };
+    let cues = [Cue::new(), Cue::new(), Cue::new(), Cue::new()];
+    let cues = &cues;
+    thread::scope(thread::scope_env(), rt, |scope| -> Result<(), Fail> {
+        for me in [0u8, 2, 3] {
+            let cue = &cues[usize::from(me & 3)];
+            let runs = scope
+                .spawn(move || run_to_cue(rt, alloc, cluster, me, None, cue))
+                .is_ok();
+            assert!(rt; runs);
+        }
+        let one = &cues[1];
+        let runs = scope
+            .spawn(move || {
+                let ended = run_told(rt, alloc, cluster, 1, Some(0), one, Some(log));
+                *one.ended.lock(rt) = Some(ended);
+            })
+            .is_ok();
+        assert!(rt; runs);
+        decide_beside_one(rt, cluster, cues)
+    })
+}
+
+/// The log of a member whose disk fails has no link of a peer more than once: once it is stopped it takes none in, however
+/// often it is dialled.
+fn one_stops<R: Machine + Abort>(rt: &R, alloc: Global) -> Result<(), Fail> {
     let kept = Mutex::new(Kept {
         events: Vec::new(alloc),
     });
-    let log = &kept;
-    let cues = [Cue::new(), Cue::new(), Cue::new(), Cue::new()];
-    let [zero, one, two, three] = &cues;
-    thread::scope(thread::scope_env(), rt, |scope| -> Result<(), Fail> {
-        let _zero = scope.spawn(move || run_to_cue(rt, alloc, cluster, 0, None, zero));
-        let _one = scope.spawn(move || {
-            let ended = run_told(rt, alloc, cluster, 1, Some(0), one, Some(log));
-            *one.ended.lock(rt) = Some(ended);
-        });
-        let _two = scope.spawn(move || run_to_cue(rt, alloc, cluster, 2, None, two));
-        let _three = scope.spawn(move || run_to_cue(rt, alloc, cluster, 3, None, three));
-        decide_beside_one(rt, cluster, &cues)
-    })?;
+    run_beside_one(rt, alloc, &kept)?;
     let told = kept.into_inner().events;
     assert!(rt; links_up(&told) <= 3, "told {told:?}");
     assert!(rt; told.iter().any(|event| *event == LogEvent::Stopped));
@@ -395,52 +429,78 @@ fn is_refused<R: Machine>(rt: &R, address: SocketAddr, greeting: &[u8]) -> io::R
     Ok(is_closed(&mut stream))
 }
 
-/// So many clients that were each answered.
-fn clients<R: Machine + Abort>(
+/// So many clients more, who were each answered.
+fn seat_clients<R: Machine + Abort>(
     rt: &R,
-    alloc: Global,
     desk: SocketAddr,
+    seated: &mut Vec<TcpStream>,
     count: u32,
-) -> Result<Vec<TcpStream>, Fail> {
-    let mut clients = Vec::new(alloc);
+) -> Result<(), Fail> {
     for _ in 0..count {
         let mut client = connect(rt, desk)?;
         assert!(rt; answers(&mut client, b"STATUS\n", b"UP 18 1\n"));
-        clients.push(client)?;
+        seated.push(client)?;
     }
-    Ok(clients)
+    Ok(())
 }
 
 /// At most 32 clients are seated, and a place that one leaves is given to the next.
 fn fill_the_desk<R: Machine + Abort>(
     rt: &R,
-    alloc: Global,
     desk: SocketAddr,
-) -> Result<Vec<TcpStream>, Fail> {
-    let mut seated = clients(rt, alloc, desk, 32)?;
-    assert!(rt; is_closed(&mut connect(rt, desk)?));
+    seated: &mut Vec<TcpStream>,
+) -> Result<(), Fail> {
+    seat_clients(rt, desk, seated, 32)?;
+    assert!(rt; is_turned_away(rt, desk)?);
     drop(seated.pop());
     assert!(rt; comes_to(rt, desk, b"ASK 0\n", b"DECIDED 1\n"));
-    Ok(seated)
+    Ok(())
 }
 
 /// At most 64 peers that say nothing are let in. Who has greeted, or was refused, has given its place back: the last of the
 /// 64 has one.
 fn fill_the_door<R: Machine + Abort>(
     rt: &R,
-    alloc: Global,
     links: SocketAddr,
-) -> Result<Vec<TcpStream>, Fail> {
-    let mut silent = Vec::new(alloc);
+    silent: &mut Vec<TcpStream>,
+) -> Result<(), Fail> {
     for _ in 0..64u32 {
         silent.push(connect(rt, links)?)?;
     }
-    assert!(rt; is_closed(&mut connect(rt, links)?));
-    let mut last = silent.pop().ok_or("a peer")?;
-    last.set_read_timeout(Some(Duration::from_millis(300)))?;
-    assert!(rt; !is_closed(&mut last));
-    silent.push(last)?;
-    Ok(silent)
+    assert!(rt; is_turned_away(rt, links)?);
+    let last = silent.last_mut().ok_or("a peer")?;
+    assert!(rt; !is_closed_within(last, Duration::from_millis(300))?);
+    Ok(())
+}
+
+/// Clients and peers come until they are turned away, and the member ends all the same.
+fn fill_both<R: Machine + Abort>(
+    rt: &R,
+    alloc: Global,
+    cluster: Cluster,
+    cue: &Cue,
+) -> Result<(), Fail> {
+    let mut seated = Vec::new(alloc);
+    fill_the_desk(rt, cluster.desk(0), &mut seated)?;
+    let mut silent = Vec::new(alloc);
+    fill_the_door(rt, cluster.address(0), &mut silent)?;
+    assert!(rt; cue.ends(rt) == Some(Ok(())));
+    Ok(())
+}
+
+/// The member decides, refuses a stranger, and a second link from a member whose first is up.
+fn decides_and_refuses<R: Machine + Abort>(
+    rt: &R,
+    cluster: Cluster,
+    cue: &Cue,
+) -> Result<(), Fail> {
+    let (links, desk) = (cluster.address(0), cluster.desk(0));
+    assert!(rt; cue.is_ready(rt));
+    assert!(rt; comes_to(rt, desk, b"PROPOSE 0 1\n", b"OK\n"));
+    assert!(rt; comes_to(rt, desk, b"STATUS\n", b"UP 18 1\n"));
+    assert!(rt; is_refused(rt, links, &hello(8))?);
+    assert!(rt; is_refused(rt, links, &hello(7))?);
+    Ok(())
 }
 
 /// A member by itself, at whose doors there are too many.
@@ -452,19 +512,13 @@ fn crowd<R: Machine + Abort>(rt: &R, alloc: Global) -> Result<(), Fail> {
     };
     let cue = Cue::new();
     let cue = &cue;
-    let (links, desk) = (cluster.address(0), cluster.desk(0));
     thread::scope(thread::scope_env(), rt, |scope| -> Result<(), Fail> {
-        let _run = scope.spawn(move || run_to_cue(rt, alloc, cluster, 0, None, cue));
-        assert!(rt; cue.is_ready(rt));
-        assert!(rt; comes_to(rt, desk, b"PROPOSE 0 1\n", b"OK\n"));
-        assert!(rt; comes_to(rt, desk, b"STATUS\n", b"UP 18 1\n"));
-        // A stranger, and a second link from a member whose first is up.
-        assert!(rt; is_refused(rt, links, &hello(8))?);
-        assert!(rt; is_refused(rt, links, &hello(7))?);
-        let _seated = fill_the_desk(rt, alloc, desk)?;
-        let _silent = fill_the_door(rt, alloc, links)?;
-        assert!(rt; cue.ends(rt) == Some(Ok(())));
-        Ok(())
+        let runs = scope
+            .spawn(move || run_to_cue(rt, alloc, cluster, 0, None, cue))
+            .is_ok();
+        assert!(rt; runs);
+        decides_and_refuses(rt, cluster, cue)?;
+        fill_both(rt, alloc, cluster, cue)
     })
 }
 
@@ -500,29 +554,45 @@ impl Visitor {
     }
 }
 
-/// Runs member 0, lets it be visited and ends it. Gives its log.
-fn log_of<R: Machine + Abort>(
+/// Runs member 0 with this log, lets it be visited and ends it.
+fn run_visited<R: Machine + Abort>(
     rt: &R,
     alloc: Global,
     cluster: Cluster,
     visitor: &Visitor,
-) -> Result<Vec<LogEvent>, Fail> {
-    let kept = Mutex::new(Kept {
-        events: Vec::new(alloc),
-    });
+    log: &Mutex<Kept>,
+) -> Result<(), Fail> {
     let cue = Cue::new();
-    let (cue, log) = (&cue, &kept);
+    let cue = &cue;
     thread::scope(thread::scope_env(), rt, |scope| -> Result<(), Fail> {
-        let _run = scope.spawn(move || {
-            let ended = run_told(rt, alloc, cluster, 0, None, cue, Some(log));
-            *cue.ended.lock(rt) = Some(ended);
-        });
-        assert!(rt; cue.is_ready(rt));
+        let runs = scope
+            .spawn(move || {
+                let ended = run_told(rt, alloc, cluster, 0, None, cue, Some(log));
+                *cue.ended.lock(rt) = Some(ended);
+            })
+            .is_ok();
+        assert!(rt; runs && cue.is_ready(rt));
         visitor.visit(rt, cluster, log)?;
         assert!(rt; cue.ends(rt) == Some(Ok(())));
         Ok(())
-    })?;
-    Ok(kept.into_inner().events)
+    })
+}
+
+/// The log of member 0, which runs, is visited and ends, has these events.
+fn tells<R: Machine + Abort>(
+    rt: &R,
+    alloc: Global,
+    cluster: Cluster,
+    visitor: &Visitor,
+    want: &[LogEvent],
+) -> Result<(), Fail> {
+    let kept = Mutex::new(Kept {
+        events: Vec::new(alloc),
+    });
+    run_visited(rt, alloc, cluster, visitor, &kept)?;
+    let told = kept.into_inner().events;
+    assert!(rt; told.as_slice() == want, "told {told:?}");
+    Ok(())
 }
 
 /// A stranger comes, and a client.
@@ -540,15 +610,13 @@ fn alone<R: Machine + Abort>(rt: &R, alloc: Global) -> Result<(), Fail> {
         t: 0,
         port: 47240,
     };
-    let told = log_of(rt, alloc, cluster, &Visitor::Stranger)?;
     let want = [
         LogEvent::Ready(0),
         LogEvent::Refused(LinkEnd::Stranger),
         LogEvent::Decided(0, true),
         LogEvent::End,
     ];
-    assert!(rt; told.as_slice() == want.as_slice());
-    Ok(())
+    tells(rt, alloc, cluster, &Visitor::Stranger, &want)
 }
 
 #[test]
@@ -568,8 +636,7 @@ fn wait_for<R: Machine>(rt: &R, log: &Mutex<Kept>, count: usize) {
 }
 
 /// As a peer welcomes the link that is dialled to it: it reads the Hello, writes the Welcome, and reads an Idle.
-fn welcome<R: Machine + Abort>(rt: &R, listener: &TcpListener) -> Result<TcpStream, Fail> {
-    let (mut link, _) = listener.accept()?;
+fn welcome<R: Abort>(rt: &R, link: &mut TcpStream) -> Result<(), Fail> {
     link.set_read_timeout(Some(Duration::from_secs(5)))?;
     let mut hello = [0u8; 18];
     link.read_exact(&mut hello)?;
@@ -578,7 +645,7 @@ fn welcome<R: Machine + Abort>(rt: &R, listener: &TcpListener) -> Result<TcpStre
     let mut idle = [0u8; 3];
     link.read_exact(&mut idle)?;
     assert!(rt; idle == [0, 1, 0]);
-    Ok(link)
+    Ok(())
 }
 
 /// A peer that is dialled welcomes the link, and leaves. Dialled again it says nothing, and leaves: no link was up, and
@@ -588,7 +655,8 @@ fn is_dialled<R: Machine + Abort>(
     listener: &TcpListener,
     log: &Mutex<Kept>,
 ) -> Result<(), Fail> {
-    let link = welcome(rt, listener)?;
+    let (mut link, _) = listener.accept()?;
+    welcome(rt, &mut link)?;
     wait_for(rt, log, 2);
     drop(link);
     wait_for(rt, log, 3);
@@ -605,16 +673,14 @@ fn peer_leaves<R: Machine + Abort>(rt: &R, alloc: Global) -> Result<(), Fail> {
         t: 1,
         port: 47250,
     };
-    let listener = TcpListener::bind(rt, cluster.address(1))?;
-    let told = log_of(rt, alloc, cluster, &Visitor::Dialled(listener))?;
     let want = [
         LogEvent::Ready(0),
         LogEvent::LinkUpTo(1),
         LogEvent::LinkDownTo(1, LinkEnd::Lost),
         LogEvent::End,
     ];
-    assert!(rt; told.as_slice() == want.as_slice(), "told {told:?}");
-    Ok(())
+    let listener = TcpListener::bind(rt, cluster.address(1))?;
+    tells(rt, alloc, cluster, &Visitor::Dialled(listener), &want)
 }
 
 #[test]
@@ -629,13 +695,19 @@ const HELLO: [u8; 18] = [0, 16, 1, 1, 0, 0, 0, 0, 0, 0, 0, 7, 4, 1, 0, 1, 1, 0];
 /// The Idle frame.
 const IDLE: [u8; 3] = [0, 1, 0];
 
-/// A peer dials twice, and leaves.
-fn dials<R: Machine + Abort>(rt: &R, cluster: Cluster, log: &Mutex<Kept>) -> Result<(), Fail> {
-    let mut link = connect(rt, cluster.address(0))?;
+/// A peer greets, and is welcomed.
+fn is_welcomed<R: Abort>(rt: &R, link: &mut TcpStream) -> Result<(), Fail> {
     link.write_all(&HELLO)?;
     let mut welcome = [0u8; 11];
     link.read_exact(&mut welcome)?;
     assert!(rt; welcome == [0, 9, 2, 0, 0, 0, 0, 0, 0, 0, 0]);
+    Ok(())
+}
+
+/// A peer dials twice, and leaves.
+fn dials<R: Machine + Abort>(rt: &R, cluster: Cluster, log: &Mutex<Kept>) -> Result<(), Fail> {
+    let mut link = connect(rt, cluster.address(0))?;
+    is_welcomed(rt, &mut link)?;
     assert!(rt; is_refused(rt, cluster.address(0), &HELLO)?);
     drop(link);
     wait_for(rt, log, 4);
@@ -649,7 +721,6 @@ fn peer_comes<R: Machine + Abort>(rt: &R, alloc: Global) -> Result<(), Fail> {
         t: 1,
         port: 47260,
     };
-    let told = log_of(rt, alloc, cluster, &Visitor::Dialling)?;
     let want = [
         LogEvent::Ready(0),
         LogEvent::LinkUp(1),
@@ -657,8 +728,7 @@ fn peer_comes<R: Machine + Abort>(rt: &R, alloc: Global) -> Result<(), Fail> {
         LogEvent::LinkDown(1, LinkEnd::Ended),
         LogEvent::End,
     ];
-    assert!(rt; told.as_slice() == want.as_slice(), "told {told:?}");
-    Ok(())
+    tells(rt, alloc, cluster, &Visitor::Dialling, &want)
 }
 
 #[test]
@@ -750,14 +820,6 @@ fn is_closed_within(stream: &mut TcpStream, limit: Duration) -> io::Result<bool>
     Ok(is_closed(stream))
 }
 
-/// A peer whose link is up.
-fn greet<R: Machine>(rt: &R, links: SocketAddr) -> io::Result<TcpStream> {
-    let mut prompt = connect(rt, links)?;
-    prompt.write_all(&HELLO)?;
-    prompt.read_exact(&mut [0u8; 11])?;
-    Ok(prompt)
-}
-
 /// Seven seconds of a peer that sends a byte of its Hello a second, beside one that is up. It is not closed by then.
 fn greet_slowly<R: Machine + Abort>(
     rt: &R,
@@ -773,16 +835,27 @@ fn greet_slowly<R: Machine + Abort>(
     Ok(())
 }
 
-/// The slow peer is closed, and the other is not.
+/// The slow peer is closed, and the other, which greets, is not.
+fn slow_is_closed<R: Machine + Abort>(
+    rt: &R,
+    slow: &mut TcpStream,
+    prompt: &mut TcpStream,
+) -> Result<(), Fail> {
+    prompt.write_all(&HELLO)?;
+    prompt.read_exact(&mut [0u8; 11])?;
+    greet_slowly(rt, slow, prompt)?;
+    assert!(rt; is_closed_within(slow, Duration::from_secs(5))?);
+    prompt.write_all(&IDLE)?;
+    assert!(rt; !is_closed_within(prompt, Duration::from_millis(300))?);
+    Ok(())
+}
+
+/// Two peers come, and the first begins to greet.
 fn greet_and_greet_slowly<R: Machine + Abort>(rt: &R, links: SocketAddr) -> Result<(), Fail> {
     let mut slow = connect(rt, links)?;
     slow.write_all(&HELLO[..1])?;
-    let mut prompt = greet(rt, links)?;
-    greet_slowly(rt, &mut slow, &mut prompt)?;
-    assert!(rt; is_closed_within(&mut slow, Duration::from_secs(5))?);
-    prompt.write_all(&IDLE)?;
-    assert!(rt; !is_closed_within(&mut prompt, Duration::from_millis(300))?);
-    Ok(())
+    let mut prompt = connect(rt, links)?;
+    slow_is_closed(rt, &mut slow, &mut prompt)
 }
 
 /// A peer that greets, and one that sends a byte of its Hello a second: it is closed after ten seconds, though no read of it
@@ -796,8 +869,10 @@ fn slow_peer<R: Machine + Abort>(rt: &R, alloc: Global) -> Result<(), Fail> {
     let cue = Cue::new();
     let cue = &cue;
     thread::scope(thread::scope_env(), rt, |scope| -> Result<(), Fail> {
-        let _run = scope.spawn(move || run_to_cue(rt, alloc, cluster, 0, None, cue));
-        assert!(rt; cue.is_ready(rt));
+        let runs = scope
+            .spawn(move || run_to_cue(rt, alloc, cluster, 0, None, cue))
+            .is_ok();
+        assert!(rt; runs && cue.is_ready(rt));
         greet_and_greet_slowly(rt, cluster.address(0))?;
         assert!(rt; cue.ends(rt) == Some(Ok(())));
         Ok(())
@@ -826,6 +901,16 @@ fn places_and_slots_are_given_once(rt: HostRuntime) -> Result<(), Fail> {
     Ok(())
 }
 
+/// Whether there are so many tossers, the last of which tosses as that stream of the seed.
+fn last_tosses_as(tossers: &mut [ChaChaTosser], count: usize, stream: u64) -> bool {
+    let wanted = ChaChaTosser::from_seed([5; 32], stream).toss();
+    tossers.len() == count
+        && match tossers.last_mut() {
+            Some(last) => last.toss() == wanted,
+            None => false,
+        }
+}
+
 #[test]
 fn tosses_are_of_the_place(rt: HostRuntime) -> Result<(), Fail> {
     let cluster = Cluster {
@@ -834,15 +919,9 @@ fn tosses_are_of_the_place(rt: HostRuntime) -> Result<(), Fail> {
         port: 0,
     };
     let member = cluster.member(rt.alloc(), 1, None).ok_or("a member")?;
-    let Tossers {
-        mut links,
-        mut desk,
-    } = tossers_of(rt.alloc(), [5; 32], &member)?;
-    assert!(&rt; links.len() == 4 && desk.len() == 32);
-    let mut third = links.pop().ok_or("a link")?;
-    let mut last = desk.pop().ok_or("a slot")?;
-    assert!(&rt; third.toss() == ChaChaTosser::from_seed([5; 32], 3).toss());
-    assert!(&rt; last.toss() == ChaChaTosser::from_seed([5; 32], 159).toss());
+    let mut tossers = tossers_of(rt.alloc(), [5; 32], &member)?;
+    assert!(&rt; last_tosses_as(&mut tossers.links, 4, 3));
+    assert!(&rt; last_tosses_as(&mut tossers.desk, 32, 159));
     // The nineteenth record's life, of the link from member 3.
     let mut later = tosser_for([5; 32], 19, 3);
     assert!(&rt; later.toss() == ChaChaTosser::from_seed([5; 32], 4867).toss());
