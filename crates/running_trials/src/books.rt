@@ -96,7 +96,7 @@ fn pull<D: Disk, J: Naming, R: Wait>(
 }
 
 /// Closes the hub, and says whether the seats fit it.
-fn closes<D: Disk + Drop, J: Naming>(hub: Hub<D, J>, seats: Vec<Seat>) -> bool {
+pub(crate) fn closes<D: Disk + Drop, J: Naming>(hub: Hub<D, J>, seats: Vec<Seat>) -> bool {
     close(hub, seats).is_ok()
 }
 

@@ -6,12 +6,13 @@ ghost use Rattle.links.specs.Mem.{told_by, is_closed_mem};
 mod groups;
 
 use crate::beginnings::{at, board, header, open, take};
+use crate::books::closes;
 use disk::MemDisk;
 use links::{
     Gate, LinkEnd, MemStream, NetStream, Open, Point, Stream, StreamFault, greet, read_link,
     write_all, write_link,
 };
-use node::{Board, Hub, Naming, Rack, Seat, close};
+use node::{Board, Hub, Naming, Rack, Seat};
 use rounds::{Toss, Tosser};
 use std::alloc::Global;
 use std::marker::Brand;
@@ -288,7 +289,7 @@ fn tries<J: Naming, R: Wait + Abort + AllocGlobal>(
         Trial::Fails => fail_at_each_call(rt, &hub, &rack)?,
         Trial::Flood => is_flooded(rt, &hub, &rack)?,
     }
-    assert!(rt; close(hub, rack.into_seats()).is_ok());
+    assert!(rt; closes(hub, rack.into_seats()));
     Ok(())
 }
 
@@ -435,7 +436,7 @@ fn at_once<J: Naming + Send + Sync, R: Threads + Wait + Clock + Abort + AllocGlo
     let header = header(4, 1, 1, 0)?;
     let (hub, rack) = open::<MemDisk, J>(alloc, MemDisk::new(alloc), &header, true, board)?;
     run_at_once(rt, &hub, &rack)?;
-    assert!(rt; close(hub, rack.into_seats()).is_ok());
+    assert!(rt; closes(hub, rack.into_seats()));
     Ok(())
 }
 

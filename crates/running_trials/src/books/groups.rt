@@ -2,11 +2,11 @@
 ghost use Rattle.std.specs.Prelude.{◌≡◌, ◌≤◌, length};
 ghost use Rattle.std.specs.Arc.{arc_value};
 
-use super::{event, propose, status};
+use super::{closes, event, propose, status};
 use crate::beginnings::{at, board, header, start, take};
 use disk::MemDisk;
 use member::MemberFault;
-use node::{Board, Entry, Hub, Naming, Rack, Seat, close};
+use node::{Board, Entry, Hub, Naming, Rack, Seat};
 use questions::Answer;
 use rounds::Toss;
 use std::marker::Brand;
@@ -185,7 +185,7 @@ fn comes_to<J: Naming, R: Wait + Abort + AllocGlobal>(
         Outcome::Refused => is_refused(rt, &hub, &mut seat)?,
     }
     rack.put(rt, seat);
-    assert!(rt; close(hub, rack.into_seats()).is_ok());
+    assert!(rt; closes(hub, rack.into_seats()));
     Ok(())
 }
 

@@ -4,9 +4,10 @@ ghost use Rattle.std.specs.Arc.{arc_value};
 
 use super::{Zeros, frame};
 use crate::beginnings::{board, header, open, take};
+use crate::books::closes;
 use disk::MemDisk;
 use links::{Gate, LinkEnd, MemStream, Point, read_link};
-use node::{Board, Hub, Naming, Rack, Seat, close};
+use node::{Board, Hub, Naming, Rack, Seat};
 use std::alloc::Global;
 use std::marker::Brand;
 use std::process::Abort;
@@ -169,7 +170,7 @@ fn is_one_group<J: Naming + Send + Sync, R: Threads + Wait + Clock + Abort + All
     let header = header(4, 1, 2, 1)?;
     let (hub, rack) = open::<MemDisk, J>(alloc, MemDisk::new(alloc), &header, false, board)?;
     reads_one_group(rt, &hub, &rack)?;
-    assert!(rt; close(hub, rack.into_seats()).is_ok());
+    assert!(rt; closes(hub, rack.into_seats()));
     Ok(())
 }
 
