@@ -13,7 +13,7 @@ use links::MemStream;
 use member::Member;
 use node::{Board, Hub, Naming, Seat};
 use rounds::{ChaChaTosser, Toss};
-use std::alloc::{AllocError, Global};
+use std::alloc::Global;
 use std::marker::Brand;
 use std::process::Abort;
 use std::sync::{Arc, Wait};
