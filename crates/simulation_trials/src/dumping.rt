@@ -1,6 +1,5 @@
 //! Worked rows of `init` and `dump` over a disk in memory.
 
-use Asked::{Count, Lines};
 use commands::{DumpFault, InitFault, dump_count, dump_lines, init_disk};
 use disk::{Disk, MemDisk};
 use journal::JournalFault;
@@ -36,106 +35,72 @@ fn disk_of(alloc: Global, bytes: &[u8]) -> Result<MemDisk, Fail> {
     Ok(disk)
 }
 
-/// What is asked of a journal.
-#[derive(Clone, Copy)]
-enum Asked {
-    /// Its lines.
-    Lines,
-    /// With `--count`, how many records it has.
-    Count,
-}
-
-/// Dumps a disk that has these bytes and lets so many calls pass, or all. Gives how it ends.
-fn dump(
-    alloc: Global,
-    asked: Asked,
-    bytes: &[u8],
-    calls: Option<u64>,
-    output: &mut Vec<u8>,
-) -> Result<Result<u8, DumpFault>, Fail> {
-    let mut disk = disk_of(alloc, bytes)?;
-    disk.fuse(calls);
-    Ok(match asked {
-        Lines => dump_lines(alloc, disk, output),
-        Count => dump_count(alloc, disk, output),
-    })
-}
-
-/// Whether that is printed of these bytes.
-fn prints(alloc: Global, asked: Asked, bytes: &[u8], want: &str) -> Result<bool, Fail> {
+/// What `dump` prints of these bytes, and how it ends.
+fn dumped(alloc: Global, bytes: &[u8]) -> Result<(String, Result<u8, DumpFault>), Fail> {
     let mut output = Vec::new(alloc);
-    let ended = dump(alloc, asked, bytes, None, &mut output)?;
-    Ok(matches!(&ended, Ok(0)) && output.as_slice() == want.as_bytes())
+    let result = dump_lines(alloc, disk_of(alloc, bytes)?, &mut output);
+    let text = String::from_utf8(output).ok().ok_or("text")?;
+    Ok((text, result))
 }
 
-/// Whether nothing is printed, for that fault of the journal.
-fn refuses(
-    alloc: Global,
-    asked: Asked,
-    bytes: &[u8],
-    calls: Option<u64>,
-    fault: JournalFault,
-) -> Result<bool, Fail> {
+/// What `dump --count` prints of these bytes, and how it ends.
+fn counted(alloc: Global, bytes: &[u8]) -> Result<(String, Result<u8, DumpFault>), Fail> {
     let mut output = Vec::new(alloc);
-    let ended = dump(alloc, asked, bytes, calls, &mut output)?;
-    let is_it = matches!(&ended, Err(DumpFault::Journal(found)) if *found == fault);
-    Ok(is_it && output.is_empty())
+    let result = dump_count(alloc, disk_of(alloc, bytes)?, &mut output);
+    let text = String::from_utf8(output).ok().ok_or("text")?;
+    Ok((text, result))
 }
 
 #[test]
 fn counts_the_records(rt: HostRuntime) -> Result<(), Fail> {
-    assert!(rt; prints(rt.alloc(), Count, &EMPTY, "0\n")?);
-    assert!(rt; prints(rt.alloc(), Count, &TWO_RECORDS, "2\n")?);
-    let cut = &TWO_RECORDS[..41];
-    assert!(rt; refuses(rt.alloc(), Count, cut, None, JournalFault::CutShort)?);
+    for (bytes, want) in [(EMPTY.as_slice(), "0\n"), (TWO_RECORDS.as_slice(), "2\n")] {
+        let (text, result) = counted(rt.alloc(), bytes)?;
+        assert_eq!(rt; text.as_str(), want);
+        assert!(rt; matches!(&result, Ok(0)));
+    }
+    let (text, result) = counted(rt.alloc(), &TWO_RECORDS[..41])?;
+    assert_eq!(rt; text.as_str(), "");
+    assert!(rt; matches!(&result, Err(DumpFault::Journal(JournalFault::CutShort))));
     Ok(())
 }
 
 #[test]
 fn prints_the_records(rt: HostRuntime) -> Result<(), Fail> {
-    let rows: [(&[u8], &str); 3] = [
-        (&EMPTY, "cluster 7 n 4 t 1 questions 1 me 1\n"),
+    for (bytes, want) in [
+        (EMPTY.as_slice(), "cluster 7 n 4 t 1 questions 1 me 1\n"),
         (
-            &TWO_RECORDS,
+            TWO_RECORDS.as_slice(),
             "cluster 7 n 4 t 1 questions 1 me 1\necho 0 0 1 1 one\ndecided 0 1 1\n",
         ),
         (
-            b"BRACHAJ1\xff\xff\xff\xff\xff\xff\xff\xff\x20\x0a\x01\x00\x1f\0\0\0\x01\0\x03\x01\0\xff\x1f\x20\x03\x02\x03\0\x09\x02\x01\x03\x04\x04\0\xfe\0\x20\0\0\xff\0\x01\x02\0\0\x01\x02\x03\x03\0",
+            b"BRACHAJ1\xff\xff\xff\xff\xff\xff\xff\xff\x20\x0a\x01\x00\x1f\0\0\0\x01\0\x03\x01\0\xff\x1f\x20\x03\x02\x03\0\x09\x02\x01\x03\x04\x04\0\xfe\0\x20\0\0\xff\0\x01\x02\0\0\x01\x02\x03\x03\0".as_slice(),
             "cluster 18446744073709551615 n 32 t 10 questions 256 me 31\ninitial 255 31 32 3 sure-zero\nready 9 2 1 3 unsure\ndecided 254 32 0\necho 0 1 2 3 sure-one\n",
         ),
-    ];
-    for (at, (bytes, want)) in rows.iter().enumerate() {
-        assert!(rt; prints(rt.alloc(), Lines, bytes, want)?, "row {at}");
+    ] {
+        let (text, result) = dumped(rt.alloc(), bytes)?;
+        assert_eq!(rt; text.as_str(), want);
+        assert!(rt; matches!(&result, Ok(0)));
     }
     Ok(())
 }
 
-/// The text of the fault for which nothing is printed.
-fn fault_text(alloc: Global, bytes: &[u8]) -> Result<String, Fail> {
-    let mut output = Vec::new(alloc);
-    let ended = dump(alloc, Lines, bytes, None, &mut output)?;
-    let fault = ended.err().ok_or("a fault")?;
-    if !output.is_empty() {
-        return Err(Fail::from("nothing that is printed"));
-    }
-    Ok(format!(in alloc; "{fault}")?)
-}
-
 #[test]
 fn prints_nothing_of_no_journal(rt: HostRuntime) -> Result<(), Fail> {
-    let rows: [(&[u8], &str); 5] = [
-        (b"", "journal BadHeader"),
+    for (bytes, want) in [
+        (b"".as_slice(), "journal BadHeader"),
         (&EMPTY[..23], "journal BadHeader"),
         (&EMPTY[..24], "journal CutShort"),
         (&TWO_RECORDS[..41], "journal CutShort"),
         (
-            b"BRACHAJ1\0\0\0\0\0\0\0\x07\x04\x01\0\x01\x01\0\0\0\x01\0\0\0",
+            b"BRACHAJ1\0\0\0\0\0\0\0\x07\x04\x01\0\x01\x01\0\0\0\x01\0\0\0".as_slice(),
             "journal BadRecord",
         ),
-    ];
-    for (at, (bytes, want)) in rows.iter().enumerate() {
-        let printed = fault_text(rt.alloc(), bytes)?;
-        assert!(rt; printed.as_str() == *want, "row {at}");
+    ] {
+        let (text, result) = dumped(rt.alloc(), bytes)?;
+        assert_eq!(rt; text.as_str(), "");
+        let fault = result.err().ok_or("a fault")?;
+        let printed = format!(in rt.alloc(); "{fault}")?;
+        assert_eq!(rt; printed.as_str(), want);
     }
     Ok(())
 }
@@ -143,11 +108,15 @@ fn prints_nothing_of_no_journal(rt: HostRuntime) -> Result<(), Fail> {
 #[test]
 fn names_the_disk(rt: HostRuntime) -> Result<(), Fail> {
     for calls in 0..5 {
-        let device = JournalFault::Device;
+        let mut disk = disk_of(rt.alloc(), &TWO_RECORDS)?;
+        disk.fuse(Some(calls));
+        let mut output = Vec::new(rt.alloc());
+        let result = dump_lines(rt.alloc(), disk, &mut output);
         assert!(rt;
-            refuses(rt.alloc(), Lines, &TWO_RECORDS, Some(calls), device)?,
+            matches!(&result, Err(DumpFault::Journal(JournalFault::Device))),
             "after {calls}"
         );
+        assert!(rt; output.is_empty());
     }
     Ok(())
 }
@@ -177,13 +146,6 @@ fn names_the_stream(rt: HostRuntime) -> Result<(), Fail> {
     Ok(())
 }
 
-/// Whether a new disk that lets so many calls pass fails.
-fn fails(alloc: Global, settings: &Settings, calls: u64) -> bool {
-    let mut disk = MemDisk::new(alloc);
-    disk.fuse(Some(calls));
-    init_disk(&mut disk, settings) == Err(InitFault::Device)
-}
-
 #[test]
 fn makes_a_journal_once(rt: HostRuntime) -> Result<(), Fail> {
     let settings = Settings::parse(rt.alloc(), SETTINGS)
@@ -198,7 +160,10 @@ fn makes_a_journal_once(rt: HostRuntime) -> Result<(), Fail> {
     assert!(rt; disk.read_at(0, &mut bytes).is_ok());
     assert!(rt; bytes == EMPTY);
     for calls in 0..3 {
-        assert!(rt; fails(rt.alloc(), &settings, calls), "after {calls}");
+        let mut disk = MemDisk::new(rt.alloc());
+        disk.fuse(Some(calls));
+        let result = init_disk(&mut disk, &settings);
+        assert!(rt; result == Err(InitFault::Device), "after {calls}");
     }
     Ok(())
 }
