@@ -25,13 +25,6 @@ const KEYS: [(&str, &str); 9] = [
     ),
 ];
 
-/// Adds the line of a key.
-fn add_line(alloc: Global, text: &mut String, key: &str, value: &str) -> Result<(), Fail> {
-    let line = format!(in alloc; "{} = {}\n", key, value)?;
-    text.push_str(line.as_str())?;
-    Ok(())
-}
-
 /// The text of those settings with other values for these keys. A key with the value `-` is left out.
 fn text(alloc: Global, changes: &[(&str, &str)]) -> Result<String, Fail> {
     let mut text = String::from_str(alloc, "# a comment\nother = 'left alone'\n")?;
@@ -43,7 +36,8 @@ fn text(alloc: Global, changes: &[(&str, &str)]) -> Result<String, Fail> {
             }
         }
         if value != "-" {
-            add_line(alloc, &mut text, *key, value)?;
+            let line = format!(in alloc; "{} = {}\n", *key, value)?;
+            text.push_str(line.as_str())?;
         }
     }
     Ok(text)

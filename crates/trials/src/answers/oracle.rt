@@ -57,24 +57,20 @@ fn decided_in(record: &Record, question: u16) -> Option<u8> {
 
 /// How many of the messages in the set, of which member a is one if bit a is set, are of that value.
 fn votes(messages: &Messages, set: u8, value: Value) -> usize {
-    let mut found = 0_usize;
-    for (message, bit) in messages.iter().zip([1, 2, 4, 8]) {
-        if set & bit != 0 && *message == Some(value) {
-            found = found.saturating_add(1);
-        }
-    }
-    found
+    messages
+        .iter()
+        .zip([1, 2, 4, 8])
+        .filter(|(m, bit)| set & *bit != 0 && **m == Some(value))
+        .count()
 }
 
 /// How many of the members in the set have a message.
 fn present(messages: &Messages, set: u8) -> usize {
-    let mut found = 0_usize;
-    for (message, bit) in messages.iter().zip([1, 2, 4, 8]) {
-        if set & bit != 0 && message.is_some() {
-            found = found.saturating_add(1);
-        }
-    }
-    found
+    messages
+        .iter()
+        .zip([1, 2, 4, 8])
+        .filter(|(m, bit)| set & *bit != 0 && m.is_some())
+        .count()
 }
 
 /// Whether these messages of that step give the value.
