@@ -844,7 +844,8 @@ fn slow_is_closed<R: Machine + Abort>(
     prompt.write_all(&HELLO)?;
     prompt.read_exact(&mut [0u8; 11])?;
     greet_slowly(rt, slow, prompt)?;
-    assert!(rt; is_closed_within(slow, Duration::from_secs(5))?);
+    // The time limit of a read would close it later, ten seconds behind its last byte.
+    assert!(rt; is_closed_within(slow, Duration::from_secs(8))?);
     prompt.write_all(&IDLE)?;
     assert!(rt; !is_closed_within(prompt, Duration::from_millis(300))?);
     Ok(())

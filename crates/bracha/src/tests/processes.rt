@@ -3,6 +3,8 @@
 //! The program of the tests starts itself, by the name of the test [`a_process`], which then is the program. The status
 //! that the program would end with is its last line, since a test ends with one of its own.
 
+mod steps;
+
 use super::*;
 use std::io::{Read, Write};
 use std::net::{IpAddr, Ipv4Addr, SocketAddr};
@@ -10,6 +12,11 @@ use std::process::{Child, Command, Output, Stdio};
 use std::test::Fail;
 use std::time::Duration;
 use std::{env, thread};
+use steps::Step::{
+    Begins, Clear, Ends, Has, HasSettings, Lacks, Names, Omits, Prints, Put, PutSettings, Says,
+    SaysClosed,
+};
+use steps::play;
 
 /// The words of the program that a test starts, with a space between each two.
 const WORDS: &str = "BRACHA_TEST_WORDS";
@@ -118,11 +125,12 @@ fn an_argument_that_is_no_text(rt: HostRuntime) -> Result<(), Fail> {
     Ok(())
 }
 
-/// The program with these words.
+/// The program with these words behind its name.
 fn program(rt: &HostRuntime, words: &str) -> Result<Command, Fail> {
     let own = env::args(rt)?.next().ok_or("the program's name")?;
     let mut command = Command::new(rt.alloc(), own.as_str())?;
-    command.arg(NAME)?.env(WORDS, words)?;
+    let words = format!(in rt.alloc(); "bracha {words}")?;
+    command.arg(NAME)?.env(WORDS, words.as_str())?;
     Ok(command)
 }
 
@@ -166,43 +174,43 @@ fn remove(rt: &HostRuntime, paths: &[&str]) -> Result<(), Fail> {
     Ok(())
 }
 
-/// A file of the tests, in the folder that they are run in.
-const JOURNAL: &str = "bracha_tests_closed.journal";
-
 /// A journal of no records: cluster 7, n 4, t 1, one question, member 1.
 const EMPTY: [u8; 25] = *b"BRACHAJ1\0\0\0\0\0\0\0\x07\x04\x01\0\x01\x01\0\0\0\0";
 
 /// A script of a member by itself, which proposes once.
 const ONE_PROPOSAL: &str = "n 1\nt 0\nquestions 1\nliars\nseed 1\npropose 0 0 1\n";
 
-/// The settings of its member.
-const SETTINGS: &str = "bracha_tests_closed.toml";
-
 /// What the program says on its standard error, started with its input and output closed.
 fn said_when_closed(rt: &HostRuntime, words: &str) -> Result<String, Fail> {
     let script = "exec \"$0\" tests::processes::a_process <&- >&-";
-    let (_, said) = told_with(rt, shell(rt, script)?, WORDS, words)?;
+    let words = format!(in rt.alloc(); "bracha {words}")?;
+    let (_, said) = told_with(rt, shell(rt, script)?, WORDS, words.as_str())?;
     Ok(said)
 }
 
 #[test]
 fn closed_streams_leave_files_alone(rt: HostRuntime) -> Result<(), Fail> {
-    put(&rt, JOURNAL, &EMPTY)?;
-    let settings = settings_of_four(&rt, JOURNAL, 7)?;
-    put(&rt, SETTINGS, settings.as_str().as_bytes())?;
-    let script = "bracha_tests_closed.script";
-    put(&rt, script, ONE_PROPOSAL.as_bytes())?;
-    for words in [
-        "bracha dump bracha_tests_closed.journal",
-        "bracha run bracha_tests_closed.toml",
-        "bracha run --stay bracha_tests_closed.toml",
-        "bracha simulate --trace - bracha_tests_closed.script",
-    ] {
-        let said = said_when_closed(&rt, words)?;
-        assert!(rt; said.as_str().contains("bracha: stream"), "said {said}");
-        assert!(rt; has(&rt, JOURNAL, &EMPTY)?);
-    }
-    remove(&rt, &[SETTINGS, JOURNAL, script])
+    let (settings, journal, script) = (
+        "bracha_tests_closed.toml",
+        "bracha_tests_closed.journal",
+        "bracha_tests_closed.script",
+    );
+    let simulate = "simulate --trace - bracha_tests_closed.script";
+    let steps = [
+        Put(journal, &EMPTY),
+        PutSettings(settings, journal, 7),
+        Put(script, ONE_PROPOSAL.as_bytes()),
+        SaysClosed("dump bracha_tests_closed.journal", "bracha: stream"),
+        Has(journal, &EMPTY),
+        SaysClosed("run bracha_tests_closed.toml", "bracha: stream"),
+        Has(journal, &EMPTY),
+        SaysClosed("run --stay bracha_tests_closed.toml", "bracha: stream"),
+        Has(journal, &EMPTY),
+        SaysClosed(simulate, "bracha: stream"),
+        Has(journal, &EMPTY),
+    ];
+    play(&rt, &steps)?;
+    remove(&rt, &[settings, journal, script])
 }
 
 /// What the program prints on its standard output, with its status last, and on its standard error.
@@ -222,63 +230,57 @@ fn ends_by(rt: &HostRuntime, words: &str, fault: &str, status: u8) -> Result<boo
     )
 }
 
-/// Whether the program ends by that fault and status 1.
-fn fails(rt: &HostRuntime, words: &str, fault: &str) -> Result<bool, Fail> {
-    ends_by(rt, words, fault, 1)
-}
-
 #[test]
 fn faults_of_words_and_files(rt: HostRuntime) -> Result<(), Fail> {
-    put(&rt, "bracha_tests_bytes.toml", &[0xff, 0x0a])?;
-    for (words, fault) in [
-        ("bracha dump bracha_tests_none.journal", "file"),
-        ("bracha init bracha_tests_none.toml", "file"),
-        ("bracha check bracha_tests_none.toml", "file"),
-        ("bracha check bracha_tests_bytes.toml", "settings text"),
-        ("bracha init bracha_tests_bytes.toml", "settings text"),
-        ("bracha simulate bracha_tests_none.script", "file"),
-        (
-            "bracha hear --n 0 --t 0 --questions 1 --me 0",
-            "size NoMembers",
-        ),
-        (
-            "bracha hear --n 33 --t 0 --questions 1 --me 0",
+    let bytes = "bracha_tests_bytes.toml";
+    let steps = [
+        Put(bytes, &[0xff, 0x0a]),
+        Ends("dump bracha_tests_none.journal", "file", 1),
+        Ends("init bracha_tests_none.toml", "file", 1),
+        Ends("check bracha_tests_none.toml", "file", 1),
+        Ends("check bracha_tests_bytes.toml", "settings text", 1),
+        Ends("init bracha_tests_bytes.toml", "settings text", 1),
+        Ends("simulate bracha_tests_none.script", "file", 1),
+        Ends("hear --n 0 --t 0 --questions 1 --me 0", "size NoMembers", 1),
+        Ends(
+            "hear --n 33 --t 0 --questions 1 --me 0",
             "size TooManyMembers",
+            1,
         ),
-        (
-            "bracha hear --n 3 --t 1 --questions 1 --me 0",
+        Ends(
+            "hear --n 3 --t 1 --questions 1 --me 0",
             "size TooManyLiars",
+            1,
         ),
-        (
-            "bracha hear --n 4 --t 1 --questions 0 --me 0",
+        Ends(
+            "hear --n 4 --t 1 --questions 0 --me 0",
             "size NoQuestions",
+            1,
         ),
-        ("bracha ask 127.0.0.1 0", "address"),
-        ("bracha status localhost", "address"),
-        ("bracha status 127.0.0.1:47199", "no answer"),
-        ("bracha dump --count bracha_tests_none.journal", "file"),
-    ] {
-        assert!(rt; fails(&rt, words, fault)?, "{words}");
-    }
-    // A file that isn't there isn't made.
-    assert!(rt; !is_there(&rt, "bracha_tests_none.journal"));
-    remove(&rt, &["bracha_tests_bytes.toml"])
+        Ends("ask 127.0.0.1 0", "address", 1),
+        Ends("status localhost", "address", 1),
+        Ends("status 127.0.0.1:47199", "no answer", 1),
+        Ends("dump --count bracha_tests_none.journal", "file", 1),
+        // A file that isn't there isn't made.
+        Lacks("bracha_tests_none.journal"),
+    ];
+    play(&rt, &steps)?;
+    remove(&rt, &[bytes])
 }
 
-/// What the program says on its standard error behind the line of its fault, with the option or with the environment's word.
+/// What the program says on its standard error, with the option `--verbose` or with the environment's word.
 fn told_more(rt: &HostRuntime, words: &str, by_environment: bool) -> Result<String, Fail> {
     let mut command = if by_environment {
-        let words = format!(in rt.alloc(); "bracha {words}")?;
-        program(rt, words.as_str())?
+        program(rt, words)?
     } else {
-        let words = format!(in rt.alloc(); "bracha --verbose {words}")?;
+        let words = format!(in rt.alloc(); "--verbose {words}")?;
         program(rt, words.as_str())?
     };
     if by_environment {
         command.env("BRACHA_VERBOSE", "1")?;
     }
-    let output = command.stdin(Stdio::null()).output(rt)?;
-    Ok(String::from_utf8(output.stderr).ok().ok_or("text")?)
+    let (_, said) = texts(command.stdin(Stdio::null()).output(rt)?)?;
+    Ok(said)
 }
 
 /// The files of which second lines tell, and what they hold.
@@ -308,8 +310,7 @@ fn has_second_line(rt: &HostRuntime, words: &str, lines: &str) -> Result<bool, F
             return Ok(false);
         }
     }
-    let plain = format!(in rt.alloc(); "bracha {words}")?;
-    let (_, said) = told(rt, plain.as_str())?;
+    let (_, said) = told(rt, words)?;
     let (first, second) = lines.split_once('\n').ok_or("two lines")?;
     Ok(said.as_str().contains(first) && !said.as_str().contains(second.trim_end()))
 }
@@ -319,58 +320,57 @@ fn a_second_line_names_the_thing(rt: HostRuntime) -> Result<(), Fail> {
     for (path, bytes) in TOLD {
         put(&rt, path, bytes)?;
     }
-    for (words, lines) in [
-        (
+    let steps = [
+        Names(
             "init bracha_tests_none.toml",
             "bracha: file\nbracha_tests_none.toml: read: No such file or directory (os error 2)\n",
         ),
-        (
+        Names(
             "dump bracha_tests_none.journal",
             "bracha: file\nbracha_tests_none.journal: open: No such file or directory (os error 2)\n",
         ),
-        (
+        Names(
             "dump .",
             "bracha: file\n.: open: Is a directory (os error 21)\n",
         ),
-        (
+        Names(
             "dump bracha_tests_more.journal",
             "bracha: journal BadHeader\nbracha_tests_more.journal: byte 0: bytes 42 52 41 43 48 41 4a 31: journal BadHeader\n",
         ),
-        (
+        Names(
             "check bracha_tests_more_text.toml",
             "bracha: settings text\nbracha_tests_more_text.toml:2: ",
         ),
-        (
+        Names(
             "check bracha_tests_more_bytes.toml",
             "bracha: settings text\nbracha_tests_more_bytes.toml: byte 1: not UTF-8\n",
         ),
-        (
+        Names(
             "check bracha_tests_more_key.toml",
             "bracha: settings cluster\nbracha_tests_more_key.toml:3: cluster\n",
         ),
-        (
+        Names(
             "simulate bracha_tests_more.script",
             "bracha: line 7\nbracha_tests_more.script:7: delivr 0 0 next\n",
         ),
-        (
+        Names(
             "simulate bracha_tests_more_end.script",
             "bracha: line 3\nbracha_tests_more_end.script:3: the text ends before this line\n",
         ),
-        (
+        Names(
             "simulate bracha_tests_more_lines.script",
             "bracha: line 1\nbracha_tests_more_lines.script:1: \"n 4\\r\"\n",
         ),
-        (
+        Names(
             "status 127.0.0.1:47199",
             "bracha: no answer\n127.0.0.1:47199: connect: Connection refused (os error 111)\n",
         ),
-        (
+        Names(
             "status localhost",
             "bracha: address\nlocalhost: not HOST:PORT\n",
         ),
-    ] {
-        assert!(rt; has_second_line(&rt, words, lines)?, "{words}");
-    }
+    ];
+    play(&rt, &steps)?;
     for (path, _) in TOLD {
         remove(&rt, &[path])?;
     }
@@ -381,18 +381,9 @@ fn a_second_line_names_the_thing(rt: HostRuntime) -> Result<(), Fail> {
 const ODD: [u8; 45] =
     *b"BRACHAJ1\0\0\0\0\0\0\0\x07\x04\x01\0\x01\x01\0\0\0\x01\0\x01\x02\0\0\0\x01\x01\x01\x01\0\x01\x09\0\0\0\x01\x01\x01\0";
 
-/// Whether the second line says this of the file.
-fn places(
-    rt: &HostRuntime,
-    words: &str,
-    journal: &str,
-    place: &str,
-    by_environment: bool,
-) -> Result<bool, Fail> {
-    let line = format!(in rt.alloc(); "\n{journal}: {place}\n")?;
-    let told = told_more(rt, words, by_environment)?;
-    Ok(told.as_str().contains(line.as_str()))
-}
+/// The second line of the odd journal.
+const ODD_LINE: &str =
+    "\nbracha_tests_bytes_of.journal: byte 34: bytes 01 00 01 09 00 00 00 01 01 01 00: journal BadRecord\n";
 
 #[test]
 fn a_second_line_shows_the_bytes_of_a_journal(rt: HostRuntime) -> Result<(), Fail> {
@@ -400,32 +391,28 @@ fn a_second_line_shows_the_bytes_of_a_journal(rt: HostRuntime) -> Result<(), Fai
         "bracha_tests_bytes_of.toml",
         "bracha_tests_bytes_of.journal",
     );
-    let settings = settings_of_four(&rt, journal, 7)?;
-    put(&rt, path, settings.as_str().as_bytes())?;
-    let odd = "byte 34: bytes 01 00 01 09 00 00 00 01 01 01 00: journal BadRecord";
-    for (bytes, words, place) in [
-        (ODD.as_slice(), "dump bracha_tests_bytes_of.journal", odd),
-        (
-            ODD.as_slice(),
-            "dump --count bracha_tests_bytes_of.journal",
-            odd,
+    let steps = [
+        PutSettings(path, journal, 7),
+        Put(journal, &ODD),
+        Says("--verbose dump bracha_tests_bytes_of.journal", ODD_LINE),
+        Says(
+            "--verbose dump --count bracha_tests_bytes_of.journal",
+            ODD_LINE,
         ),
-        (ODD.as_slice(), "check bracha_tests_bytes_of.toml", odd),
-        (ODD.as_slice(), "run bracha_tests_bytes_of.toml", odd),
-        (
-            &ODD[..24],
-            "run bracha_tests_bytes_of.toml",
-            "byte 24: end of file: journal CutShort",
+        Says("--verbose check bracha_tests_bytes_of.toml", ODD_LINE),
+        Says("--verbose run bracha_tests_bytes_of.toml", ODD_LINE),
+        Put(journal, &ODD[..24]),
+        Says(
+            "--verbose run bracha_tests_bytes_of.toml",
+            "\nbracha_tests_bytes_of.journal: byte 24: end of file: journal CutShort\n",
         ),
-        (
-            &ODD[..34],
-            "check bracha_tests_bytes_of.toml",
-            "byte 24: bytes 01 00 01 02 00 00 00 01 01 01: journal CutShort",
+        Put(journal, &ODD[..34]),
+        Says(
+            "--verbose check bracha_tests_bytes_of.toml",
+            "\nbracha_tests_bytes_of.journal: byte 24: bytes 01 00 01 02 00 00 00 01 01 01: journal CutShort\n",
         ),
-    ] {
-        put(&rt, journal, bytes)?;
-        assert!(rt; places(&rt, words, journal, place, false)?, "{words}");
-    }
+    ];
+    play(&rt, &steps)?;
     remove(&rt, &[path, journal])
 }
 
@@ -436,22 +423,20 @@ fn a_second_line_shows_the_front_of_a_journal(rt: HostRuntime) -> Result<(), Fai
         "bracha_tests_front_other.toml",
         "bracha_tests_front.journal",
     );
-    for (path, cluster) in [(path, 7), (other, 8)] {
-        let settings = settings_of_four(&rt, journal, cluster)?;
-        put(&rt, path, settings.as_str().as_bytes())?;
-    }
-    put(&rt, journal, &EMPTY)?;
-    let front = "byte 0: bytes 42 52 41 43 48 41 4a 31 00 00 00 00 00 00 00 07 ..: journal";
-    for (words, fault) in [
-        ("init bracha_tests_front.toml", "NotEmpty"),
-        ("check bracha_tests_front_other.toml", "OtherHeader"),
-    ] {
-        let place = format!(in rt.alloc(); "{front} {fault}")?;
-        assert!(rt;
-            places(&rt, words, journal, place.as_str(), true)?,
-            "{words}"
-        );
-    }
+    let steps = [
+        PutSettings(path, journal, 7),
+        PutSettings(other, journal, 8),
+        Put(journal, &EMPTY),
+        Names(
+            "init bracha_tests_front.toml",
+            "bracha: journal NotEmpty\nbracha_tests_front.journal: byte 0: bytes 42 52 41 43 48 41 4a 31 00 00 00 00 00 00 00 07 ..: journal NotEmpty\n",
+        ),
+        Names(
+            "check bracha_tests_front_other.toml",
+            "bracha: journal OtherHeader\nbracha_tests_front.journal: byte 0: bytes 42 52 41 43 48 41 4a 31 00 00 00 00 00 00 00 07 ..: journal OtherHeader\n",
+        ),
+    ];
+    play(&rt, &steps)?;
     remove(&rt, &[path, other, journal])
 }
 
@@ -469,11 +454,7 @@ fn piped(rt: &HostRuntime, words: &str, input: Stdio) -> Result<Child, Fail> {
 fn a_desk_that_hangs_up_is_no_answer(rt: HostRuntime) -> Result<(), Fail> {
     let address = SocketAddr::new(IpAddr::V4(Ipv4Addr::new(127, 0, 0, 1)), 47137);
     let desk = TcpListener::bind(&rt, address)?;
-    let child = piped(
-        &rt,
-        "bracha --verbose status 127.0.0.1:47137",
-        Stdio::null(),
-    )?;
+    let child = piped(&rt, "--verbose status 127.0.0.1:47137", Stdio::null())?;
     let (mut client, _) = desk.accept()?;
     // What isn't a whole line is no reply.
     client.write_all(b"UP 3 0")?;
@@ -493,7 +474,7 @@ fn a_journal_that_another_has_is_named(rt: HostRuntime) -> Result<(), Fail> {
     let file = fs::File::open(&rt, journal)?;
     file.try_lock()?;
     let lines = "bracha: file\nbracha_tests_locked.journal: open: another process has it\n";
-    assert!(rt; has_second_line(&rt, "dump bracha_tests_locked.journal", lines)?);
+    play(&rt, &[Names("dump bracha_tests_locked.journal", lines)])?;
     remove(&rt, &[journal])
 }
 
@@ -524,25 +505,15 @@ fn is_proposed(rt: &HostRuntime, words: &str) -> Result<bool, Fail> {
 
 /// What a member by itself says on the standard error, which takes a proposal and whose input then ends.
 fn said_in_a_life(rt: &HostRuntime) -> Result<String, Fail> {
-    let child = piped(
-        rt,
-        "bracha run --log bracha_tests_alone.toml",
-        Stdio::piped(),
-    )?;
-    let proposed = is_proposed(rt, "bracha propose 127.0.0.1:47139 0 1")?;
+    let child = piped(rt, "run --log bracha_tests_alone.toml", Stdio::piped())?;
+    let proposed = is_proposed(rt, "propose 127.0.0.1:47139 0 1")?;
     want(proposed, "a proposal that is taken")?;
     // What the desk refuses is printed, with status 1.
     for (words, said) in [
-        (
-            "bracha propose 127.0.0.1:47139 0 2",
-            "ERR 3 bit\nstatus 1\n",
-        ),
-        (
-            "bracha propose 127.0.0.1:47139 1 1",
-            "ERR 2 question\nstatus 1\n",
-        ),
-        ("bracha ask 127.0.0.1:47139 1", "ERR 2 question\nstatus 1\n"),
-        ("bracha propose 127.0.0.1:47139 0 0", "HAVE 1\nstatus 0\n"),
+        ("propose 127.0.0.1:47139 0 2", "ERR 3 bit\nstatus 1\n"),
+        ("propose 127.0.0.1:47139 1 1", "ERR 2 question\nstatus 1\n"),
+        ("ask 127.0.0.1:47139 1", "ERR 2 question\nstatus 1\n"),
+        ("propose 127.0.0.1:47139 0 0", "HAVE 1\nstatus 0\n"),
     ] {
         want(prints(rt, words, said)?, "what the desk refuses")?;
     }
@@ -557,12 +528,12 @@ fn a_member_alone_tells_its_life(rt: HostRuntime) -> Result<(), Fail> {
     let _ = fs::remove_file(&rt, journal);
     let settings = settings_alone(&rt, journal, 47138)?;
     put(&rt, path, settings.as_str().as_bytes())?;
-    assert!(rt; prints(&rt, "bracha init bracha_tests_alone.toml", "status 0\n")?);
+    assert!(rt; prints(&rt, "init bracha_tests_alone.toml", "status 0\n")?);
     let said = said_in_a_life(&rt)?;
     let life = "ready member 0\ndecided 0 1\nend\n";
     assert!(rt; said.as_str().contains(life), "{said}");
     // In its next life the decision isn't told again.
-    let (_, said) = told(&rt, "bracha run --log bracha_tests_alone.toml")?;
+    let (_, said) = told(&rt, "run --log bracha_tests_alone.toml")?;
     assert!(rt; said.as_str().contains("ready member 0\nend\n"), "{said}");
     remove(&rt, &[path, journal])
 }
@@ -570,15 +541,17 @@ fn a_member_alone_tells_its_life(rt: HostRuntime) -> Result<(), Fail> {
 #[test]
 fn init_makes_the_journal_once(rt: HostRuntime) -> Result<(), Fail> {
     let (path, journal) = ("bracha_tests_init.toml", "bracha_tests_init.journal");
-    let _ = fs::remove_file(&rt, journal);
-    let settings = settings_of_four(&rt, journal, 7)?;
-    put(&rt, path, settings.as_str().as_bytes())?;
-    let words = "bracha init bracha_tests_init.toml";
-    assert!(rt; prints(&rt, words, "status 0\n")?);
-    assert!(rt; has(&rt, journal, &EMPTY)?);
-    assert!(rt; fails(&rt, words, "journal NotEmpty")?);
-    assert!(rt; has(&rt, journal, &EMPTY)?);
-    assert!(rt; has(&rt, path, settings.as_str().as_bytes())?);
+    let words = "init bracha_tests_init.toml";
+    let steps = [
+        Clear(journal),
+        PutSettings(path, journal, 7),
+        Prints(words, "status 0\n"),
+        Has(journal, &EMPTY),
+        Ends(words, "journal NotEmpty", 1),
+        Has(journal, &EMPTY),
+        HasSettings(path, journal, 7),
+    ];
+    play(&rt, &steps)?;
     remove(&rt, &[path, journal])
 }
 
@@ -591,7 +564,7 @@ fn a_member_that_stays_outlives_its_input(rt: HostRuntime) -> Result<(), Fail> {
     let settings = settings_alone(&rt, journal, 47136)?;
     put(&rt, path, settings.as_str().as_bytes())?;
     put(&rt, journal, &ALONE)?;
-    let words = "bracha run --stay --log bracha_tests_stay.toml";
+    let words = "run --stay --log bracha_tests_stay.toml";
     let mut child = piped(&rt, words, Stdio::null())?;
     wait_ready(&mut child, 0, &rt)?;
     thread::sleep(&rt, Duration::from_millis(2000));
@@ -603,50 +576,53 @@ fn a_member_that_stays_outlives_its_input(rt: HostRuntime) -> Result<(), Fail> {
     remove(&rt, &[path, journal])
 }
 
-/// What `check` prints of a member of cluster 7 whose journal is this file.
-fn said_of(rt: &HostRuntime, journal: &str) -> Result<String, Fail> {
-    Ok(format!(in rt.alloc();
-        "cluster 7 n 4 t 1 questions 1 me 1\njournal {journal}\npeer 127.0.0.1:47120\npeer 127.0.0.1:47121\npeer 127.0.0.1:47122\npeer 127.0.0.1:47123\ndesk 127.0.0.1:47131\n"
-    )?)
-}
-
 #[test]
 fn check_makes_no_journal(rt: HostRuntime) -> Result<(), Fail> {
     let (path, journal) = ("bracha_tests_check.toml", "bracha_tests_check.journal");
-    let _ = fs::remove_file(&rt, journal);
-    let settings = settings_of_four(&rt, journal, 7)?;
-    put(&rt, path, settings.as_str().as_bytes())?;
-    let words = "bracha check bracha_tests_check.toml";
-    assert!(rt; fails(&rt, words, "file")?);
-    assert!(rt; prints(&rt, words, said_of(&rt, journal)?.as_str())?);
-    assert!(rt; !is_there(&rt, journal));
-    assert!(rt; fails(&rt, "bracha run bracha_tests_check.toml", "file")?);
-    assert!(rt; !is_there(&rt, journal), "a journal that run made");
+    let words = "check bracha_tests_check.toml";
+    let steps = [
+        Clear(journal),
+        PutSettings(path, journal, 7),
+        Ends(words, "file", 1),
+        Prints(
+            words,
+            "cluster 7 n 4 t 1 questions 1 me 1\njournal bracha_tests_check.journal\npeer 127.0.0.1:47120\npeer 127.0.0.1:47121\npeer 127.0.0.1:47122\npeer 127.0.0.1:47123\ndesk 127.0.0.1:47131\n",
+        ),
+        Lacks(journal),
+        // Nor does `run` make one.
+        Ends("run bracha_tests_check.toml", "file", 1),
+        Lacks(journal),
+    ];
+    play(&rt, &steps)?;
     remove(&rt, &[path])
 }
 
 #[test]
 fn check_leaves_a_journal_as_it_is(rt: HostRuntime) -> Result<(), Fail> {
     let (path, journal) = ("bracha_tests_leaves.toml", "bracha_tests_leaves.journal");
-    let settings = settings_of_four(&rt, journal, 7)?;
-    put(&rt, path, settings.as_str().as_bytes())?;
-    let words = "bracha check bracha_tests_leaves.toml";
-    for (bytes, fault) in [
-        (&EMPTY[..24], "journal CutShort"),
-        (&EMPTY[..20], "journal BadHeader"),
-    ] {
-        put(&rt, journal, bytes)?;
-        assert!(rt; fails(&rt, words, fault)?, "{fault}");
-        assert!(rt; has(&rt, journal, bytes)?);
-    }
-    put(&rt, journal, &EMPTY)?;
+    let words = "check bracha_tests_leaves.toml";
+    let steps = [
+        PutSettings(path, journal, 7),
+        Put(journal, &EMPTY[..24]),
+        Ends(words, "journal CutShort", 1),
+        Has(journal, &EMPTY[..24]),
+        Put(journal, &EMPTY[..20]),
+        Ends(words, "journal BadHeader", 1),
+        Has(journal, &EMPTY[..20]),
+        Put(journal, &EMPTY),
+    ];
+    play(&rt, &steps)?;
     // Another has the journal open, and its lock.
     let file = fs::File::open(&rt, journal)?;
     file.try_lock()?;
-    let said = said_of(&rt, journal)?;
-    let whole = format!(in rt.alloc(); "{said}records 0\nstatus 0\n")?;
-    assert!(rt; prints(&rt, words, whole.as_str())?);
-    assert!(rt; has(&rt, journal, &EMPTY)?);
+    let steps = [
+        Prints(
+            words,
+            "cluster 7 n 4 t 1 questions 1 me 1\njournal bracha_tests_leaves.journal\npeer 127.0.0.1:47120\npeer 127.0.0.1:47121\npeer 127.0.0.1:47122\npeer 127.0.0.1:47123\ndesk 127.0.0.1:47131\nrecords 0\nstatus 0\n",
+        ),
+        Has(journal, &EMPTY),
+    ];
+    play(&rt, &steps)?;
     remove(&rt, &[path, journal])
 }
 
@@ -657,19 +633,23 @@ fn pages_go_into_their_files(rt: HostRuntime) -> Result<(), Fail> {
         "bracha_tests_pages.trace",
         "bracha_tests_pages.svg",
     );
-    put(&rt, script, ONE_PROPOSAL.as_bytes())?;
-    let words = format!(in rt.alloc(); "bracha simulate --trace {trace} --chart {chart} {script}")?;
-    assert!(rt; prints(&rt, words.as_str(), "events 1 skipped 0\nstatus 0\n")?);
-    assert!(rt; has(&rt, trace, b"1 propose 0 0 1: done: initial 0 0 1 1 one\n")?);
-    assert!(rt; fs::read(&rt, chart)?.as_slice().starts_with(b"<svg "));
     // A page that can't be written is told before anything is printed.
-    for (option, fault) in [("--trace", "trace"), ("--chart", "chart")] {
-        let words = format!(in rt.alloc();
-            "bracha simulate {option} bracha_tests_none/page {script}"
-        )?;
-        assert!(rt; fails(&rt, words.as_str(), fault)?);
-        assert!(rt; !prints(&rt, words.as_str(), "events")?);
-    }
+    let no_trace = "simulate --trace bracha_tests_none/page bracha_tests_pages.script";
+    let no_chart = "simulate --chart bracha_tests_none/page bracha_tests_pages.script";
+    let steps = [
+        Put(script, ONE_PROPOSAL.as_bytes()),
+        Prints(
+            "simulate --trace bracha_tests_pages.trace --chart bracha_tests_pages.svg bracha_tests_pages.script",
+            "events 1 skipped 0\nstatus 0\n",
+        ),
+        Has(trace, b"1 propose 0 0 1: done: initial 0 0 1 1 one\n"),
+        Begins(chart, b"<svg "),
+        Ends(no_trace, "trace", 1),
+        Omits(no_trace, "events"),
+        Ends(no_chart, "chart", 1),
+        Omits(no_chart, "events"),
+    ];
+    play(&rt, &steps)?;
     remove(&rt, &[script, trace, chart])
 }
 
@@ -679,34 +659,48 @@ fn pages_keep_off_other_files(rt: HostRuntime) -> Result<(), Fail> {
     put(&rt, script, ONE_PROPOSAL.as_bytes())?;
     let _ = fs::remove_dir_all(&rt, folder);
     fs::create_dir(&rt, folder)?;
-    let link = "bracha_tests_apart/link";
-    fs::hard_link(&rt, script, link)?;
-    for (options, path) in [
-        (
-            "--trace bracha_tests_apart.script",
-            "bracha_tests_apart.script",
+    fs::hard_link(&rt, script, "bracha_tests_apart/link")?;
+    let is_kept = Has(script, ONE_PROPOSAL.as_bytes());
+    let steps = [
+        Ends(
+            "simulate --trace bracha_tests_apart.script bracha_tests_apart.script",
+            "same file bracha_tests_apart.script",
+            2,
         ),
-        (
-            "--chart ./bracha_tests_apart.script",
-            "./bracha_tests_apart.script",
+        is_kept,
+        Ends(
+            "simulate --chart ./bracha_tests_apart.script bracha_tests_apart.script",
+            "same file ./bracha_tests_apart.script",
+            2,
         ),
-        ("--chart bracha_tests_apart/link", "bracha_tests_apart/link"),
-        (
-            "--trace bracha_tests_apart/a --chart bracha_tests_apart/a",
-            "bracha_tests_apart/a",
+        is_kept,
+        Ends(
+            "simulate --chart bracha_tests_apart/link bracha_tests_apart.script",
+            "same file bracha_tests_apart/link",
+            2,
         ),
-        (
-            "--trace bracha_tests_apart/a --chart bracha_tests_apart/../bracha_tests_apart/a",
-            "bracha_tests_apart/../bracha_tests_apart/a",
+        is_kept,
+        Ends(
+            "simulate --trace bracha_tests_apart/a --chart bracha_tests_apart/a bracha_tests_apart.script",
+            "same file bracha_tests_apart/a",
+            2,
         ),
-        ("--trace - --chart -", "-"),
-    ] {
-        let words = format!(in rt.alloc(); "bracha simulate {options} {script}")?;
-        let fault = format!(in rt.alloc(); "same file {path}")?;
-        assert!(rt; ends_by(&rt, words.as_str(), fault.as_str(), 2)?, "{words}");
-        assert!(rt; has(&rt, script, ONE_PROPOSAL.as_bytes())?);
-        assert!(rt; !is_there(&rt, "bracha_tests_apart/a"));
-    }
+        Lacks("bracha_tests_apart/a"),
+        Ends(
+            "simulate --trace bracha_tests_apart/a --chart bracha_tests_apart/../bracha_tests_apart/a bracha_tests_apart.script",
+            "same file bracha_tests_apart/../bracha_tests_apart/a",
+            2,
+        ),
+        Lacks("bracha_tests_apart/a"),
+        Ends(
+            "simulate --trace - --chart - bracha_tests_apart.script",
+            "same file -",
+            2,
+        ),
+        is_kept,
+        Lacks("bracha_tests_apart/a"),
+    ];
+    play(&rt, &steps)?;
     fs::remove_dir_all(&rt, folder)?;
     remove(&rt, &[script])
 }
@@ -714,15 +708,19 @@ fn pages_keep_off_other_files(rt: HostRuntime) -> Result<(), Fail> {
 #[test]
 fn a_page_goes_to_the_output(rt: HostRuntime) -> Result<(), Fail> {
     let (script, chart) = ("bracha_tests_output.script", "bracha_tests_output.svg");
-    put(&rt, script, ONE_PROPOSAL.as_bytes())?;
-    let words = format!(in rt.alloc(); "bracha simulate --trace - --chart {chart} {script}")?;
-    let (printed, said) = told(&rt, words.as_str())?;
-    let page = "1 propose 0 0 1: done: initial 0 0 1 1 one\nstatus 0\n";
-    assert!(rt; printed.as_str().contains(page), "{printed}");
-    assert!(rt; !printed.as_str().contains("events"), "{printed}");
-    assert!(rt; said.as_str().contains("events 1 skipped 0\n"), "{said}");
-    assert!(rt; fs::read(&rt, chart)?.as_slice().starts_with(b"<svg "));
-    assert!(rt; !is_there(&rt, "-"));
+    let words = "simulate --trace - --chart bracha_tests_output.svg bracha_tests_output.script";
+    let steps = [
+        Put(script, ONE_PROPOSAL.as_bytes()),
+        Prints(
+            words,
+            "1 propose 0 0 1: done: initial 0 0 1 1 one\nstatus 0\n",
+        ),
+        Omits(words, "events"),
+        Says(words, "events 1 skipped 0\n"),
+        Begins(chart, b"<svg "),
+        Lacks("-"),
+    ];
+    play(&rt, &steps)?;
     remove(&rt, &[script, chart])
 }
 
@@ -735,7 +733,7 @@ fn is_taken(rt: &HostRuntime, rest: &str) -> Result<bool, Fail> {
 
 /// Whether each line of the help that shows the program's use is taken, and there is one.
 fn shows_its_use(rt: &HostRuntime, name: &str) -> Result<bool, Fail> {
-    let words = format!(in rt.alloc(); "bracha {name} --help")?;
+    let words = format!(in rt.alloc(); "{name} --help")?;
     let printed = ended(rt, words.as_str())?;
     let mut shown = false;
     for line in printed.as_str().split('\n') {
@@ -795,7 +793,7 @@ fn wait_ready(child: &mut Child, member: u8, rt: &HostRuntime) -> Result<(), Fai
 
 /// Starts a member, and waits until it is ready. Its input ends where this process does.
 fn start(rt: &HostRuntime, member: u8) -> Result<Child, Fail> {
-    let words = format!(in rt.alloc(); "bracha run {FOLDER}/{member}.toml")?;
+    let words = format!(in rt.alloc(); "run {FOLDER}/{member}.toml")?;
     let mut command = program(rt, words.as_str())?;
     let mut child = command
         .stdin(Stdio::piped())
@@ -813,7 +811,7 @@ fn end_of(child: Child, rt: &HostRuntime) -> Result<String, Fail> {
 
 /// Asks a member until it has decided the question, at most 600 times.
 fn decision(rt: &HostRuntime, member: u8, question: u16) -> Result<String, Fail> {
-    let words = format!(in rt.alloc(); "bracha ask 127.0.0.1:4711{member} {question}")?;
+    let words = format!(in rt.alloc(); "ask 127.0.0.1:4711{member} {question}")?;
     for _ in 0..600u32 {
         let text = ended(rt, words.as_str())?;
         if !text.as_str().contains("UNDECIDED") {
@@ -827,7 +825,7 @@ fn decision(rt: &HostRuntime, member: u8, question: u16) -> Result<String, Fail>
 /// Proposes 1 on the question to each member, and asks each for its decision.
 fn settle(rt: &HostRuntime, question: u16) -> Result<(), Fail> {
     for member in 0..4u8 {
-        let words = format!(in rt.alloc(); "bracha propose 127.0.0.1:4711{member} {question} 1")?;
+        let words = format!(in rt.alloc(); "propose 127.0.0.1:4711{member} {question} 1")?;
         let taken = prints(rt, words.as_str(), "OK\nstatus 0\n")?;
         want(taken, "a proposal that is taken")?;
     }
@@ -841,7 +839,7 @@ fn settle(rt: &HostRuntime, question: u16) -> Result<(), Fail> {
 
 /// Whether the member says that it is up, and has decided so many questions.
 fn is_up(rt: &HostRuntime, member: u8, decided: u8) -> Result<bool, Fail> {
-    let words = format!(in rt.alloc(); "bracha status 127.0.0.1:4711{member}")?;
+    let words = format!(in rt.alloc(); "status 127.0.0.1:4711{member}")?;
     let text = ended(rt, words.as_str())?;
     let end = format!(in rt.alloc(); " {decided}\nstatus 0\n")?;
     Ok(text.as_str().contains("UP ") && text.as_str().contains(end.as_str()))
@@ -849,12 +847,12 @@ fn is_up(rt: &HostRuntime, member: u8, decided: u8) -> Result<bool, Fail> {
 
 /// Whether `dump --count` prints the number of the records that `dump` prints.
 fn is_counted(rt: &HostRuntime, member: u8) -> Result<bool, Fail> {
-    let words = format!(in rt.alloc(); "bracha dump {FOLDER}/{member}.journal")?;
+    let words = format!(in rt.alloc(); "dump {FOLDER}/{member}.journal")?;
     let text = ended(rt, words.as_str())?;
     let (dumped, _) = text.as_str().split_once("\nstatus 0").ok_or("an end")?;
     let (_, lines) = dumped.split_once("cluster ").ok_or("a header")?;
     let records = lines.split('\n').count().saturating_sub(1);
-    let words = format!(in rt.alloc(); "bracha dump --count {FOLDER}/{member}.journal")?;
+    let words = format!(in rt.alloc(); "dump --count {FOLDER}/{member}.journal")?;
     let line = format!(in rt.alloc(); "{records}\nstatus 0\n")?;
     let counted = ended(rt, words.as_str())?;
     Ok(records > 2 && counted.as_str().contains(line.as_str()))
@@ -862,7 +860,7 @@ fn is_counted(rt: &HostRuntime, member: u8) -> Result<bool, Fail> {
 
 /// The decisions in a member's journal.
 fn decisions(rt: &HostRuntime, member: u8) -> Result<Vec<String>, Fail> {
-    let words = format!(in rt.alloc(); "bracha dump {FOLDER}/{member}.journal")?;
+    let words = format!(in rt.alloc(); "dump {FOLDER}/{member}.journal")?;
     let text = ended(rt, words.as_str())?;
     let mut found = Vec::new(rt.alloc());
     for line in text.as_str().split('\n') {
@@ -877,7 +875,7 @@ fn decisions(rt: &HostRuntime, member: u8) -> Result<Vec<String>, Fail> {
 fn init_all(rt: &HostRuntime) -> Result<(), Fail> {
     for member in 0..4u8 {
         write_settings(rt, member)?;
-        let words = format!(in rt.alloc(); "bracha init {FOLDER}/{member}.toml")?;
+        let words = format!(in rt.alloc(); "init {FOLDER}/{member}.toml")?;
         want(prints(rt, words.as_str(), "status 0\n")?, "the end of init")?;
     }
     Ok(())
