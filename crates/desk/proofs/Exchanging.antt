@@ -213,25 +213,29 @@ module _ (D : Type 0) (questions : ℕ) where
     ends = inl (refl, over ∙ ap has_ended (s.told ∙ ap (λ (l : List ℕ). exchanged old s.exchanges (l ++ [])) none));
   }
 
+  ended_at : (known : List (Option Bool)) (old now told : Told) (held : List ℕ) → (s : Serving D questions known old now held [])
+      → told ≡ has_ended now → told ≡ has_ended (exchanged old s.exchanges held)
+  ended_at known old now told held s over = over ∙ ap has_ended (s.told ∙ ap (exchanged old s.exchanges) (append-nil held))
+
   -- the input ended, and the line that was held was answered
   pub ended_by_line : (known after : List (Option Bool)) (old now told new : Told) (held : List ℕ) → Serving D questions known old now held []
-      → told ≡ has_ended now → KnowsMore known after → Says (MayReply D questions after held) told new → Serves D questions after old new end.Ended
-  ended_by_line known after old now told new held s over m said =
-      let before : told ≡ has_ended (exchanged old s.exchanges held) = over ∙ ap has_ended (s.told ∙ ap (exchanged old s.exchanges) (append-nil held)) in
-      record {
-        exchanges = s.exchanges;
-        rest = held;
-        each = each_more D questions known after s.exchanges m s.each;
-        ends = inr (said.reply, record { is_line = s.is_line; replied = said.fits }, said.wrote ∙ ap (λ (t : Told). has_written t (line (reply_text said.reply))) before);
-      }
+      → 0 < length held → told ≡ has_ended now → KnowsMore known after → Says (MayReply D questions after held) told new → Serves D questions after old new end.Ended
+  ended_by_line known after old now told new held s some over m said = record {
+    exchanges = s.exchanges;
+    rest = held;
+    each = each_more D questions known after s.exchanges m s.each;
+    ends = inr (
+      said.reply,
+      (some, record { is_line = s.is_line; replied = said.fits }),
+      said.wrote ∙ ap (λ (t : Told). has_written t (line (reply_text said.reply))) (ended_at known old now told held s over),
+    );
+  }
 
   pub ended_lost : (known after : List (Option Bool)) (old now told new : Told) (held : List ℕ) → Serving D questions known old now held []
-      → told ≡ has_ended now → KnowsMore known after → FailsToSay (MayReply D questions after held) told new → Serves D questions after old new end.Lost
-  ended_lost known after old now told new held s over m said =
-      let before : told ≡ has_ended (exchanged old s.exchanges held) = over ∙ ap has_ended (s.told ∙ ap (exchanged old s.exchanges) (append-nil held)) in
-      record {
-        exchanges = s.exchanges;
-        rest = held;
-        each = each_more D questions known after s.exchanges m s.each;
-        ends = inr (told, said.reply, inr (inr (record { is_line = s.is_line; replied = said.fits }, before)), said.broke);
-      }
+      → 0 < length held → told ≡ has_ended now → KnowsMore known after → FailsToSay (MayReply D questions after held) told new → Serves D questions after old new end.Lost
+  ended_lost known after old now told new held s some over m said = record {
+    exchanges = s.exchanges;
+    rest = held;
+    each = each_more D questions known after s.exchanges m s.each;
+    ends = inr (told, said.reply, inr (inr ((some, record { is_line = s.is_line; replied = said.fits }), ended_at known old now told held s over)), said.broke);
+  }

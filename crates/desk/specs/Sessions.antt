@@ -1,5 +1,5 @@
 -- What a client's session reads and writes.
-use Rattle.std.specs.Prelude.{ℕ, ◌≡◌, ◌⊎◌, ◌≤◌, Bool, Some, Option, Result, Ok, Err, List, [], ◌++◌, length}
+use Rattle.std.specs.Prelude.{ℕ, ◌≡◌, ◌⊎◌, ◌<◌, ◌≤◌, Bool, Some, Option, Result, Ok, Err, List, [], ◌++◌, length}
 use Rattle.std.specs.List.{All, flat_map}
 use Rattle.words.specs.Lines.{NoEnd, line}
 use Rattle.node.specs.Verdicts.{known_at}
@@ -93,6 +93,10 @@ pub record IsTooLong (bytes : List ℕ) : Type 0 where
   pub no_end : NoEnd front
   pub long : length front ≡ 4097
 
+-- the rest is the last line of an input, with no byte 10 behind it, and this is its reply
+abbrev pub IsLastLine : Type 0 → ℕ → List (Option Bool) → List ℕ → Reply → Type 0
+IsLastLine D questions known rest reply = (0 < length rest) × IsExchange D questions known (record { asked = rest; reply = reply })
+
 -- This reply is owed for the rest, where the stream tells `now`: the rest begins with a line or is too long, or it is the
 -- last line of an input that ended.
 abbrev pub Owes : Type 0 → ℕ → List (Option Bool) → Told → List ℕ → Told → Reply → Type 0
@@ -100,15 +104,14 @@ Owes D questions known served rest now reply =
     ((asked : List ℕ) × (more : List ℕ) × (rest ≡ line asked ++ more)
     × IsExchange D questions known (record { asked = asked; reply = reply }) × (now ≡ served))
     ⊎ ((IsTooLong rest × MaySay BadLine reply × (now ≡ served))
-    ⊎ (IsExchange D questions known (record { asked = rest; reply = reply }) × (now ≡ has_ended served)))
+    ⊎ (IsLastLine D questions known rest reply × (now ≡ has_ended served)))
 
 -- how a session ends whose stream told `served` with the rest behind its last reply, and tells `now`
 abbrev pub EndsBy : Type 0 → ℕ → List (Option Bool) → Told → List ℕ → Told → DeskEnd → Type 0
 -- the input ended, and what stands behind the last byte 10 was answered as a line
 EndsBy D questions known served rest now end.Ended =
     ((rest ≡ []) × (now ≡ has_ended served))
-    ⊎ ((reply : Reply) × IsExchange D questions known (record { asked = rest; reply = reply })
-    × (now ≡ has_written (has_ended served) (line (reply_text reply))))
+    ⊎ ((reply : Reply) × IsLastLine D questions known rest reply × (now ≡ has_written (has_ended served) (line (reply_text reply))))
 -- a line was too long, and was answered so
 EndsBy D questions known served rest now end.TooLong =
     (reply : Reply) × IsTooLong rest × MaySay BadLine reply × (now ≡ has_written served (line (reply_text reply)))
