@@ -1,5 +1,9 @@
 //! The commands `propose`, `ask` and `status`: a line to the desk of a member that runs.
 
+ghost use Rattle.bracha.specs.Troubles.{IsNamed};
+ghost use Rattle.bracha.specs.declared.fault.Fault.TheVariants as ends;
+ghost use Rattle.std.specs.Prelude.{◌≡◌, IfErr};
+
 use crate::fault::Fault;
 use crate::live::socket_address;
 use crate::trouble::{Failure, Whereabouts};
@@ -18,24 +22,29 @@ fn connect(rt: &HostRuntime, address: &Address) -> io::Result<TcpStream> {
 }
 
 /// The failure of a talk over a connection that was made.
-fn talk_failure(rt: &HostRuntime, address: &str, fault: TalkFault) -> Failure {
+fn talk_failure(rt: &HostRuntime, address: &str, fault: TalkFault) -> Failure
+    ensures fault { result.fault ≡ ends.Talk fault }
+    ensures named { IsNamed address.now result }
+{
     match fault {
         TalkFault::NoAnswer => {
             let words = "connected, but no whole reply came";
             Failure::at(
                 rt.alloc(),
-                Fault::from(fault),
+                Fault::Talk(fault),
                 address,
                 Whereabouts::Whole,
                 &words,
             )
         }
-        _ => Failure::from(Fault::from(fault)),
+        _ => Failure::from(Fault::Talk(fault)),
     }
 }
 
 /// Sends the line to the desk at the address, and prints the reply.
-fn ask_desk(rt: &HostRuntime, text: &str, line: &str) -> Result<u8, Failure> {
+fn ask_desk(rt: &HostRuntime, text: &str, line: &str) -> Result<u8, Failure>
+    ensures { IfErr result (IsNamed text.now) }
+{
     let Some(address) = Address::parse(text) else {
         let words = "not HOST:PORT";
         return Err(Failure::at(rt.alloc(), Fault::Address, text, Whereabouts::Whole, &words));
@@ -43,7 +52,7 @@ fn ask_desk(rt: &HostRuntime, text: &str, line: &str) -> Result<u8, Failure> {
     let socket = match connect(rt, &address) {
         Ok(socket) => socket,
         Err(error) => {
-            let fault = Fault::from(TalkFault::NoAnswer);
+            let fault = Fault::Talk(TalkFault::NoAnswer);
             return Err(Failure::at(rt.alloc(), fault, text, Whereabouts::Connect, &error));
         }
     };
@@ -56,18 +65,24 @@ fn ask_desk(rt: &HostRuntime, text: &str, line: &str) -> Result<u8, Failure> {
 }
 
 /// Proposes a bit to the member whose desk is at the address, and prints its reply. The status is that of the reply.
-pub fn propose_at(rt: &HostRuntime, address: &str, question: u16, bit: u8) -> Result<u8, Failure> {
+pub fn propose_at(rt: &HostRuntime, address: &str, question: u16, bit: u8) -> Result<u8, Failure>
+    ensures { IfErr result (IsNamed address.now) }
+{
     let line = propose_line(rt.alloc(), question, bit).map_err(|_| Fault::Memory)?;
     ask_desk(rt, address, line.as_str())
 }
 
 /// Asks the member whose desk is at the address for its decision, and prints its reply. The status is that of the reply.
-pub fn ask_at(rt: &HostRuntime, address: &str, question: u16) -> Result<u8, Failure> {
+pub fn ask_at(rt: &HostRuntime, address: &str, question: u16) -> Result<u8, Failure>
+    ensures { IfErr result (IsNamed address.now) }
+{
     let line = ask_line(rt.alloc(), question).map_err(|_| Fault::Memory)?;
     ask_desk(rt, address, line.as_str())
 }
 
 /// Asks the member whose desk is at the address whether it is up, and prints its reply. The status is that of the reply.
-pub fn status_at(rt: &HostRuntime, address: &str) -> Result<u8, Failure> {
+pub fn status_at(rt: &HostRuntime, address: &str) -> Result<u8, Failure>
+    ensures { IfErr result (IsNamed address.now) }
+{
     ask_desk(rt, address, status_line())
 }

@@ -1,6 +1,9 @@
 //! The commands over the files that their words name, and over the standard streams.
 
-ghost use Rattle.std.specs.Prelude.{◌≡◌};
+ghost use Rattle.bracha.specs.Faults.{IsMeant};
+ghost use Rattle.bracha.specs.Troubles.{IsNamed};
+ghost use Rattle.bracha.specs.declared.fault.Fault.TheVariants as ends;
+ghost use Rattle.std.specs.Prelude.{◌≡◌, IfErr};
 
 use crate::fault::Fault;
 use crate::pages::{fault_at, keep_apart, write_page};
@@ -26,7 +29,9 @@ pub fn hear_input(rt: &HostRuntime, size: Size, me: u8) -> Result<u8, Fault> {
 }
 
 /// The settings in the file.
-pub fn read_settings(rt: &HostRuntime, path: &str) -> Result<Settings, Failure> {
+pub fn read_settings(rt: &HostRuntime, path: &str) -> Result<Settings, Failure>
+    ensures { IfErr result (IsNamed path.now) }
+{
     let bytes = read_file(rt, path)?;
     let text = match str::from_utf8(&bytes) {
         Ok(text) => text,
@@ -39,7 +44,10 @@ pub fn read_settings(rt: &HostRuntime, path: &str) -> Result<Settings, Failure> 
 }
 
 /// All bytes of the file.
-fn read_file(rt: &HostRuntime, path: &str) -> Result<Vec<u8>, Failure> {
+fn read_file(rt: &HostRuntime, path: &str) -> Result<Vec<u8>, Failure>
+    ensures fault { IfErr result (λ failure. IsMeant ends.File failure.fault) }
+    ensures named { IfErr result (IsNamed path.now) }
+{
     match fs::read(rt, path) {
         Ok(bytes) => Ok(bytes),
         Err(error) => Err(Failure::of_system(
@@ -53,7 +61,10 @@ fn read_file(rt: &HostRuntime, path: &str) -> Result<Vec<u8>, Failure> {
 }
 
 /// The disk in the file of a journal. A missing one is made, empty, where `make` says so.
-pub fn open_disk(rt: &HostRuntime, path: &str, make: bool) -> Result<FileDisk, Failure> {
+pub fn open_disk(rt: &HostRuntime, path: &str, make: bool) -> Result<FileDisk, Failure>
+    ensures fault { IfErr result (λ failure. IsMeant ends.File failure.fault) }
+    ensures named { IfErr result (IsNamed path.now) }
+{
     match FileDisk::open(rt, path, make) {
         Ok(disk) => Ok(disk),
         // Its lock is held.
@@ -95,7 +106,8 @@ pub fn failure_of_journal(
     fault: Fault,
     found: JournalFault,
 ) -> Failure
-    ensures { result.fault ≡ fault }
+    ensures fault { result.fault ≡ fault }
+    ensures named { IsNamed path.now result }
 {
     match read_unlocked(rt, path) {
         Ok(bytes) => journal_failure(rt.alloc(), path, fault, found, &bytes),
@@ -104,12 +116,15 @@ pub fn failure_of_journal(
 }
 
 /// The failure of a journal that was to be printed, or counted. A write that failed is not the journal's.
-fn dump_failure(rt: &HostRuntime, path: &str, fault: DumpFault) -> Failure {
+fn dump_failure(rt: &HostRuntime, path: &str, fault: DumpFault) -> Failure
+    ensures fault { result.fault ≡ ends.Dump fault }
+    ensures named { IsNamed path.now result }
+{
     match fault {
         DumpFault::Journal(found) => {
-            failure_of_journal(rt, path, Fault::from(DumpFault::Journal(found)), found)
+            failure_of_journal(rt, path, Fault::Dump(DumpFault::Journal(found)), found)
         }
-        other => Failure::from(Fault::from(other)),
+        other => Failure::from(Fault::Dump(other)),
     }
 }
 
@@ -157,7 +172,9 @@ fn dump_disk(rt: &HostRuntime, disk: FileDisk, count: bool) -> Result<u8, DumpFa
 }
 
 /// Prints the journal in the file, or only how many records it has.
-pub fn dump_file(rt: &HostRuntime, path: &str, count: bool) -> Result<u8, Failure> {
+pub fn dump_file(rt: &HostRuntime, path: &str, count: bool) -> Result<u8, Failure>
+    ensures { IfErr result (IsNamed path.now) }
+{
     let disk = open_disk(rt, path, false)?;
     match dump_disk(rt, disk, count) {
         Ok(status) => Ok(status),

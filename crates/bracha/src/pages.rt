@@ -2,7 +2,8 @@
 
 ghost use Rattle.bracha.specs.Faults.{AreApart, IsMeant};
 ghost use Rattle.bracha.specs.declared.fault.Fault.TheVariants as ends;
-ghost use Rattle.std.specs.Prelude.{◌≡◌, ◌≢◌, ◌⊎◌, IfErr, IsOk, IsTrue, None, Some, codes, option_map};
+ghost use Rattle.bracha.specs.Troubles.{IsNamed};
+ghost use Rattle.std.specs.Prelude.{IfSome, ◌≡◌, ◌≢◌, ◌⊎◌, IfErr, IsOk, IsTrue, None, Some, codes, option_map};
 
 use crate::fault::Fault;
 use crate::trouble::{Failure, Whereabouts};
@@ -22,6 +23,7 @@ pub fn write_page(
 ) -> Result<(), Failure>
     ensures nothing { (path.entry ≡ None) ⊎ (page ≡ None) → IsOk result }
     ensures faults { IfErr result (λ failure. IsMeant fault failure.fault) }
+    ensures named { IfSome path.entry (λ path. IfErr result (IsNamed path.now)) }
 {
     let (Some(path), Some(page)) = (path, page) else {
         return Ok(());

@@ -1,6 +1,14 @@
 //! What is told of faults in texts and journals.
 
-ghost use Rattle.std.specs.Prelude.{◌≡◌};
+ghost use Rattle.bracha.specs.Tellings.{IsJournalPlace, IsLineOf, IsPlaceOfKey, AreLineWords, IsLineWords, IsScriptPlace, IsScriptWords, IsSettingsPlace, IsSettingsWords, is_control, of_settings, size_key};
+ghost use Rattle.bracha.specs.Troubles.{IsTold};
+ghost use Rattle.bracha.specs.declared.fault.Fault.TheVariants as ends;
+ghost use Rattle.bracha.specs.declared.trouble.Whereabouts.TheVariants as whereabouts;
+ghost use Rattle.commands.specs.Damage.{IsPlaceOf};
+ghost use Rattle.settings.specs.declared.fault.SettingsFault.TheVariants as unset;
+ghost use Rattle.commands.specs.Places.{lines_in};
+ghost use Rattle.std.specs.List.{list_any};
+ghost use Rattle.std.specs.Prelude.{◌≡◌, ◌↔◌, ◌-◌, IfOk, IfSome, IsTrue, Some, codes, slice_get, string_bytes, ⊤};
 
 use crate::fault::Fault;
 use crate::trouble::{Failure, Whereabouts};
@@ -11,13 +19,18 @@ use std::alloc::{AllocError, Global};
 use terms::SizeFault;
 
 /// The failure of a file of settings whose byte at this place begins no UTF-8.
-pub fn not_text(alloc: Global, path: &str, place: usize) -> Failure {
+pub fn not_text(alloc: Global, path: &str, place: usize) -> Failure
+    ensures fault { result.fault ≡ ends.Settings unset.Text }
+    ensures told { IfSome result.trouble (IsTold path.now (λ at. at ≡ whereabouts.Byte place) (λ text. text ≡ codes "not UTF-8")) }
+{
     let fault = Fault::Settings(SettingsFault::Text);
     Failure::at(alloc, fault, path, Whereabouts::Byte(place), &"not UTF-8")
 }
 
 /// The key that is to be looked at where the numbers of settings make no size.
-fn key_of(fault: SizeFault) -> Key {
+fn key_of(fault: SizeFault) -> Key
+    ensures { result ≡ size_key fault }
+{
     match fault {
         SizeFault::NoMembers | SizeFault::TooManyMembers => Key::N,
         SizeFault::TooManyLiars => Key::T,
@@ -26,7 +39,9 @@ fn key_of(fault: SizeFault) -> Key {
 }
 
 /// The line that gives the key a value, or the whole text where none does.
-fn place_of(alloc: Global, text: &str, key: Key) -> Whereabouts {
+fn place_of(alloc: Global, text: &str, key: Key) -> Whereabouts
+    ensures { IsPlaceOfKey key text.now result }
+{
     match line_of_key(alloc, text.as_bytes(), key) {
         Ok(Some(number)) => Whereabouts::Line(number),
         _ => Whereabouts::Whole,
@@ -34,7 +49,10 @@ fn place_of(alloc: Global, text: &str, key: Key) -> Whereabouts {
 }
 
 /// The failure of a text of settings that isn't TOML: the line at which its reader fails, and why it does.
-fn text_failure(alloc: Global, path: &str, text: &str) -> Failure {
+fn text_failure(alloc: Global, path: &str, text: &str) -> Failure
+    ensures fault { result.fault ≡ ends.Settings unset.Text }
+    ensures told { IfSome result.trouble (IsTold path.now (IsLineOf text.now) (λ _. ⊤)) }
+{
     let fault = Fault::Settings(SettingsFault::Text);
     match text_fault(alloc, text) {
         Ok(Some((number, words))) => Failure::at(
@@ -49,7 +67,10 @@ fn text_failure(alloc: Global, path: &str, text: &str) -> Failure {
 }
 
 /// The failure of a text of settings: the key that is wrong, and its line. No value is told, since one is a secret.
-pub fn settings_failure(alloc: Global, path: &str, text: &str, fault: SettingsFault) -> Failure {
+pub fn settings_failure(alloc: Global, path: &str, text: &str, fault: SettingsFault) -> Failure
+    ensures fault { result.fault ≡ of_settings fault }
+    ensures told { IfSome result.trouble (IsTold path.now (IsSettingsPlace fault text.now) (IsSettingsWords fault)) }
+{
     match fault {
         SettingsFault::Text => text_failure(alloc, path, text),
         SettingsFault::Key(key) => {
@@ -72,7 +93,9 @@ fn journal_words(
     fault: &Fault,
     found: JournalFault,
     file: &[u8],
-) -> Option<(usize, String)> {
+) -> Option<(usize, String)>
+    ensures { IfSome result (λ words. IsPlaceOf found file.now (Some words.0)) }
+{
     let place = fault_place(alloc, found, file).ok()??;
     let bytes = bytes_at(alloc, file, place).ok()?;
     let words = format!(in alloc; "{bytes}: {fault}").ok()?;
@@ -88,7 +111,8 @@ pub fn journal_failure(
     found: JournalFault,
     file: &[u8],
 ) -> Failure
-    ensures { result.fault ≡ fault }
+    ensures fault { result.fault ≡ fault }
+    ensures told { IfSome result.trouble (IsTold path.now (IsJournalPlace found file.now) (λ _. ⊤)) }
 {
     match journal_words(alloc, &fault, found, file) {
         Some((place, words)) => Failure::at(alloc, fault, path, Whereabouts::Byte(place), &words),
@@ -97,13 +121,17 @@ pub fn journal_failure(
 }
 
 /// Whether one of the bytes is a control character.
-fn has_control(bytes: &[u8]) -> bool {
+fn has_control(bytes: &[u8]) -> bool
+    ensures { result ≡ list_any is_control bytes.now }
+{
     bytes.iter().any(|byte| byte.is_ascii_control())
 }
 
 /// The words for a line of a script: the line, in quotes and with escapes where it has a control byte, such as the 0D of
 /// another system's line end. An empty line is no fault, so it stands behind the text's last one.
-fn words_of(alloc: Global, line: &[u8]) -> Result<String, AllocError> {
+fn words_of(alloc: Global, line: &[u8]) -> Result<String, AllocError>
+    ensures { IfOk result (λ text. IsLineWords line.now (string_bytes text)) }
+{
     if line.is_empty() {
         return String::from_str(alloc, "the text ends before this line");
     }
@@ -115,15 +143,22 @@ fn words_of(alloc: Global, line: &[u8]) -> Result<String, AllocError> {
 }
 
 /// The words for the line of that number of a script.
-fn words_at(alloc: Global, text: &[u8], number: usize) -> Result<String, AllocError> {
-    let line = line_at(alloc, text, number)?;
-    words_of(alloc, line.unwrap_or(b""))
+fn words_at(alloc: Global, text: &[u8], number: usize) -> Result<String, AllocError>
+    ensures { IfOk result (λ words. AreLineWords (slice_get (lines_in text.now) (number - 1)) (string_bytes words)) }
+{
+    match line_at(alloc, text, number)? {
+        Some(line) => words_of(alloc, line),
+        None => words_of(alloc, b""),
+    }
 }
 
 /// The failure of a script: its text where it is about a line.
-pub fn script_failure(alloc: Global, path: &str, text: &[u8], fault: SimulateFault) -> Failure {
+pub fn script_failure(alloc: Global, path: &str, text: &[u8], fault: SimulateFault) -> Failure
+    ensures fault { result.fault ≡ ends.Simulate fault }
+    ensures told { IfSome result.trouble (IsTold path.now (IsScriptPlace fault) (IsScriptWords fault text.now)) }
+{
     let SimulateFault::Line(number) = fault else {
-        return Failure::about(alloc, Fault::from(fault), path);
+        return Failure::about(alloc, Fault::Simulate(fault), path);
     };
     let number = number as usize;
     let fault = Fault::Simulate(fault);

@@ -1,7 +1,9 @@
 //! What can be told of the thing that a fault is about.
 
 ghost use Rattle.bracha.specs.Faults.{IsMeant, IsFileFault};
-ghost use Rattle.std.specs.Prelude.{◌≡◌, None, false, true};
+ghost use Rattle.bracha.specs.Troubles.{IsPrinted, IsTold};
+ghost use Rattle.bracha.specs.declared.trouble.Whereabouts.TheVariants as whereabouts;
+ghost use Rattle.std.specs.Prelude.{◌≡◌, IfSome, None, false, true, ⊤};
 
 use crate::fault::Fault;
 use std::alloc::Global;
@@ -98,7 +100,8 @@ impl Failure {
         place: Whereabouts,
         words: &T,
     ) -> Failure
-        ensures { result.fault ≡ fault }
+        ensures fault { result.fault ≡ fault }
+        ensures told { IfSome result.trouble (IsTold thing.now (λ at. at ≡ place) (IsPrinted (T.output words.now))) }
     {
         Failure {
             fault,
@@ -108,7 +111,8 @@ impl Failure {
 
     /// The fault of a thing, in the fault's own words.
     pub fn about(alloc: Global, fault: Fault, thing: &str) -> Failure
-        ensures { result.fault ≡ fault }
+        ensures fault { result.fault ≡ fault }
+        ensures told { IfSome result.trouble (IsTold thing.now (λ at. at ≡ whereabouts.Whole) (λ _. ⊤)) }
     {
         let trouble = trouble_of(alloc, thing, Whereabouts::Whole, &fault);
         Failure { fault, trouble }
@@ -124,6 +128,7 @@ impl Failure {
     ) -> Failure
         ensures meant { IsMeant fault result.fault }
         ensures kind { IsFileFault fault error result.fault }
+        ensures told { IfSome result.trouble (IsTold thing.now (λ at. at ≡ place) (λ _. ⊤)) }
     {
         let trouble = trouble_of(alloc, thing, place, &error);
         Failure {
@@ -151,7 +156,9 @@ pub fn trouble_of<T: fmt::Display>(
     thing: &str,
     place: Whereabouts,
     words: &T,
-) -> Option<Trouble> {
+) -> Option<Trouble>
+    ensures { IfSome result (IsTold thing.now (λ at. at ≡ place) (IsPrinted (T.output words.now))) }
+{
     let thing = String::from_str(alloc, thing).ok()?;
     let words = format!(in alloc; "{words}").ok()?;
     Some(Trouble {

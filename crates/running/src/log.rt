@@ -1,7 +1,7 @@
 //! Events that wait to be told, and who tells them.
 
 ghost use Rattle.std.specs.Prelude.{◌≡◌, ◌↔◌, ◌⊎◌, ◌≤◌, ◌++◌, ◌∷◌, [], length, IsTrue};
-ghost use Rattle.running.specs.Queues.{none, one_more};
+ghost use Rattle.running.specs.Queues.{HasCome, none};
 
 use crate::events::LogEvent;
 use std::alloc::Global;
@@ -45,9 +45,7 @@ impl Queue {
 
     /// The event waits from now on, or is counted as missed where 1,024 wait, or there is no memory.
     pub fn put(&mut self, event: LogEvent)
-        ensures put { (self.new ≡ record self.old { events = self.old.events ++ event ∷ [] })
-            ⊎ (self.new ≡ record self.old { missed = one_more self.old.missed }) }
-        ensures full { 1024 ≤ length self.old.events → self.new.events ≡ self.old.events }
+        ensures { HasCome self.old event self.new }
     {
         if self.events.len() >= WAITING || self.events.push(event).is_err() {
             self.missed = self.missed.saturating_add(1);

@@ -1,60 +1,83 @@
 //! What of a member's book was told.
 
+ghost use Rattle.std.specs.Prelude.{◌≡◌, ◌+◌, ◌++◌, ◌||◌, false, IfOk, IsOk, is_some, slice_set};
+ghost use Rattle.std.specs.Option.{option_to_list};
+ghost use Rattle.member.specs.Answers.{verdict_of};
+ghost use Rattle.member.specs.Readers.{member_header, member_saved, member_is_stopped};
+ghost use Rattle.running.specs.Queues.{HaveCome, none};
+ghost use Rattle.running.specs.Watches.{AreTold, decided_list, decision_of, decisions_below, is_told, stop_of};
+
 use crate::events::LogEvent;
 use crate::log::Queue;
 use disk::Disk;
 use node::{Book, Naming};
 use std::alloc::Global;
+use std::marker::Model;
 use terms::Memory;
 
-/// Which decisions of a member were told, or are of an earlier life, and whether its stop was.
+/// Which decisions of a member were told, or are of an earlier life, and whether its stop was. Contracts see both.
 #[derive(Drop)]
 pub(crate) struct Watch {
     /// For each question whether its decision needs no telling.
-    decided: Vec<bool>,
+    told: Vec<bool>,
     stopped: bool,
+}
+
+impl Model for Watch {
+    ghost use Rattle.running.specs.Watches.{Watching};
+
+    ghost Value = { Watching };
+
+    ghost view = { λ watch. record { told = watch.told.items; stopped = watch.stopped } };
 }
 
 impl Watch {
     /// What was decided in earlier lives needs no telling.
-    pub(crate) fn new<D: Disk, J: Naming>(
-        alloc: Global,
-        book: &Book<D, J>,
-    ) -> Result<Watch, Memory> {
-        let mut decided = Vec::new(alloc);
+    pub(crate) fn new<D: Disk, J: Naming>(alloc: Global, book: &Book<D, J>) -> Result<Watch, Memory>
+        ensures { IfOk result (λ watch. watch ≡ record {
+          told = decided_list (member_saved book.now.member) (member_header book.now.member).size.questions;
+          stopped = false;
+        }) }
+    {
+        let mut told = Vec::new(alloc);
         for question in 0..book.header().size().questions() {
-            decided.push(book.verdict(question).is_some())?;
+            told.push(book.verdict(question).is_some())?;
         }
         Ok(Watch {
-            decided,
+            told,
             stopped: false,
         })
     }
 
-    /// The next event of the book that is to be told, if there is one. It is told once.
-    pub(crate) fn next<D: Disk, J: Naming>(&mut self, book: &Book<D, J>) -> Option<LogEvent> {
-        if let Some(event) = self.next_decision(book) {
-            return Some(event);
+    /// The decision of a question, if it is to be told. It is told once.
+    fn decision<D: Disk, J: Naming>(&mut self, book: &Book<D, J>, question: u16) -> Option<LogEvent>
+        ensures event { result ≡ decision_of self.old (member_saved book.now.member) question }
+        ensures told { self.new ≡ record self.old {
+          told = slice_set self.old.told question
+              (is_told self.old question || is_some (verdict_of (member_saved book.now.member) question));
+        } }
+    {
+        let at = usize::from(question);
+        if at >= self.told.len() || self.told[at] {
+            return None;
         }
-        if !self.stopped && book.is_stopped() {
-            self.stopped = true;
-            return Some(LogEvent::Stopped);
-        }
-        None
+        let Some(bit) = book.verdict(question) else {
+            return None;
+        };
+        self.told[at] = true;
+        Some(LogEvent::Decided(question, bit))
     }
 
-    fn next_decision<D: Disk, J: Naming>(&mut self, book: &Book<D, J>) -> Option<LogEvent> {
-        for question in 0..book.header().size().questions() {
-            let told = self.decided.get_mut(usize::from(question))?;
-            if *told {
-                continue;
-            }
-            if let Some(bit) = book.verdict(question) {
-                *told = true;
-                return Some(LogEvent::Decided(question, bit));
-            }
+    /// The stop of the member, if it is to be told. It is told once.
+    fn stop<D: Disk, J: Naming>(&mut self, book: &Book<D, J>) -> Option<LogEvent>
+        ensures event { result ≡ stop_of self.old (member_is_stopped book.now.member) }
+        ensures stopped { self.new ≡ record self.old { stopped = self.old.stopped || member_is_stopped book.now.member } }
+    {
+        if self.stopped || !book.is_stopped() {
+            return None;
         }
-        None
+        self.stopped = true;
+        Some(LogEvent::Stopped)
     }
 }
 
@@ -66,24 +89,48 @@ pub(crate) struct Telling {
 }
 
 impl Telling {
-    /// Nothing is to be told yet.
+    /// Nothing is to be told yet, and of what was decided in earlier lives nothing ever.
     pub(crate) fn new<D: Disk, J: Naming>(
         alloc: Global,
         book: &Book<D, J>,
-    ) -> Result<Telling, Memory> {
+    ) -> Result<Telling, Memory>
+        ensures queue { IfOk result (λ telling. telling.queue ≡ none) }
+        ensures told { IfOk result (λ telling.
+            telling.watch.told ≡ decided_list (member_saved book.now.member) (member_header book.now.member).size.questions) }
+        ensures stopped { IfOk result (λ telling. telling.watch.stopped ≡ false) }
+    {
+        let watch = Watch::new(alloc, book)?;
         Ok(Telling {
-            watch: Watch::new(alloc, book)?,
+            watch,
             queue: Queue::new(alloc),
         })
     }
 
-    /// What the book has that wasn't told is to be told.
-    pub(crate) fn look<D: Disk, J: Naming>(&mut self, book: &Book<D, J>) {
-        for _ in 0..=u32::from(u16::MAX) {
-            let Some(event) = self.watch.next(book) else {
-                return;
-            };
+    /// The event is to be told, if it is one.
+    fn put(&mut self, event: Option<LogEvent>)
+        ensures queue { HaveCome self.old.queue (option_to_list event) self.new.queue }
+        ensures watch { self.new.watch ≡ self.old.watch }
+    {
+        if let Some(event) = event {
             self.queue.put(event);
         }
+    }
+
+    /// What the book has that wasn't told is to be told: first its decisions, by their questions, and then its stop.
+    pub(crate) fn look<D: Disk, J: Naming>(&mut self, book: &Book<D, J>)
+        ensures events { HaveCome self.old.queue
+            (decisions_below self.old.watch (member_saved book.now.member) (member_header book.now.member).size.questions
+            ++ option_to_list (stop_of self.old.watch (member_is_stopped book.now.member)))
+            self.new.queue }
+        ensures told { AreTold (member_saved book.now.member) (member_header book.now.member).size.questions
+            self.old.watch.told self.new.watch.told }
+        ensures stopped { self.new.watch.stopped ≡ (self.old.watch.stopped || member_is_stopped book.now.member) }
+    {
+        for question in 0..book.header().size().questions() {
+            let decision = self.watch.decision(book, question);
+            self.put(decision);
+        }
+        let stop = self.watch.stop(book);
+        self.put(stop);
     }
 }

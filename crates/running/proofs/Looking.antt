@@ -1,0 +1,105 @@
+-- What is told of a book, question by question.
+use Rattle.std.proofs.Common.{ℕ, zero, suc, ◌≡◌, ◌+◌, ◌<◌, ◌≤◌, Bool, true, not, ◌&&◌, ◌||◌, if◌then◌else◌, refl, sym, ap, ◌∙◌, subst, arith, inl, inr, Option, Some, None, List, [], ◌∷◌, ◌++◌, is_some, slice_get, slice_set, slice_index_or}
+use Rattle.std.specs.Prelude.{option_map}
+use Rattle.std.specs.Option.{option_to_list}
+use Rattle.std.proofs.lemmas.Bool.{cases_eq}
+use Rattle.vocabulary.specs.Terms.{Record}
+use Rattle.member.specs.Answers.{verdict_of}
+use Rattle.running.specs.declared.events.LogEvent.{LogEvent}
+use Rattle.running.specs.declared.events.LogEvent.TheVariants.{Stopped}
+use Rattle.running.specs.Queues.{Waiting, HaveCome}
+use Rattle.running.specs.Watches.{Watching, AreTold, decision_event, decision_of, decisions_below, is_told, stop_of}
+
+-- what came after what came
+pub come_on : (old mid new : Waiting) (events more : List LogEvent) → HaveCome old events mid → HaveCome mid more new → HaveCome old (events ++ more) new
+come_on old mid new [] more same come = subst (λ (w : Waiting). HaveCome w more new) same come
+come_on old mid new (event ∷ events) more (next, first, rest) come = (next, first, come_on next mid new events more rest come)
+
+-- a question that is looked at has its own entry changed, and no other
+set_same : (told : List Bool) (k : ℕ) (v : Bool)
+    → slice_get (slice_set told k (slice_index_or told k true || v)) k ≡ option_map (λ t. t || v) (slice_get told k)
+set_same [] k v = refl
+set_same (t ∷ told) zero v = refl
+set_same (t ∷ told) (suc k) v = set_same told k v
+
+set_other : (told : List Bool) (k q : ℕ) (v : Bool) → (q ≡ k → ⊥) → slice_get (slice_set told k v) q ≡ slice_get told q
+set_other [] k q v other = refl
+set_other (t ∷ told) zero zero v other = absurd (other refl)
+set_other (t ∷ told) zero (suc q) v other = refl
+set_other (t ∷ told) (suc k) zero v other = refl
+set_other (t ∷ told) (suc k) (suc q) v other = set_other told k q v (λ e. other (ap suc e))
+
+-- where nothing was looked at
+pub told_at_first : (saved : List Record) (told : List Bool) → AreTold saved 0 told told
+told_at_first saved told = record {
+  below = λ q within. absurd (omega (arith, within));
+  others = λ q past. refl;
+}
+
+-- one question more
+told_next : (saved : List Record) (k : ℕ) (old mid : List Bool) → AreTold saved k old mid
+    → AreTold saved (k + 1) old (slice_set mid k (slice_index_or mid k true || is_some (verdict_of saved k)))
+told_next saved k old mid was = record { below = below; others = others }
+  where
+    v : Bool
+    v = slice_index_or mid k true || is_some (verdict_of saved k)
+
+    below : (q : ℕ) → q < k + 1 → slice_get (slice_set mid k v) q ≡ option_map (λ told. told || is_some (verdict_of saved q)) (slice_get old q)
+    below q within = elim (cases_eq q k) [
+      | inl same ↦ subst (λ (n : ℕ). slice_get (slice_set mid k v) n ≡ option_map (λ told. told || is_some (verdict_of saved n)) (slice_get old n)) (sym same)
+          (set_same mid k (is_some (verdict_of saved k)) ∙ ap (option_map (λ told. told || is_some (verdict_of saved k))) (was.others k (omega arith)))
+      | inr other ↦ set_other mid k q v other ∙ was.below q (omega (arith, within, other))
+    ]
+
+    others : (q : ℕ) → k + 1 ≤ q → slice_get (slice_set mid k v) q ≡ slice_get old q
+    others q past = set_other mid k q v (λ same. omega (arith, past, same)) ∙ was.others q (omega (arith, past))
+
+-- what is told of the next question is as before the first one
+pub event_same : (saved : List Record) (k : ℕ) (old mid : Watching) → AreTold saved k old.told mid.told
+    → decision_of mid saved k ≡ decision_of old saved k
+event_same saved k old mid was =
+    ap (λ (told : Bool). decision_event told k (verdict_of saved k)) (index_same (was.others k (omega arith)))
+  where
+    or_true : Option Bool → Bool
+    or_true None = true
+    or_true (Some told) = told
+
+    by_get : (told : List Bool) (k : ℕ) → or_true (slice_get told k) ≡ slice_index_or told k true
+    by_get [] k = refl
+    by_get (t ∷ told) zero = refl
+    by_get (t ∷ told) (suc k) = by_get told k
+
+    index_same : slice_get mid.told k ≡ slice_get old.told k → slice_index_or mid.told k true ≡ slice_index_or old.told k true
+    index_same same = sym (by_get mid.told k) ∙ ap or_true same ∙ by_get old.told k
+
+-- the next question's news come behind those before it
+pub come_next : (saved : List Record) (k : ℕ) (old mid : Watching) (before between after : Waiting) (event : Option LogEvent)
+    → HaveCome before (decisions_below old saved k) between → AreTold saved k old.told mid.told
+    → event ≡ decision_of mid saved k → HaveCome between (option_to_list event) after
+    → HaveCome before (decisions_below old saved (k + 1)) after
+come_next saved k old mid before between after event came told is comes =
+    let next : suc k ≡ k + 1 = omega arith in
+    subst (λ (n : ℕ). HaveCome before (decisions_below old saved n) after) next
+    (come_on before between after (decisions_below old saved k) (option_to_list (decision_of old saved k)) came
+    (subst (λ (e : Option LogEvent). HaveCome between (option_to_list e) after) (is ∙ event_same saved k old mid told) comes))
+
+-- and the stop behind them all
+pub come_last : (saved : List Record) (k : ℕ) (stopped : Bool) (old mid : Watching) (before between after : Waiting) (event : Option LogEvent)
+    → HaveCome before (decisions_below old saved k) between → mid.stopped ≡ old.stopped
+    → event ≡ stop_of mid stopped → HaveCome between (option_to_list event) after
+    → HaveCome before (decisions_below old saved k ++ option_to_list (stop_of old stopped)) after
+come_last saved k stopped old mid before between after event came same is comes =
+    come_on before between after (decisions_below old saved k) (option_to_list (stop_of old stopped)) came
+    (subst (λ (e : Option LogEvent). HaveCome between (option_to_list e) after)
+    (is ∙ ap (λ (s : Bool). if stopped && not s then Some Stopped else None) same) comes)
+
+-- so the next question's decision needs no telling any more, and what is told of the stop is as it was
+module _ (saved : List Record) (k : ℕ) (old mid between now : Watching)
+    (looked : between ≡ record mid { told = slice_set mid.told k (is_told mid k || is_some (verdict_of saved k)) }) (put : now ≡ between) where
+  pub told_on : AreTold saved k old.told mid.told → AreTold saved (k + 1) old.told now.told
+  told_on was =
+      subst (λ (w : Watching). AreTold saved (k + 1) old.told w.told) (sym put)
+      (subst (λ (w : Watching). AreTold saved (k + 1) old.told w.told) (sym looked) (told_next saved k old.told mid.told was))
+
+  pub stop_stays : mid.stopped ≡ old.stopped → now.stopped ≡ old.stopped
+  stop_stays same = ap (λ (w : Watching). w.stopped) put ∙ (ap (λ (w : Watching). w.stopped) looked ∙ same)
