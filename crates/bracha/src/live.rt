@@ -1,5 +1,6 @@
 //! The command `run`: a member over the journal in its file.
 
+ghost use Rattle.bracha.specs.Sockets.{IsSocketOf};
 ghost use Rattle.bracha.specs.declared.fault.Fault.TheVariants as ends;
 ghost use Rattle.std.specs.Prelude.{◌≡◌, IfErr, IfOk, Err, Ok};
 
@@ -18,12 +19,16 @@ use std::thread;
 use std::time::Duration;
 
 /// The address as sockets have it.
-pub fn socket_address(address: &Address) -> SocketAddr {
+pub fn socket_address(address: &Address) -> SocketAddr
+    ensures { IsSocketOf address.now result }
+{
     SocketAddr::new(IpAddr::from(address.octets), address.port)
 }
 
 /// Where the members of the settings listen.
-fn addresses_of(alloc: Global, settings: &Settings) -> Result<Addresses, AllocError> {
+fn addresses_of(alloc: Global, settings: &Settings) -> Result<Addresses, AllocError>
+    ensures { IfOk result (λ it. IsSocketOf settings.now.desk it.desk) }
+{
     let peers = settings.peers.iter().map(socket_address).collect(alloc)?;
     Ok(Addresses {
         peers,

@@ -1,6 +1,7 @@
 -- The lines of a log.
 use Rattle.std.specs.Prelude.{ℕ, Bool, false, true, List, ◌++◌, codes}
 use Rattle.std.specs.Fmt.{decimal}
+use Rattle.std.specs.Net.Text.{ip_text}
 use Rattle.wire.specs.declared.message.WireFault.{WireFault}
 use Rattle.wire.specs.declared.message.WireFault.TheVariants.{BadLength, BadType, BadKind, BadPlace, BadValue, BadHello}
 use Rattle.links.specs.declared.ends.LinkEnd.{LinkEnd}
@@ -40,7 +41,7 @@ log_text (LinkUp peer) = codes "link-up from " ++ decimal peer
 log_text (LinkDown peer end) = codes "link-down from " ++ (decimal peer ++ (codes " " ++ cause_text end))
 log_text (LinkUpTo peer) = codes "link-up to " ++ decimal peer
 log_text (LinkDownTo peer end) = codes "link-down to " ++ (decimal peer ++ (codes " " ++ cause_text end))
-log_text (Refused end) = codes "refused " ++ cause_text end
+log_text (Refused host end) = codes "refused from " ++ (ip_text host ++ (codes " " ++ cause_text end))
 log_text (Decided question bit) = codes "decided " ++ (decimal question ++ (codes " " ++ decimal (bit_number bit)))
 log_text Stopped = codes "stopped"
 log_text (Missed count) = codes "missed " ++ decimal count

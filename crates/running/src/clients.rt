@@ -46,7 +46,7 @@ pub(crate) fn accept_clients<D: Disk + Send, J: Naming + Send + Sync, R: Machine
 ) {
     thread::scope(thread::scope_env(), rt, |scope| {
         for _ in 0..u64::MAX {
-            let admit = |socket| it.admit_client(rt, socket);
+            let admit = |socket, _| it.admit_client(rt, socket);
             let Some(chair) = it.next(rt, listener, admit) else {
                 break;
             };

@@ -5,6 +5,7 @@ ghost use Rattle.running.specs.Events.{cause_text, fault_text};
 
 use links::LinkEnd;
 use std::fmt;
+use std::net::IpAddr;
 use wire::WireFault;
 
 /// What happens to a member that runs. The text of each is its line in a log, without the line's end.
@@ -20,8 +21,8 @@ pub enum LogEvent {
     LinkUpTo(u8),
     /// It isn't written any more, for this cause.
     LinkDownTo(u8, LinkEnd),
-    /// A connection to the links' address was closed for this cause, before it became a link.
-    Refused(LinkEnd),
+    /// A connection from this host to the links' address was closed for this cause, before it became a link.
+    Refused(IpAddr, LinkEnd),
     /// A question was decided for this bit.
     Decided(u16, bool),
     /// The member is stopped from now on.
@@ -75,7 +76,7 @@ impl fmt::Display for LogEvent {
             LogEvent::LinkDown(peer, end) => write!(f, "link-down from {peer} {}", cause_text(end)),
             LogEvent::LinkUpTo(peer) => write!(f, "link-up to {peer}"),
             LogEvent::LinkDownTo(peer, end) => write!(f, "link-down to {peer} {}", cause_text(end)),
-            LogEvent::Refused(end) => write!(f, "refused {}", cause_text(end)),
+            LogEvent::Refused(host, end) => write!(f, "refused from {host} {}", cause_text(end)),
             LogEvent::Decided(question, bit) => write!(f, "decided {question} {}", u8::from(bit)),
             LogEvent::Stopped => f.write_str("stopped"),
             LogEvent::Missed(count) => write!(f, "missed {count}"),

@@ -22,6 +22,11 @@ pub enum RunFault {
 }
 
 impl From<Memory> for RunFault {
+    ghost use Rattle.std.specs.Prelude.{◌≡◌};
+    ghost use Rattle.running.specs.declared.fault.RunFault.TheVariants as ends;
+
+    ghost from_gives = { λ _ given. given ≡ ends.Memory };
+
     fn from(_refused: Memory) -> RunFault {
         RunFault::Memory
     }

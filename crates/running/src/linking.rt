@@ -3,11 +3,11 @@
 use crate::events::LogEvent;
 use crate::machine::Machine;
 use crate::outgoing::Outgoing;
-use crate::shared::Shared;
+use crate::shared::{Guest, Shared};
 use disk::Disk;
 use links::{LinkEnd, NetStream, Open, greet, read_link, write_link};
 use node::Naming;
-use std::net::{SocketAddr, TcpListener, TcpStream};
+use std::net::{IpAddr, SocketAddr, TcpListener, TcpStream};
 use std::sync::Wait;
 use std::thread;
 use std::time::Duration;
@@ -128,12 +128,13 @@ fn note_peer<D: Disk, J: Naming, R: Machine>(rt: &R, it: &Shared<D, J>, peer: u8
     }
 }
 
-/// Reads the link of a peer that greeted, with its seat and its tosser. A stopped member reads none, which isn't told, since
+/// Reads the link of a peer that greeted from this host, with its seat and its tosser. A stopped member reads none, which isn't told, since
 /// each peer dials again once a second.
 fn read_from<D: Disk, J: Naming, R: Machine>(
     rt: &R,
     it: &Shared<D, J>,
     peer: u8,
+    host: IpAddr,
     stream: &mut NetStream,
 ) -> LinkEnd {
     if it.hub.lock(rt).is_stopped() {
@@ -143,7 +144,7 @@ fn read_from<D: Disk, J: Naming, R: Machine>(
         return LinkEnd::Stranger;
     };
     let Some(seat) = it.rack.take(rt, peer) else {
-        it.note_link(rt, LogEvent::Refused(LinkEnd::Busy));
+        it.note_link(rt, LogEvent::Refused(host, LinkEnd::Busy));
         return LinkEnd::Busy;
     };
     note_peer(rt, it, peer, LogEvent::LinkUp(peer));
@@ -170,25 +171,25 @@ fn greet_at<D: Disk, J: Naming, R: Machine>(
     greeted
 }
 
-/// Greets the peer at a place, and reads its link.
-fn read_at<D: Disk, J: Naming, R: Machine>(rt: &R, it: &Shared<D, J>, place: usize) -> LinkEnd {
-    let mut stream = stream_at(rt, it, place);
-    match greet_at(rt, it, place, &mut stream) {
+/// Greets the peer, and reads its link.
+fn read_at<D: Disk, J: Naming, R: Machine>(rt: &R, it: &Shared<D, J>, guest: Guest) -> LinkEnd {
+    let mut stream = stream_at(rt, it, guest.place);
+    match greet_at(rt, it, guest.place, &mut stream) {
         Ok(peer) => match &mut stream {
-            Some(stream) => read_from(rt, it, peer, stream),
+            Some(stream) => read_from(rt, it, peer, guest.host, stream),
             None => LinkEnd::Lost,
         },
         Err(end) => {
-            it.note_link(rt, LogEvent::Refused(end));
+            it.note_link(rt, LogEvent::Refused(guest.host, end));
             end
         }
     }
 }
 
-/// One session of a link from the peer at a place.
-pub(crate) fn take_in<D: Disk, J: Naming, R: Machine>(rt: &R, it: &Shared<D, J>, place: usize) {
-    let _end = read_at(rt, it, place);
-    it.sockets.lock(rt).leave(place);
+/// One session of a link from a peer.
+pub(crate) fn take_in<D: Disk, J: Naming, R: Machine>(rt: &R, it: &Shared<D, J>, guest: Guest) {
+    let _end = read_at(rt, it, guest);
+    it.sockets.lock(rt).leave(guest.place);
 }
 
 /// Takes the links in that peers dial, each in a thread of its own, until the end.
@@ -199,12 +200,12 @@ pub(crate) fn accept_links<D: Disk + Send, J: Naming + Send + Sync, R: Machine>(
 ) {
     thread::scope(thread::scope_env(), rt, |scope| {
         for _ in 0..u64::MAX {
-            let admit = |socket| it.admit_peer(rt, socket);
-            let Some(place) = it.next(rt, listener, admit) else {
+            let admit = |socket, host| it.admit_peer(rt, socket, host);
+            let Some(guest) = it.next(rt, listener, admit) else {
                 break;
             };
-            if scope.spawn(move || take_in(rt, it, place)).is_err() {
-                it.turn_away(rt, place);
+            if scope.spawn(move || take_in(rt, it, guest)).is_err() {
+                it.turn_away(rt, guest.place);
             }
         }
     });

@@ -11,7 +11,7 @@ use disk::Disk;
 use node::{Hub, Naming, Rack};
 use rounds::ChaChaTosser;
 use std::alloc::Global;
-use std::net::{SocketAddr, TcpListener, TcpStream};
+use std::net::{IpAddr, SocketAddr, TcpListener, TcpStream};
 use std::sync::atomic::{AtomicBool, Ordering};
 use std::sync::{Condvar, Mutex};
 use std::thread;
@@ -41,6 +41,13 @@ pub(crate) struct Shared<D: Disk, J: Naming> {
     pub(crate) ticked: Condvar,
     /// What is to be told, if the member has a log. Another thread tells it, so that nobody waits for the log.
     pub(crate) telling: Mutex<Option<Telling>>,
+}
+
+/// A peer that is to greet: the place of its socket, and the host from which it comes.
+#[derive(Clone, Copy, Drop)]
+pub(crate) struct Guest {
+    pub(crate) place: usize,
+    pub(crate) host: IpAddr,
 }
 
 /// The slot of a client at the desk, and the place of its socket.
@@ -167,7 +174,7 @@ impl<D: Disk, J: Naming> Shared<D, J> {
     }
 
     /// What the next connection that is admitted has; none at the end. One that isn't admitted is closed.
-    pub(crate) fn next<R: Machine, A, F: Fn(TcpStream) -> Option<A>>(
+    pub(crate) fn next<R: Machine, A, F: Fn(TcpStream, IpAddr) -> Option<A>>(
         &self,
         rt: &R,
         listener: &TcpListener,
@@ -180,8 +187,8 @@ impl<D: Disk, J: Naming> Shared<D, J> {
                 return None;
             }
             match listener.accept() {
-                Ok((socket, _)) => {
-                    if let Some(admitted) = admit(socket) {
+                Ok((socket, from)) => {
+                    if let Some(admitted) = admit(socket, from.ip()) {
                         return Some(admitted);
                     }
                 }
@@ -192,16 +199,23 @@ impl<D: Disk, J: Naming> Shared<D, J> {
         unreachable!()
     }
 
-    /// Takes in the socket of a peer that is to greet, and gives its place. It is closed where 64 are to greet already.
-    pub(crate) fn admit_peer<R: Machine>(&self, rt: &R, socket: TcpStream) -> Option<usize> {
+    /// Takes in the socket of a peer that is to greet. It is closed where 64 are to greet already.
+    pub(crate) fn admit_peer<R: Machine>(
+        &self,
+        rt: &R,
+        socket: TcpStream,
+        host: IpAddr,
+    ) -> Option<Guest> {
         if !self.greetings.lock(rt).take() {
             return None;
         }
-        let place = self.sockets.lock(rt).enter_to_greet(socket);
-        if place.is_none() {
-            self.greetings.lock(rt).leave();
+        match self.sockets.lock(rt).enter_to_greet(socket) {
+            Some(place) => Some(Guest { place, host }),
+            None => {
+                self.greetings.lock(rt).leave();
+                None
+            }
         }
-        place
     }
 
     /// Ends the session of a peer that no thread can be made for.

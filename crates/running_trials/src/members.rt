@@ -24,6 +24,11 @@ use std::{io, thread};
 use terms::{Header, Memory, Size};
 use wire::WireFault;
 
+/// The host on which these tests run.
+fn here() -> IpAddr {
+    IpAddr::V4(Ipv4Addr::new(127, 0, 0, 1))
+}
+
 /// A cluster on this machine: how many members it has and how many of them may lie, and the port of member 0's links. The
 /// other members' follow, and then the ports of the desks.
 #[derive(Clone, Copy, Drop)]
@@ -36,7 +41,7 @@ struct Cluster {
 impl Cluster {
     fn address(&self, at: u8) -> SocketAddr {
         let port = self.port.wrapping_add(u16::from(at));
-        SocketAddr::new(IpAddr::V4(Ipv4Addr::new(127, 0, 0, 1)), port)
+        SocketAddr::new(here(), port)
     }
 
     /// Where the member takes clients.
@@ -612,7 +617,7 @@ fn alone<R: Machine + Abort>(rt: &R, alloc: Global) -> Result<(), Fail> {
     };
     let want = [
         LogEvent::Ready(0),
-        LogEvent::Refused(LinkEnd::Stranger),
+        LogEvent::Refused(here(), LinkEnd::Stranger),
         LogEvent::Decided(0, true),
         LogEvent::End,
     ];
@@ -724,7 +729,7 @@ fn peer_comes<R: Machine + Abort>(rt: &R, alloc: Global) -> Result<(), Fail> {
     let want = [
         LogEvent::Ready(0),
         LogEvent::LinkUp(1),
-        LogEvent::Refused(LinkEnd::Busy),
+        LogEvent::Refused(here(), LinkEnd::Busy),
         LogEvent::LinkDown(1, LinkEnd::Ended),
         LogEvent::End,
     ];
@@ -783,9 +788,18 @@ fn events_are_lines(rt: HostRuntime) -> Result<(), Fail> {
             LogEvent::LinkDownTo(0, LinkEnd::Memory),
             "link-down to 0 memory",
         ),
-        (LogEvent::Refused(LinkEnd::Stranger), "refused stranger"),
-        (LogEvent::Refused(LinkEnd::Busy), "refused busy"),
-        (LogEvent::Refused(LinkEnd::Ended), "refused ended"),
+        (
+            LogEvent::Refused(IpAddr::from([10, 0, 0, 255]), LinkEnd::Stranger),
+            "refused from 10.0.0.255 stranger",
+        ),
+        (
+            LogEvent::Refused(here(), LinkEnd::Busy),
+            "refused from 127.0.0.1 busy",
+        ),
+        (
+            LogEvent::Refused(here(), LinkEnd::Ended),
+            "refused from 127.0.0.1 ended",
+        ),
         (LogEvent::Decided(17, true), "decided 17 1"),
         (LogEvent::Decided(255, false), "decided 255 0"),
         (LogEvent::Stopped, "stopped"),

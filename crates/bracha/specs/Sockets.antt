@@ -1,0 +1,11 @@
+-- Where the members of the settings listen.
+use Rattle.std.specs.Prelude.{◌≡◌}
+use Rattle.std.specs.Net.Addr.{IsV4And, ipv4_octets}
+use Rattle.std.specs.Net.Socket.{socket_ip, socket_port}
+use Rattle.std.specs.declared.net.socket_addr.SocketAddr.{SocketAddr}
+use Rattle.settings.specs.declared.address.Address.{Address}
+
+-- the address as sockets have it
+pub record IsSocketOf (address : Address) (socket : SocketAddr) : Type 0 where
+  pub host : IsV4And (socket_ip socket) (λ ip. ipv4_octets ip ≡ address.octets)
+  pub port : socket_port socket ≡ address.port
