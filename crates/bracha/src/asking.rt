@@ -43,7 +43,7 @@ fn talk_failure(rt: &HostRuntime, address: &str, fault: TalkFault) -> Failure
 
 /// Sends the line to the desk at the address, and prints the reply.
 fn ask_desk(rt: &HostRuntime, text: &str, line: &str) -> Result<u8, Failure>
-    ensures { IfErr result (IsNamed text.now) }
+    ensures named { IfErr result (IsNamed text.now) }
 {
     let Some(address) = Address::parse(text) else {
         let words = "not HOST:PORT";
@@ -66,7 +66,7 @@ fn ask_desk(rt: &HostRuntime, text: &str, line: &str) -> Result<u8, Failure>
 
 /// Proposes a bit to the member whose desk is at the address, and prints its reply. The status is that of the reply.
 pub fn propose_at(rt: &HostRuntime, address: &str, question: u16, bit: u8) -> Result<u8, Failure>
-    ensures { IfErr result (IsNamed address.now) }
+    ensures named { IfErr result (IsNamed address.now) }
 {
     let line = propose_line(rt.alloc(), question, bit).map_err(|_| Fault::Memory)?;
     ask_desk(rt, address, line.as_str())
@@ -74,7 +74,7 @@ pub fn propose_at(rt: &HostRuntime, address: &str, question: u16, bit: u8) -> Re
 
 /// Asks the member whose desk is at the address for its decision, and prints its reply. The status is that of the reply.
 pub fn ask_at(rt: &HostRuntime, address: &str, question: u16) -> Result<u8, Failure>
-    ensures { IfErr result (IsNamed address.now) }
+    ensures named { IfErr result (IsNamed address.now) }
 {
     let line = ask_line(rt.alloc(), question).map_err(|_| Fault::Memory)?;
     ask_desk(rt, address, line.as_str())
@@ -82,7 +82,7 @@ pub fn ask_at(rt: &HostRuntime, address: &str, question: u16) -> Result<u8, Fail
 
 /// Asks the member whose desk is at the address whether it is up, and prints its reply. The status is that of the reply.
 pub fn status_at(rt: &HostRuntime, address: &str) -> Result<u8, Failure>
-    ensures { IfErr result (IsNamed address.now) }
+    ensures named { IfErr result (IsNamed address.now) }
 {
     ask_desk(rt, address, status_line())
 }

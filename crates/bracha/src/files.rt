@@ -30,7 +30,7 @@ pub fn hear_input(rt: &HostRuntime, size: Size, me: u8) -> Result<u8, Fault> {
 
 /// The settings in the file.
 pub fn read_settings(rt: &HostRuntime, path: &str) -> Result<Settings, Failure>
-    ensures { IfErr result (IsNamed path.now) }
+    ensures named { IfErr result (IsNamed path.now) }
 {
     let bytes = read_file(rt, path)?;
     let text = match str::from_utf8(&bytes) {
@@ -173,7 +173,7 @@ fn dump_disk(rt: &HostRuntime, disk: FileDisk, count: bool) -> Result<u8, DumpFa
 
 /// Prints the journal in the file, or only how many records it has.
 pub fn dump_file(rt: &HostRuntime, path: &str, count: bool) -> Result<u8, Failure>
-    ensures { IfErr result (IsNamed path.now) }
+    ensures named { IfErr result (IsNamed path.now) }
 {
     let disk = open_disk(rt, path, false)?;
     match dump_disk(rt, disk, count) {
