@@ -1,6 +1,6 @@
 //! The command `run`: a member over the journal in its file.
 
-ghost use Rattle.bracha.specs.Sockets.{IsSocketOf};
+ghost use Rattle.bracha.specs.Sockets.{AreSocketsOf, IsSocketOf};
 ghost use Rattle.bracha.specs.declared.fault.Fault.TheVariants as ends;
 ghost use Rattle.std.specs.Prelude.{◌≡◌, IfErr, IfOk, Err, Ok};
 
@@ -10,13 +10,14 @@ use crate::trouble::{Failure, Trouble, Whereabouts, trouble_of};
 use member::Member;
 use running::{Addresses, Log, LogEvent, Machine, Operator, RunFault, run_member};
 use settings::{Address, Settings};
-use std::alloc::{AllocError, Global};
+use std::alloc::Global;
 use std::io::{self, Read, Write};
 use std::net::{IpAddr, SocketAddr};
 use std::rt::Stderr;
 use std::sync::Mutex;
 use std::thread;
 use std::time::Duration;
+use terms::Memory;
 
 /// The address as sockets have it.
 pub fn socket_address(address: &Address) -> SocketAddr
@@ -25,11 +26,23 @@ pub fn socket_address(address: &Address) -> SocketAddr
     SocketAddr::new(IpAddr::from(address.octets), address.port)
 }
 
-/// Where the members of the settings listen.
-fn addresses_of(alloc: Global, settings: &Settings) -> Result<Addresses, AllocError>
-    ensures { IfOk result (λ it. IsSocketOf settings.now.desk it.desk) }
+/// These addresses as sockets have them.
+fn socket_addresses(alloc: Global, addresses: &[Address]) -> Result<Vec<SocketAddr>, Memory>
+    ensures { IfOk result (λ sockets. AreSocketsOf addresses.now sockets.items) }
 {
-    let peers = settings.peers.iter().map(socket_address).collect(alloc)?;
+    let mut sockets = Vec::new(alloc);
+    for address in addresses {
+        sockets.push(socket_address(address))?;
+    }
+    Ok(sockets)
+}
+
+/// Where the members of the settings listen.
+fn addresses_of(alloc: Global, settings: &Settings) -> Result<Addresses, Memory>
+    ensures peers { IfOk result (λ it. AreSocketsOf settings.now.peers.items it.peers.items) }
+    ensures desk { IfOk result (λ it. IsSocketOf settings.now.desk it.desk) }
+{
+    let peers = socket_addresses(alloc, &settings.peers)?;
     Ok(Addresses {
         peers,
         desk: socket_address(&settings.desk),
