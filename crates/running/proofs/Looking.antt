@@ -29,13 +29,6 @@ set_other (t ∷ told) zero (suc q) v other = refl
 set_other (t ∷ told) (suc k) zero v other = refl
 set_other (t ∷ told) (suc k) (suc q) v other = set_other told k q v (λ e. other (ap suc e))
 
--- where nothing was looked at
-pub told_at_first : (saved : List Record) (told : List Bool) → AreTold saved 0 told told
-told_at_first saved told = record {
-  below = λ q within. absurd (omega (arith, within));
-  others = λ q past. refl;
-}
-
 -- one question more
 told_next : (saved : List Record) (k : ℕ) (old mid : List Bool) → AreTold saved k old mid
     → AreTold saved (k + 1) old (slice_set mid k (slice_index_or mid k true || is_some (verdict_of saved k)))
@@ -55,7 +48,7 @@ told_next saved k old mid was = record { below = below; others = others }
     others q past = set_other mid k q v (λ same. omega (arith, past, same)) ∙ was.others q (omega (arith, past))
 
 -- what is told of the next question is as before the first one
-pub event_same : (saved : List Record) (k : ℕ) (old mid : Watching) → AreTold saved k old.told mid.told
+event_same : (saved : List Record) (k : ℕ) (old mid : Watching) → AreTold saved k old.told mid.told
     → decision_of mid saved k ≡ decision_of old saved k
 event_same saved k old mid was =
     ap (λ (told : Bool). decision_event told k (verdict_of saved k)) (index_same (was.others k (omega arith)))
