@@ -6,29 +6,16 @@ ghost use Rattle.clap.specs.Words.{kind_of};
 ghost use Rattle.clap.specs.declared.error.kind.ErrorKind.TheVariants.{DisplayHelp, DisplayVersion};
 ghost use Rattle.std.specs.Prelude.{◌≡◌, ◌≢◌, ◌⊎◌, IfOk};
 
-mod arguments;
-mod asking;
-mod fault;
-mod files;
-mod live;
-mod pages;
-mod streams;
-mod telling;
-mod trouble;
-
-use arguments::{own_words, wants_more};
-use asking::{ask_at, propose_at, status_at};
 use clap::error::ErrorKind;
-use fault::Fault;
-use files::{check_file, dump_file, hear_input, init_file, simulate_file};
-use live::run_file;
+use edge::{
+    Failure, Fault, ask_at, check_file, dump_file, hear_input, hold_streams, init_file, own_words,
+    propose_at, run_file, simulate_file, status_at, wants_more,
+};
 use running::Machine;
 use std::convert::AsStr;
 use std::io;
 use std::net::{TcpListener, TcpStream};
 use std::process::ExitCode;
-use streams::hold_streams;
-use trouble::Failure;
 use usage::{Task, command};
 use words::size_from;
 

@@ -5,9 +5,9 @@ mod processes;
 
 use super::*;
 use commands::{DumpFault, InitFault, SimulateFault};
+use edge::write_page;
 use hearing::HearFault;
 use journal::JournalFault;
-use pages::write_page;
 use settings::{Key, SettingsFault};
 use sim::SimFault;
 use std::env::FillError;

@@ -1,10 +1,10 @@
 -- What a session has answered.
-use Rattle.std.proofs.Common.{◌≡◌, ℕ, ◌+◌, ◌<◌, ◌≤◌, ◌==◌, List, [], ◌∷◌, ◌++◌, length, codes, inl, inr, refl, sym, ap, ◌∙◌, subst, arith, Bool, false, Option, Result, Ok, Err, append_assoc, append-nil, length-append}
+use Rattle.std.proofs.Common.{◌≡◌, ℕ, ◌+◌, ◌<◌, ◌≤◌, ◌==◌, List, [], ◌∷◌, ◌++◌, length, codes, inl, inr, refl, sym, ap, ◌∙◌, subst, arith, Bool, false, Option, Some, None, Result, Ok, Err, append_assoc, append-nil, length-append}
 use Rattle.std.specs.List.{All, flat_map}
 use Rattle.std.proofs.lemmas.List.Elements.{All-nil, All-cons, All-append}
 use Rattle.std.proofs.lemmas.Grind.{flat_map-append}
 use Rattle.words.specs.Lines.{NoEnd, line}
-use Rattle.node.specs.Verdicts.{KnowsMore}
+use Rattle.node.specs.Verdicts.{KnowsMore, known_at}
 use Rattle.links.specs.Told.{Told, has_read, has_written, has_failed, has_ended, BreaksOff}
 use Rattle.desk.specs.declared.command.Command.{Command}
 use Rattle.desk.specs.declared.command.Command.TheVariants.{Propose, Ask, Status}
@@ -12,8 +12,24 @@ use Rattle.desk.specs.declared.reply.Reply.{Reply}
 use Rattle.desk.specs.declared.reply.Reply.TheVariants.{BadLine, Memory}
 use Rattle.desk.specs.declared.serving.DeskEnd.TheVariants as end
 use Rattle.desk.specs.Replies.{reply_text}
+use Rattle.desk.specs.Commands.{Parses, command_for}
+use Rattle.desk.specs.Answers.{verdict_reply}
 use Rattle.desk.specs.Sessions.{IsVerdictReply, AnswersCommand, AnswersRequest, AnswersLine, IsLine, Exchange, MaySay, MayReply, IsExchange, asked_in, replied_in, exchanged, IsTooLong, Serves}
 use Rattle.desk.specs.Turns.{Says, FailsToSay, Serving}
+
+-- the reply to the command or refusal that a line is found to be is the reply to the line
+pub answers_line : (D : Type 0) (questions count : ℕ) (known : List (Option Bool)) (asked : List ℕ) (parsed found : Result Command Reply) (reply : Reply)
+    → Parses count asked parsed → count ≡ questions → parsed ≡ found → AnswersRequest D known found reply → AnswersLine D questions known asked reply
+answers_line D questions count known asked parsed found reply (inl nothing) same is answers =
+    inl (nothing.0, subst (λ p. AnswersRequest D known p reply) (sym is ∙ nothing.1) answers)
+answers_line D questions count known asked parsed found reply (inr request) same is answers =
+    inr (request.0, request.1, subst (λ p. AnswersRequest D known p reply) (sym is ∙ request.2 ∙ ap (λ n. command_for n request.0) same) answers)
+
+-- what the board has of a question is a reply to it
+pub verdict_answers : (known : List (Option Bool)) (question : ℕ) (found : Option Bool) (reply : Reply)
+    → known_at known question ≡ found → reply ≡ verdict_reply found → IsVerdictReply known question reply
+verdict_answers known question None reply is replied = inl replied
+verdict_answers known question (Some bit) reply is replied = inr (bit, replied, is)
 
 -- a reply to a line stays one where more is known
 

@@ -1,8 +1,9 @@
 -- The command line, command by command, in the kit's words.
-use Rattle.std.specs.Prelude.{ℕ, true, false, List, [], ◌∷◌, ◌++◌, Some, codes, fold, map, pos}
+use Rattle.std.specs.Prelude.{ℕ, ◌≡◌, true, false, List, [], ◌∷◌, ◌++◌, Some, Result, IfOk, codes, fold, map, pos}
 use Rattle.clap.specs.Walk.{Rule, Text}
-use Rattle.clap.specs.Simple.{App, Shape, new_rule, new_shape, with_rule}
+use Rattle.clap.specs.Simple.{App, Shape, app_of, new_rule, new_shape, with_rule}
 use Rattle.clap.specs.declared.builder.action.ArgAction.TheVariants.{SetTrue}
+use Rattle.clap.specs.declared.builder.command.Command.{Command}
 use Rattle.clap.specs.declared.builder.value_parser.ValueParser.TheVariants as parser
 
 -- a word that must be given
@@ -35,6 +36,10 @@ as_u8 = up_to 255
 
 abbrev pub as_u16 : Rule → Rule
 as_u16 = up_to 65535
+
+-- a command that is being built is this one, unless memory was refused
+abbrev pub Builds : {E : Type 0} → App → Result Command E → Type 0
+Builds app command = IfOk command (λ built. app_of built ≡ app)
 
 -- a command that takes these too
 abbrev pub with_rules : App → List Rule → App

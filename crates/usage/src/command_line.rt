@@ -1,9 +1,9 @@
 //! The words of the command line.
 
 ghost use Rattle.usage.specs.Tasks.{AreVerbose, AskFor, HasFlag, HasNumberOption, IsAskedFor, IsVerbose, Names, SaysVerbose, rows_in};
-ghost use Rattle.usage.specs.Usage.{address_rule, ask_app, bare_app, check_app, dump_app, file_rule, flag_rule, hear_app, init_app, number_rule, program_app};
+ghost use Rattle.usage.specs.Usage.{Builds, address_rule, as_u16, as_u8, ask_app, bare_app, check_app, dump_app, file_rule, flag_rule, hear_app, init_app, number_rule, program_app};
 ghost use Rattle.usage.specs.Usage.{propose_app, run_app, simulate_app, size_rules, status_app, desk_rules, verbose_rule, word_rule, with_rules};
-ghost use Rattle.clap.specs.Words.{FailsBy, app_of, fault_of, first_of, new_app, rule_of, subcommand_rows_of, with_rule, with_subcommand};
+ghost use Rattle.clap.specs.Words.{App, FailsBy, Rule, app_of, fault_of, first_of, new_app, rule_of, subcommand_rows_of, with_rule, with_subcommand};
 ghost use Rattle.std.specs.Prelude.{◌≡◌, ◌↔◌, IfOk, IfSome, IsNone, IsTrue, Some, codes, map, option_map, ℕ};
 ghost use Rattle.usage.specs.declared.command_line.Task.{Task};
 
@@ -117,65 +117,93 @@ fn verbose<'a>(alloc: Global) -> Arg<'a>
     flag(alloc, "verbose", help)
 }
 
-/// A command of that name.
-fn named<'a>(alloc: Global, name: &'a str, about: &'a str, examples: &'a str) -> clap::Command<'a>
-    ensures { app_of result ≡ new_app name.now }
+/// The argument with a number of 16 bits for its value.
+fn of_u16(arg: Arg<'_>) -> Arg<'_>
+    ensures { rule_of result ≡ as_u16 (rule_of arg.entry) }
 {
-    clap::Command::new(alloc, name)
-        .about(about)
-        .after_help(examples)
+    arg.value_parser(value_parser!(u16))
+}
+
+/// The argument with a number of 8 bits for its value.
+fn of_u8(arg: Arg<'_>) -> Arg<'_>
+    ensures { rule_of result ≡ as_u8 (rule_of arg.entry) }
+{
+    arg.value_parser(value_parser!(u8))
+}
+
+/// A command that is being built, or want of memory for it. It is handed on as it is, so that no builder has a way out of
+/// its own at each step.
+type Built<'a> = Result<clap::Command<'a>, AllocError>;
+
+/// A command of that name.
+fn named<'a>(alloc: Global, name: &'a str, about: &'a str, examples: &'a str) -> Built<'a>
+    ensures { Builds (new_app name.now) result }
+{
+    Ok(
+        clap::Command::new(alloc, name)
+            .about(about)
+            .after_help(examples),
+    )
+}
+
+/// The command with one word or option more.
+fn with_arg<'a>(command: Built<'a>, arg: Arg<'a>) -> Built<'a>
+    ensures { (app : App) (rule : Rule) → Builds app command.entry → rule_of arg.entry ≡ rule → IsTrue rule.is_simple → Builds (with_rule app rule) result }
+{
+    command?.arg(arg)
 }
 
 /// The options that name a size.
-fn with_size<'a>(alloc: Global, command: clap::Command<'a>) -> Result<clap::Command<'a>, AllocError>
-    ensures { IfOk result (λ with. app_of with ≡ with_rules (app_of command.entry) size_rules) }
+fn with_size<'a>(alloc: Global, command: Built<'a>) -> Built<'a>
+    ensures { (app : App) → Builds app command.entry → Builds (with_rules app size_rules) result }
 {
     let n = number(alloc, "n", "N", "How many members there are (1 to 32)");
     let liars = "How many of them may lie (less than a third)";
     let t = number(alloc, "t", "T", liars);
     let count = "How many questions there are (1 to 256)";
     let questions = number(alloc, "questions", "Q", count);
-    command
-        .arg(n.value_parser(value_parser!(u16)))?
-        .arg(t.value_parser(value_parser!(u16)))?
-        .arg(questions.value_parser(value_parser!(u16)))
+    let command = with_arg(command, of_u16(n));
+    let command = with_arg(command, of_u16(t));
+    with_arg(command, of_u16(questions))
 }
 
-fn hear<'a>(alloc: Global) -> Result<clap::Command<'a>, AllocError>
-    ensures { IfOk result (λ made. app_of made ≡ hear_app) }
+fn hear<'a>(alloc: Global) -> Built<'a>
+    ensures { Builds hear_app result }
 {
     let about =
         "Reads lines `SENDER HEX`, each a piece of a sender's stream, and prints what reliable broadcast answers";
     let examples =
         "Example:\n  echo '0 00080301000000010101' | bracha hear --n 4 --t 1 --questions 1 --me 1";
     let me = number(alloc, "me", "M", "The member that hears (below N)");
-    let command = with_size(alloc, named(alloc, "hear", about, examples))?;
-    command.arg(me.value_parser(value_parser!(u8)))
+    let command = with_size(alloc, named(alloc, "hear", about, examples));
+    with_arg(command, of_u8(me))
 }
 
-fn init<'a>(alloc: Global) -> Result<clap::Command<'a>, AllocError>
-    ensures { IfOk result (λ made. app_of made ≡ init_app) }
+fn init<'a>(alloc: Global) -> Built<'a>
+    ensures { Builds init_app result }
 {
     let about = "Makes the journal of a member, with no records";
     let examples =
         "Example, in the folder of the repository:\n  bracha init examples/cluster/member-1.toml";
     let help = "The file of the member's settings, which names the journal";
-    named(alloc, "init", about, examples).arg(word(alloc, "settings", "SETTINGS", help))
+    let command = named(alloc, "init", about, examples);
+    with_arg(command, word(alloc, "settings", "SETTINGS", help))
 }
 
-fn check<'a>(alloc: Global) -> Result<clap::Command<'a>, AllocError>
-    ensures { IfOk result (λ made. app_of made ≡ check_app) }
+fn check<'a>(alloc: Global) -> Built<'a>
+    ensures { Builds check_app result }
 {
     let about =
         "Reads a member's settings and its journal, says what is there, and changes nothing";
     let examples =
         "The status is 0 where `run` would start, as far as the files say. It may be asked while the member runs.\n\nExample, in the folder of the repository, after `bracha init` of the same file:\n  bracha check examples/cluster/member-1.toml";
     let help = "The file of the member's settings, which names the journal";
-    named(alloc, "check", about, examples).arg(word(alloc, "settings", "SETTINGS", help))
+    let command = named(alloc, "check", about, examples);
+    with_arg(command, word(alloc, "settings", "SETTINGS", help))
 }
 
-fn run<'a>(alloc: Global) -> Result<clap::Command<'a>, AllocError>
-    ensures { IfOk result (λ made. app_of made ≡ run_app) }
+fn run<'a>(alloc: Global) -> Built<'a>
+    ensures { Builds run_app result }
 {
     let about =
         "Runs a member: it prints `member M ready`, links to all members, and answers clients at its desk";
@@ -184,10 +212,10 @@ fn run<'a>(alloc: Global) -> Result<clap::Command<'a>, AllocError>
     let help = "The file of the member's settings, whose journal `init` made";
     let stay = "Doesn't look at standard input, and runs until it is killed";
     let log = "Tells on standard error when links come and go, and what is decided";
-    named(alloc, "run", about, examples)
-        .arg(word(alloc, "settings", "SETTINGS", help))?
-        .arg(flag(alloc, "stay", stay))?
-        .arg(flag(alloc, "log", log))
+    let command = named(alloc, "run", about, examples);
+    let command = with_arg(command, word(alloc, "settings", "SETTINGS", help));
+    let command = with_arg(command, flag(alloc, "stay", stay));
+    with_arg(command, flag(alloc, "log", log))
 }
 
 /// The address of a desk.
@@ -198,28 +226,27 @@ fn address<'a>(alloc: Global) -> Arg<'a>
 }
 
 /// The words of a line to a desk: its address and the question.
-fn with_desk<'a>(alloc: Global, command: clap::Command<'a>) -> Result<clap::Command<'a>, AllocError>
-    ensures { IfOk result (λ with. app_of with ≡ with_rules (app_of command.entry) desk_rules) }
+fn with_desk<'a>(alloc: Global, command: Built<'a>) -> Built<'a>
+    ensures { (app : App) → Builds app command.entry → Builds (with_rules app desk_rules) result }
 {
     let question = word(alloc, "question", "Q", "The question (from 0)");
-    command
-        .arg(address(alloc))?
-        .arg(question.value_parser(value_parser!(u16)))
+    let command = with_arg(command, address(alloc));
+    with_arg(command, of_u16(question))
 }
 
-fn propose<'a>(alloc: Global) -> Result<clap::Command<'a>, AllocError>
-    ensures { IfOk result (λ made. app_of made ≡ propose_app) }
+fn propose<'a>(alloc: Global) -> Built<'a>
+    ensures { Builds propose_app result }
 {
     let about = "Proposes a bit on a question to a member that runs";
     let examples =
         "It prints OK, HAVE B (bit B was proposed before, and stands), or what is wrong.\n\nExample, where member 1 of examples/cluster runs:\n  bracha propose 127.0.0.1:47111 0 1";
     let bit = word(alloc, "bit", "V", "The bit, 0 or 1");
-    let command = with_desk(alloc, named(alloc, "propose", about, examples))?;
-    command.arg(bit.value_parser(value_parser!(u8)))
+    let command = with_desk(alloc, named(alloc, "propose", about, examples));
+    with_arg(command, of_u8(bit))
 }
 
-fn ask<'a>(alloc: Global) -> Result<clap::Command<'a>, AllocError>
-    ensures { IfOk result (λ made. app_of made ≡ ask_app) }
+fn ask<'a>(alloc: Global) -> Built<'a>
+    ensures { Builds ask_app result }
 {
     let about = "Asks a member that runs for its decision of a question";
     let examples =
@@ -227,78 +254,79 @@ fn ask<'a>(alloc: Global) -> Result<clap::Command<'a>, AllocError>
     with_desk(alloc, named(alloc, "ask", about, examples))
 }
 
-fn status<'a>(alloc: Global) -> Result<clap::Command<'a>, AllocError>
-    ensures { IfOk result (λ made. app_of made ≡ status_app) }
+fn status<'a>(alloc: Global) -> Built<'a>
+    ensures { Builds status_app result }
 {
     let about = "Asks a member that runs whether it is up";
     let examples =
         "It prints UP M D (M statements said, D questions decided), or what is wrong.\n\nExample, where member 1 of examples/cluster runs:\n  bracha status 127.0.0.1:47111";
-    named(alloc, "status", about, examples).arg(address(alloc))
+    with_arg(named(alloc, "status", about, examples), address(alloc))
 }
 
-fn dump<'a>(alloc: Global) -> Result<clap::Command<'a>, AllocError>
-    ensures { IfOk result (λ made. app_of made ≡ dump_app) }
+fn dump<'a>(alloc: Global) -> Built<'a>
+    ensures { Builds dump_app result }
 {
     let about = "Prints whose journal it is, and its records";
     let examples =
         "It is refused while a member runs on the journal.\n\nExamples, after `bracha init examples/cluster/member-1.toml`:\n  bracha dump member-1.journal\n  bracha dump --count member-1.journal";
     let help = "The file of the journal";
     let count = "Prints only how many records there are";
-    named(alloc, "dump", about, examples)
-        .arg(word(alloc, "journal", "JOURNAL", help))?
-        .arg(flag(alloc, "count", count))
+    let command = named(alloc, "dump", about, examples);
+    let command = with_arg(command, word(alloc, "journal", "JOURNAL", help));
+    with_arg(command, flag(alloc, "count", count))
 }
 
-fn simulate<'a>(alloc: Global) -> Result<clap::Command<'a>, AllocError>
-    ensures { IfOk result (λ made. app_of made ≡ simulate_app) }
+fn simulate<'a>(alloc: Global) -> Built<'a>
+    ensures { Builds simulate_app result }
 {
     let about = "Runs a script of a whole cluster in memory, and prints what was decided";
     let examples =
         "With `-` as its file a page goes to standard output, and what was decided to standard error.\n\nExamples, in the folder of the repository:\n  bracha simulate crates/bracha/examples/small.script\n  bracha simulate --chart small.svg crates/bracha/examples/small.script\n  bracha simulate --trace - crates/bracha/examples/small.script";
     let trace = "Writes what each event did, a line for each, to this file";
     let chart = "Draws the run as a sequence chart (SVG) into this file";
-    named(alloc, "simulate", about, examples)
-        .arg(word(alloc, "script", "SCRIPT", "The file of the script"))?
-        .arg(file(alloc, "trace", trace))?
-        .arg(file(alloc, "chart", chart))
+    let command = named(alloc, "simulate", about, examples);
+    let command = with_arg(
+        command,
+        word(alloc, "script", "SCRIPT", "The file of the script"),
+    );
+    let command = with_arg(command, file(alloc, "trace", trace));
+    with_arg(command, file(alloc, "chart", chart))
 }
 
 /// The program without its commands and options.
-fn bare<'a>(alloc: Global) -> clap::Command<'a>
-    ensures { app_of result ≡ bare_app }
+fn bare<'a>(alloc: Global) -> Built<'a>
+    ensures { Builds bare_app result }
 {
-    clap::Command::new(alloc, "bracha")
-        .version("0.2.0")
-        .about("A cluster that settles yes-or-no questions while some of its members lie")
-        .subcommand_required(true)
-        .arg_required_else_help(true)
+    Ok(
+        clap::Command::new(alloc, "bracha")
+            .version("0.2.0")
+            .about("A cluster that settles yes-or-no questions while some of its members lie")
+            .subcommand_required(true)
+            .arg_required_else_help(true),
+    )
 }
 
 /// The program with one command more, which takes `--verbose` as the program does.
-fn with_command<'a>(
-    alloc: Global,
-    program: clap::Command<'a>,
-    command: clap::Command<'a>,
-) -> Result<clap::Command<'a>, AllocError>
-    ensures { IfOk result (λ with. IsTrue (app_of command.entry).top.is_plain →
-        app_of with ≡ with_subcommand (app_of program.entry) (with_rule (app_of command.entry) verbose_rule).top) }
+fn with_command<'a>(alloc: Global, program: Built<'a>, command: Built<'a>) -> Built<'a>
+    ensures { (app below : App) → Builds app program.entry → Builds below command.entry → IsTrue below.top.is_plain →
+        Builds (with_subcommand app (with_rule below verbose_rule).top) result }
 {
-    program.subcommand(command.arg(verbose(alloc))?)
+    program?.subcommand(with_arg(command, verbose(alloc))?)
 }
 
-fn program<'a>(alloc: Global) -> Result<clap::Command<'a>, AllocError>
-    ensures { IfOk result (λ made. app_of made ≡ program_app) }
+fn program<'a>(alloc: Global) -> Built<'a>
+    ensures { Builds program_app result }
 {
-    let program = bare(alloc).arg(verbose(alloc))?;
-    let program = with_command(alloc, program, init(alloc)?)?;
-    let program = with_command(alloc, program, check(alloc)?)?;
-    let program = with_command(alloc, program, run(alloc)?)?;
-    let program = with_command(alloc, program, propose(alloc)?)?;
-    let program = with_command(alloc, program, ask(alloc)?)?;
-    let program = with_command(alloc, program, status(alloc)?)?;
-    let program = with_command(alloc, program, dump(alloc)?)?;
-    let program = with_command(alloc, program, simulate(alloc)?)?;
-    with_command(alloc, program, hear(alloc)?)
+    let program = with_arg(bare(alloc), verbose(alloc));
+    let program = with_command(alloc, program, init(alloc));
+    let program = with_command(alloc, program, check(alloc));
+    let program = with_command(alloc, program, run(alloc));
+    let program = with_command(alloc, program, propose(alloc));
+    let program = with_command(alloc, program, ask(alloc));
+    let program = with_command(alloc, program, status(alloc));
+    let program = with_command(alloc, program, dump(alloc));
+    let program = with_command(alloc, program, simulate(alloc));
+    with_command(alloc, program, hear(alloc))
 }
 
 /// The text that was given for the id.

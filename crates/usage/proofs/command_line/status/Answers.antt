@@ -1,8 +1,5 @@
-use Rattle.std.proofs.Common.{rules, refl}
-use Rattle.std.proofs.lemmas.Result.{IfOk-weaker}
-use Rattle.usage.proofs.Building.{with_arg}
+use Rattle.std.proofs.Common.{refl}
 use Rattle.usage.proofs.command_line.status.Goals as goal
 
 pub returns : goal.returns
-returns c =
-    IfOk-weaker c.arg.result _ _ (λ made added. search (rules, with_arg c.named.result c.address.result made _ _ added c.named.ensures c.address.ensures refl)) c.arg.ensures
+returns c = c.with_arg.ensures _ _ c.named.ensures c.address.ensures refl

@@ -1,9 +1,12 @@
-use Rattle.std.proofs.Common.{refl}
+use Rattle.std.proofs.Common.{refl, subst}
 use Rattle.std.proofs.lemmas.Result.{IfOk-weaker}
-use Rattle.usage.proofs.Building.{with_arg, with_command}
+use Rattle.clap.specs.Simple.{with_rule}
+use Rattle.usage.specs.Usage.{Builds, verbose_rule}
+use Rattle.usage.proofs.Building.{with_command}
 use Rattle.usage.proofs.command_line.with_command.Goals as goal
 
 pub returns : goal.returns
-returns c =
-    let verbose = with_arg c.args.command c.verbose.result c.in_ok-arg.field-0 _ _ c.in_ok-arg.ensures refl c.verbose.ensures refl in
-    IfOk-weaker c.subcommand.result _ _ (λ with added plain. with_command c.args.program c.in_ok-arg.field-0 with _ _ added refl verbose plain) c.subcommand.ensures
+returns c app below program command plain =
+    let before = subst (λ z. Builds app z) c.in_ok-program.was program in
+    let verbose = c.in_ok-with_arg.ensures below verbose_rule command c.verbose.ensures refl in
+    IfOk-weaker c.subcommand.result _ _ (λ new added. with_command c.in_ok-program.field-0 c.in_ok-with_arg.field-0 new app (with_rule below verbose_rule) added before verbose plain) c.subcommand.ensures

@@ -1,10 +1,8 @@
-use Rattle.std.proofs.Common.{rules, refl, ◌∙◌}
-use Rattle.std.proofs.lemmas.Result.{IfOk-weaker}
-use Rattle.usage.proofs.Building.{with_arg, with_made_parser}
+use Rattle.std.proofs.Common.{refl, ◌∙◌, ap}
+use Rattle.usage.specs.Usage.{as_u16}
 use Rattle.usage.proofs.command_line.with_desk.Goals as goal
 
 pub returns : goal.returns
-returns c =
-    let question = with_made_parser c.word-question.result c.value_parser-2.result _ _ c.value_parser-2.ensures.others (c.value_parser-2.ensures.given.0, c.value_parser-2.ensures.given.1, c.value_parser-2.ensures.given.2 ∙ c.value_parser.ensures) c.word-question.ensures in
-    let first = with_arg c.args.command c.address.result c.in_ok-arg.field-0 _ _ c.in_ok-arg.ensures refl c.address.ensures refl in
-    IfOk-weaker c.arg-2.result _ _ (λ made added. search (rules, with_arg c.in_ok-arg.field-0 c.value_parser-2.result made _ _ added first question refl)) c.arg-2.ensures
+returns c app is =
+    let address = c.with_arg-command.ensures app _ is c.address.ensures refl in
+    c.with_arg.ensures _ _ address (c.of_u16.ensures ∙ ap as_u16 c.word-question.ensures) refl

@@ -14,10 +14,10 @@ use Rattle.commands.specs.Places.{IsFirstLine, IsLineIn, SaysKey, lines_in}
 use Rattle.commands.specs.Damage.{IsPlaceOf}
 use Rattle.commands.specs.declared.fault.SimulateFault.{SimulateFault}
 use Rattle.commands.specs.declared.fault.SimulateFault.TheVariants as unplayed
-use Rattle.bracha.specs.declared.fault.Fault.{Fault}
-use Rattle.bracha.specs.declared.fault.Fault.TheVariants as ends
-use Rattle.bracha.specs.declared.trouble.Whereabouts.{Whereabouts}
-use Rattle.bracha.specs.declared.trouble.Whereabouts.TheVariants as place
+use Rattle.edge.specs.declared.fault.Fault.{Fault}
+use Rattle.edge.specs.declared.fault.Fault.TheVariants as ends
+use Rattle.edge.specs.declared.trouble.Whereabouts.{Whereabouts}
+use Rattle.edge.specs.declared.trouble.Whereabouts.TheVariants as place
 
 -- the fault of a text of settings
 abbrev pub of_settings : SettingsFault → Fault

@@ -1,7 +1,7 @@
 //! The command `run`: a member over the journal in its file.
 
-ghost use Rattle.bracha.specs.Sockets.{AreSocketsOf, IsSocketOf};
-ghost use Rattle.bracha.specs.declared.fault.Fault.TheVariants as ends;
+ghost use Rattle.edge.specs.Sockets.{AreSocketsOf, IsSocketOf};
+ghost use Rattle.edge.specs.declared.fault.Fault.TheVariants as ends;
 ghost use Rattle.std.specs.Prelude.{◌≡◌, IfErr, IfOk, Err, Ok};
 
 use crate::fault::Fault;

@@ -1,5 +1,5 @@
-use Rattle.bracha.proofs.Listening.{next_is}
-use Rattle.bracha.proofs.live.socket_addresses.Goals as goal
+use Rattle.edge.proofs.Listening.{next_is}
+use Rattle.edge.proofs.live.socket_addresses.Goals as goal
 
 pub loop-address-preserved : goal.loop-address-preserved
 loop-address-preserved c =

@@ -3,7 +3,7 @@ use Rattle.std.proofs.Common.{ℕ, ◌≡◌, ◌+◌, ◌<◌, List, [], ◌∷
 use Rattle.std.proofs.lemmas.List.{take_more}
 use Rattle.std.specs.declared.net.socket_addr.SocketAddr.{SocketAddr}
 use Rattle.settings.specs.declared.address.Address.{Address}
-use Rattle.bracha.specs.Sockets.{AreSocketsOf, IsSocketOf}
+use Rattle.edge.specs.Sockets.{AreSocketsOf, IsSocketOf}
 
 -- one address more
 one_more : (addresses : List Address) (sockets : List SocketAddr) (address : Address) (socket : SocketAddr)

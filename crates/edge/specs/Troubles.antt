@@ -1,10 +1,10 @@
 -- The second line of a fault.
 use Rattle.std.specs.Prelude.{ℕ, ◌≡◌, List, [], ◌++◌, codes, Option, IfSome, string_bytes}
 use Rattle.std.specs.Fmt.{decimal}
-use Rattle.bracha.specs.declared.trouble.Whereabouts.{Whereabouts}
-use Rattle.bracha.specs.declared.trouble.Whereabouts.TheVariants as place
-use Rattle.bracha.specs.declared.trouble.Trouble.{Trouble}
-use Rattle.bracha.specs.declared.trouble.Failure.{Failure}
+use Rattle.edge.specs.declared.trouble.Whereabouts.{Whereabouts}
+use Rattle.edge.specs.declared.trouble.Whereabouts.TheVariants as place
+use Rattle.edge.specs.declared.trouble.Trouble.{Trouble}
+use Rattle.edge.specs.declared.trouble.Failure.{Failure}
 
 -- what stands behind the thing
 abbrev pub place_text : Whereabouts → List ℕ

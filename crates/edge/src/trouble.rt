@@ -1,8 +1,8 @@
 //! What can be told of the thing that a fault is about.
 
-ghost use Rattle.bracha.specs.Faults.{IsMeant, IsFileFault};
-ghost use Rattle.bracha.specs.Troubles.{IsPrinted, IsTold};
-ghost use Rattle.bracha.specs.declared.trouble.Whereabouts.TheVariants as whereabouts;
+ghost use Rattle.edge.specs.Faults.{IsMeant, IsFileFault};
+ghost use Rattle.edge.specs.Troubles.{IsPrinted, IsTold};
+ghost use Rattle.edge.specs.declared.trouble.Whereabouts.TheVariants as whereabouts;
 ghost use Rattle.std.specs.Prelude.{◌≡◌, IfSome, None, false, true, ⊤};
 
 use crate::fault::Fault;
@@ -32,7 +32,7 @@ pub enum Whereabouts {
 
 impl fmt::Display for Whereabouts {
     ghost use Rattle.std.specs.Prelude.{Some};
-    ghost use Rattle.bracha.specs.Troubles.{place_text};
+    ghost use Rattle.edge.specs.Troubles.{place_text};
 
     ghost output = { λ place. Some (place_text place) };
 
@@ -63,7 +63,7 @@ pub struct Trouble {
 
 impl fmt::Display for Trouble {
     ghost use Rattle.std.specs.Prelude.{Some, string_bytes};
-    ghost use Rattle.bracha.specs.Troubles.{trouble_text};
+    ghost use Rattle.edge.specs.Troubles.{trouble_text};
 
     ghost output = { λ trouble. Some (trouble_text trouble) };
 

@@ -1,7 +1,7 @@
 //! The commands `propose`, `ask` and `status`: a line to the desk of a member that runs.
 
-ghost use Rattle.bracha.specs.Troubles.{IsNamed};
-ghost use Rattle.bracha.specs.declared.fault.Fault.TheVariants as ends;
+ghost use Rattle.edge.specs.Troubles.{IsNamed};
+ghost use Rattle.edge.specs.declared.fault.Fault.TheVariants as ends;
 ghost use Rattle.std.specs.Prelude.{◌≡◌, IfErr};
 
 use crate::fault::Fault;

@@ -1,7 +1,7 @@
 //! What ends the program before its work is done.
 
-ghost use Rattle.bracha.specs.declared.fault.Fault.TheVariants as ends;
-ghost use Rattle.bracha.specs.Faults.{IsMeant, IsFileFault, fault_status, of_journal};
+ghost use Rattle.edge.specs.declared.fault.Fault.TheVariants as ends;
+ghost use Rattle.edge.specs.Faults.{IsMeant, IsFileFault, fault_status, of_journal};
 ghost use Rattle.std.specs.Prelude.{◌≡◌};
 
 use commands::{DumpFault, InitFault, SimulateFault, TalkFault};

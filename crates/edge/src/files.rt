@@ -1,8 +1,8 @@
 //! The commands over the files that their words name, and over the standard streams.
 
-ghost use Rattle.bracha.specs.Faults.{IsMeant};
-ghost use Rattle.bracha.specs.Troubles.{IsNamed};
-ghost use Rattle.bracha.specs.declared.fault.Fault.TheVariants as ends;
+ghost use Rattle.edge.specs.Faults.{IsMeant};
+ghost use Rattle.edge.specs.Troubles.{IsNamed};
+ghost use Rattle.edge.specs.declared.fault.Fault.TheVariants as ends;
 ghost use Rattle.std.specs.Prelude.{◌≡◌, IfErr};
 
 use crate::fault::Fault;

@@ -1,9 +1,9 @@
 //! What is told of faults in texts and journals.
 
-ghost use Rattle.bracha.specs.Tellings.{IsJournalPlace, IsLineOf, IsPlaceOfKey, AreLineWords, IsLineWords, IsScriptPlace, IsScriptWords, IsSettingsPlace, IsSettingsWords, is_control, of_settings, size_key};
-ghost use Rattle.bracha.specs.Troubles.{IsTold};
-ghost use Rattle.bracha.specs.declared.fault.Fault.TheVariants as ends;
-ghost use Rattle.bracha.specs.declared.trouble.Whereabouts.TheVariants as whereabouts;
+ghost use Rattle.edge.specs.Tellings.{IsJournalPlace, IsLineOf, IsPlaceOfKey, AreLineWords, IsLineWords, IsScriptPlace, IsScriptWords, IsSettingsPlace, IsSettingsWords, is_control, of_settings, size_key};
+ghost use Rattle.edge.specs.Troubles.{IsTold};
+ghost use Rattle.edge.specs.declared.fault.Fault.TheVariants as ends;
+ghost use Rattle.edge.specs.declared.trouble.Whereabouts.TheVariants as whereabouts;
 ghost use Rattle.commands.specs.Damage.{IsPlaceOf};
 ghost use Rattle.settings.specs.declared.fault.SettingsFault.TheVariants as unset;
 ghost use Rattle.commands.specs.Places.{lines_in};

@@ -1,6 +1,6 @@
 //! The words with which the program was started, and what its environment asks for.
 
-ghost use Rattle.bracha.specs.Faults.{IsNoText};
+ghost use Rattle.edge.specs.Faults.{IsNoText};
 ghost use Rattle.std.specs.Prelude.{◌≡◌, ◌↔◌, IfErr, IfOk, IsTrue, codes, string_bytes};
 
 use crate::fault::Fault;

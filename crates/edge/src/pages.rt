@@ -1,8 +1,8 @@
 //! Where the pages of a simulation go.
 
-ghost use Rattle.bracha.specs.Faults.{AreApart, IsMeant};
-ghost use Rattle.bracha.specs.declared.fault.Fault.TheVariants as ends;
-ghost use Rattle.bracha.specs.Troubles.{IsNamed};
+ghost use Rattle.edge.specs.Faults.{AreApart, IsMeant};
+ghost use Rattle.edge.specs.declared.fault.Fault.TheVariants as ends;
+ghost use Rattle.edge.specs.Troubles.{IsNamed};
 ghost use Rattle.std.specs.Prelude.{IfSome, ◌≡◌, ◌≢◌, ◌⊎◌, IfErr, IsOk, IsTrue, None, Some, codes, option_map};
 
 use crate::fault::Fault;

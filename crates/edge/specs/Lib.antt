@@ -1,0 +1,4 @@
+pub mod Faults
+pub mod Troubles
+pub mod Tellings
+pub mod Sockets

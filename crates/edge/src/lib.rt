@@ -1,0 +1,22 @@
+//! The commands over the files, sockets and standard streams that their words name, and what is told of a fault. The words
+//! themselves are read above it.
+#![tactic(auto)]
+
+mod arguments;
+mod asking;
+mod fault;
+mod files;
+mod live;
+mod pages;
+mod streams;
+mod telling;
+mod trouble;
+
+pub use arguments::{own_words, wants_more};
+pub use asking::{ask_at, propose_at, status_at};
+pub use fault::Fault;
+pub use files::{check_file, dump_file, hear_input, init_file, simulate_file};
+pub use live::run_file;
+pub use pages::write_page;
+pub use streams::hold_streams;
+pub use trouble::{Failure, Trouble, Whereabouts};
