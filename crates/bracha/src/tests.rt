@@ -9,314 +9,183 @@ use edge::write_page;
 use hearing::HearFault;
 use journal::JournalFault;
 use settings::{Key, SettingsFault};
-use sim::SimFault;
+use std::alloc::Global;
 use std::env::FillError;
 use std::fs;
 use std::rt::Env;
 use std::test::Fail;
 use terms::SizeFault;
 
+/// Whether these words, with a space between each two, ask for the task, and for more to be told or not.
+fn asks(alloc: Global, words: &str, task: Task, verbose: bool) -> Result<bool, Fail> {
+    let words: Vec<&str> = words.split(' ').collect(alloc)?;
+    Ok(match command(alloc, words.as_slice()) {
+        Ok(order) => order.task == task && order.verbose == verbose,
+        Err(_) => false,
+    })
+}
+
+/// Whether nothing is to be done for these words, and the program ends with the status.
+fn ends_with(alloc: Global, words: &str, status: i32) -> Result<bool, Fail> {
+    let words: Vec<&str> = words.split(' ').collect(alloc)?;
+    Ok(match command(alloc, words.as_slice()) {
+        Ok(_) => false,
+        Err(error) => error.exit_code() == status,
+    })
+}
+
 #[test]
 fn reads_the_words(rt: HostRuntime) -> Result<(), Fail> {
-    let words = [
-        "bracha",
-        "hear",
-        "--n",
-        "4",
-        "--t",
-        "1",
-        "--questions",
-        "2",
-        "--me",
-        "3",
-    ];
-    let order = command(rt.alloc(), words.as_slice()).ok().ok_or("a task")?;
-    let want = Task::Hear {
+    let hear = Task::Hear {
         n: 4,
         t: 1,
         questions: 2,
         me: 3,
     };
-    assert!(rt; order.task == want);
-    for (words, want) in [
+    for (words, task) in [
+        ("bracha hear --n 4 --t 1 --questions 2 --me 3", hear),
+        ("bracha hear --me=3 --questions=2 --t=1 --n=4", hear),
+        ("bracha init a.toml", Task::Init { settings: "a.toml" }),
+        ("bracha check a.toml", Task::Check { settings: "a.toml" }),
+        ("bracha run a.toml", run_of("a.toml", false, false)),
+        ("bracha dump x.journal", dump_of("x.journal", false)),
         (
-            ["bracha", "init", "a.toml"],
-            Task::Init { settings: "a.toml" },
-        ),
-        (
-            ["bracha", "check", "a.toml"],
-            Task::Check { settings: "a.toml" },
-        ),
-        (
-            ["bracha", "run", "a.toml"],
-            Task::Run {
-                settings: "a.toml",
-                stay: false,
-                log: false,
-            },
-        ),
-        (
-            ["bracha", "dump", "x.journal"],
-            Task::Dump {
-                journal: "x.journal",
-                count: false,
-            },
-        ),
-        (
-            ["bracha", "simulate", "a.script"],
-            Task::Simulate {
-                script: "a.script",
-                trace: None,
-                chart: None,
-            },
+            "bracha simulate a.script",
+            simulate_of("a.script", None, None),
         ),
     ] {
-        let order = command(rt.alloc(), words.as_slice()).ok().ok_or("a task")?;
-        assert!(rt; order.task == want && !order.verbose, "at {words:?}");
+        assert!(rt; asks(rt.alloc(), words, task, false)?, "{words}");
     }
     for (words, status) in [
-        (["bracha", "--help"].as_slice(), 0),
-        (["bracha", "init", "--help"].as_slice(), 0),
-        (["bracha", "dump", "--help"].as_slice(), 0),
-        (["bracha", "init"].as_slice(), 2),
-        (["bracha", "dump"].as_slice(), 2),
-        (["bracha", "init", "a.toml", "b.toml"].as_slice(), 2),
-        (["bracha", "dump", "--journal", "x"].as_slice(), 2),
-        (["bracha", "--version"].as_slice(), 0),
-        (["bracha", "hear", "--help"].as_slice(), 0),
-        (["bracha"].as_slice(), 2),
-        (["bracha", "listen"].as_slice(), 2),
-        (["bracha", "hear", "--n", "4"].as_slice(), 2),
-        (
-            [
-                "bracha",
-                "hear",
-                "--n",
-                "65536",
-                "--t",
-                "1",
-                "--questions",
-                "1",
-                "--me",
-                "1",
-            ]
-            .as_slice(),
-            2,
-        ),
-        (
-            [
-                "bracha",
-                "hear",
-                "--n",
-                "4",
-                "--t",
-                "1",
-                "--questions",
-                "1",
-                "--me",
-                "256",
-            ]
-            .as_slice(),
-            2,
-        ),
-        (
-            [
-                "bracha",
-                "hear",
-                "--n",
-                "-4",
-                "--t",
-                "1",
-                "--questions",
-                "1",
-                "--me",
-                "1",
-            ]
-            .as_slice(),
-            2,
-        ),
+        ("bracha --help", 0),
+        ("bracha init --help", 0),
+        ("bracha dump --help", 0),
+        ("bracha init", 2),
+        ("bracha dump", 2),
+        ("bracha init a.toml b.toml", 2),
+        ("bracha dump --journal x", 2),
+        ("bracha --version", 0),
+        ("bracha hear --help", 0),
+        ("bracha", 2),
+        ("bracha listen", 2),
+        ("bracha hear --n 4", 2),
+        ("bracha hear --n 65536 --t 1 --questions 1 --me 1", 2),
+        ("bracha hear --n 4 --t 1 --questions 1 --me 256", 2),
+        ("bracha hear --n -4 --t 1 --questions 1 --me 1", 2),
     ] {
-        let error = command(rt.alloc(), words)
-            .err()
-            .ok_or("a fault of the words")?;
-        assert!(rt; error.exit_code() == status, "at {words:?}");
+        assert!(rt; ends_with(rt.alloc(), words, status)?, "{words}");
     }
     Ok(())
 }
 
+fn run_of(settings: &str, stay: bool, log: bool) -> Task<'_> {
+    Task::Run {
+        settings,
+        stay,
+        log,
+    }
+}
+
+fn dump_of(journal: &str, count: bool) -> Task<'_> {
+    Task::Dump { journal, count }
+}
+
+fn propose_of(address: &str, question: u16, bit: u8) -> Task<'_> {
+    Task::Propose {
+        address,
+        question,
+        bit,
+    }
+}
+
+fn simulate_of<'a>(script: &'a str, trace: Option<&'a str>, chart: Option<&'a str>) -> Task<'a> {
+    Task::Simulate {
+        script,
+        trace,
+        chart,
+    }
+}
+
 #[test]
 fn reads_the_words_of_a_member(rt: HostRuntime) -> Result<(), Fail> {
-    for (words, want) in [
+    let desk = "127.0.0.1:47111";
+    let ask = Task::Ask {
+        address: desk,
+        question: 7,
+    };
+    for (words, task) in [
+        ("bracha run --stay a.toml", run_of("a.toml", true, false)),
+        ("bracha run a.toml --stay", run_of("a.toml", true, false)),
+        ("bracha run --log a.toml", run_of("a.toml", false, true)),
         (
-            ["bracha", "run", "--stay", "a.toml"].as_slice(),
-            Task::Run {
-                settings: "a.toml",
-                stay: true,
-                log: false,
-            },
+            "bracha run --stay a.toml --log",
+            run_of("a.toml", true, true),
         ),
         (
-            ["bracha", "run", "a.toml", "--stay"].as_slice(),
-            Task::Run {
-                settings: "a.toml",
-                stay: true,
-                log: false,
-            },
+            "bracha propose 127.0.0.1:47111 65535 255",
+            propose_of(desk, 65535, 255),
         ),
         (
-            ["bracha", "run", "--log", "a.toml"].as_slice(),
-            Task::Run {
-                settings: "a.toml",
-                stay: false,
-                log: true,
-            },
+            "bracha propose localhost:1 0 1",
+            propose_of("localhost:1", 0, 1),
         ),
+        ("bracha ask 127.0.0.1:47111 7", ask),
         (
-            ["bracha", "run", "--stay", "a.toml", "--log"].as_slice(),
-            Task::Run {
-                settings: "a.toml",
-                stay: true,
-                log: true,
-            },
+            "bracha status 127.0.0.1:47111",
+            Task::Status { address: desk },
         ),
-        (
-            ["bracha", "propose", "127.0.0.1:47111", "65535", "255"].as_slice(),
-            Task::Propose {
-                address: "127.0.0.1:47111",
-                question: 65535,
-                bit: 255,
-            },
-        ),
-        (
-            ["bracha", "propose", "localhost:1", "0", "1"].as_slice(),
-            Task::Propose {
-                address: "localhost:1",
-                question: 0,
-                bit: 1,
-            },
-        ),
-        (
-            ["bracha", "ask", "127.0.0.1:47111", "7"].as_slice(),
-            Task::Ask {
-                address: "127.0.0.1:47111",
-                question: 7,
-            },
-        ),
-        (
-            ["bracha", "status", "127.0.0.1:47111"].as_slice(),
-            Task::Status {
-                address: "127.0.0.1:47111",
-            },
-        ),
-        (
-            ["bracha", "dump", "--count", "x.journal"].as_slice(),
-            Task::Dump {
-                journal: "x.journal",
-                count: true,
-            },
-        ),
-        (
-            ["bracha", "dump", "x.journal", "--count"].as_slice(),
-            Task::Dump {
-                journal: "x.journal",
-                count: true,
-            },
-        ),
-        (
-            [
-                "bracha",
-                "hear",
-                "--me=3",
-                "--questions=2",
-                "--t=1",
-                "--n=4",
-            ]
-            .as_slice(),
-            Task::Hear {
-                n: 4,
-                t: 1,
-                questions: 2,
-                me: 3,
-            },
-        ),
+        ("bracha dump --count x.journal", dump_of("x.journal", true)),
+        ("bracha dump x.journal --count", dump_of("x.journal", true)),
     ] {
-        let order = command(rt.alloc(), words).ok().ok_or("a task")?;
-        assert!(rt; order.task == want, "at {words:?}");
+        assert!(rt; asks(rt.alloc(), words, task, false)?, "{words}");
     }
     for (words, status) in [
-        (["bracha", "run", "--stay=yes", "a.toml"].as_slice(), 2),
-        (["bracha", "run", "--stay"].as_slice(), 2),
-        (["bracha", "run", "--help"].as_slice(), 0),
-        (["bracha", "propose", "127.0.0.1:47111", "0"].as_slice(), 2),
-        (
-            ["bracha", "propose", "127.0.0.1:47111", "0", "256"].as_slice(),
-            2,
-        ),
-        (
-            ["bracha", "propose", "127.0.0.1:47111", "65536", "1"].as_slice(),
-            2,
-        ),
-        (["bracha", "propose", "--help"].as_slice(), 0),
-        (["bracha", "ask", "127.0.0.1:47111"].as_slice(), 2),
-        (["bracha", "check"].as_slice(), 2),
-        (["bracha", "check", "--help"].as_slice(), 0),
-        (["bracha", "check", "a.toml", "b.toml"].as_slice(), 2),
-        (["bracha", "status"].as_slice(), 2),
-        (["bracha", "status", "127.0.0.1:47111", "0"].as_slice(), 2),
-        (["bracha", "status", "--help"].as_slice(), 0),
-        (["bracha", "dump", "--count"].as_slice(), 2),
-        (["bracha", "dump", "--count=2", "x"].as_slice(), 2),
-        (["bracha", "ask", "127.0.0.1:47111", "x"].as_slice(), 2),
-        (["bracha", "ask", "127.0.0.1:47111", "0", "1"].as_slice(), 2),
-        (["bracha", "ask", "--help"].as_slice(), 0),
-        (["bracha", "simulate", "--help"].as_slice(), 0),
+        ("bracha run --stay=yes a.toml", 2),
+        ("bracha run --stay", 2),
+        ("bracha run --help", 0),
+        ("bracha propose 127.0.0.1:47111 0", 2),
+        ("bracha propose 127.0.0.1:47111 0 256", 2),
+        ("bracha propose 127.0.0.1:47111 65536 1", 2),
+        ("bracha propose --help", 0),
+        ("bracha ask 127.0.0.1:47111", 2),
+        ("bracha check", 2),
+        ("bracha check --help", 0),
+        ("bracha check a.toml b.toml", 2),
+        ("bracha status", 2),
+        ("bracha status 127.0.0.1:47111 0", 2),
+        ("bracha status --help", 0),
+        ("bracha dump --count", 2),
+        ("bracha dump --count=2 x", 2),
+        ("bracha ask 127.0.0.1:47111 x", 2),
+        ("bracha ask 127.0.0.1:47111 0 1", 2),
+        ("bracha ask --help", 0),
+        ("bracha simulate --help", 0),
     ] {
-        let error = command(rt.alloc(), words)
-            .err()
-            .ok_or("a fault of the words")?;
-        assert!(rt; error.exit_code() == status, "at {words:?}");
+        assert!(rt; ends_with(rt.alloc(), words, status)?, "{words}");
     }
     Ok(())
 }
 
 #[test]
 fn reads_verbose_before_a_command_and_behind(rt: HostRuntime) -> Result<(), Fail> {
-    for (words, verbose) in [
-        (["bracha", "--verbose", "init", "a.toml"].as_slice(), true),
-        (["bracha", "init", "--verbose", "a.toml"].as_slice(), true),
-        (["bracha", "init", "a.toml", "--verbose"].as_slice(), true),
-        (
-            ["bracha", "--verbose", "init", "a.toml", "--verbose"].as_slice(),
-            true,
-        ),
-        (["bracha", "init", "a.toml"].as_slice(), false),
+    for (words, settings, verbose) in [
+        ("bracha --verbose init a.toml", "a.toml", true),
+        ("bracha init --verbose a.toml", "a.toml", true),
+        ("bracha init a.toml --verbose", "a.toml", true),
+        ("bracha --verbose init a.toml --verbose", "a.toml", true),
+        ("bracha init a.toml", "a.toml", false),
+        // A word behind `--` is no option.
+        ("bracha init -- --verbose", "--verbose", false),
     ] {
-        let order = command(rt.alloc(), words).ok().ok_or("a task")?;
-        let want = Task::Init { settings: "a.toml" };
-        assert!(rt;
-            order.task == want && order.verbose == verbose,
-            "at {words:?}"
-        );
+        let task = Task::Init { settings };
+        assert!(rt; asks(rt.alloc(), words, task, verbose)?, "{words}");
     }
-    // A word behind `--` is no option.
-    let words = ["bracha", "init", "--", "--verbose"];
-    let order = command(rt.alloc(), words.as_slice()).ok().ok_or("a task")?;
-    assert!(rt;
-        order.task
-            == Task::Init {
-                settings: "--verbose"
-            }
-            && !order.verbose
-    );
     for words in [
-        ["bracha", "--verbose"].as_slice(),
-        ["bracha", "--verbose=yes", "init", "a.toml"].as_slice(),
-        ["bracha", "--verbose", "--verbose", "init", "a.toml"].as_slice(),
+        "bracha --verbose",
+        "bracha --verbose=yes init a.toml",
+        "bracha --verbose --verbose init a.toml",
     ] {
-        let error = command(rt.alloc(), words)
-            .err()
-            .ok_or("a fault of the words")?;
-        assert!(rt; error.exit_code() == 2, "at {words:?}");
+        assert!(rt; ends_with(rt.alloc(), words, 2)?, "{words}");
     }
     Ok(())
 }
@@ -324,41 +193,25 @@ fn reads_verbose_before_a_command_and_behind(rt: HostRuntime) -> Result<(), Fail
 #[test]
 fn reads_the_options_of_simulate(rt: HostRuntime) -> Result<(), Fail> {
     for (words, trace, chart) in [
+        ("bracha simulate --trace t s", Some("t"), None),
+        ("bracha simulate s --chart c", None, Some("c")),
         (
-            ["bracha", "simulate", "--trace", "t", "s"].as_slice(),
-            Some("t"),
-            None,
-        ),
-        (
-            ["bracha", "simulate", "s", "--chart", "c"].as_slice(),
-            None,
-            Some("c"),
-        ),
-        (
-            ["bracha", "simulate", "--chart", "c", "--trace=t", "s"].as_slice(),
+            "bracha simulate --chart c --trace=t s",
             Some("t"),
             Some("c"),
         ),
     ] {
-        let order = command(rt.alloc(), words).ok().ok_or("a task")?;
-        let want = Task::Simulate {
-            script: "s",
-            trace,
-            chart,
-        };
-        assert!(rt; order.task == want, "at {words:?}");
+        let task = simulate_of("s", trace, chart);
+        assert!(rt; asks(rt.alloc(), words, task, false)?, "{words}");
     }
     for words in [
-        ["bracha", "simulate", "--trace", "t"].as_slice(),
-        ["bracha", "simulate", "s", "--trace"].as_slice(),
-        ["bracha", "simulate", "s", "--picture", "c"].as_slice(),
-        ["bracha", "simulate", "--trace", "t", "--trace", "u", "s"].as_slice(),
-        ["bracha", "simulate", "--chart", "c", "--chart", "c", "s"].as_slice(),
+        "bracha simulate --trace t",
+        "bracha simulate s --trace",
+        "bracha simulate s --picture c",
+        "bracha simulate --trace t --trace u s",
+        "bracha simulate --chart c --chart c s",
     ] {
-        let error = command(rt.alloc(), words)
-            .err()
-            .ok_or("a fault of the words")?;
-        assert!(rt; error.exit_code() == 2, "at {words:?}");
+        assert!(rt; ends_with(rt.alloc(), words, 2)?, "{words}");
     }
     Ok(())
 }
@@ -406,60 +259,64 @@ const SCRIPT: &str = "bracha_tests_script";
 
 const NOWHERE: &str = "bracha_tests_missing/page";
 
+/// Writes a page to the file, and tells whether it is then all that the file has.
+fn is_replaced(rt: &HostRuntime, words: &str) -> Result<bool, Fail> {
+    let page = String::from_str(rt.alloc(), words)?;
+    let is_written = write_page(rt, Some(PAGE), Some(page), Fault::Trace).is_ok();
+    Ok(is_written && fs::read(rt, PAGE)?.as_slice() == words.as_bytes())
+}
+
 #[test]
 fn a_page_replaces_what_was_there(rt: HostRuntime) -> Result<(), Fail> {
     let _ = fs::remove_file(&rt, PAGE);
     for words in ["a longer text", "short"] {
-        let page = String::from_str(rt.alloc(), words)?;
-        let written = write_page(&rt, Some(PAGE), Some(page), Fault::Trace);
-        assert!(rt; written.is_ok());
-        let bytes = fs::read(&rt, PAGE)?;
-        assert!(rt; bytes.as_slice() == words.as_bytes());
+        assert!(rt; is_replaced(&rt, words)?, "{words}");
     }
     fs::remove_file(&rt, PAGE)?;
-    assert!(rt; write_page(&rt, Some(PAGE), None, Fault::Trace).is_ok());
-    assert!(rt; fs::metadata(&rt, PAGE).is_err(), "a file of no page");
+    let is_nothing = write_page(&rt, Some(PAGE), None, Fault::Trace).is_ok();
+    assert!(rt; is_nothing && fs::metadata(&rt, PAGE).is_err());
     Ok(())
+}
+
+/// A script of nothing, and one whose only member lies.
+const NOTHING: &str = "n 1\nt 0\nquestions 1\nliars\nseed 1\n";
+
+const ALL_LIE: &str = "n 1\nt 0\nquestions 1\nliars 0\nseed 1\n";
+
+/// The fault of a run as it is printed, where something can be told of it.
+fn told_fault(alloc: Global, run: Result<u8, Failure>) -> Result<String, Fail> {
+    match run {
+        Err(
+            Failure {
+                fault,
+                trouble: Some(_),
+            },
+        ) => Ok(format!(in alloc; "{fault}")?),
+        _ => Err("a fault of which something is told")?,
+    }
 }
 
 #[test]
 fn a_run_of_a_fault_writes_no_file(rt: HostRuntime) -> Result<(), Fail> {
     let _ = fs::remove_file(&rt, PAGE);
-    fs::write(&rt, SCRIPT, "n 1\nt 0\nquestions 1\nliars\nseed 1\n")?;
-    let trace = simulate_file(&rt, SCRIPT, Some(NOWHERE), Some(PAGE));
-    assert!(rt;
-        matches!(
-            &trace,
-            Err(Failure {
-                fault: Fault::Trace,
-                trouble: Some(_)
-            })
-        )
-    );
-    let chart = simulate_file(&rt, SCRIPT, None, Some(NOWHERE));
-    assert!(rt;
-        matches!(
-            &chart,
-            Err(Failure {
-                fault: Fault::Chart,
-                trouble: Some(_)
-            })
-        )
-    );
-    fs::write(&rt, SCRIPT, "n 1\nt 0\nquestions 1\nliars 0\nseed 1\n")?;
-    let run = simulate_file(&rt, SCRIPT, Some(PAGE), Some(NOWHERE));
-    assert!(rt;
-        matches!(
-            &run,
-            Err(Failure {
-                fault: Fault::Simulate(SimulateFault::Sim(SimFault::BadLiars)),
-                trouble: Some(_),
-            },)
-        )
-    );
-    assert!(rt; fs::metadata(&rt, PAGE).is_err(), "a file of a fault");
+    for (script, trace, chart, want) in [
+        (NOTHING, Some(NOWHERE), Some(PAGE), "trace"),
+        (NOTHING, None, Some(NOWHERE), "chart"),
+        (ALL_LIE, Some(PAGE), Some(NOWHERE), "sim BadLiars"),
+    ] {
+        fs::write(&rt, SCRIPT, script)?;
+        let run = simulate_file(&rt, SCRIPT, trace, chart);
+        let fault = told_fault(rt.alloc(), run)?;
+        let is_there = fs::metadata(&rt, PAGE).is_ok();
+        assert!(rt; fault.as_str() == want && !is_there, "{fault}");
+    }
     fs::remove_file(&rt, SCRIPT)?;
     Ok(())
+}
+
+/// Whether the fault is printed so.
+fn is_printed(alloc: Global, fault: &Fault, want: &str) -> Result<bool, Fail> {
+    Ok(format!(in alloc; "{fault}")?.as_str() == want)
 }
 
 #[test]
@@ -489,8 +346,7 @@ fn faults_print_so(rt: HostRuntime) -> Result<(), Fail> {
         ),
         (Fault::Memory, "memory"),
     ] {
-        let text = format!(in rt.alloc(); "{fault}")?;
-        assert_eq!(rt; text.as_str(), want);
+        assert!(rt; is_printed(rt.alloc(), &fault, want)?, "{want}");
     }
     Ok(())
 }

@@ -13,7 +13,6 @@ use std::fs;
 use std::fs::{File, Permissions};
 use std::os::unix::fs::PermissionsExt;
 use std::process::Abort;
-use std::rt::Files;
 use std::test::Fail;
 
 /// No file of these tests is longer.
@@ -153,12 +152,22 @@ fn played(rt: &(impl AllocGlobal + Abort), steps: &[Step], fuse: Option<u64>) ->
         rule.step(*step, passed);
         left = left.map(|calls| calls.saturating_sub(1));
     }
-    assert!(rt; disk.is_fused() == fuse.is_some());
-    assert!(rt; disk.is_empty() == (rule.seen == [None; ROOM]));
+    assert!(rt; (disk.is_fused(), disk.is_empty()) == (fuse.is_some(), rule.seen == [None; ROOM]));
     (disk, rule)
 }
 
-/// Runs the steps under a fuse, and crashes.
+/// What the disk has after a crash, and after a second one. None where it is still fused.
+fn crashed(disk: MemDisk, pick: Pick) -> Result<Option<[Option<Bytes>; 2]>, AllocError> {
+    let mut left = disk.crash(pick)?;
+    if left.is_fused() {
+        return Ok(None);
+    }
+    let file = content_again(&mut left);
+    let mut again = left.crash(Pick::Fill(b'?'))?;
+    Ok(Some([file, content_again(&mut again)]))
+}
+
+/// Runs the steps under a fuse, and crashes. A second crash changes nothing.
 fn case(
     rt: &(impl AllocGlobal + Abort),
     steps: &[Step],
@@ -166,17 +175,10 @@ fn case(
     pick: Pick,
 ) -> Result<(), AllocError> {
     let (disk, rule) = played(rt, steps, fuse);
-    let file = rule.left(pick);
-    let mut crashed = disk.crash(pick)?;
-    assert!(rt; !crashed.is_fused(), "the fuse is out after a crash");
+    let file = Some(rule.left(pick));
     assert!(rt;
-        content_again(&mut crashed) == Some(file),
-        "what the crash leaves"
-    );
-    let mut again = crashed.crash(Pick::Fill(b'?'))?;
-    assert!(rt;
-        content_again(&mut again) == Some(file),
-        "a second crash changes nothing"
+        crashed(disk, pick)? == Some([file, file]),
+        "what a crash leaves"
     );
     Ok(())
 }
@@ -253,23 +255,44 @@ fn clean(rt: &HostRuntime) {
     let _ = fs::remove_dir(rt, FOLDER);
 }
 
-/// Writes to a new file, and reads what stands there.
-fn fill(rt: &(impl Files<File = fs::File> + Abort), path: &str) -> Result<(), Fail> {
-    let mut disk = FileDisk::open(rt, path, true)?;
-    for (step, length) in [
+/// The seven bytes that the tests write.
+const WRITTEN: [u8; 7] = *b"AbcdXYZ";
+
+/// Whether the disk has the bytes that were written, from the first on and from a later one, and no more.
+fn has_written(disk: &mut FileDisk) -> Result<bool, DeviceFault> {
+    let mut all = [0; 7];
+    let mut some = [0; 3];
+    disk.read_at(0, &mut all)?;
+    disk.read_at(3, &mut some)?;
+    Ok(disk.len()? == 7 && all == WRITTEN && some == *b"dXY")
+}
+
+/// Writes to a new file. The length after each call is as wanted.
+fn fill(disk: &mut FileDisk) -> bool {
+    [
         (Step::Measure, 0),
         (Step::Write(0, b"abcdef"), 6),
         (Step::Write(4, b"XYZ"), 7),
         (Step::Sync, 7),
         (Step::Write(0, b"A"), 7),
         (Step::Sync, 7),
-    ] {
-        assert!(rt; device(&mut disk, step).is_ok() && disk.len() == Ok(length));
-    }
-    let mut all = [0; 7];
-    disk.read_at(0, &mut all)?;
-    assert!(rt; all == *b"AbcdXYZ");
-    Ok(())
+    ]
+    .iter()
+    .all(|(step, length)| device(disk, *step).is_ok() && disk.len() == Ok(*length))
+}
+
+/// Whether there is no file of that name, and a disk that isn't to make one makes none.
+fn stays_missing(rt: &HostRuntime, path: &str) -> bool {
+    FileDisk::open(rt, path, false).is_err() && fs::metadata(rt, path).is_err()
+}
+
+/// Whether a new file has what is written to it, also where it is opened again.
+fn is_kept(rt: &HostRuntime, path: &str) -> Result<bool, Fail> {
+    let mut made = FileDisk::open(rt, path, true)?;
+    let is_made = fill(&mut made) && has_written(&mut made)?;
+    drop(made);
+    let is_found = has_written(&mut FileDisk::open(rt, path, false)?)?;
+    Ok(is_made && is_found && has_written(&mut FileDisk::open(rt, path, true)?)?)
 }
 
 #[test]
@@ -277,16 +300,8 @@ fn a_file_keeps_what_was_written(rt: HostRuntime) -> Result<(), Fail> {
     clean(&rt);
     fs::create_dir(&rt, FOLDER)?;
     for path in [PATH, BARE] {
-        assert!(rt; FileDisk::open(&rt, path, false).is_err(), "a missing file");
-        assert!(rt; fs::metadata(&rt, path).is_err(), "a missing file was made");
-        fill(&rt, path)?;
-        for make in [false, true] {
-            let mut disk = FileDisk::open(&rt, path, make)?;
-            assert_eq!(rt; disk.len()?, 7);
-            let mut some = [0; 3];
-            disk.read_at(3, &mut some)?;
-            assert_eq!(rt; some, *b"dXY", "reopened");
-        }
+        assert!(rt; stays_missing(&rt, path), "{path} was made");
+        assert!(rt; is_kept(&rt, path)?, "{path} has something else");
     }
     clean(&rt);
     Ok(())
@@ -296,39 +311,41 @@ const CLOSED: &str = "disk_tests_closed";
 
 const CLOSED_FILE: &str = "disk_tests_closed/file";
 
+/// Whether no disk is had at the path, whether it is to be made or not.
+fn is_refused(rt: &HostRuntime, path: &str) -> bool {
+    FileDisk::open(rt, path, false).is_err() && FileDisk::open(rt, path, true).is_err()
+}
+
+/// Takes away all leave to open the file. Permissions don't hold for the superuser.
+fn is_refused_without_leave(rt: &HostRuntime) -> Result<bool, Fail> {
+    drop(FileDisk::open(rt, CLOSED_FILE, true)?);
+    fs::set_permissions(rt, CLOSED_FILE, Permissions::from_mode(0))?;
+    let is_superuser = fs::open(rt, CLOSED_FILE).is_ok();
+    let is_refused = FileDisk::open(rt, CLOSED_FILE, false).is_err();
+    fs::remove_file(rt, CLOSED_FILE)?;
+    Ok(is_superuser || is_refused)
+}
+
+/// No file is made in a folder that can't be synced, since it can't be read.
+fn is_refused_in_a_closed_folder(rt: &HostRuntime) -> Result<bool, Fail> {
+    fs::set_permissions(rt, CLOSED, Permissions::from_mode(0o300))?;
+    let is_superuser = File::open(rt, CLOSED).is_ok();
+    let is_refused = FileDisk::open(rt, CLOSED_FILE, true).is_err();
+    let is_made = fs::metadata(rt, CLOSED_FILE).is_ok();
+    fs::set_permissions(rt, CLOSED, Permissions::from_mode(0o700))?;
+    let _ = fs::remove_file(rt, CLOSED_FILE);
+    Ok(is_superuser || is_refused && !is_made)
+}
+
 #[test]
 fn what_is_no_open_file_is_refused(rt: HostRuntime) -> Result<(), Fail> {
     let _ = fs::remove_file(&rt, CLOSED_FILE);
     let _ = fs::remove_dir(&rt, CLOSED);
     fs::create_dir(&rt, CLOSED)?;
-    for make in [false, true] {
-        assert!(rt; FileDisk::open(&rt, CLOSED, make).is_err(), "a folder");
-        assert!(rt;
-            FileDisk::open(&rt, "disk_tests_none/file", make).is_err(),
-            "no folder"
-        );
-    }
-    drop(FileDisk::open(&rt, CLOSED_FILE, true)?);
-    fs::set_permissions(&rt, CLOSED_FILE, Permissions::from_mode(0))?;
-    // Permissions don't hold for the superuser.
-    if fs::open(&rt, CLOSED_FILE).is_err() {
-        assert!(rt;
-            FileDisk::open(&rt, CLOSED_FILE, false).is_err(),
-            "no permission"
-        );
-    }
-    fs::remove_file(&rt, CLOSED_FILE)?;
-    // No file is made in a folder that can't be synced.
-    fs::set_permissions(&rt, CLOSED, Permissions::from_mode(0o300))?;
-    if File::open(&rt, CLOSED).is_err() {
-        assert!(rt;
-            FileDisk::open(&rt, CLOSED_FILE, true).is_err(),
-            "no folder"
-        );
-        assert!(rt; fs::metadata(&rt, CLOSED_FILE).is_err(), "a file was made");
-    }
-    fs::set_permissions(&rt, CLOSED, Permissions::from_mode(0o700))?;
-    let _ = fs::remove_file(&rt, CLOSED_FILE);
+    assert!(rt; is_refused(&rt, CLOSED), "a folder");
+    assert!(rt; is_refused(&rt, "disk_tests_none/file"), "no folder");
+    assert!(rt; is_refused_without_leave(&rt)?, "no permission");
+    assert!(rt; is_refused_in_a_closed_folder(&rt)?, "a closed folder");
     fs::remove_dir(&rt, CLOSED)?;
     Ok(())
 }
@@ -340,18 +357,23 @@ fn a_folder_is_that_of_the_path(rt: HostRuntime) {
     }
 }
 
+/// The length of a file at whose disk two others were refused, and its length as another disk then has it.
+fn lengths(rt: &HostRuntime, path: &str) -> Result<[usize; 2], Fail> {
+    let mut first = FileDisk::open(rt, path, true)?;
+    first.write_at(0, b"ab")?;
+    if !is_refused(rt, path) {
+        return Err("a second disk")?;
+    }
+    let length = first.len()?;
+    drop(first);
+    Ok([length, FileDisk::open(rt, path, false)?.len()?])
+}
+
 #[test]
 fn a_file_has_one_disk_at_a_time(rt: HostRuntime) -> Result<(), Fail> {
     let path = "disk_tests_locked";
     let _ = fs::remove_file(&rt, path);
-    let mut first = FileDisk::open(&rt, path, true)?;
-    first.write_at(0, b"ab")?;
-    for make in [false, true] {
-        assert!(rt; FileDisk::open(&rt, path, make).is_err(), "a second disk");
-    }
-    assert_eq!(rt; first.len()?, 2);
-    drop(first);
-    assert_eq!(rt; FileDisk::open(&rt, path, false)?.len()?, 2);
+    assert!(rt; lengths(&rt, path)? == [2, 2]);
     fs::remove_file(&rt, path)?;
     Ok(())
 }
@@ -362,8 +384,9 @@ fn a_read_past_the_end_of_a_file_fails(rt: HostRuntime) -> Result<(), Fail> {
     let _ = fs::remove_file(&rt, path);
     let mut disk = FileDisk::open(&rt, path, true)?;
     disk.write_at(0, b"ab")?;
-    assert_eq!(rt; disk.read_at(1, &mut [0; 2]), Err(DeviceFault));
-    assert_eq!(rt; disk.read_at(1, &mut [0; 1]), Ok(()));
+    let past = disk.read_at(1, &mut [0; 2]);
+    let within = disk.read_at(1, &mut [0; 1]);
+    assert!(rt; (past, within) == (Err(DeviceFault), Ok(())));
     fs::remove_file(&rt, path)?;
     Ok(())
 }

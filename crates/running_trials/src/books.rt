@@ -196,6 +196,20 @@ fn said_at<D: Disk, J: Naming, R: Wait>(
     Ok(*pulled.first().ok_or("a statement of that number")?)
 }
 
+/// Whether the statement of that number is so numbered and counts, and a verdict stood before it as wanted.
+fn is_told<D: Disk, J: Naming, R: Wait>(
+    rt: &R,
+    hub: &Hub<D, J>,
+    seat: &mut Seat,
+    number: u64,
+    decided: bool,
+) -> Result<bool, Fail> {
+    let before = verdict(rt, hub).is_some();
+    let said = said_at(rt, hub, number)?;
+    let answer = hear(rt, hub, seat, &said.statement())?;
+    Ok((before, said.number()) == (decided, number) && matches!(answer, Says(_) | Counts))
+}
+
 /// Tells the member all that it says itself, which number 8 brings to its decision.
 fn tell<D: Disk, J: Naming, R: Wait + Abort>(
     rt: &R,
@@ -203,11 +217,10 @@ fn tell<D: Disk, J: Naming, R: Wait + Abort>(
     seat: &mut Seat,
 ) -> Result<(), Fail> {
     for number in 0..18u64 {
-        assert!(rt; verdict(rt, hub).is_some() == (number > 8));
-        let said = said_at(rt, hub, number)?;
-        assert!(rt; said.number() == number);
-        let answer = hear(rt, hub, seat, &said.statement())?;
-        assert!(rt; matches!(answer, Says(_) | Counts));
+        assert!(rt;
+            is_told(rt, hub, seat, number, number > 8)?,
+            "number {number}"
+        );
         hub.ring();
     }
     Ok(())

@@ -754,8 +754,16 @@ fn a_link_is_up_once_it_is_written_behind_a_read(rt: HostRuntime) -> Result<(), 
     Ok(())
 }
 
+/// Whether that is the event's line.
+fn is_line(alloc: Global, event: &LogEvent, want: &str) -> bool {
+    match format!(in alloc; "{event}") {
+        Ok(text) => text.as_str() == want,
+        Err(_) => false,
+    }
+}
+
 #[test]
-fn events_are_lines(rt: HostRuntime) -> Result<(), Fail> {
+fn events_are_lines(rt: HostRuntime) {
     for (event, want) in [
         (LogEvent::Ready(1), "ready member 1"),
         (LogEvent::LinkUp(2), "link-up from 2"),
@@ -806,26 +814,32 @@ fn events_are_lines(rt: HostRuntime) -> Result<(), Fail> {
         (LogEvent::Missed(3), "missed 3"),
         (LogEvent::End, "end"),
     ] {
-        let text = format!(in rt.alloc(); "{event}")?;
-        assert_eq!(rt; text.as_str(), want);
+        assert!(&rt; is_line(rt.alloc(), &event, want), "{want}");
     }
-    Ok(())
+}
+
+/// Whether the queue is empty, and isn't once so many decisions are put in.
+fn takes_decisions(queue: &mut Queue, count: u16) -> bool {
+    let was_empty = queue.is_empty();
+    for question in 0..count {
+        queue.put(LogEvent::Decided(question, true));
+    }
+    was_empty && !queue.is_empty()
+}
+
+/// Whether the queue gives the first 1024 decisions, says that two are missed, and is empty then.
+fn gives_the_first(alloc: Global, queue: &mut Queue) -> bool {
+    let (events, missed) = queue.take(alloc);
+    (events.len(), missed) == (1024, 2)
+        && events.first() == Some(&LogEvent::Decided(0, true))
+        && events.last() == Some(&LogEvent::Decided(1023, true))
+        && queue.is_empty()
 }
 
 #[test]
-fn a_queue_has_an_end(rt: HostRuntime) -> Result<(), Fail> {
+fn a_queue_has_an_end(rt: HostRuntime) {
     let mut queue = Queue::new(rt.alloc());
-    assert!(&rt; queue.is_empty());
-    for question in 0..1026u16 {
-        queue.put(LogEvent::Decided(question, true));
-    }
-    assert!(&rt; !queue.is_empty());
-    let (events, missed) = queue.take(rt.alloc());
-    assert!(&rt; events.len() == 1024 && missed == 2);
-    assert!(&rt; events.first() == Some(&LogEvent::Decided(0, true)));
-    assert!(&rt; events.last() == Some(&LogEvent::Decided(1023, true)));
-    assert!(&rt; queue.is_empty());
-    Ok(())
+    assert!(&rt; takes_decisions(&mut queue, 1026) && gives_the_first(rt.alloc(), &mut queue));
 }
 
 /// Whether the other side closed the connection, within that time.

@@ -103,12 +103,26 @@ fn greets(alloc: Global, bytes: &[u8], wanted: Result<u8, LinkEnd>) -> Result<bo
     Ok(at_once && ends_so(alloc, &mut in_single_bytes(alloc, bytes)?, wanted)?)
 }
 
+/// Whether these are the bytes of the message's frame.
+fn is_frame_of(alloc: Global, message: &Message, bytes: &[u8]) -> Result<bool, Fail> {
+    Ok(frame(alloc, message)?.as_slice() == bytes)
+}
+
+/// Whether a greeting with this message ends so.
+fn greets_with(
+    alloc: Global,
+    message: &Message,
+    wanted: Result<u8, LinkEnd>,
+) -> Result<bool, Fail> {
+    let bytes = frame(alloc, message)?;
+    greets(alloc, &bytes, wanted)
+}
+
 /// A Hello, a beginning of it, and what begins no frame.
 fn greet_with_bytes(rt: &(impl Abort + AllocGlobal)) -> Result<(), Fail> {
     let alloc = rt.alloc();
-    let good = frame(alloc, &hello(7, 4, 0, 1)?)?;
     let row = [0, 16, 1, 1, 0, 0, 0, 0, 0, 0, 0, 7, 4, 1, 0, 1, 0, 1];
-    assert_eq!(rt; good.as_slice(), row.as_slice());
+    assert!(rt; is_frame_of(alloc, &hello(7, 4, 0, 1)?, &row)?);
     assert!(rt; greets(alloc, &row[..9], Err(LinkEnd::Ended))?);
     assert!(rt; greets(alloc, &[], Err(LinkEnd::Ended))?);
     assert!(rt; greets(alloc, &[0, 2], Err(LinkEnd::Broken(WireFault::BadLength)))?);
@@ -130,8 +144,7 @@ fn greetings(rt: HostRuntime) -> Result<(), Fail> {
         ),
     ];
     for (row, (message, wanted)) in rows.into_iter().enumerate() {
-        let bytes = frame(rt.alloc(), &message)?;
-        assert!(&rt; greets(rt.alloc(), &bytes, wanted)?, "row {row}");
+        assert!(&rt; greets_with(rt.alloc(), &message, wanted)?, "row {row}");
     }
     greet_with_bytes(&rt)
 }
@@ -143,23 +156,32 @@ fn a_greeting_reads_eighteen_bytes(rt: HostRuntime) -> Result<(), Fail> {
     let header = header(4, 1, 1, 1)?;
     let hello = hello(7, 4, 2, 1)?;
     let mut stream = of_bytes(alloc, &frames(alloc, &[hello, Message::Idle])?)?;
-    assert!(&rt; greet(alloc, &mut stream, &header) == Ok(2));
-    assert_eq!(&rt; stream.left().len(), 3);
+    let greeted = greet(alloc, &mut stream, &header);
+    assert!(&rt; (greeted, stream.left().len()) == (Ok(2), 3));
     Ok(())
+}
+
+/// Whether a greeting ends so over a stream that gives these bytes and fails at the call, once and for good.
+fn greets_until(
+    alloc: Global,
+    bytes: &[u8],
+    call: u64,
+    wanted: Result<u8, LinkEnd>,
+) -> Result<bool, Fail> {
+    let header = header(4, 1, 1, 1)?;
+    let once = greet(alloc, &mut failing(alloc, bytes, call, true)?, &header);
+    let for_good = greet(alloc, &mut failing(alloc, bytes, call, false)?, &header);
+    Ok((once, for_good) == (wanted, wanted))
 }
 
 /// A stream that fails at the k-th call, for each k, once and for good.
 #[test]
 fn a_greeting_is_lost_where_the_stream_fails(rt: HostRuntime) -> Result<(), Fail> {
     let alloc = rt.alloc();
-    let header = header(4, 1, 1, 1)?;
     let bytes = frame(alloc, &hello(7, 4, 2, 1)?)?;
     for call in 0..19u64 {
         let wanted = if call < 18 { Err(LinkEnd::Lost) } else { Ok(2) };
-        for once in [true, false] {
-            let mut stream = failing(alloc, &bytes, call, once)?;
-            assert!(&rt; greet(alloc, &mut stream, &header) == wanted, "call {call}");
-        }
+        assert!(&rt; greets_until(alloc, &bytes, call, wanted)?, "call {call}");
     }
     Ok(())
 }
@@ -183,6 +205,19 @@ fn session<J: Naming, R: Wait + AllocGlobal>(
     Ok((end, next) == ends && stream.is_closed() && stream.output() == welcome.as_slice())
 }
 
+/// Whether a session of the link from a peer, which gives the frames of these messages, ends so.
+fn session_of<J: Naming, R: Wait + AllocGlobal>(
+    rt: &R,
+    hub: &Hub<MemDisk, J>,
+    rack: &Rack,
+    peer: u8,
+    messages: &[Message],
+    ends: (LinkEnd, u64),
+) -> Result<bool, Fail> {
+    let bytes = frames(rt.alloc(), messages)?;
+    session(rt, hub, rack, peer, &bytes, ends)
+}
+
 /// Links of member 1 hand in what makes it say an Echo and a Ready.
 fn hears_of_an_origin<J: Naming, R: Wait + Abort + AllocGlobal>(
     rt: &R,
@@ -192,15 +227,14 @@ fn hears_of_an_origin<J: Naming, R: Wait + Abort + AllocGlobal>(
     let initial = Message::Statement(of(Initial)?);
     let ready = Message::Statement(of(Ready)?);
     let echo = Message::Statement(of(Echo)?);
-    let bytes = frames(rt.alloc(), &[Message::Idle, initial])?;
-    assert!(rt; session(rt, hub, rack, 0, &bytes, (LinkEnd::Ended, 1))?);
-    let bytes = frames(rt.alloc(), &[ready])?;
-    assert!(rt; session(rt, hub, rack, 2, &bytes, (LinkEnd::Ended, 1))?);
+    let heard = [Message::Idle, initial];
+    assert!(rt; session_of(rt, hub, rack, 0, &heard, (LinkEnd::Ended, 1))?);
+    assert!(rt; session_of(rt, hub, rack, 2, &[ready], (LinkEnd::Ended, 1))?);
     // A frame that is cut short is lost, and a message out of place ends the session.
     let cut = [0, 8, 3, 3, 0, 0, 0, 1, 1];
     assert!(rt; session(rt, hub, rack, 3, &cut, (LinkEnd::Ended, 0))?);
-    let bytes = frames(rt.alloc(), &[ready, Message::Welcome { next: 0 }, echo])?;
-    assert!(rt; session(rt, hub, rack, 3, &bytes, (LinkEnd::OutOfOrder, 1))?);
+    let astray = [ready, Message::Welcome { next: 0 }, echo];
+    assert!(rt; session_of(rt, hub, rack, 3, &astray, (LinkEnd::OutOfOrder, 1))?);
     assert!(rt; hub.lock(rt).status() == Some((2, 0)));
     Ok(())
 }
@@ -474,11 +508,11 @@ fn reads_until_it_fails<J: Naming, R: Wait + Abort + AllocGlobal>(
         LinkEnd::Ended
     };
     let handed = call.saturating_sub(11).min(20) / 10;
+    let found = (end, seat.next(), stream.output().len() as u64);
     assert!(rt;
-        end == wanted && seat.next() == before.wrapping_add(handed),
+        found == (wanted, before.wrapping_add(handed), call.min(11)),
         "call {call}"
     );
-    assert!(rt; stream.output().len() as u64 == call.min(11), "call {call}");
     seat
 }
 
@@ -501,6 +535,27 @@ fn read_until_they_fail<J: Naming, R: Wait + Abort + AllocGlobal>(
     Ok(())
 }
 
+/// Whether a writer that is welcomed so, and whose stream fails at the call, wrote a beginning of the whole.
+fn writes_until<J: Naming, R: Wait + AllocGlobal>(
+    rt: &R,
+    hub: &Hub<MemDisk, J>,
+    welcome: &[u8],
+    call: usize,
+    once: bool,
+    whole: &[u8],
+) -> Result<bool, Fail> {
+    let mut stream = failing(rt.alloc(), welcome, call as u64, once)?;
+    // Eighteen calls write the Hello, eleven read the Welcome, and twenty write the frames.
+    let written = call.min(18) + call.saturating_sub(29).min(20);
+    let end = if call < 49 {
+        LinkEnd::Lost
+    } else {
+        LinkEnd::Ended
+    };
+    let written = &whole[..written.min(whole.len())];
+    Ok(writer_ends(rt, hub, &mut stream, end, written))
+}
+
 /// Writers whose stream fails at the k-th call, for each k: a beginning of the whole was written.
 fn writes_until_it_fails<J: Naming, R: Wait + Abort + AllocGlobal>(
     rt: &R,
@@ -513,19 +568,8 @@ fn writes_until_it_fails<J: Naming, R: Wait + Abort + AllocGlobal>(
     let ready = Message::Statement(of(Ready)?);
     let wanted = frames(alloc, &[hello(7, 4, 1, 2)?, echo, ready])?;
     for call in 0..51usize {
-        let mut stream = failing(alloc, &welcome, call as u64, once)?;
-        // Eighteen calls write the Hello, eleven read the Welcome, and twenty write the frames.
-        let written = call.min(18) + call.saturating_sub(29).min(20);
-        let end = if call < 49 {
-            LinkEnd::Lost
-        } else {
-            LinkEnd::Ended
-        };
-        let written = &wanted.as_slice()[..written.min(wanted.len())];
-        assert!(rt;
-            writer_ends(rt, hub, &mut stream, end, written),
-            "call {call}"
-        );
+        let is_so = writes_until(rt, hub, &welcome, call, once, &wanted)?;
+        assert!(rt; is_so, "call {call}");
     }
     Ok(())
 }
@@ -765,14 +809,20 @@ fn a_woken_writer_with_nothing_new_writes_idles(rt: HostRuntime) -> Result<(), F
     Ok(())
 }
 
+/// Whether there are Idles, then a frame of ten bytes, which is this one, and then Idles.
+fn stands_between_idles(written: &[u8], frame: &[u8]) -> bool {
+    let rest = behind_idles(written);
+    written.len() > rest.len()
+        && rest.len() > 10
+        && &rest[..10] == frame
+        && behind_idles(&rest[10..]).is_empty()
+}
+
 #[test]
 fn a_writer_waits_for_the_number_of_the_welcome(rt: HostRuntime) -> Result<(), Fail> {
     let written = woken::<Brand, _>(&rt, board(&rt, 1)?, 5)?;
-    let rest = behind_idles(&written);
     // Number 5 is the last of the six statements.
     let sixth = frame(rt.alloc(), &Message::Statement(at(0, 3, Ready, One)?))?;
-    assert!(&rt; written.len() > rest.len() && rest.len() > 10);
-    assert_eq!(&rt; &rest[..10], sixth.as_slice());
-    assert!(&rt; behind_idles(&rest[10..]).is_empty());
+    assert!(&rt; stands_between_idles(&written, &sixth));
     Ok(())
 }

@@ -1,5 +1,6 @@
 //! A client's line, and what it makes of the reply.
 
+use crate::texts::prints_as;
 use commands::{TalkFault, ask_line, propose_line, status_line, talk};
 use std::alloc::Global;
 use std::io;
@@ -24,19 +25,21 @@ impl Write for Ended {
 }
 
 /// Whether a client that asks of question 65535 sends its line, prints that of the reply, and ends with the status.
-fn prints(alloc: Global, line: &str, reply: &str, printed: &str, status: u8) -> bool {
+fn prints(alloc: Global, reply: &str, printed: &str, status: u8) -> Option<bool> {
+    let line = ask_line(alloc, 65535).ok()?;
     let mut sent = Vec::new(alloc);
     let mut output = Vec::new(alloc);
     let mut rest = reply.as_bytes();
-    let ended = talk(alloc, line, &mut sent, &mut rest, &mut output);
-    ended == Ok(status)
-        && output.as_slice() == printed.as_bytes()
-        && sent.as_slice() == "ASK 65535\n".as_bytes()
+    let ended = talk(alloc, line.as_str(), &mut sent, &mut rest, &mut output);
+    Some(
+        ended == Ok(status)
+            && output.as_slice() == printed.as_bytes()
+            && sent.as_slice() == "ASK 65535\n".as_bytes(),
+    )
 }
 
 #[test]
 fn prints_the_reply(rt: HostRuntime) -> Result<(), Fail> {
-    let line = ask_line(rt.alloc(), 65535)?;
     for (reply, printed, status) in [
         ("OK\n", "OK\n", 0),
         ("HAVE 1\n", "HAVE 1\n", 0),
@@ -49,14 +52,11 @@ fn prints_the_reply(rt: HostRuntime) -> Result<(), Fail> {
         ("ok\n", "ok\n", 1),
         ("\n", "\n", 1),
     ] {
-        assert!(rt;
-            prints(rt.alloc(), line.as_str(), reply, printed, status),
-            "at {reply:?}"
-        );
+        let is_printed = prints(rt.alloc(), reply, printed, status);
+        assert!(rt; is_printed == Some(true), "at {reply:?}");
     }
     let line = propose_line(rt.alloc(), 0, 2)?;
-    assert_eq!(rt; line.as_str(), "PROPOSE 0 2\n");
-    assert_eq!(rt; status_line(), "STATUS\n");
+    assert!(rt; line.as_str() == "PROPOSE 0 2\n" && status_line() == "STATUS\n");
     Ok(())
 }
 
@@ -71,28 +71,35 @@ fn asked<S: Write, W: Write>(
     talk(alloc, "ASK 0\n", sent, &mut rest, output)
 }
 
+/// Whether the reply is no answer, and nothing is printed of it.
+fn is_no_answer(alloc: Global, reply: &[u8]) -> bool {
+    let mut sent = Vec::new(alloc);
+    let mut output = Vec::new(alloc);
+    let ended = asked(alloc, reply, &mut sent, &mut output);
+    ended == Err(TalkFault::NoAnswer) && output.is_empty()
+}
+
+/// How a client ends whose connection fails, and one whose output does.
+fn ends(alloc: Global) -> (Result<u8, TalkFault>, Result<u8, TalkFault>) {
+    let mut kept = Vec::new(alloc);
+    let refused = asked(alloc, b"OK\n", &mut Ended, &mut kept);
+    let torn = asked(alloc, b"OK\n", &mut kept, &mut Ended);
+    (refused, torn)
+}
+
 #[test]
-fn names_what_ends_it(rt: HostRuntime) -> Result<(), Fail> {
+fn names_what_ends_it(rt: HostRuntime) {
     let long = [b'A'; 65];
-    let mut sent = Vec::new(rt.alloc());
-    let mut output = Vec::new(rt.alloc());
     let replies: [&[u8]; 3] = [b"", b"OK", &long];
     for (at, reply) in replies.iter().enumerate() {
-        let found = asked(rt.alloc(), reply, &mut sent, &mut output);
-        assert!(rt; found == Err(TalkFault::NoAnswer), "row {at}");
-        assert!(rt; output.is_empty(), "row {at}");
+        assert!(rt; is_no_answer(rt.alloc(), reply), "row {at}");
     }
-    let refused = asked(rt.alloc(), b"OK\n", &mut Ended, &mut output);
-    assert!(rt; refused == Err(TalkFault::NoAnswer));
-    let torn = asked(rt.alloc(), b"OK\n", &mut sent, &mut Ended);
-    assert!(rt; torn == Err(TalkFault::Stream));
+    assert!(rt; ends(rt.alloc()) == (Err(TalkFault::NoAnswer), Err(TalkFault::Stream)));
     for (fault, want) in [
         (TalkFault::NoAnswer, "no answer"),
         (TalkFault::Stream, "stream"),
         (TalkFault::Memory, "memory"),
     ] {
-        let text = format!(in rt.alloc(); "{fault}")?;
-        assert_eq!(rt; text.as_str(), want);
+        assert!(rt; prints_as(rt.alloc(), &fault, want), "{want}");
     }
-    Ok(())
 }

@@ -1,10 +1,12 @@
 //! What `check` says of settings and of a journal.
 
-use commands::{DumpFault, check_journal, print_settings};
-use disk::{Disk, MemDisk};
+use crate::dumping::{disk_of, ends_so};
+use commands::{check_journal, print_settings};
 use journal::JournalFault;
 use settings::Settings;
+use std::alloc::Global;
 use std::test::Fail;
+use terms::Header;
 
 /// The settings of member 1 of cluster 7.
 const SETTINGS: &str = "cluster = 7
@@ -35,40 +37,56 @@ const TWO_RECORDS: [u8; 42] =
 /// A journal of member 2, with no records.
 const OF_MEMBER_2: [u8; 25] = *b"BRACHAJ1\0\0\0\0\0\0\0\x07\x04\x01\0\x01\x02\0\0\0\0";
 
+/// The settings of member 1.
+fn settings_of(alloc: Global) -> Option<Settings> {
+    Settings::parse(alloc, SETTINGS).ok()
+}
+
+/// Whether that is said of the settings.
+fn says(alloc: Global, settings: &Settings, want: &str) -> bool {
+    let mut output = Vec::new(alloc);
+    print_settings(alloc, settings, &mut output).is_ok() && output.as_slice() == want.as_bytes()
+}
+
+/// Whether that is said of a journal of these bytes, which ends so.
+fn checks(
+    alloc: Global,
+    header: &Header,
+    bytes: &[u8],
+    want: &str,
+    fault: Option<JournalFault>,
+) -> Option<bool> {
+    let disk = disk_of(alloc, bytes)?;
+    let mut output = Vec::new(alloc);
+    let result = check_journal(alloc, header, disk, &mut output);
+    Some(output.as_slice() == want.as_bytes() && ends_so(&result, fault))
+}
+
 #[test]
 fn says_what_is_there(rt: HostRuntime) -> Result<(), Fail> {
-    let settings = Settings::parse(rt.alloc(), SETTINGS)
-        .ok()
-        .ok_or("settings")?;
-    let mut output = Vec::new(rt.alloc());
-    assert!(rt; print_settings(rt.alloc(), &settings, &mut output).is_ok());
-    assert!(rt; output.as_slice() == SAID.as_bytes());
-    let header = settings.header;
-    let mut disk = MemDisk::new(rt.alloc());
-    assert!(rt; disk.write_at(0, &TWO_RECORDS).is_ok());
-    let mut output = Vec::new(rt.alloc());
-    let result = check_journal(rt.alloc(), &header, disk, &mut output);
-    assert!(rt; matches!(&result, Ok(0)));
-    assert!(rt; output.as_slice() == "records 2\n".as_bytes());
+    let settings = settings_of(rt.alloc()).ok_or("settings")?;
+    let is_checked = checks(
+        rt.alloc(),
+        &settings.header,
+        &TWO_RECORDS,
+        "records 2\n",
+        None,
+    );
+    assert!(rt; says(rt.alloc(), &settings, SAID) && is_checked == Some(true));
     Ok(())
 }
 
 #[test]
 fn says_what_is_wrong(rt: HostRuntime) -> Result<(), Fail> {
-    let settings = Settings::parse(rt.alloc(), SETTINGS)
-        .ok()
-        .ok_or("settings")?;
-    let header = settings.header;
-    let mut disk = MemDisk::new(rt.alloc());
-    assert!(rt; disk.write_at(0, &TWO_RECORDS[..41]).is_ok());
-    let mut output = Vec::new(rt.alloc());
-    let result = check_journal(rt.alloc(), &header, disk, &mut output);
-    assert!(rt; matches!(&result, Err(DumpFault::Journal(JournalFault::CutShort))));
-    // The file is another member's.
-    let mut disk = MemDisk::new(rt.alloc());
-    assert!(rt; disk.write_at(0, &OF_MEMBER_2).is_ok());
-    let result = check_journal(rt.alloc(), &header, disk, &mut output);
-    assert!(rt; matches!(&result, Err(DumpFault::Journal(JournalFault::OtherHeader))));
-    assert!(rt; output.is_empty());
+    let header = settings_of(rt.alloc()).ok_or("settings")?.header;
+    let rows = [
+        (&TWO_RECORDS[..41], JournalFault::CutShort),
+        // The file is another member's.
+        (OF_MEMBER_2.as_slice(), JournalFault::OtherHeader),
+    ];
+    for (at, (bytes, fault)) in rows.iter().enumerate() {
+        let is_checked = checks(rt.alloc(), &header, bytes, "", Some(*fault));
+        assert!(rt; is_checked == Some(true), "row {at}");
+    }
     Ok(())
 }

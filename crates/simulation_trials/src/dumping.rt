@@ -1,5 +1,6 @@
 //! Worked rows of `init` and `dump` over a disk in memory.
 
+use crate::texts::prints_as;
 use commands::{DumpFault, InitFault, dump_count, dump_lines, init_disk};
 use disk::{Disk, MemDisk};
 use journal::JournalFault;
@@ -29,44 +30,61 @@ const TWO_RECORDS: [u8; 42] =
     *b"BRACHAJ1\0\0\0\0\0\0\0\x07\x04\x01\0\x01\x01\0\0\0\x01\0\x02\x02\0\0\0\x01\x01\x01\x04\0\0\0\x01\0\x01\0";
 
 /// A disk that has these bytes.
-fn disk_of(alloc: Global, bytes: &[u8]) -> Result<MemDisk, Fail> {
+pub(crate) fn disk_of(alloc: Global, bytes: &[u8]) -> Option<MemDisk> {
     let mut disk = MemDisk::new(alloc);
-    disk.write_at(0, bytes).ok().ok_or("a write")?;
-    Ok(disk)
-}
-
-/// What `dump` prints of these bytes, and how it ends.
-fn dumped(alloc: Global, bytes: &[u8]) -> Result<(String, Result<u8, DumpFault>), Fail> {
-    let mut output = Vec::new(alloc);
-    let result = dump_lines(alloc, disk_of(alloc, bytes)?, &mut output);
-    let text = String::from_utf8(output).ok().ok_or("text")?;
-    Ok((text, result))
-}
-
-/// What `dump --count` prints of these bytes, and how it ends.
-fn counted(alloc: Global, bytes: &[u8]) -> Result<(String, Result<u8, DumpFault>), Fail> {
-    let mut output = Vec::new(alloc);
-    let result = dump_count(alloc, disk_of(alloc, bytes)?, &mut output);
-    let text = String::from_utf8(output).ok().ok_or("text")?;
-    Ok((text, result))
-}
-
-#[test]
-fn counts_the_records(rt: HostRuntime) -> Result<(), Fail> {
-    for (bytes, want) in [(EMPTY.as_slice(), "0\n"), (TWO_RECORDS.as_slice(), "2\n")] {
-        let (text, result) = counted(rt.alloc(), bytes)?;
-        assert_eq!(rt; text.as_str(), want);
-        assert!(rt; matches!(&result, Ok(0)));
+    match disk.write_at(0, bytes) {
+        Ok(()) => Some(disk),
+        Err(_) => None,
     }
-    let (text, result) = counted(rt.alloc(), &TWO_RECORDS[..41])?;
-    assert_eq!(rt; text.as_str(), "");
-    assert!(rt; matches!(&result, Err(DumpFault::Journal(JournalFault::CutShort))));
-    Ok(())
+}
+
+/// Whether a command ended well, or with that fault of the journal.
+pub(crate) fn ends_so(ended: &Result<u8, DumpFault>, fault: Option<JournalFault>) -> bool {
+    match ended {
+        Ok(status) => *status == 0 && fault.is_none(),
+        Err(DumpFault::Journal(found)) => fault == Some(*found),
+        Err(_) => false,
+    }
+}
+
+/// Whether `dump --count` prints that of these bytes, and ends so.
+fn counts(alloc: Global, bytes: &[u8], want: &str, fault: Option<JournalFault>) -> Option<bool> {
+    let disk = disk_of(alloc, bytes)?;
+    let mut output = Vec::new(alloc);
+    let result = dump_count(alloc, disk, &mut output);
+    Some(output.as_slice() == want.as_bytes() && ends_so(&result, fault))
 }
 
 #[test]
-fn prints_the_records(rt: HostRuntime) -> Result<(), Fail> {
-    for (bytes, want) in [
+fn counts_the_records(rt: HostRuntime) {
+    let rows = [
+        (EMPTY.as_slice(), "0\n", None),
+        (TWO_RECORDS.as_slice(), "2\n", None),
+        (&TWO_RECORDS[..41], "", Some(JournalFault::CutShort)),
+    ];
+    for (at, (bytes, want, fault)) in rows.iter().enumerate() {
+        assert!(rt;
+            counts(rt.alloc(), bytes, want, *fault) == Some(true),
+            "row {at}"
+        );
+    }
+}
+
+/// Whether `dump` prints that of the disk, and ends so.
+fn dumps(alloc: Global, disk: MemDisk, want: &str, fault: Option<JournalFault>) -> bool {
+    let mut output = Vec::new(alloc);
+    let result = dump_lines(alloc, disk, &mut output);
+    output.as_slice() == want.as_bytes() && ends_so(&result, fault)
+}
+
+/// Whether `dump` prints that of these bytes, and ends well.
+fn prints(alloc: Global, bytes: &[u8], want: &str) -> Option<bool> {
+    Some(dumps(alloc, disk_of(alloc, bytes)?, want, None))
+}
+
+#[test]
+fn prints_the_records(rt: HostRuntime) {
+    let rows = [
         (EMPTY.as_slice(), "cluster 7 n 4 t 1 questions 1 me 1\n"),
         (
             TWO_RECORDS.as_slice(),
@@ -76,17 +94,23 @@ fn prints_the_records(rt: HostRuntime) -> Result<(), Fail> {
             b"BRACHAJ1\xff\xff\xff\xff\xff\xff\xff\xff\x20\x0a\x01\x00\x1f\0\0\0\x01\0\x03\x01\0\xff\x1f\x20\x03\x02\x03\0\x09\x02\x01\x03\x04\x04\0\xfe\0\x20\0\0\xff\0\x01\x02\0\0\x01\x02\x03\x03\0".as_slice(),
             "cluster 18446744073709551615 n 32 t 10 questions 256 me 31\ninitial 255 31 32 3 sure-zero\nready 9 2 1 3 unsure\ndecided 254 32 0\necho 0 1 2 3 sure-one\n",
         ),
-    ] {
-        let (text, result) = dumped(rt.alloc(), bytes)?;
-        assert_eq!(rt; text.as_str(), want);
-        assert!(rt; matches!(&result, Ok(0)));
+    ];
+    for (at, (bytes, want)) in rows.iter().enumerate() {
+        assert!(rt; prints(rt.alloc(), bytes, want) == Some(true), "row {at}");
     }
-    Ok(())
+}
+
+/// Whether `dump` prints nothing of these bytes, and ends with the fault of that text.
+fn names(alloc: Global, bytes: &[u8], want: &str) -> Option<bool> {
+    let disk = disk_of(alloc, bytes)?;
+    let mut output = Vec::new(alloc);
+    let fault = dump_lines(alloc, disk, &mut output).err()?;
+    Some(output.is_empty() && prints_as(alloc, &fault, want))
 }
 
 #[test]
-fn prints_nothing_of_no_journal(rt: HostRuntime) -> Result<(), Fail> {
-    for (bytes, want) in [
+fn prints_nothing_of_no_journal(rt: HostRuntime) {
+    let rows = [
         (b"".as_slice(), "journal BadHeader"),
         (&EMPTY[..23], "journal BadHeader"),
         (&EMPTY[..24], "journal CutShort"),
@@ -95,30 +119,27 @@ fn prints_nothing_of_no_journal(rt: HostRuntime) -> Result<(), Fail> {
             b"BRACHAJ1\0\0\0\0\0\0\0\x07\x04\x01\0\x01\x01\0\0\0\x01\0\0\0".as_slice(),
             "journal BadRecord",
         ),
-    ] {
-        let (text, result) = dumped(rt.alloc(), bytes)?;
-        assert_eq!(rt; text.as_str(), "");
-        let fault = result.err().ok_or("a fault")?;
-        let printed = format!(in rt.alloc(); "{fault}")?;
-        assert_eq!(rt; printed.as_str(), want);
+    ];
+    for (at, (bytes, want)) in rows.iter().enumerate() {
+        assert!(rt; names(rt.alloc(), bytes, want) == Some(true), "row {at}");
     }
-    Ok(())
+}
+
+/// Whether `dump` prints nothing of a disk that lets so many calls pass, and names the disk.
+fn names_the_disk_after(alloc: Global, calls: u64) -> Option<bool> {
+    let mut disk = disk_of(alloc, &TWO_RECORDS)?;
+    disk.fuse(Some(calls));
+    Some(dumps(alloc, disk, "", Some(JournalFault::Device)))
 }
 
 #[test]
-fn names_the_disk(rt: HostRuntime) -> Result<(), Fail> {
+fn names_the_disk(rt: HostRuntime) {
     for calls in 0..5 {
-        let mut disk = disk_of(rt.alloc(), &TWO_RECORDS)?;
-        disk.fuse(Some(calls));
-        let mut output = Vec::new(rt.alloc());
-        let result = dump_lines(rt.alloc(), disk, &mut output);
         assert!(rt;
-            matches!(&result, Err(DumpFault::Journal(JournalFault::Device))),
+            names_the_disk_after(rt.alloc(), calls) == Some(true),
             "after {calls}"
         );
-        assert!(rt; output.is_empty());
     }
-    Ok(())
 }
 
 /// A writer that fails.
@@ -140,10 +161,30 @@ impl Write for Closed {
 
 #[test]
 fn names_the_stream(rt: HostRuntime) -> Result<(), Fail> {
-    let disk = disk_of(rt.alloc(), &TWO_RECORDS)?;
+    let disk = disk_of(rt.alloc(), &TWO_RECORDS).ok_or("a disk")?;
     let result = dump_lines(rt.alloc(), disk, &mut Closed);
     assert!(rt; matches!(&result, Err(DumpFault::Stream)));
     Ok(())
+}
+
+/// Whether `init` makes a journal on the disk, and then no other.
+fn is_made_once(disk: &mut MemDisk, settings: &Settings) -> bool {
+    let first = init_disk(disk, settings);
+    let second = init_disk(disk, settings);
+    (first, second) == (Ok(0), Err(InitFault::NotEmpty))
+}
+
+/// Whether the disk has the journal of no records.
+fn has_no_records(disk: &mut MemDisk) -> bool {
+    let mut bytes = [0; 25];
+    disk.len() == Ok(25) && disk.read_at(0, &mut bytes).is_ok() && bytes == EMPTY
+}
+
+/// How `init` ends on a new disk that lets so many calls pass.
+fn made_within(alloc: Global, settings: &Settings, calls: u64) -> Result<u8, InitFault> {
+    let mut disk = MemDisk::new(alloc);
+    disk.fuse(Some(calls));
+    init_disk(&mut disk, settings)
 }
 
 #[test]
@@ -152,24 +193,16 @@ fn makes_a_journal_once(rt: HostRuntime) -> Result<(), Fail> {
         .ok()
         .ok_or("settings")?;
     let mut disk = MemDisk::new(rt.alloc());
-    assert!(rt; matches!(&init_disk(&mut disk, &settings), Ok(0)));
-    let again = init_disk(&mut disk, &settings);
-    assert!(rt; again == Err(InitFault::NotEmpty));
-    assert!(rt; disk.len() == Ok(25));
-    let mut bytes = [0; 25];
-    assert!(rt; disk.read_at(0, &mut bytes).is_ok());
-    assert!(rt; bytes == EMPTY);
+    assert!(rt; is_made_once(&mut disk, &settings) && has_no_records(&mut disk));
     for calls in 0..3 {
-        let mut disk = MemDisk::new(rt.alloc());
-        disk.fuse(Some(calls));
-        let result = init_disk(&mut disk, &settings);
-        assert!(rt; result == Err(InitFault::Device), "after {calls}");
+        let made = made_within(rt.alloc(), &settings, calls);
+        assert!(rt; made == Err(InitFault::Device), "after {calls}");
     }
     Ok(())
 }
 
 #[test]
-fn faults_print_so(rt: HostRuntime) -> Result<(), Fail> {
+fn faults_print_so(rt: HostRuntime) {
     for (fault, want) in [
         (
             DumpFault::Journal(JournalFault::CutShort),
@@ -179,15 +212,12 @@ fn faults_print_so(rt: HostRuntime) -> Result<(), Fail> {
         (DumpFault::Stream, "stream"),
         (DumpFault::Memory, "memory"),
     ] {
-        let text = format!(in rt.alloc(); "{fault}")?;
-        assert_eq!(rt; text.as_str(), want);
+        assert!(rt; prints_as(rt.alloc(), &fault, want), "{want}");
     }
     for (fault, want) in [
         (InitFault::NotEmpty, "journal NotEmpty"),
         (InitFault::Device, "journal Device"),
     ] {
-        let text = format!(in rt.alloc(); "{fault}")?;
-        assert_eq!(rt; text.as_str(), want);
+        assert!(rt; prints_as(rt.alloc(), &fault, want), "{want}");
     }
-    Ok(())
 }

@@ -17,3 +17,5 @@ mod runs;
 mod scripts;
 #[cfg(test)]
 mod simulating;
+#[cfg(test)]
+mod texts;

@@ -2,6 +2,7 @@
 //!
 //! The words of the drawn events were made by another implementation of ChaCha20.
 
+use crate::texts::prints_as;
 use rounds::Toss;
 use script::{Script, ScriptFault, Source, read};
 use sim::Event;
@@ -22,9 +23,14 @@ fn read_again(rt: &HostRuntime, text: &[u8]) -> Result<Script, ScriptFault> {
 }
 
 /// The script of these lines behind the head.
-fn behind_head(rt: &HostRuntime, lines: &str) -> Result<Result<Script, ScriptFault>, Fail> {
+fn behind_head(rt: &HostRuntime, lines: &str) -> Result<Script, ScriptFault> {
     let text = format!(in rt.alloc(); "{HEAD}{lines}")?;
-    Ok(read_again(rt, text.as_bytes()))
+    read_again(rt, text.as_bytes())
+}
+
+/// The fault of a text that is no script.
+fn fault_in(rt: &HostRuntime, text: &[u8]) -> Option<ScriptFault> {
+    read_again(rt, text).err()
 }
 
 /// The toss of an event that has one.
@@ -44,8 +50,8 @@ fn is_line(alloc: Global, event: &Event, want: &str) -> Result<bool, AllocError>
 }
 
 /// Whether the line stands for one event, whose line is the other.
-fn stands_for(rt: &HostRuntime, line: &str, want: &str) -> Result<bool, Fail> {
-    let script = behind_head(rt, line)?.ok().ok_or("a script")?;
+fn stands_for(rt: &HostRuntime, line: &str, want: &str) -> Result<bool, ScriptFault> {
+    let script = behind_head(rt, line)?;
     match script.events.as_slice() {
         [event] => Ok(is_line(rt.alloc(), event, want)?),
         _ => Ok(false),
@@ -53,7 +59,7 @@ fn stands_for(rt: &HostRuntime, line: &str, want: &str) -> Result<bool, Fail> {
 }
 
 #[test]
-fn each_line_is_its_event(rt: HostRuntime) -> Result<(), Fail> {
+fn each_line_is_its_event(rt: HostRuntime) {
     let lines = [
         ("propose 1 0 1", "propose 1 0 1"),
         ("propose 255 65535 0", "propose 255 65535 0"),
@@ -77,9 +83,8 @@ fn each_line_is_its_event(rt: HostRuntime) -> Result<(), Fail> {
         ("reset 1 2", "reset 1 2"),
     ];
     for (line, want) in lines {
-        assert!(rt; stands_for(&rt, line, want)?, "{line}");
+        assert!(rt; stands_for(&rt, line, want) == Ok(true), "{line}");
     }
-    Ok(())
 }
 
 /// n, t, and how many questions there are.
@@ -87,14 +92,19 @@ fn numbers(size: Size) -> (u8, u8, u16) {
     (size.n(), size.t(), size.questions())
 }
 
+/// Whether the script has those numbers, those liars and those events.
+fn has(script: &Script, size: (u8, u8, u16), liars: &[u8], events: &[Event]) -> bool {
+    numbers(script.size) == size
+        && script.liars.as_slice() == liars
+        && script.events.as_slice() == events
+}
+
 #[test]
 fn skips_empty_lines_and_remarks(rt: HostRuntime) -> Result<(), Fail> {
     let text =
         b"# a script\n\nn 4\nt 1\n#\nquestions 1\n\n\nliars\nseed 18446744073709551615\n\n#restart 0\nrestart 1";
     let script = read_again(&rt, text).ok().ok_or("a script")?;
-    assert!(rt; numbers(script.size) == (4, 1, 1));
-    assert_eq!(rt; script.liars.len(), 0);
-    assert!(rt; script.events.as_slice() == [Event::Restart { member: 1 }].as_slice());
+    assert!(rt; has(&script, (4, 1, 1), &[], &[Event::Restart { member: 1 }]));
     Ok(())
 }
 
@@ -102,9 +112,22 @@ fn skips_empty_lines_and_remarks(rt: HostRuntime) -> Result<(), Fail> {
 fn lists_liars_as_they_stand(rt: HostRuntime) -> Result<(), Fail> {
     let text = b"n 4\nt 1\nquestions 1\nliars 3 255 0 0\nseed 1\n";
     let script = read_again(&rt, text).ok().ok_or("a script")?;
-    assert_eq!(rt; script.liars.as_slice(), [3, 255, 0, 0].as_slice());
+    assert!(rt; script.liars.as_slice() == [3, 255, 0, 0].as_slice());
     Ok(())
 }
+
+/// A round over the links of members 0, 2 and 3.
+const ROUND: [(u8, u8); 9] = [
+    (0, 0),
+    (0, 2),
+    (0, 3),
+    (2, 0),
+    (2, 2),
+    (2, 3),
+    (3, 0),
+    (3, 2),
+    (3, 3),
+];
 
 /// Whether the event is the delivery of what is next.
 fn delivers(alloc: Global, event: &Event, from: u8, to: u8) -> Result<bool, AllocError> {
@@ -112,21 +135,22 @@ fn delivers(alloc: Global, event: &Event, from: u8, to: u8) -> Result<bool, Allo
     is_line(alloc, event, want.as_str())
 }
 
+/// The events deliver over the links of a round in turn.
+fn compare_round(rt: &(impl Abort + AllocGlobal), events: &[Event]) {
+    for (event, (from, to)) in events.iter().zip(&ROUND) {
+        let is_so = delivers(rt.alloc(), event, *from, *to);
+        assert!(rt; is_so == Ok(true), "{from} to {to}");
+    }
+}
+
 #[test]
 fn rounds_go_over_the_links_of_correct_members(rt: HostRuntime) -> Result<(), Fail> {
     let text = b"n 4\nt 1\nquestions 1\nliars 1\nseed 5\nrounds 2\n";
     let script = read_again(&rt, text).ok().ok_or("a script")?;
-    let members = [0, 2, 3];
-    let mut events = script.events.iter();
-    for _ in 0..2 {
-        for from in members {
-            for to in members {
-                let event = events.next().ok_or("an event")?;
-                assert!(rt; delivers(rt.alloc(), event, from, to)?, "{from} to {to}");
-            }
-        }
+    assert!(rt; script.events.len() == 18);
+    for round in script.events.chunks(9) {
+        compare_round(&rt, round);
     }
-    assert!(rt; events.next().is_none());
     Ok(())
 }
 
@@ -174,33 +198,42 @@ const DRAWN: [(&str, Option<u64>); 40] = [
     ("deliver 1 0 next", Some(0xf853971bd60b8ed1)),
 ];
 
+/// The number of the toss of an event that has one.
+fn drawn_for(event: &Event) -> Option<u64> {
+    toss_of(event).map(|toss| toss.0)
+}
+
+/// Whether the event has that line and that toss.
+fn is_drawn(
+    alloc: Global,
+    event: &Event,
+    line: &str,
+    toss: Option<u64>,
+) -> Result<bool, AllocError> {
+    Ok(is_line(alloc, event, line)? && drawn_for(event) == toss)
+}
+
 /// The events have those lines and those tosses.
-fn compare_drawn(
-    rt: &(impl Abort + AllocGlobal),
-    events: &[Event],
-    drawn: &[(&str, Option<u64>)],
-) -> Result<(), Fail> {
-    for (event, (line, toss)) in events.iter().zip(drawn) {
-        assert!(rt; is_line(rt.alloc(), event, line)?, "line of {event}");
-        assert!(rt;
-            toss_of(event).map(|toss| toss.0) == *toss,
-            "toss of {event}"
-        );
+fn compare_drawn(rt: &(impl Abort + AllocGlobal), events: &[Event], drawn: &[(&str, Option<u64>)]) {
+    for (at, (event, (line, toss))) in events.iter().zip(drawn).enumerate() {
+        let is_so = is_drawn(rt.alloc(), event, line, *toss);
+        assert!(rt; is_so == Ok(true), "row {at}");
     }
-    Ok(())
 }
 
 #[test]
 fn draws_events(rt: HostRuntime) -> Result<(), Fail> {
-    let script = behind_head(&rt, "random 40\n")?.ok().ok_or("a script")?;
-    assert_eq!(rt; script.events.len(), DRAWN.len());
-    compare_drawn(&rt, &script.events, &DRAWN)
+    let script = behind_head(&rt, "random 40\n")?;
+    assert!(rt; script.events.len() == DRAWN.len());
+    compare_drawn(&rt, &script.events, &DRAWN);
+    Ok(())
 }
 
-/// The events have those tosses.
+/// The events have those tosses, and there is none besides.
 fn compare(rt: &impl Abort, events: &[Event], want: &[Option<u64>]) {
-    for (event, toss) in events.iter().zip(want) {
-        assert!(rt; toss_of(event).map(|toss| toss.0) == *toss, "{event}");
+    assert!(rt; events.len() == want.len());
+    for (at, (event, toss)) in events.iter().zip(want).enumerate() {
+        assert!(rt; drawn_for(event) == *toss, "event {at}");
     }
 }
 
@@ -219,15 +252,14 @@ fn draws_a_toss_for_each_event_that_needs_one(rt: HostRuntime) -> Result<(), Fai
         "propose 0 0 1\nrestart 0\nfuse 0 1\ndeliver 0 1 next\nreset 0 1\nlie 3 0 ff\n",
         "propose 0 0 1\nrestart 0\nfuse 0 1\ngroup 0 1 256\nreset 0 1\nlie 3 0 ff\n",
     ] {
-        let script = behind_head(&rt, lines)?.ok().ok_or("a script")?;
-        assert_eq!(rt; script.events.len(), want.len());
+        let script = behind_head(&rt, lines)?;
         compare(&rt, &script.events, &want);
     }
     Ok(())
 }
 
 #[test]
-fn names_the_first_fault(rt: HostRuntime) -> Result<(), Fail> {
+fn names_the_first_fault(rt: HostRuntime) {
     let rows: [(&[u8], ScriptFault); 24] = [
         // The text ends before its first five lines.
         (b"", ScriptFault::Line(1)),
@@ -281,21 +313,19 @@ fn names_the_first_fault(rt: HostRuntime) -> Result<(), Fail> {
         ),
         (b"n 3\nt 1\nquestions\n", ScriptFault::Line(3)),
     ];
-    for (text, want) in rows {
-        let fault = read_again(&rt, text).err();
-        assert!(rt; fault == Some(want), "{want}");
+    for (at, (text, want)) in rows.iter().enumerate() {
+        assert!(rt; fault_in(&rt, text) == Some(*want), "row {at}");
     }
-    Ok(())
 }
 
 /// The fault of a script in which that is the third line of events, and the next one bad.
-fn fault_of(rt: &HostRuntime, line: &str) -> Result<Option<ScriptFault>, Fail> {
-    let text = format!(in rt.alloc(); "# once\nrestart 0\n{line}\nnonsense\n")?;
-    Ok(behind_head(rt, text.as_str())?.err())
+fn fault_of(rt: &HostRuntime, line: &str) -> Option<ScriptFault> {
+    let text = format!(in rt.alloc(); "# once\nrestart 0\n{line}\nnonsense\n").ok()?;
+    behind_head(rt, text.as_str()).err()
 }
 
 #[test]
-fn names_a_bad_line_of_events(rt: HostRuntime) -> Result<(), Fail> {
+fn names_a_bad_line_of_events(rt: HostRuntime) {
     for line in [
         "propose",
         "propose 1 0",
@@ -339,69 +369,57 @@ fn names_a_bad_line_of_events(rt: HostRuntime) -> Result<(), Fail> {
         "restart 0\r",
         "n 4",
     ] {
-        assert!(rt;
-            fault_of(&rt, line)? == Some(ScriptFault::Line(8)),
-            "{line}"
-        );
+        assert!(rt; fault_of(&rt, line) == Some(ScriptFault::Line(8)), "{line}");
     }
-    Ok(())
+}
+
+/// How many events the script of these lines behind the head has.
+fn count_of(rt: &HostRuntime, lines: &str) -> Result<usize, ScriptFault> {
+    Ok(behind_head(rt, lines)?.events.len())
 }
 
 #[test]
 fn has_a_million_events_at_most(rt: HostRuntime) -> Result<(), Fail> {
     let rows = [
-        ("rounds 111111\n", 999_999, None),
-        ("rounds 111111\nrestart 0\n", 1_000_000, None),
-        ("random 1000000\n", 1_000_000, None),
-        ("rounds 111112\n", 0, Some(ScriptFault::Events)),
-        (
-            "rounds 18446744073709551615\n",
-            0,
-            Some(ScriptFault::Events),
-        ),
-        ("rounds 2049638230412172402\n", 0, Some(ScriptFault::Events)),
-        ("random 1000001\n", 0, Some(ScriptFault::Events)),
+        ("rounds 111111\n", Ok(999_999)),
+        ("rounds 111111\nrestart 0\n", Ok(1_000_000)),
+        ("random 1000000\n", Ok(1_000_000)),
+        ("rounds 111112\n", Err(ScriptFault::Events)),
+        ("rounds 18446744073709551615\n", Err(ScriptFault::Events)),
+        ("rounds 2049638230412172402\n", Err(ScriptFault::Events)),
+        ("random 1000001\n", Err(ScriptFault::Events)),
         (
             "rounds 111111\nrestart 0\nrestart 0\n",
-            0,
-            Some(ScriptFault::Events),
+            Err(ScriptFault::Events),
         ),
         // A fault above counts first, and so does one below only once there is room.
-        ("nonsense\nrandom 1000001\n", 0, Some(ScriptFault::Line(6))),
-        ("random 1000001\nnonsense\n", 0, Some(ScriptFault::Events)),
+        ("nonsense\nrandom 1000001\n", Err(ScriptFault::Line(6))),
+        ("random 1000001\nnonsense\n", Err(ScriptFault::Events)),
     ];
-    for (lines, count, fault) in rows {
-        match behind_head(&rt, lines)? {
-            Ok(script) => {
-                assert_eq!(rt; script.events.len(), count, "{lines}");
-                assert!(rt; fault.is_none(), "{lines}");
-            }
-            Err(found) => assert!(rt; fault == Some(found), "{lines}"),
-        }
+    for (lines, want) in rows {
+        assert!(rt; count_of(&rt, lines) == want, "{lines}");
     }
     // With no correct member a round has no events.
     let text = b"n 1\nt 0\nquestions 1\nliars 0\nseed 1\nrounds 18446744073709551615\n";
-    let script = read_again(&rt, text).ok().ok_or("a script")?;
-    assert_eq!(rt; script.events.len(), 0);
+    let script = read_again(&rt, text)?;
+    assert!(rt; script.events.len() == 0);
     Ok(())
 }
 
-#[test]
-fn reads_many_lines(rt: HostRuntime) -> Result<(), Fail> {
-    let mut text = String::from_str(rt.alloc(), "n 4\nt 1\nquestions 1\nliars\nseed 1\n")?;
-    for _ in 0..2_000u32 {
-        text.push_str("propose 1 0 1\n")?;
-    }
-    // It is read once: with ample memory nothing is refused.
-    let script = read(rt.alloc(), text.as_str().as_bytes())
-        .ok()
-        .ok_or("a script")?;
-    assert_eq!(rt; script.events.len(), 2_000);
-    Ok(())
+/// How many events a script of so many lines has. It is read once: with ample memory nothing is refused.
+fn count_of_many(alloc: Global, count: usize) -> Result<usize, ScriptFault> {
+    let lines = "propose 1 0 1\n".repeat(alloc, count)?;
+    let text = format!(in alloc; "n 4\nt 1\nquestions 1\nliars\nseed 1\n{lines}")?;
+    Ok(read(alloc, text.as_bytes())?.events.len())
 }
 
 #[test]
-fn names_each_fault(rt: HostRuntime) -> Result<(), Fail> {
+fn reads_many_lines(rt: HostRuntime) {
+    assert!(rt; count_of_many(rt.alloc(), 2_000) == Ok(2_000));
+}
+
+#[test]
+fn names_each_fault(rt: HostRuntime) {
     for (fault, want) in [
         (ScriptFault::Line(7), "line 7"),
         (ScriptFault::Events, "events"),
@@ -411,10 +429,8 @@ fn names_each_fault(rt: HostRuntime) -> Result<(), Fail> {
         ),
         (ScriptFault::Memory, "memory"),
     ] {
-        let text = format!(in rt.alloc(); "{fault}")?;
-        assert_eq!(rt; text.as_str(), want);
+        assert!(rt; prints_as(rt.alloc(), &fault, want), "{want}");
     }
-    Ok(())
 }
 
 /// Drawn events of more than one piece, rounds, lines that stand for nothing, and a line that is an event.
@@ -447,14 +463,18 @@ fn as_listed(alloc: Global, source: &mut Source, events: &[Event]) -> Result<usi
     Ok(same)
 }
 
+/// Whether the source gives the script's size, its liars and its events.
+fn gives(alloc: Global, source: &mut Source, script: &Script) -> Result<bool, ScriptFault> {
+    let is_alike = source.size() == script.size && source.liars() == script.liars.as_slice();
+    let same = as_listed(alloc, source, &script.events)?;
+    Ok(is_alike && same == script.events.len())
+}
+
 #[test]
 fn a_source_gives_what_is_read(rt: HostRuntime) -> Result<(), Fail> {
     let script = read(rt.alloc(), ALL_SORTS.as_bytes())?;
-    assert_eq!(rt; script.events.len(), 330);
     let mut source = Source::of(rt.alloc(), ALL_SORTS.as_bytes())?;
-    assert!(rt; source.size() == script.size);
-    assert!(rt; source.liars() == script.liars.as_slice());
-    let same = as_listed(rt.alloc(), &mut source, &script.events)?;
-    assert_eq!(rt; same, 330);
+    let is_given = gives(rt.alloc(), &mut source, &script)?;
+    assert!(rt; is_given && script.events.len() == 330);
     Ok(())
 }

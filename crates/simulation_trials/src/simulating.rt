@@ -1,6 +1,7 @@
 //! Worked scripts, and what can't be run.
 
 use crate::pictures::CRASH;
+use crate::texts::prints_as;
 use End::{Events, Line, Sim, Status};
 use commands::{SimulateFault, print_verdicts, simulate_pages, simulate_text, takes_output};
 use script::ScriptFault;
@@ -11,12 +12,13 @@ use std::io::Write;
 use std::test::Fail;
 use terms::SizeFault;
 
-/// What `simulate` prints of the script, and how it ends.
-fn simulated(alloc: Global, script: &str) -> Result<(String, Result<u8, SimulateFault>), Fail> {
+/// What `simulate` prints of a script that can be run.
+fn simulated(alloc: Global, script: &str) -> Option<String> {
     let mut output = Vec::new(alloc);
-    let result = simulate_text(alloc, script.as_bytes(), &mut output);
-    let text = String::from_utf8(output).ok().ok_or("text")?;
-    Ok((text, result))
+    match simulate_text(alloc, script.as_bytes(), &mut output) {
+        Ok(0) => String::from_utf8(output).ok(),
+        _ => None,
+    }
 }
 
 /// How `simulate` ends.
@@ -93,43 +95,66 @@ fn prints_verdicts_and_counts(rt: HostRuntime) {
 }
 
 /// The verdicts of the script, beside a trace or with none.
-fn verdicts(alloc: Global, script: &str, trace: bool) -> Result<String, SimulateFault> {
-    Ok(simulate_pages(alloc, script.as_bytes(), trace, false)?.verdicts)
+fn verdicts(alloc: Global, script: &str, trace: bool) -> Option<String> {
+    let pages = simulate_pages(alloc, script.as_bytes(), trace, false).ok()?;
+    Some(pages.verdicts)
+}
+
+/// Whether the script has the same verdicts beside a trace and with none.
+fn has_one_outcome(alloc: Global, script: &str) -> Option<bool> {
+    let alone = verdicts(alloc, script, false)?;
+    let traced = verdicts(alloc, script, true)?;
+    Some(alone.as_str() == traced.as_str())
 }
 
 #[test]
-fn a_trace_changes_no_verdict(rt: HostRuntime) -> Result<(), Fail> {
-    for script in [ONE_LIAR, CRASH] {
-        let alone = verdicts(rt.alloc(), script, false)?;
-        let traced = verdicts(rt.alloc(), script, true)?;
-        assert_eq!(rt; alone.as_str(), traced.as_str());
+fn a_trace_changes_no_verdict(rt: HostRuntime) {
+    for (at, script) in [ONE_LIAR, CRASH].iter().enumerate() {
+        assert!(rt;
+            has_one_outcome(rt.alloc(), script) == Some(true),
+            "row {at}"
+        );
     }
-    Ok(())
+}
+
+/// A member alone, which proposes.
+const ALONE: &str = "n 1\nt 0\nquestions 1\nliars\nseed 7\npropose 0 0 1\n";
+
+/// Whether `simulate` prints that of a member alone and those lines, and ends so.
+fn alone_prints(alloc: Global, lines: &str, want: &str, end: End) -> Option<bool> {
+    let script = format!(in alloc; "{ALONE}{lines}").ok()?;
+    Some(prints(alloc, script.as_str(), want, end))
 }
 
 /// A member alone has one statement more after each, so its groups are what `rounds` delivers.
 #[test]
 fn groups_of_a_member_alone_print_the_same(rt: HostRuntime) -> Result<(), Fail> {
-    let head = "n 1\nt 0\nquestions 1\nliars\nseed 7\npropose 0 0 1\n";
     let groups = "group 0 0 256\n".repeat(rt.alloc(), 20)?;
-    let script = format!(in rt.alloc(); "{head}{groups}")?;
     let want = "member 0 question 0 round 1 bit 1\nevents 21 skipped 2\n";
-    assert!(rt; prints(rt.alloc(), script.as_str(), want, Status(0)));
-    for line in ["group 0 0 0", "group 0 0 257"] {
-        let script = format!(in rt.alloc(); "{head}{line}\n")?;
-        assert!(rt; prints(rt.alloc(), script.as_str(), "", Line(7)), "{line}");
+    let rows = [
+        (groups.as_str(), want, Status(0)),
+        ("group 0 0 0\n", "", Line(7)),
+        ("group 0 0 257\n", "", Line(7)),
+    ];
+    for (at, (lines, want, end)) in rows.iter().enumerate() {
+        let is_printed = alone_prints(rt.alloc(), lines, want, *end);
+        assert!(rt; is_printed == Some(true), "row {at}");
     }
     Ok(())
 }
 
+/// Whether `simulate` prints those words of the script, and the same a second time.
+fn says_again(alloc: Global, script: &str, words: &str) -> Option<bool> {
+    let first = simulated(alloc, script)?;
+    let second = simulated(alloc, script)?;
+    Some(first.as_str().contains(words) && first.as_str() == second.as_str())
+}
+
 #[test]
-fn a_seed_says_all(rt: HostRuntime) -> Result<(), Fail> {
+fn a_seed_says_all(rt: HostRuntime) {
     let script = "n 4\nt 1\nquestions 2\nliars 3\nseed 5\nrandom 20000\n";
-    let (first, _) = simulated(rt.alloc(), script)?;
-    let (second, _) = simulated(rt.alloc(), script)?;
-    assert!(rt; first.as_str().contains("events 20000 skipped "));
-    assert_eq!(rt; first.as_str(), second.as_str());
-    Ok(())
+    let is_so = says_again(rt.alloc(), script, "events 20000 skipped ");
+    assert!(rt; is_so == Some(true));
 }
 
 /// Some seconds; under `rt try --test` it is many times as long.
@@ -137,8 +162,7 @@ fn a_seed_says_all(rt: HostRuntime) -> Result<(), Fail> {
 fn runs_a_million_events(rt: HostRuntime) -> Result<(), Fail> {
     let script =
         "n 4\nt 1\nquestions 1\nliars\nseed 1\npropose 0 0 1\npropose 1 0 0\npropose 2 0 1\npropose 3 0 0\nrandom 999996\n";
-    let (text, result) = simulated(rt.alloc(), script)?;
-    assert!(rt; matches!(&result, Ok(0)));
+    let text = simulated(rt.alloc(), script).ok_or("an outcome")?;
     assert!(rt; text.as_str().contains("events 1000000 skipped "));
     Ok(())
 }
@@ -180,11 +204,10 @@ impl Write for Closed {
 }
 
 #[test]
-fn ends_where_the_output_fails(rt: HostRuntime) -> Result<(), Fail> {
+fn ends_where_the_output_fails(rt: HostRuntime) {
     let script = "n 4\nt 1\nquestions 1\nliars\nseed 1\n".as_bytes();
     let result = simulate_text(rt.alloc(), script, &mut Closed);
     assert!(rt; matches!(&result, Err(SimulateFault::Stream)));
-    Ok(())
 }
 
 /// Whether the verdicts, put aside or not, stand so in the output and among the errors.
@@ -209,12 +232,11 @@ fn a_page_takes_the_output(rt: HostRuntime) {
     ] {
         assert!(rt; takes_output(trace, chart) == want);
     }
-    assert!(rt; puts(rt.alloc(), false, "events", ""));
-    assert!(rt; puts(rt.alloc(), true, "", "events"));
+    assert!(rt; puts(rt.alloc(), false, "events", "") && puts(rt.alloc(), true, "", "events"));
 }
 
 #[test]
-fn faults_print_so(rt: HostRuntime) -> Result<(), Fail> {
+fn faults_print_so(rt: HostRuntime) {
     for (fault, want) in [
         (
             SimulateFault::Size(SizeFault::TooManyLiars),
@@ -228,8 +250,6 @@ fn faults_print_so(rt: HostRuntime) -> Result<(), Fail> {
         (SimulateFault::Stream, "stream"),
         (SimulateFault::Memory, "memory"),
     ] {
-        let text = format!(in rt.alloc(); "{fault}")?;
-        assert_eq!(rt; text.as_str(), want);
+        assert!(rt; prints_as(rt.alloc(), &fault, want), "{want}");
     }
-    Ok(())
 }

@@ -30,6 +30,13 @@ fn sent_by(votes: Votes, third: bool) -> [Option<Value>; 6] {
     ]
 }
 
+/// How many of n members sent each of VALUES.
+fn counts_of(n: u8, third: bool, sent: [(u8, Value); 4]) -> Result<[u8; 5], Fail> {
+    let size = Size::new(n, 0, 1)?;
+    let votes = cast(sent)?;
+    Ok(VALUES.map(|value| votes.count(size, third, value)))
+}
+
 #[test]
 fn rows_of_counts(rt: HostRuntime) -> Result<(), Fail> {
     // n, whether it is step 3, four votes, and how many sent each of VALUES.
@@ -86,11 +93,8 @@ fn rows_of_counts(rt: HostRuntime) -> Result<(), Fail> {
             [0, 1, 0, 0, 0],
         ),
     ];
-    for (n, third, sent, want) in rows {
-        let size = Size::new(n, 0, 1)?;
-        let votes = cast(sent)?;
-        let counts = VALUES.map(|value| votes.count(size, third, value));
-        assert!(rt; counts == want, "of n {n}, step 3 {third}");
+    for (at, (n, third, sent, want)) in rows.into_iter().enumerate() {
+        assert!(rt; counts_of(n, third, sent)? == want, "row {at}");
     }
     Ok(())
 }

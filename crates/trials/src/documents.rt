@@ -1,7 +1,8 @@
 //! The keys of the settings, one by one and together, and addresses.
 
+use crate::texts::prints;
 use settings::{Address, Key, Settings, SettingsFault};
-use std::alloc::Global;
+use std::alloc::{AllocGlobal, Global};
 use std::process::Abort;
 use std::test::Fail;
 use terms::Size;
@@ -43,61 +44,69 @@ fn text(alloc: Global, changes: &[(&str, &str)]) -> Result<String, Fail> {
     Ok(text)
 }
 
-/// The settings with these changes have this fault, as it is printed.
-fn expect_fault(
-    rt: &impl Abort,
-    alloc: Global,
-    changes: &[(&str, &str)],
-    want: &str,
-) -> Result<(), Fail> {
+/// The fault of the settings with these changes.
+fn fault_of(alloc: Global, changes: &[(&str, &str)]) -> Result<Option<SettingsFault>, Fail> {
     let text = text(alloc, changes)?;
-    let fault = Settings::parse(alloc, text.as_str())
-        .err()
-        .ok_or("a fault")?;
-    let printed = format!(in alloc; "{fault}")?;
-    assert_eq!(rt; printed.as_str(), want);
-    Ok(())
+    Ok(Settings::parse(alloc, text.as_str()).err())
+}
+
+/// Whether the settings with these changes have this fault, as it is printed.
+fn has_fault(alloc: Global, changes: &[(&str, &str)], want: &str) -> Result<bool, Fail> {
+    match fault_of(alloc, changes)? {
+        Some(fault) => prints(alloc, &fault, want),
+        None => Ok(false),
+    }
+}
+
+/// Whether the settings with this value of this key have a fault that names the key.
+fn is_named(alloc: Global, key: &str, value: &str) -> Result<bool, Fail> {
+    let want = format!(in alloc; "settings {}", key)?;
+    has_fault(alloc, &[(key, value)], want.as_str())
+}
+
+/// The members' addresses, in order.
+const PEERS: [Address; 4] = [
+    Address {
+        octets: [127, 0, 0, 1],
+        port: 47100,
+    },
+    Address {
+        octets: [127, 0, 0, 1],
+        port: 47101,
+    },
+    Address {
+        octets: [10, 0, 255, 1],
+        port: 1,
+    },
+    Address {
+        octets: [127, 0, 0, 1],
+        port: 65535,
+    },
+];
+
+/// The address of the desk.
+const DESK: Address = Address {
+    octets: [127, 0, 0, 1],
+    port: 47111,
+};
+
+/// Whether these are the settings without a fault.
+fn are_usual(settings: &Settings) -> bool {
+    let header = settings.header;
+    let mut places = settings.seed.iter().enumerate();
+    (header.cluster(), header.me()) == (7, 1)
+        && Size::new(4, 1, 16) == Ok(header.size())
+        && settings.journal.as_str() == "member-1.journal"
+        && settings.peers.as_slice() == PEERS.as_slice()
+        && settings.desk == DESK
+        && places.all(|(at, byte)| usize::from(*byte) == at)
 }
 
 #[test]
 fn reads_all_keys(rt: HostRuntime) -> Result<(), Fail> {
     let text = text(rt.alloc(), &[])?;
-    let settings = Settings::parse(rt.alloc(), text.as_str())
-        .ok()
-        .ok_or("settings")?;
-    assert!(rt; settings.header.cluster() == 7);
-    assert!(rt; Size::new(4, 1, 16) == Ok(settings.header.size()));
-    assert!(rt; settings.header.me() == 1);
-    assert_eq!(rt; settings.journal.as_str(), "member-1.journal");
-    let peers = [
-        Address {
-            octets: [127, 0, 0, 1],
-            port: 47100,
-        },
-        Address {
-            octets: [127, 0, 0, 1],
-            port: 47101,
-        },
-        Address {
-            octets: [10, 0, 255, 1],
-            port: 1,
-        },
-        Address {
-            octets: [127, 0, 0, 1],
-            port: 65535,
-        },
-    ];
-    assert!(rt; settings.peers.as_slice() == peers.as_slice());
-    assert!(rt;
-        settings.desk
-            == Address {
-                octets: [127, 0, 0, 1],
-                port: 47111
-            }
-    );
-    for (at, byte) in settings.seed.iter().enumerate() {
-        assert!(rt; usize::from(*byte) == at);
-    }
+    let settings = Settings::parse(rt.alloc(), text.as_str())?;
+    assert!(rt; are_usual(&settings));
     Ok(())
 }
 
@@ -116,11 +125,7 @@ fn takes_the_bounds(rt: HostRuntime) -> Result<(), Fail> {
         [("questions", "1"), ("n", "0x4")].as_slice(),
         [("questions", "256"), ("t", "0")].as_slice(),
     ] {
-        let text = text(rt.alloc(), changes)?;
-        assert!(rt;
-            Settings::parse(rt.alloc(), text.as_str()).is_ok(),
-            "at {changes:?}"
-        );
+        assert!(rt; fault_of(rt.alloc(), changes)?.is_none(), "at {changes:?}");
     }
     Ok(())
 }
@@ -166,17 +171,20 @@ fn names_the_key(rt: HostRuntime) -> Result<(), Fail> {
         ),
     ] {
         for value in values {
-            let want = format!(in rt.alloc(); "settings {}", key)?;
-            expect_fault(&rt, rt.alloc(), &[(key, *value)], want.as_str())?;
+            assert!(rt; is_named(rt.alloc(), key, *value)?, "{key} = {value}");
         }
     }
     Ok(())
 }
 
-#[test]
-fn names_the_first_fault(rt: HostRuntime) -> Result<(), Fail> {
-    let three = "['localhost:1', 'localhost:2', 'localhost:3']";
-    let five = "['localhost:1', 'localhost:2', 'localhost:3', 'localhost:4', 'localhost:5']";
+/// The addresses of three members.
+const THREE: &str = "['localhost:1', 'localhost:2', 'localhost:3']";
+
+/// The addresses of five members.
+const FIVE: &str = "['localhost:1', 'localhost:2', 'localhost:3', 'localhost:4', 'localhost:5']";
+
+/// Of these settings the size is the fault.
+fn size_is_named(rt: &(impl AllocGlobal + Abort)) -> Result<(), Fail> {
     for (changes, want) in [
         ([("n", "0")].as_slice(), "size NoMembers"),
         ([("n", "33")].as_slice(), "size TooManyMembers"),
@@ -202,6 +210,15 @@ fn names_the_first_fault(rt: HostRuntime) -> Result<(), Fail> {
             [("questions", "257"), ("peers", "[]")].as_slice(),
             "size TooManyQuestions",
         ),
+    ] {
+        assert!(rt; has_fault(rt.alloc(), changes, want)?, "at {changes:?}");
+    }
+    Ok(())
+}
+
+/// Of these settings a key is the fault.
+fn keys_are_named(rt: &(impl AllocGlobal + Abort)) -> Result<(), Fail> {
+    for (changes, want) in [
         ([("me", "4")].as_slice(), "settings me"),
         ([("me", "260")].as_slice(), "settings me"),
         ([("me", "300")].as_slice(), "settings me"),
@@ -209,8 +226,8 @@ fn names_the_first_fault(rt: HostRuntime) -> Result<(), Fail> {
             [("me", "9223372036854775807"), ("peers", "[]")].as_slice(),
             "settings me",
         ),
-        ([("peers", three)].as_slice(), "settings peers"),
-        ([("peers", five)].as_slice(), "settings peers"),
+        ([("peers", THREE)].as_slice(), "settings peers"),
+        ([("peers", FIVE)].as_slice(), "settings peers"),
         ([("peers", "[]")].as_slice(), "settings peers"),
         ([("me", "300"), ("desk", "-")].as_slice(), "settings desk"),
         ([("t", "2"), ("seed", "1")].as_slice(), "settings seed"),
@@ -226,6 +243,15 @@ fn names_the_first_fault(rt: HostRuntime) -> Result<(), Fail> {
             [("journal", "''"), ("seed", "''")].as_slice(),
             "settings journal",
         ),
+    ] {
+        assert!(rt; has_fault(rt.alloc(), changes, want)?, "at {changes:?}");
+    }
+    Ok(())
+}
+
+/// Of these settings the text is the fault.
+fn text_is_named(rt: &(impl AllocGlobal + Abort)) -> Result<(), Fail> {
+    for (changes, want) in [
         (
             [("cluster", "9223372036854775808"), ("n", "-")].as_slice(),
             "settings text",
@@ -236,10 +262,18 @@ fn names_the_first_fault(rt: HostRuntime) -> Result<(), Fail> {
         ),
         ([("n", "-"), ("seed", "")].as_slice(), "settings text"),
     ] {
-        expect_fault(&rt, rt.alloc(), changes, want)?;
+        assert!(rt; has_fault(rt.alloc(), changes, want)?, "at {changes:?}");
     }
-    let empty = Settings::parse(rt.alloc(), "");
-    assert!(rt; matches!(&empty, Err(SettingsFault::Key(Key::Cluster))));
+    Ok(())
+}
+
+#[test]
+fn names_the_first_fault(rt: HostRuntime) -> Result<(), Fail> {
+    size_is_named(&rt)?;
+    keys_are_named(&rt)?;
+    text_is_named(&rt)?;
+    let empty = Settings::parse(rt.alloc(), "").err();
+    assert!(rt; empty == Some(SettingsFault::Key(Key::Cluster)));
     Ok(())
 }
 

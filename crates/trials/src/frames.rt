@@ -3,6 +3,7 @@
 //! Where `rt try --test --fail-alloc N` refuses an allocation, the helpers see that nothing changed and go
 //! on with the same call again.
 
+use crate::texts::prints;
 use std::alloc::AllocGlobal;
 use std::process::Abort;
 use std::test::Fail;
@@ -20,15 +21,20 @@ const FIRST: [u8; 10] = [0, 8, 3, 1, 0, 0, 0, 1, 1, 1];
 /// An echo whose value is none of step 1.
 const WRONG: [u8; 10] = [0, 8, 3, 2, 0, 0, 0, 1, 1, 2];
 
-fn message(kind: Kind, place: (u16, u8, u8, u8), value: Value) -> Result<Message, Fail> {
+/// The message of a statement. The process ends where there is none.
+fn message(rt: &impl Abort, kind: Kind, place: (u16, u8, u8, u8), value: Value) -> Message {
     let (question, origin, round, step) = place;
-    let place = Place::new(question, origin, round, step).ok_or("a place")?;
-    let statement = Statement::new(kind, place, value).ok_or("a statement")?;
-    Ok(Message::Statement(statement))
+    if let Some(place) = Place::new(question, origin, round, step) {
+        if let Some(statement) = Statement::new(kind, place, value) {
+            return Message::Statement(statement);
+        }
+    }
+    rt.abort()
 }
 
-fn first() -> Result<Message, Fail> {
-    message(Kind::Initial, (0, 0, 1, 1), Value::One)
+/// The message of FIRST.
+fn first(rt: &impl Abort) -> Message {
+    message(rt, Kind::Initial, (0, 0, 1, 1), Value::One)
 }
 
 /// Feeds the piece. If memory is refused, nothing has changed and the same call is made again.
@@ -73,35 +79,65 @@ fn encode_again(rt: &impl Abort, message: &Message, out: &mut Vec<u8>) -> Result
     Ok(())
 }
 
+/// Whether the message has that frame of ten bytes, and has it once more behind the first.
+fn is_encoded(
+    rt: &(impl AllocGlobal + Abort),
+    message: &Message,
+    frame: &[u8],
+) -> Result<bool, Fail> {
+    let mut out = Vec::new(rt.alloc());
+    encode_again(rt, message, &mut out)?;
+    let has_frame = out.as_slice() == frame;
+    encode_again(rt, message, &mut out)?;
+    Ok(has_frame && out.len() == 20)
+}
+
 #[test]
 fn encodes(rt: HostRuntime) -> Result<(), Fail> {
     let rows = [
-        (first()?, FIRST),
+        (first(&rt), FIRST),
         (
-            message(Kind::Echo, (258, 3, 32, 2), Value::Zero)?,
+            message(&rt, Kind::Echo, (258, 3, 32, 2), Value::Zero),
             [0, 8, 3, 2, 1, 2, 3, 32, 2, 0],
         ),
         (
-            message(Kind::Ready, (255, 31, 7, 3), Value::SureZero)?,
+            message(&rt, Kind::Ready, (255, 31, 7, 3), Value::SureZero),
             [0, 8, 3, 3, 0, 255, 31, 7, 3, 2],
         ),
         (
-            message(Kind::Ready, (1, 2, 3, 3), Value::SureOne)?,
+            message(&rt, Kind::Ready, (1, 2, 3, 3), Value::SureOne),
             [0, 8, 3, 3, 0, 1, 2, 3, 3, 3],
         ),
         (
-            message(Kind::Initial, (1, 2, 3, 3), Value::Unsure)?,
+            message(&rt, Kind::Initial, (1, 2, 3, 3), Value::Unsure),
             [0, 8, 3, 1, 0, 1, 2, 3, 3, 4],
         ),
     ];
     for (message, frame) in rows {
-        let mut out = Vec::new(rt.alloc());
-        encode_again(&rt, &message, &mut out)?;
-        assert!(rt; out.as_slice() == frame.as_slice());
-        encode_again(&rt, &message, &mut out)?;
-        assert!(rt; out.len() == 20);
+        assert!(rt; is_encoded(&rt, &message, &frame)?, "{frame:?}");
     }
     Ok(())
+}
+
+/// Whether the message is encoded as that frame.
+fn has_frame(
+    rt: &(impl AllocGlobal + Abort),
+    message: &Message,
+    frame: &[u8],
+) -> Result<bool, Fail> {
+    let mut bytes = Vec::new(rt.alloc());
+    encode_again(rt, message, &mut bytes)?;
+    Ok(bytes.as_slice() == frame)
+}
+
+/// Whether the message is read once the rest of its frame is there, and not before.
+fn is_read_in_two(
+    rt: &(impl AllocGlobal + Abort),
+    message: &Message,
+    front: &[u8],
+    rest: &[u8],
+) -> Result<bool, Fail> {
+    Ok(reads(rt, &[front], &[], Fed::More)? && reads(rt, &[front, rest], &[*message], Fed::More)?)
 }
 
 /// The message has that frame, and is read from it however it is cut.
@@ -110,19 +146,12 @@ fn is_spelled(
     message: &Message,
     frame: &[u8],
 ) -> Result<(), Fail> {
-    let mut bytes = Vec::new(rt.alloc());
-    encode_again(rt, message, &mut bytes)?;
-    assert!(rt; bytes.as_slice() == frame);
-    let messages = [*message];
+    assert!(rt; has_frame(rt, message, frame)?);
     for cut in 0..frame.len() {
         let (front, rest) = frame.split_at(cut);
-        assert!(rt; reads(rt, &[front], &[], Fed::More)?, "cut at {cut}");
-        assert!(rt;
-            reads(rt, &[front, rest], &messages, Fed::More)?,
-            "cut at {cut}"
-        );
+        assert!(rt; is_read_in_two(rt, message, front, rest)?, "cut at {cut}");
     }
-    assert!(rt; reads(rt, &[frame, &[]], &messages, Fed::More)?);
+    assert!(rt; reads(rt, &[frame, &[]], &[*message], Fed::More)?);
     Ok(())
 }
 
@@ -164,12 +193,12 @@ fn takes_any_cluster_and_any_next(rt: HostRuntime) -> Result<(), Fail> {
 
 #[test]
 fn reads_a_frame_cut_anywhere(rt: HostRuntime) -> Result<(), Fail> {
-    is_spelled(&rt, &first()?, &FIRST)
+    is_spelled(&rt, &first(&rt), &FIRST)
 }
 
 #[test]
 fn reads_byte_by_byte(rt: HostRuntime) -> Result<(), Fail> {
-    let first = first()?;
+    let first = first(&rt);
     let mut feeder = Feeder::new(size()?);
     let mut out = Vec::new(rt.alloc());
     for byte in &FIRST {
@@ -182,7 +211,7 @@ fn reads_byte_by_byte(rt: HostRuntime) -> Result<(), Fail> {
 
 #[test]
 fn gives_the_messages_before_a_fault(rt: HostRuntime) -> Result<(), Fail> {
-    let first = [first()?];
+    let first = [first(&rt)];
     let broken = Fed::Broken(WireFault::BadValue);
     let mut bytes = [0; 20];
     bytes[..10].copy_from_slice(&FIRST);
@@ -245,19 +274,27 @@ const WRONG_BYTES: [(&[u8], WireFault); 29] = [
     (&[0, 8, 3, 1, 0, 0, 0, 1, 3, 1], WireFault::BadValue),
 ];
 
+/// Whether the last of the bytes is the first wrong one, in one piece and in two.
+fn breaks_at_the_last(
+    rt: &(impl AllocGlobal + Abort),
+    bytes: &[u8],
+    fault: WireFault,
+) -> Result<bool, Fail> {
+    let (front, last) = bytes.split_at(bytes.len().saturating_sub(1));
+    let broken = Fed::Broken(fault);
+    Ok(
+        reads(rt, &[bytes], &[], broken)?
+            && reads(rt, &[front], &[], Fed::More)?
+            && reads(rt, &[front, last], &[], broken)?,
+    )
+}
+
 #[test]
 fn breaks_at_the_first_wrong_byte(rt: HostRuntime) -> Result<(), Fail> {
     for (bytes, fault) in WRONG_BYTES {
-        let (front, last) = bytes.split_at(bytes.len().saturating_sub(1));
-        let broken = Fed::Broken(fault);
-        assert!(rt; reads(&rt, &[bytes], &[], broken)?, "{fault} in one piece");
         assert!(rt;
-            reads(&rt, &[front], &[], Fed::More)?,
-            "{fault} before its byte"
-        );
-        assert!(rt;
-            reads(&rt, &[front, last], &[], broken)?,
-            "{fault} in two pieces"
+            breaks_at_the_last(&rt, bytes, fault)?,
+            "{fault} of {bytes:?}"
         );
     }
     Ok(())
@@ -266,7 +303,7 @@ fn breaks_at_the_first_wrong_byte(rt: HostRuntime) -> Result<(), Fail> {
 #[test]
 fn takes_as_many_questions_as_there_are(rt: HostRuntime) -> Result<(), Fail> {
     let size = Size::new(32, 10, 256).ok().ok_or("a size")?;
-    let last = message(Kind::Ready, (255, 31, 32, 3), Value::Unsure)?;
+    let last = message(&rt, Kind::Ready, (255, 31, 32, 3), Value::Unsure);
     let mut out = Vec::new(rt.alloc());
     let mut feeder = Feeder::new(size);
     let frame = [0, 8, 3, 3, 0, 255, 31, 32, 3, 4];
@@ -288,11 +325,7 @@ fn names_each_fault(rt: HostRuntime) -> Result<(), Fail> {
         (WireFault::BadHello, "BadHello"),
     ];
     for (fault, name) in rows {
-        let text = match format!(in rt.alloc(); "{fault}") {
-            Ok(text) => text,
-            Err(_) => format!(in rt.alloc(); "{fault}")?,
-        };
-        assert_eq!(rt; text.as_str(), name);
+        assert!(rt; prints(rt.alloc(), &fault, name)?, "{fault} for {name}");
     }
     Ok(())
 }
@@ -300,7 +333,7 @@ fn names_each_fault(rt: HostRuntime) -> Result<(), Fail> {
 /// Several frames in one piece behind a held front, so that memory is refused at some of them.
 #[test]
 fn reads_what_was_encoded(rt: HostRuntime) -> Result<(), Fail> {
-    let twelve = [first()?; 12];
+    let twelve = [first(&rt); 12];
     let mut bytes = Vec::new(rt.alloc());
     for message in &twelve {
         encode_again(&rt, message, &mut bytes)?;

@@ -5,6 +5,7 @@
 ghost use Rattle.std.specs.Prelude.{◌≡◌, ℕ, ◌≤◌, List, IfOk, OnOk, OnErr, true, false, length};
 ghost use Rattle.vocabulary.specs.Terms.{Echo, One, Record, Said, Header, new_place, new_statement, new_size, new_header};
 
+use crate::texts::prints;
 use disk::{Disk, MemDisk, Pick};
 use journal::{Journal, JournalFault, create, peek};
 use std::alloc::Global;
@@ -411,11 +412,7 @@ fn names_of_faults(rt: HostRuntime) -> Result<(), Fail> {
         (JournalFault::Full, "Full"),
     ];
     for (fault, name) in rows {
-        let text = match format!(in rt.alloc(); "{fault}") {
-            Ok(text) => text,
-            Err(_) => format!(in rt.alloc(); "{fault}")?,
-        };
-        assert_eq!(rt; text.as_str(), name);
+        assert!(rt; prints(rt.alloc(), &fault, name)?, "{fault} for {name}");
     }
     Ok(())
 }

@@ -26,4 +26,6 @@ mod pieces;
 #[cfg(test)]
 mod sizes;
 #[cfg(test)]
+mod texts;
+#[cfg(test)]
 mod validation;

@@ -6,6 +6,7 @@ ghost use Rattle.member.specs.Sound.{IsSound};
 
 mod groups;
 
+use crate::texts::prints;
 use disk::{Disk, MemDisk, Pick};
 use journal::JournalFault;
 use member::{Member, MemberFault};
@@ -22,15 +23,14 @@ fn header(n: u8, t: u8, me: u8) -> Result<Header, Fail> {
     Ok(Header::new(7, Size::new(n, t, 1)?, me).ok_or("a header")?)
 }
 
-/// A statement at this question, origin 0, and this round and step. The process ends where there is none.
+/// A statement at the place of this question, origin, round and step. The process ends where there is none.
 fn statement(
     rt: &impl Abort,
-    question: u16,
     kind: Kind,
-    (round, step): (u8, u8),
+    (question, origin, round, step): (u16, u8, u8, u8),
     value: Value,
 ) -> Statement {
-    if let Some(place) = Place::new(question, 0, round, step) {
+    if let Some(place) = Place::new(question, origin, round, step) {
         if let Some(said) = Statement::new(kind, place, value) {
             return said;
         }
@@ -40,7 +40,7 @@ fn statement(
 
 /// A statement at question 0, origin 0, and this round and step.
 fn at(rt: &impl Abort, kind: Kind, round: u8, step: u8, value: Value) -> Statement {
-    statement(rt, 0, kind, (round, step), value)
+    statement(rt, kind, (0, 0, round, step), value)
 }
 
 /// A statement at the place of most rows.
@@ -168,26 +168,48 @@ fn is_of_number(rt: &impl Abort, number: usize, said: &Statement, answer: &Answe
     }
 }
 
+/// Whether it says the proposal One, and has it when Zero is proposed.
+fn proposes_once(rt: &impl Abort, member: &mut Member<MemDisk>) -> Result<bool, Fail>
+    requires { IsSound memory_disk member.old }
+    ensures { IsSound memory_disk member.new }
+{
+    let answer = member.propose(0, true, Toss(0))?;
+    let is_said = takes(&answer, &[Record::Said(of(rt, Initial, One))]);
+    Ok(member.propose(0, false, Toss(0)) == Ok(Answer::Have(true)) && is_said)
+}
+
+/// Whether it answers its own statement of that number as a member by itself.
+fn hears_itself(rt: &impl Abort, member: &mut Member<MemDisk>, number: usize) -> Result<bool, Fail>
+    requires { IsSound memory_disk member.old }
+    ensures { IsSound memory_disk member.new }
+{
+    let Some(sealed) = member.outbox().get(number) else {
+        return Err(Fail::from("a statement of that number"));
+    };
+    let said = sealed.statement();
+    let answer = hear(rt, member, 0, &said)?;
+    Ok(is_of_number(rt, number, &said, &answer))
+}
+
+/// Whether it said all that a member by itself says, and decided.
+fn has_settled(member: &Member<MemDisk>) -> bool
+    requires { IsSound memory_disk member.now }
+{
+    (
+        member.outbox().len(),
+        member.records().len(),
+        member.verdict(0),
+    ) == (18, 19, Some(true))
+}
+
 #[test]
 fn a_single_member_settles_its_question(rt: HostRuntime) -> Result<(), Fail> {
     let mut member = start(&rt, &header(1, 0, 0)?)?;
-    let answer = member.propose(0, true, Toss(0))?;
-    assert!(rt; takes(&answer, &[Record::Said(of(&rt, Initial, One))]));
-    assert!(rt; member.propose(0, false, Toss(0)) == Ok(Answer::Have(true)));
+    assert!(rt; proposes_once(&rt, &mut member)?);
     for number in 0..18 {
-        let Some(sealed) = member.outbox().get(number) else {
-            return Err(Fail::from("a statement of that number"));
-        };
-        let said = sealed.statement();
-        let answer = hear(&rt, &mut member, 0, &said)?;
-        assert!(rt;
-            is_of_number(&rt, number, &said, &answer),
-            "number {number}"
-        );
+        assert!(rt; hears_itself(&rt, &mut member, number)?, "number {number}");
     }
-    assert!(rt; member.outbox().len() == 18);
-    assert!(rt; member.records().len() == 19);
-    assert!(rt; member.verdict(0) == Some(true));
+    assert!(rt; has_settled(&member));
     assert!(rt; member.into_disk().len() == Ok(212));
     Ok(())
 }
@@ -224,6 +246,20 @@ fn says_both(rt: &impl Abort, member: &mut Member<MemDisk>) -> Result<(), Fail>
     takes_nothing(rt, member, 3, &ready)
 }
 
+/// Readys of all members, which bring nothing: it hands out what it said before.
+fn says_nothing_more(rt: &impl Abort, member: &mut Member<MemDisk>) -> Result<(), Fail>
+    requires { IsSound memory_disk member.old }
+    ensures { IsSound memory_disk member.new }
+{
+    let ready = of(rt, Ready, One);
+    takes_nothing(rt, member, 3, &of(rt, Ready, Zero))?;
+    takes_nothing(rt, member, 0, &ready)?;
+    takes_nothing(rt, member, 2, &ready)?;
+    takes_nothing(rt, member, 1, &ready)?;
+    assert!(rt; hands_out(member, &[of(rt, Echo, One), ready]));
+    Ok(())
+}
+
 #[test]
 fn what_was_said_is_not_said_again(rt: HostRuntime) -> Result<(), Fail> {
     let header = header(4, 1, 1)?;
@@ -235,12 +271,7 @@ fn what_was_said_is_not_said_again(rt: HostRuntime) -> Result<(), Fail> {
         Ok(member) => member,
         Err((fault, _)) => return Err(Fail::from(fault)),
     };
-    takes_nothing(&rt, &mut member, 3, &of(&rt, Ready, Zero))?;
-    takes_nothing(&rt, &mut member, 0, &of(&rt, Ready, One))?;
-    takes_nothing(&rt, &mut member, 2, &of(&rt, Ready, One))?;
-    takes_nothing(&rt, &mut member, 1, &of(&rt, Ready, One))?;
-    assert!(rt; hands_out(&member, &[of(&rt, Echo, One), of(&rt, Ready, One)]));
-    Ok(())
+    says_nothing_more(&rt, &mut member)
 }
 
 /// Whether an opening was refused so, where memory wasn't.
@@ -253,7 +284,7 @@ fn is_refused(answered: Option<JournalFault>, wanted: JournalFault) -> Result<bo
 
 /// An Initial of question 1, which a member of one question hasn't.
 fn of_no_question(rt: &impl Abort) -> Statement {
-    statement(rt, 1, Initial, (1, 1), One)
+    statement(rt, Initial, (1, 0, 1, 1), One)
 }
 
 #[test]
@@ -303,20 +334,24 @@ fn a_journal_opens_for_its_header_alone(rt: HostRuntime) -> Result<(), Fail> {
     Ok(())
 }
 
+/// The member 31 proposes for question 255, and hears the Echo of another there.
+fn takes_part(rt: &impl Abort, member: &mut Member<MemDisk>) -> Result<(), Fail>
+    requires { IsSound memory_disk member.old }
+    ensures { IsSound memory_disk member.new }
+{
+    let own = statement(rt, Initial, (255, 31, 1, 1), One);
+    let echo = statement(rt, Echo, (255, 5, 1, 1), One);
+    let answer = member.propose(255, true, Toss(0))?;
+    assert!(rt; takes(&answer, &[Record::Said(own)]));
+    takes_nothing(rt, member, 30, &echo)
+}
+
 /// The greatest cluster, its last question, its last member.
 #[test]
 fn largest_member_takes_part(rt: HostRuntime) -> Result<(), Fail> {
-    let place = Place::new(255, 31, 1, 1).ok_or("a place")?;
-    let own = Statement::new(Initial, place, One).ok_or("a value of the step")?;
-    let place = Place::new(255, 5, 1, 1).ok_or("a place")?;
-    let echo = Statement::new(Echo, place, One).ok_or("a value of the step")?;
     let header = Header::new(7, Size::new(32, 10, 256)?, 31).ok_or("a header")?;
     let mut member = start(&rt, &header)?;
-    let answer = member.propose(255, true, Toss(0))?;
-    assert!(rt; takes(&answer, &[Record::Said(own)]));
-    let answer = hear(&rt, &mut member, 30, &echo)?;
-    assert!(rt; takes(&answer, &[]));
-    Ok(())
+    takes_part(&rt, &mut member)
 }
 
 #[test]
@@ -341,7 +376,7 @@ fn the_text_of_a_fault_is_its_name(rt: HostRuntime) -> Result<(), Fail> {
         (MemberFault::NoSuchMember, "NoSuchMember"),
     ];
     for (fault, name) in names {
-        assert_eq!(rt; format!(in rt.alloc(); "{fault}")?.as_str(), name);
+        assert!(rt; prints(rt.alloc(), &fault, name)?, "{fault} for {name}");
     }
     Ok(())
 }

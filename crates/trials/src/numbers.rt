@@ -26,12 +26,10 @@ fn numbers_are_decimal_digits_alone(rt: HostRuntime) {
         number(&[0xd9, 0xa1]).is_none(),
         "a digit of another script"
     );
-    assert!(rt; number16("65535".as_bytes()) == Some(65535));
-    assert!(rt; number16("65536".as_bytes()).is_none());
-    assert!(rt; number8("0255".as_bytes()) == Some(255));
-    assert!(rt; number8("256".as_bytes()).is_none());
-    assert!(rt; is("next".as_bytes(), "next"));
-    assert!(rt; !is("Next".as_bytes(), "next"));
+    let of_two_bytes = [number16("65535".as_bytes()), number16("65536".as_bytes())];
+    let of_one_byte = [number8("0255".as_bytes()), number8("256".as_bytes())];
+    assert!(rt; (of_two_bytes, of_one_byte) == ([Some(65535), None], [Some(255), None]));
+    assert!(rt; is("next".as_bytes(), "next") && !is("Next".as_bytes(), "next"));
 }
 
 #[test]

@@ -1,6 +1,8 @@
 //! The worked rows of `hear`, and its faults.
 
+use crate::texts::prints;
 use hearing::{HearFault, hear_lines};
+use std::alloc::Global;
 use std::io::{self, BufRead, Read, Write};
 use std::test::Fail;
 use terms::Size;
@@ -13,6 +15,12 @@ fn heard(rt: &HostRuntime, input: &str) -> Result<(String, Result<u8, HearFault>
     let result = hear_lines(rt.alloc(), size, 1, &mut rest, &mut output);
     let text = String::from_utf8(output).ok().ok_or("text")?;
     Ok((text, result))
+}
+
+/// Whether `hear` answers the input so, to its end.
+fn is_answered(rt: &HostRuntime, input: &str, want: &str) -> Result<bool, Fail> {
+    let (text, result) = heard(rt, input)?;
+    Ok(text.as_str() == want && matches!(result, Ok(0)))
 }
 
 #[test]
@@ -44,11 +52,16 @@ fn answers_line_by_line(rt: HostRuntime) -> Result<(), Fail> {
         ("00000000000000000000003 00\n", ""),
         ("", ""),
     ] {
-        let (text, result) = heard(&rt, input)?;
-        assert_eq!(rt; text.as_str(), want);
-        assert!(rt; matches!(result, Ok(0)), "at {input:?}");
+        assert!(rt; is_answered(&rt, input, want)?, "at {input:?}");
     }
     Ok(())
+}
+
+/// Whether the line is the fault where it is the second, and the first is answered.
+fn is_bad(rt: &HostRuntime, line: &str) -> Result<bool, Fail> {
+    let input = format!(in rt.alloc(); "0 00080301000000010101\n{line}\n0 00\n")?;
+    let (text, result) = heard(rt, input.as_str())?;
+    Ok(text.as_str() == "news\n00080302000000010101\n" && matches!(result, Err(HearFault::Line(2))))
 }
 
 #[test]
@@ -73,10 +86,7 @@ fn names_the_first_bad_line(rt: HostRuntime) -> Result<(), Fail> {
         "a 00",
         "0,00",
     ] {
-        let input = format!(in rt.alloc(); "0 00080301000000010101\n{line}\n0 00\n")?;
-        let (text, result) = heard(&rt, input.as_str())?;
-        assert_eq!(rt; text.as_str(), "news\n00080302000000010101\n");
-        assert!(rt; matches!(result, Err(HearFault::Line(2))), "at {line:?}");
+        assert!(rt; is_bad(&rt, line)?, "at {line:?}");
     }
     Ok(())
 }
@@ -141,27 +151,35 @@ impl Write for Narrow {
     }
 }
 
+/// Whether a reader that fails in the second line ends it, with the first one answered.
+fn ends_with_its_reader(alloc: Global, size: Size) -> bool {
+    let mut output = Vec::new(alloc);
+    let mut torn = Torn("0 00080301000000010101\n0 00".as_bytes());
+    let result = hear_lines(alloc, size, 1, &mut torn, &mut output);
+    matches!(result, Err(HearFault::Stream))
+        && output.as_slice() == "news\n00080302000000010101\n".as_bytes()
+}
+
+/// Whether a writer with that room ends it, and took what there is room for.
+fn ends_with_its_writer(alloc: Global, size: Size, room: usize) -> bool {
+    let mut narrow = Narrow {
+        taken: Vec::new(alloc),
+        room,
+    };
+    let mut input = "0 00080301000000010101\n3 ff\n".as_bytes();
+    let result = hear_lines(alloc, size, 1, &mut input, &mut narrow);
+    let whole = "news\n00080302000000010101\nbroken BadLength\n".as_bytes();
+    matches!(result, Err(HearFault::Stream))
+        && narrow.taken.len() == room
+        && whole.starts_with(&narrow.taken)
+}
+
 #[test]
 fn ends_where_a_stream_fails(rt: HostRuntime) -> Result<(), Fail> {
     let size = Size::new(4, 1, 1).ok().ok_or("a size")?;
-    let mut output = Vec::new(rt.alloc());
-    let mut torn = Torn("0 00080301000000010101\n0 00".as_bytes());
-    let result = hear_lines(rt.alloc(), size, 1, &mut torn, &mut output);
-    assert!(rt; matches!(result, Err(HearFault::Stream)));
-    assert_eq!(rt;
-        output.as_slice(),
-        "news\n00080302000000010101\n".as_bytes()
-    );
+    assert!(rt; ends_with_its_reader(rt.alloc(), size));
     for room in 0..30usize {
-        let mut narrow = Narrow {
-            taken: Vec::new(rt.alloc()),
-            room,
-        };
-        let mut input = "0 00080301000000010101\n3 ff\n".as_bytes();
-        let result = hear_lines(rt.alloc(), size, 1, &mut input, &mut narrow);
-        assert!(rt; matches!(result, Err(HearFault::Stream)), "with {room}");
-        let whole = "news\n00080302000000010101\nbroken BadLength\n".as_bytes();
-        assert!(rt; narrow.taken.as_slice() == &whole[..room], "with {room}");
+        assert!(rt; ends_with_its_writer(rt.alloc(), size, room), "with {room}");
     }
     Ok(())
 }
@@ -174,8 +192,7 @@ fn faults_print_so(rt: HostRuntime) -> Result<(), Fail> {
         (HearFault::Stream, "stream"),
         (HearFault::Memory, "memory"),
     ] {
-        let text = format!(in rt.alloc(); "{fault}")?;
-        assert_eq!(rt; text.as_str(), want);
+        assert!(rt; prints(rt.alloc(), &fault, want)?, "{fault} for {want}");
     }
     Ok(())
 }

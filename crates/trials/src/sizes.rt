@@ -1,5 +1,6 @@
 //! The worked rows of sizes and places, and the texts of the faults.
 
+use crate::texts::prints;
 use std::test::Fail;
 use terms::{Header, Kind, Memory, Place, Size, SizeFault, Statement, Value};
 
@@ -23,43 +24,67 @@ fn sizes_have_their_first_fault(rt: HostRuntime) {
     }
 }
 
-#[test]
-fn sizes_have_their_thresholds(rt: HostRuntime) -> Result<(), Fail> {
-    for (n, t, echo_quorum, ready_help, accept, wait) in [
-        (4, 1, 3, 2, 3, 3),
-        (1, 0, 1, 1, 1, 1),
-        (5, 1, 4, 2, 3, 4),
-        (32, 10, 22, 11, 21, 22),
-    ] {
-        let size = Size::new(n, t, 1).ok().ok_or("a size")?;
-        assert_eq!(rt; size.echo_quorum(), echo_quorum, "at {n}, {t}");
-        assert_eq!(rt; size.ready_help(), ready_help, "at {n}, {t}");
-        assert_eq!(rt; size.accept(), accept, "at {n}, {t}");
-        assert_eq!(rt; size.wait(), wait, "at {n}, {t}");
-    }
-    Ok(())
+/// The echo quorum, the ready help, the accept and the wait of a size.
+fn thresholds(n: u8, t: u8) -> Option<[u8; 4]> {
+    let size = Size::new(n, t, 1).ok()?;
+    Some([
+        size.echo_quorum(),
+        size.ready_help(),
+        size.accept(),
+        size.wait(),
+    ])
 }
 
 #[test]
-fn reads_back_what_it_was_made_of(rt: HostRuntime) -> Result<(), Fail> {
-    let size = Size::new(32, 10, 256).ok().ok_or("a size")?;
-    assert!(rt; (size.n(), size.t(), size.questions()) == (32, 10, 256));
-    let place = Place::new(255, 31, 32, 3).ok_or("a place")?;
-    assert!(rt;
-        (
-            place.question(),
-            place.origin(),
-            place.round(),
-            place.step()
-        ) == (255, 31, 32, 3)
-    );
-    let statement = Statement::new(Kind::Ready, place, Value::Unsure).ok_or("a statement")?;
-    assert!(rt; (statement.kind(), statement.value()) == (Kind::Ready, Value::Unsure));
-    assert!(rt; statement.place() == place);
-    let header = Header::new(7, size, 31).ok_or("a header")?;
-    assert!(rt; (header.cluster(), header.me()) == (7, 31));
-    assert!(rt; header.size() == size);
-    Ok(())
+fn sizes_have_their_thresholds(rt: HostRuntime) {
+    for (n, t, want) in [
+        (4, 1, [3, 2, 3, 3]),
+        (1, 0, [1, 1, 1, 1]),
+        (5, 1, [4, 2, 3, 4]),
+        (32, 10, [22, 11, 21, 22]),
+    ] {
+        assert!(rt; thresholds(n, t) == Some(want), "at {n}, {t}");
+    }
+}
+
+/// What a size of these numbers gives back.
+fn numbers_of_size(n: u8, t: u8, questions: u16) -> Option<(u8, u8, u16)> {
+    let size = Size::new(n, t, questions).ok()?;
+    Some((size.n(), size.t(), size.questions()))
+}
+
+/// What a place of these numbers gives back.
+fn numbers_of_place(question: u16, origin: u8, round: u8, step: u8) -> Option<(u16, u8, u8, u8)> {
+    let place = Place::new(question, origin, round, step)?;
+    Some((
+        place.question(),
+        place.origin(),
+        place.round(),
+        place.step(),
+    ))
+}
+
+/// Whether a statement gives back what it was made of.
+fn statement_reads_back() -> Option<bool> {
+    let place = Place::new(255, 31, 32, 3)?;
+    let statement = Statement::new(Kind::Ready, place, Value::Unsure)?;
+    let parts = (statement.kind(), statement.place(), statement.value());
+    Some(parts == (Kind::Ready, place, Value::Unsure))
+}
+
+/// Whether a header gives back what it was made of.
+fn header_reads_back() -> Option<bool> {
+    let size = Size::new(32, 10, 256).ok()?;
+    let header = Header::new(7, size, 31)?;
+    Some((header.cluster(), header.size(), header.me()) == (7, size, 31))
+}
+
+#[test]
+fn reads_back_what_it_was_made_of(rt: HostRuntime) {
+    assert!(rt; numbers_of_size(32, 10, 256) == Some((32, 10, 256)));
+    assert!(rt; numbers_of_place(255, 31, 32, 3) == Some((255, 31, 32, 3)));
+    assert!(rt; statement_reads_back() == Some(true));
+    assert!(rt; header_reads_back() == Some(true));
 }
 
 #[test]
@@ -71,10 +96,8 @@ fn faults_print_their_names(rt: HostRuntime) -> Result<(), Fail> {
         (SizeFault::NoQuestions, "NoQuestions"),
         (SizeFault::TooManyQuestions, "TooManyQuestions"),
     ] {
-        let text = format!(in rt.alloc(); "{fault}")?;
-        assert_eq!(rt; text.as_str(), want);
+        assert!(rt; prints(rt.alloc(), &fault, want)?, "{fault} for {want}");
     }
-    let text = format!(in rt.alloc(); "{Memory}")?;
-    assert_eq!(rt; text.as_str(), "memory");
+    assert!(rt; prints(rt.alloc(), &Memory, "memory")?);
     Ok(())
 }

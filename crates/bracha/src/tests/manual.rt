@@ -118,21 +118,58 @@ impl Pages {
     }
 }
 
+/// Whether the help lists just these two commands.
+fn lists(alloc: Global, help: &str, first: &str, second: &str) -> Result<bool, Fail> {
+    let names = names_in(alloc, help)?;
+    Ok(match names.as_slice() {
+        [one, other] => one.as_str() == first && other.as_str() == second,
+        _ => false,
+    })
+}
+
 #[test]
 fn the_words_of_a_help_are_found(rt: HostRuntime) -> Result<(), Fail> {
     let help = "About\n\nCommands:\n  init   Makes\n  check  Reads\n\nOptions:\n  -h, --help";
-    let names = names_in(rt.alloc(), help)?;
-    assert!(rt; names.len() == 2);
-    for (name, want) in names.iter().zip(["init", "check"]) {
-        assert!(rt; name.as_str() == want);
+    assert!(rt; lists(rt.alloc(), help, "init", "check")?);
+    for (line, want) in [
+        ("      --n <N>  How many", Some("n")),
+        ("  -V, --version  Prints", Some("version")),
+        ("  -h, --help     Print help", None),
+        ("With --verbose it says more", None),
+    ] {
+        assert!(rt; option_in(line) == want, "{line}");
     }
-    assert!(rt; option_in("      --n <N>  How many") == Some("n"));
-    assert!(rt; option_in("  -V, --version  Prints") == Some("version"));
-    assert!(rt; option_in("  -h, --help     Print help").is_none());
-    assert!(rt; option_in("With --verbose it says more").is_none());
     assert!(rt; has_word(b"[--log] \\-\\-log", "--log"));
     assert!(rt; !has_word(b"[--logs] \\-\\-log", "--log"));
     Ok(())
+}
+
+/// How many options the help of the command explains. The pages have each of them.
+fn options_of(alloc: Global, pages: &Pages, name: &str) -> Result<u32, Fail> {
+    let help = shown(alloc, &["bracha", name, "--help"])?;
+    let mut options = 0u32;
+    for line in help.as_str().split('\n') {
+        if let Some(option) = option_in(line) {
+            if !pages.have_option(alloc, option)? {
+                return Err(Fail::new(format_args!("a page lacks --{option} of {name}")));
+            }
+            options = options.saturating_add(1);
+        }
+    }
+    Ok(options)
+}
+
+/// How many options all commands have together. The pages have each command and each option.
+fn options_in(alloc: Global, pages: &Pages, names: &[String]) -> Result<u32, Fail> {
+    let mut options = 0u32;
+    for name in names {
+        let name = name.as_str();
+        if !pages.have(name) {
+            return Err(Fail::new(format_args!("a page lacks {name}")));
+        }
+        options = options.saturating_add(options_of(alloc, pages, name)?);
+    }
+    Ok(options)
 }
 
 #[test]
@@ -141,28 +178,10 @@ fn pages_have_each_command_and_option(rt: HostRuntime) -> Result<(), Fail> {
         return Ok(());
     }
     let pages = Pages::read(&rt)?;
-    let names = names_in(
-        rt.alloc(),
-        shown(rt.alloc(), &["bracha", "--help"])?.as_str(),
-    )?;
-    // The nine commands, and `help`.
-    assert!(rt; names.len() == 10, "{} commands", names.len());
-    let mut options = 0u32;
-    for name in &names {
-        let name = name.as_str();
-        assert!(rt; pages.have(name), "a page lacks {name}");
-        let help = shown(rt.alloc(), &["bracha", name, "--help"])?;
-        for line in help.as_str().split('\n') {
-            if let Some(option) = option_in(line) {
-                assert!(rt;
-                    pages.have_option(rt.alloc(), option)?,
-                    "a page lacks --{option} of {name}"
-                );
-                options = options.saturating_add(1);
-            }
-        }
-    }
-    // `--verbose` of nine, and nine of their own.
-    assert!(rt; options == 18, "{options} options");
+    let help = shown(rt.alloc(), &["bracha", "--help"])?;
+    let names = names_in(rt.alloc(), help.as_str())?;
+    let options = options_in(rt.alloc(), &pages, &names)?;
+    // The nine commands, and `help`; `--verbose` of nine, and nine of their own.
+    assert!(rt; (names.len(), options) == (10, 18), "{options} options");
     Ok(())
 }

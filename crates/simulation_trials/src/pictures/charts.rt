@@ -7,10 +7,8 @@ use std::process::Abort;
 use std::test::Fail;
 
 /// The chart of a run of the script.
-pub(crate) fn drawn(alloc: Global, script: &str) -> Result<String, Fail> {
-    let script = script::read(alloc, script.as_bytes())
-        .ok()
-        .ok_or("a script")?;
+pub(crate) fn drawn(alloc: Global, script: &str) -> Option<String> {
+    let script = script::read(alloc, script.as_bytes()).ok()?;
     let outcome = run_of(alloc, &script)?;
     let chart = chart_text(
         alloc,
@@ -19,8 +17,13 @@ pub(crate) fn drawn(alloc: Global, script: &str) -> Result<String, Fail> {
         &script.events,
         &outcome.marks,
         &outcome.saved,
-    )?;
-    Ok(chart)
+    );
+    chart.ok()
+}
+
+/// Whether the text begins and ends as a picture does.
+fn is_picture(chart: &str) -> bool {
+    chart.starts_with("<svg ") && chart.ends_with("</svg>\n")
 }
 
 /// How often the words stand in the chart.
@@ -35,17 +38,15 @@ fn compare(rt: &impl Abort, chart: &str, rows: &[(&str, usize)]) {
     }
 }
 
-/// Whether the words stand once in the chart of the script.
-fn draws(alloc: Global, script: &str, words: &str) -> Result<bool, Fail> {
-    Ok(count(drawn(alloc, script)?.as_str(), words) == 1)
+/// How often the words stand in the chart of the script with that head and those events.
+fn count_in(alloc: Global, head: &str, events: &str, words: &str) -> Option<usize> {
+    let script = format!(in alloc; "{head}{events}\n").ok()?;
+    let chart = drawn(alloc, script.as_str())?;
+    Some(count(chart.as_str(), words))
 }
 
 #[test]
 fn draws_a_crash(rt: HostRuntime) -> Result<(), Fail> {
-    let chart = drawn(rt.alloc(), CRASH)?;
-    let chart = chart.as_str();
-    assert!(rt; chart.starts_with("<svg "));
-    assert!(rt; chart.ends_with("</svg>\n"));
     let rows = [
         (">member 0<", 1),
         (">member 1<", 1),
@@ -70,34 +71,35 @@ fn draws_a_crash(rt: HostRuntime) -> Result<(), Fail> {
         ("class=\"down\"", 2),
         ("class=\"down\" d=\"M110 138V174\"", 1),
     ];
-    compare(&rt, chart, &rows);
+    let chart = drawn(rt.alloc(), CRASH).ok_or("a chart")?;
+    assert!(rt; is_picture(chart.as_str()));
+    compare(&rt, chart.as_str(), &rows);
     Ok(())
 }
 
 #[test]
-fn draws_disks_that_fail_and_decisions(rt: HostRuntime) -> Result<(), Fail> {
+fn draws_disks_that_fail_and_decisions(rt: HostRuntime) {
     let head = "n 1\nt 0\nquestions 2\nliars\nseed 1\n";
     for (events, words) in [
-        ("propose 0 1 0\n", ">proposes 0 on 1<"),
-        ("propose 0 1 1\nrounds 18\n", ">decides 1 on 1<"),
-        ("fuse 0 2\n", ">fuse 2<"),
-        ("fuse 0 off\n", ">fuse off<"),
-        ("fuse 0 0\npropose 0 1 0\n", ">disk fails<"),
-        ("crash 0 fill 0F\n", ">crash fill 0f<"),
+        ("propose 0 1 0", ">proposes 0 on 1<"),
+        ("propose 0 1 1\nrounds 18", ">decides 1 on 1<"),
+        ("fuse 0 2", ">fuse 2<"),
+        ("fuse 0 off", ">fuse off<"),
+        ("fuse 0 0\npropose 0 1 0", ">disk fails<"),
+        ("crash 0 fill 0F", ">crash fill 0f<"),
         // The batch that failed is on the disk, and was said for good.
         (
-            "fuse 0 3\npropose 0 1 0\ncrash 0 kept\nrestart 0\n",
+            "fuse 0 3\npropose 0 1 0\ncrash 0 kept\nrestart 0",
             ">keeps initial<",
         ),
         (
-            "fuse 0 3\npropose 0 1 0\ncrash 0 kept\nrestart 0\ndeliver 0 0 next\n",
+            "fuse 0 3\npropose 0 1 0\ncrash 0 kept\nrestart 0\ndeliver 0 0 next",
             ">initial 1 0 1 1 zero<",
         ),
     ] {
-        let script = format!(in rt.alloc(); "{head}{events}")?;
-        assert!(rt; draws(rt.alloc(), script.as_str(), words)?, "at {words}");
+        let times = count_in(rt.alloc(), head, events, words);
+        assert!(rt; times == Some(1), "at {words}");
     }
-    Ok(())
 }
 
 /// A group has one arrow, which says how many statements it has; the link then goes as many further.
@@ -116,7 +118,6 @@ group 1 0 3
 deliver 1 0 next
 group 1 1 256
 ";
-    let chart = drawn(rt.alloc(), script)?;
     let rows = [
         (">group of 3<", 1),
         (">says 3 echos<", 1),
@@ -124,25 +125,30 @@ group 1 1 256
         (">group of 4<", 1),
         (">says 4 echos<", 1),
     ];
+    let chart = drawn(rt.alloc(), script).ok_or("a chart")?;
     compare(&rt, chart.as_str(), &rows);
     Ok(())
 }
 
+/// Whether the chart is a picture whose texts all end, and which names member 1 once.
+fn has_member_1(chart: &str) -> bool {
+    is_picture(chart)
+        && count(chart, "<text") == count(chart, "</text>")
+        && count(chart, ">member 1<") == 1
+}
+
 #[test]
 fn draws_no_events(rt: HostRuntime) -> Result<(), Fail> {
-    let chart = drawn(rt.alloc(), "n 2\nt 0\nquestions 1\nliars\nseed 1\n")?;
-    let chart = chart.as_str();
-    assert!(rt; chart.starts_with("<svg "));
-    assert!(rt; chart.ends_with("</svg>\n"));
-    assert!(rt; count(chart, "<text") == count(chart, "</text>"));
-    assert!(rt; count(chart, ">member 1<") == 1);
+    let script = "n 2\nt 0\nquestions 1\nliars\nseed 1\n";
+    let chart = drawn(rt.alloc(), script).ok_or("a chart")?;
+    assert!(rt; has_member_1(chart.as_str()));
     Ok(())
 }
 
 /// An arrow of a lie carries the words of the statement whose frame its bytes are, and else the bytes.
 #[test]
-fn names_the_statements_of_liars(rt: HostRuntime) -> Result<(), Fail> {
-    let head = "n 4\nt 1\nquestions 2\nliars 3\nseed 1\n";
+fn names_the_statements_of_liars(rt: HostRuntime) {
+    let head = "n 4\nt 1\nquestions 2\nliars 3\nseed 1\nlie 3 0 ";
     for (bytes, words) in [
         ("00080301000103010101", ">initial 1 3 1 1 one<"),
         ("00080302000003200304", ">echo 0 3 32 3 unsure<"),
@@ -154,17 +160,27 @@ fn names_the_statements_of_liars(rt: HostRuntime) -> Result<(), Fail> {
         ("000803010001030101", ">000803010001030101<"),
         ("000902000000000000000000", ">000902000000000000000000<"),
     ] {
-        let script = format!(in rt.alloc(); "{head}lie 3 0 {bytes}\n")?;
-        assert!(rt; draws(rt.alloc(), script.as_str(), words)?, "at {bytes}");
+        let times = count_in(rt.alloc(), head, bytes, words);
+        assert!(rt; times == Some(1), "at {bytes}");
     }
-    Ok(())
 }
 
 /// The chart of so many events that have a row each.
-fn rows_of(alloc: Global, count: usize) -> Result<String, Fail> {
-    let events = "fuse 0 off\n".repeat(alloc, count)?;
-    let script = format!(in alloc; "n 1\nt 0\nquestions 1\nliars\nseed 1\n{events}")?;
+fn rows_of(alloc: Global, count: usize) -> Option<String> {
+    let events = "fuse 0 off\n".repeat(alloc, count).ok()?;
+    let script = format!(in alloc; "n 1\nt 0\nquestions 1\nliars\nseed 1\n{events}").ok()?;
     drawn(alloc, script.as_str())
+}
+
+/// The words of each row stand so often in the chart of so many events.
+fn compare_rows_of(
+    rt: &(impl Abort + AllocGlobal),
+    count: usize,
+    rows: &[(&str, usize)],
+) -> Result<(), Fail> {
+    let chart = rows_of(rt.alloc(), count).ok_or("a chart")?;
+    compare(rt, chart.as_str(), rows);
+    Ok(())
 }
 
 #[test]
@@ -173,12 +189,11 @@ fn heads_stand_again_after_forty_rows(rt: HostRuntime) -> Result<(), Fail> {
         (">member 0<", 1),
         ("y=\"1470\" class=\"number\" dy=\"4\">40<", 1),
     ];
-    compare(&rt, rows_of(rt.alloc(), 40)?.as_str(), &forty);
+    compare_rows_of(&rt, 40, &forty)?;
     let more = [
         (">member 0<", 2),
         ("y=\"1506\" class=\"head\">member 0<", 1),
         ("y=\"1542\" class=\"number\" dy=\"4\">41<", 1),
     ];
-    compare(&rt, rows_of(rt.alloc(), 41)?.as_str(), &more);
-    Ok(())
+    compare_rows_of(&rt, 41, &more)
 }

@@ -1,7 +1,7 @@
 //! Charts byte for byte. Each was looked at, element by element, when it was written down.
 
 use crate::pictures::charts::drawn;
-use std::test::Fail;
+use std::alloc::Global;
 
 /// One reliable broadcast, with a liar and a crash: the chart of README.
 const SMALL: (&str, &str) = (
@@ -250,16 +250,22 @@ reset 3 1
 "##,
 );
 
-#[test]
-fn the_chart_of_a_broadcast(rt: HostRuntime) -> Result<(), Fail> {
-    let (script, want) = SMALL;
-    assert!(rt; drawn(rt.alloc(), script)?.as_str() == want);
-    Ok(())
+/// Whether that is the chart of the script.
+fn draws(alloc: Global, script: &str, want: &str) -> bool {
+    match drawn(alloc, script) {
+        Some(chart) => chart.as_str() == want,
+        None => false,
+    }
 }
 
 #[test]
-fn the_chart_of_all_signs(rt: HostRuntime) -> Result<(), Fail> {
+fn the_chart_of_a_broadcast(rt: HostRuntime) {
+    let (script, want) = SMALL;
+    assert!(rt; draws(rt.alloc(), script, want));
+}
+
+#[test]
+fn the_chart_of_all_signs(rt: HostRuntime) {
     let (script, want) = MANY;
-    assert!(rt; drawn(rt.alloc(), script)?.as_str() == want);
-    Ok(())
+    assert!(rt; draws(rt.alloc(), script, want));
 }

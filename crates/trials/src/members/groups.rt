@@ -220,7 +220,7 @@ fn of_all_questions(rt: &(impl AllocGlobal + Abort)) -> Result<Vec<(u8, Statemen
 {
     let mut events = Vec::new(rt.alloc());
     for question in 0..256 {
-        let initial = statement(rt, question, Initial, (1, 1), One);
+        let initial = statement(rt, Initial, (question, 0, 1, 1), One);
         events.push((0, initial, Toss(0)))?;
     }
     Ok(events)
