@@ -1,4 +1,5 @@
 pub mod Cells
+pub mod Rulings
 pub mod Published
 pub mod Settling
 pub mod Replaying

@@ -7,5 +7,5 @@ pub use Rattle.node.specs.Groups.{AppliesAll, LivesOnAll, heard_from, lengthened
 pub use Rattle.node.specs.Keeps.{AreDecided, IsKept}
 pub use Rattle.node.specs.Marks.{AreMarked}
 pub use Rattle.node.specs.Settled.{AreSeated, IsSeatOf, IsSeated, all_below, is_seated, is_settled, same_statements}
-pub use Rattle.node.specs.Verdicts.{KnownCells, KnowsMore}
+pub use Rattle.node.specs.Verdicts.{KnownCells, KnowsMore, known_at, ruling_at, ruling_in, ruling_of, told, told_from}
 pub use Rattle.node.specs.Views.{BookView}

@@ -445,8 +445,8 @@ fn publish_one<D: Disk>(member: &Member<D>, notes: &mut Notes, question: u16)
     ensures decided { AreDecided (member_saved member.now) notes.new.known }
     ensures more { KnowsMore notes.old.known notes.new.known }
 {
-    if let Some(bit) = member.verdict(question) {
-        notes.publish(question, bit);
+    if let Some(ruling) = member.ruling(question) {
+        notes.publish(ruling);
     }
 }
 
