@@ -6,8 +6,8 @@ ghost use Rattle.questions.specs.Replay.Entry.{Heard, Proposed};
 ghost use Rattle.questions.specs.Replies.{reply_of};
 ghost use Rattle.world.specs.World.{World, IsCorrect};
 ghost use Rattle.member.specs.Answers.{verdict_of, IsFull};
-ghost use Rattle.member.specs.Groups.{replies_of, AllCome, IsFullOfAll};
-ghost use Rattle.member.specs.Life.{MemberIsAt, Comes};
+ghost use Rattle.member.specs.Groups.{replies_of, AllCome, IsFullOfAll, MayAllBeCutOff};
+ghost use Rattle.member.specs.Life.{MemberIsAt, Comes, MayBeCutOff};
 ghost use Rattle.member.specs.Outcomes.{HasSaved, StaysOn};
 ghost use Rattle.member.specs.Sealed.{sealed_from};
 ghost use Rattle.member.specs.Sound.{IsSound};
@@ -127,6 +127,10 @@ impl<D: Disk, J: Naming> Book<D, J> {
         ensures life { (header : Header) (liars : ℕ → Bool) (w : World) → IsCorrect header.size liars header.me →
             MemberIsAt D.Disk header w self.old.member → Comes w (Hearing seat.old.peer statement.now) →
             LivesOn D.Disk header liars w toss.0 (Hearing seat.old.peer statement.now) result self.old.member self.new.member }
+        // A crash within the call: it made no call of the device, or it is that event with all records in doubt.
+        ensures cut { (header : Header) (liars : ℕ → Bool) (w : World) → IsCorrect header.size liars header.me →
+            MemberIsAt D.Disk header w self.old.member → Comes w (Hearing seat.old.peer statement.now) →
+            MayBeCutOff D.Disk header liars w toss.0 (Hearing seat.old.peer statement.now) self.old.member self.new.member }
 
         ensures fault { IfErr result (λ f. RefusesEvent self.old (Hearing seat.old.peer statement.now) f self.new) }
         ensures kept { OnErr result (seat.new ≡ seat.old) }
@@ -189,6 +193,10 @@ impl<D: Disk, J: Naming> Book<D, J> {
         ensures life { (header : Header) (liars : ℕ → Bool) (w : World) → IsCorrect header.size liars header.me →
             MemberIsAt D.Disk header w self.old.member → AllCome w (heard_from seat.old.peer events.now) →
             LivesOnAll D.Disk header liars w (heard_from seat.old.peer events.now) result self.old.member self.new.member }
+        // A crash within the call: it made no call of the device, or it is that event with all records in doubt.
+        ensures cut { (header : Header) (liars : ℕ → Bool) (w : World) → IsCorrect header.size liars header.me →
+            MemberIsAt D.Disk header w self.old.member → AllCome w (heard_from seat.old.peer events.now) →
+            MayAllBeCutOff D.Disk header liars w (heard_from seat.old.peer events.now) self.old.member self.new.member }
 
         ensures fault { IfErr result (λ f. RefusesAll self.old (heard_from seat.old.peer events.now) f self.new) }
         ensures kept { OnErr result (seat.new ≡ seat.old) }
@@ -235,6 +243,10 @@ impl<D: Disk, J: Naming> Book<D, J> {
         ensures life { (header : Header) (liars : ℕ → Bool) (w : World) → IsCorrect header.size liars header.me →
             MemberIsAt D.Disk header w self.old.member → Comes w (Proposal question bit) →
             LivesOn D.Disk header liars w toss.0 (Proposal question bit) result self.old.member self.new.member }
+        // A crash within the call: it made no call of the device, or it is that event with all records in doubt.
+        ensures cut { (header : Header) (liars : ℕ → Bool) (w : World) → IsCorrect header.size liars header.me →
+            MemberIsAt D.Disk header w self.old.member → Comes w (Proposal question bit) →
+            MayBeCutOff D.Disk header liars w toss.0 (Proposal question bit) self.old.member self.new.member }
 
         ensures fault { IfErr result (λ f. RefusesEvent self.old (Proposal question bit) f self.new) }
         ensures disk { IfErr result (λ f. Spares D.Disk
