@@ -1,76 +1,41 @@
 -- What a session has answered.
-use Rattle.std.proofs.Common.{◌≡◌, ℕ, ◌+◌, ◌<◌, ◌≤◌, ◌==◌, List, [], ◌∷◌, ◌++◌, length, codes, inl, inr, refl, sym, ap, ◌∙◌, subst, arith, Bool, false, Option, Some, None, Result, Ok, Err, append_assoc, append-nil, length-append}
-use Rattle.std.specs.List.{All, flat_map}
-use Rattle.std.proofs.lemmas.List.Elements.{All-nil, All-cons, All-append}
+use Rattle.std.proofs.Common.{◌≡◌, ℕ, ◌+◌, ◌<◌, ◌≤◌, ◌==◌, List, [], ◌∷◌, ◌++◌, length, codes, inl, inr, refl, sym, ap, ◌∙◌, subst, arith, false, Result, Err, append_assoc, append-nil, length-append}
+use Rattle.std.specs.List.{flat_map}
 use Rattle.std.proofs.lemmas.Grind.{flat_map-append}
 use Rattle.words.specs.Lines.{NoEnd, line}
-use Rattle.node.specs.Verdicts.{KnowsMore, known_at}
 use Rattle.links.specs.Told.{Told, has_read, has_written, has_failed, has_ended, BreaksOff}
 use Rattle.desk.specs.declared.command.Command.{Command}
-use Rattle.desk.specs.declared.command.Command.TheVariants.{Propose, Ask, Status}
 use Rattle.desk.specs.declared.reply.Reply.{Reply}
 use Rattle.desk.specs.declared.reply.Reply.TheVariants.{BadLine, Memory}
 use Rattle.desk.specs.declared.serving.DeskEnd.TheVariants as end
 use Rattle.desk.specs.Replies.{reply_text}
 use Rattle.desk.specs.Commands.{Parses, command_for}
-use Rattle.desk.specs.Answers.{verdict_reply}
-use Rattle.desk.specs.Sessions.{IsVerdictReply, AnswersCommand, AnswersRequest, AnswersLine, IsLine, Exchange, MaySay, MayReply, IsExchange, asked_in, replied_in, exchanged, IsTooLong, Serves}
+use Rattle.desk.specs.Sessions.{Sitting, AnswersRequest, AnswersLine, IsLine, Exchange, HasNumbers, MaySay, IsExchange, InTurn, asked_in, replied_in, exchanged, IsTooLong, Serves}
 use Rattle.desk.specs.Turns.{Says, FailsToSay, Serving}
 
 -- the reply to the command or refusal that a line is found to be is the reply to the line
-pub answers_line : (D : Type 0) (questions count : ℕ) (known : List (Option Bool)) (asked : List ℕ) (parsed found : Result Command Reply) (reply : Reply)
-    → Parses count asked parsed → count ≡ questions → parsed ≡ found → AnswersRequest D known found reply → AnswersLine D questions known asked reply
-answers_line D questions count known asked parsed found reply (inl nothing) same is answers =
-    inl (nothing.0, subst (λ p. AnswersRequest D known p reply) (sym is ∙ nothing.1) answers)
-answers_line D questions count known asked parsed found reply (inr request) same is answers =
-    inr (request.0, request.1, subst (λ p. AnswersRequest D known p reply) (sym is ∙ request.2 ∙ ap (λ n. command_for n request.0) same) answers)
-
--- what the board has of a question is a reply to it
-pub verdict_answers : (known : List (Option Bool)) (question : ℕ) (found : Option Bool) (reply : Reply)
-    → known_at known question ≡ found → reply ≡ verdict_reply found → IsVerdictReply known question reply
-verdict_answers known question None reply is replied = inl replied
-verdict_answers known question (Some bit) reply is replied = inr (bit, replied, is)
-
--- a reply to a line stays one where more is known
-
-verdict_more : (known more : List (Option Bool)) (question : ℕ) (reply : Reply) → KnowsMore known more
-    → IsVerdictReply known question reply → IsVerdictReply more question reply
-verdict_more known more question reply m (inl undecided) = inl undecided
-verdict_more known more question reply m (inr d) = inr (d.0, d.1, m question d.0 d.2)
-
-command_more : (D : Type 0) (known more : List (Option Bool)) (command : Command) (reply : Reply) → KnowsMore known more
-    → AnswersCommand D known command reply → AnswersCommand D more command reply
-command_more D known more (Propose question bit) reply m a = a
-command_more D known more (Ask question) reply m a = verdict_more known more question reply m a
-command_more D known more Status reply m a = a
-
-request_more : (D : Type 0) (known more : List (Option Bool)) (parsed : Result Command Reply) (reply : Reply) → KnowsMore known more
-    → AnswersRequest D known parsed reply → AnswersRequest D more parsed reply
-request_more D known more (Ok command) reply m a = command_more D known more command reply m a
-request_more D known more (Err refusal) reply m a = a
-
-line_more : (D : Type 0) (questions : ℕ) (known more : List (Option Bool)) (asked : List ℕ) (reply : Reply) → KnowsMore known more
-    → AnswersLine D questions known asked reply → AnswersLine D questions more asked reply
-line_more D questions known more asked reply m (inl nothing) = inl nothing
-line_more D questions known more asked reply m (inr a) = inr (a.0, a.1, request_more D known more _ reply m a.2)
-
-exchange_more : (D : Type 0) (questions : ℕ) (known more : List (Option Bool)) (x : Exchange) → KnowsMore known more
-    → IsExchange D questions known x → IsExchange D questions more x
-exchange_more D questions known more x m is = record {
-  is_line = is.is_line;
-  replied = (is.replied.0, line_more D questions known more x.asked is.replied.0 m is.replied.1, is.replied.2);
-}
-
-each_more : (D : Type 0) (questions : ℕ) (known more : List (Option Bool)) (xs : List Exchange) → KnowsMore known more
-    → All (IsExchange D questions known) xs → All (IsExchange D questions more) xs
-each_more D questions known more xs m each = λ k d within. exchange_more D questions known more _ m (each k d within)
+pub answers_line : {T : Type 0} (D : Type 0) (may_toss : T → ℕ → T → Type 0) (questions count : ℕ) (before after : Sitting T) (asked : List ℕ)
+    (parsed found : Result Command Reply) (reply : Reply) → Parses count asked parsed → count ≡ questions → parsed ≡ found
+    → AnswersRequest D may_toss before found reply after → AnswersLine D may_toss questions before asked reply after
+answers_line D may_toss questions count before after asked parsed found reply (inl nothing) same is answers =
+    let refused : AnswersRequest D may_toss before (Err BadLine) reply after = subst (λ p. AnswersRequest D may_toss before p reply after) (sym is ∙ nothing.1) answers in
+    inl (nothing.0, refused.0, refused.1)
+answers_line D may_toss questions count before after asked parsed found reply (inr request) same is answers =
+    inr (request.0, request.1, subst (λ p. AnswersRequest D may_toss before p reply after) (sym is ∙ request.2 ∙ ap (λ n. command_for n request.0) same) answers)
 
 -- the reply written for a refused memory
-pub says_memory : (reply : Reply) (old new : Told) → new ≡ has_written old (line (codes "ERR 4 memory")) → Says (MaySay reply) old new
-says_memory reply old new wrote = record { reply = Memory; fits = inl refl; wrote = wrote }
+pub says_memory : (reply : Reply) (old new : Told) → HasNumbers reply → new ≡ has_written old (line (codes "ERR 4 memory")) → Says (MaySay reply) old new
+says_memory reply old new numbers wrote = record { reply = Memory; fits = inl (refl, numbers); wrote = wrote }
 
-pub fails_to_say_memory : (reply : Reply) (old new : Told) → BreaksOff old new (line (codes "ERR 4 memory")) → FailsToSay (MaySay reply) old new
-fails_to_say_memory reply old new broke = record { reply = Memory; fits = inl refl; broke = broke }
+pub fails_to_say_memory : (reply : Reply) (old new : Told) → HasNumbers reply → BreaksOff old new (line (codes "ERR 4 memory")) → FailsToSay (MaySay reply) old new
+fails_to_say_memory reply old new numbers broke = record { reply = Memory; fits = inl (refl, numbers); broke = broke }
+
+-- the reply's own line
+pub says_line : (reply : Reply) (old new : Told) (text : List ℕ) → text ≡ line (reply_text reply) → new ≡ has_written old text → Says (MaySay reply) old new
+says_line reply old new text is wrote = record { reply = reply; fits = inr refl; wrote = wrote ∙ ap (λ (l : List ℕ). has_written old l) is }
+
+pub fails_to_say_line : (reply : Reply) (old new : Told) (text : List ℕ) → text ≡ line (reply_text reply) → BreaksOff old new text → FailsToSay (MaySay reply) old new
+fails_to_say_line reply old new text is broke = record { reply = reply; fits = inr refl; broke = subst (λ (l : List ℕ). BreaksOff old new l) is broke }
 
 -- what was read and written
 
@@ -108,20 +73,29 @@ no_end-append : (xs ys : List ℕ) → NoEnd xs → NoEnd ys → NoEnd (xs ++ ys
 no_end-append [] ys p q = q
 no_end-append (x ∷ xs) ys p q = (p.0, no_end-append xs ys p.1 q)
 
-module _ (D : Type 0) (questions : ℕ) where
+pub no_bytes : (held : List ℕ) → length held ≡ 0 → held ≡ []
+no_bytes [] none = refl
+no_bytes (byte ∷ held) none = absurd (omega arith)
+
+module _ {S : Type 0} (Replies : S → List ℕ → Reply → S → Type 0) where
+  in_turn-snoc : (before mid after : S) (xs : List Exchange) (x : Exchange) → InTurn Replies before xs mid → IsExchange Replies mid x after
+      → InTurn Replies before (xs ++ x ∷ []) after
+  in_turn-snoc before mid after [] x turns one = (after, subst (λ (s : S). IsExchange Replies s x after) turns one, refl)
+  in_turn-snoc before mid after (y ∷ xs) x turns one = (turns.0, turns.1, in_turn-snoc turns.0 mid after xs x turns.2 one)
+
   -- nothing was read yet
-  pub begun : (known : List (Option Bool)) (old : Told) → Serving D questions known old old [] []
-  begun known old = record {
+  pub begun : (before : S) (old : Told) → Serving Replies before before old old [] []
+  begun before old = record {
     exchanges = [];
-    each = All-nil (IsExchange D questions known);
+    each = refl;
     is_line = record { no_end = tt; short = omega arith };
     told = λ i. record old { taken = sym (append-nil old.taken) i; written = sym (append-nil old.written) i };
   }
 
   -- a piece is read
-  pub reads_on : (known : List (Option Bool)) (old now new : Told) (held piece : List ℕ) → Serving D questions known old now held []
-      → new ≡ has_read now piece → Serving D questions known old new held piece
-  reads_on known old now new held piece s read = record {
+  pub reads_on : (before after : S) (old now new : Told) (held piece : List ℕ) → Serving Replies before after old now held []
+      → new ≡ has_read now piece → Serving Replies before after old new held piece
+  reads_on before after old now new held piece s read = record {
     exchanges = s.exchanges;
     each = s.each;
     is_line = s.is_line;
@@ -129,9 +103,9 @@ module _ (D : Type 0) (questions : ℕ) where
   }
 
   -- a byte of a line
-  pub holds_on : (known : List (Option Bool)) (old now : Told) (held longer more : List ℕ) (byte : ℕ) → Serving D questions known old now held (byte ∷ more)
-      → (byte == 10) ≡ false → length held < 4096 → longer ≡ held ++ byte ∷ [] → Serving D questions known old now longer more
-  holds_on known old now held longer more byte s other short is = subst (λ (l : List ℕ). Serving D questions known old now l more) (sym is) (record {
+  pub holds_on : (before after : S) (old now : Told) (held longer more : List ℕ) (byte : ℕ) → Serving Replies before after old now held (byte ∷ more)
+      → (byte == 10) ≡ false → length held < 4096 → longer ≡ held ++ byte ∷ [] → Serving Replies before after old now longer more
+  holds_on before after old now held longer more byte s other short is = subst (λ (l : List ℕ). Serving Replies before after old now l more) (sym is) (record {
     exchanges = s.exchanges;
     each = s.each;
     is_line = record {
@@ -142,44 +116,44 @@ module _ (D : Type 0) (questions : ℕ) where
   })
 
   -- a line was answered
-  pub answers_on : (known after : List (Option Bool)) (old now new : Told) (held more : List ℕ) → Serving D questions known old now held (10 ∷ more)
-      → KnowsMore known after → Says (MayReply D questions after held) now new → Serving D questions after old new [] more
-  answers_on known after old now new held more s m said =
+  pub answers_on : (before mid after : S) (old now new : Told) (held more : List ℕ) → Serving Replies before mid old now held (10 ∷ more)
+      → Says (λ (said : Reply). Replies mid held said after) now new → Serving Replies before after old new [] more
+  answers_on before mid after old now new held more s said =
       let x : Exchange = record { asked = held; reply = said.reply } in
-      let is : IsExchange D questions after x = record { is_line = s.is_line; replied = said.fits } in
+      let is : IsExchange Replies mid x after = record { is_line = s.is_line; replied = said.fits } in
       record {
         exchanges = s.exchanges ++ x ∷ [];
-        each = All-append (IsExchange D questions after) s.exchanges (x ∷ []) (each_more D questions known after s.exchanges m s.each)
-            (All-cons (IsExchange D questions after) x [] is (All-nil (IsExchange D questions after)));
+        each = in_turn-snoc before mid after s.exchanges x s.each is;
         is_line = record { no_end = tt; short = omega arith };
         told = said.wrote ∙ ap (λ (t : Told). has_written t (line (reply_text said.reply))) s.told ∙ sym (one_more old s.exchanges x more);
       }
 
   -- its answer wasn't written
-  pub answer_lost : (known after : List (Option Bool)) (old now new : Told) (held more : List ℕ) → Serving D questions known old now held (10 ∷ more)
-      → KnowsMore known after → FailsToSay (MayReply D questions after held) now new → Serves D questions after old new end.Lost
-  answer_lost known after old now new held more s m said = record {
+  pub answer_lost : (before mid after : S) (old now new : Told) (held more : List ℕ) → Serving Replies before mid old now held (10 ∷ more)
+      → FailsToSay (λ (said : Reply). Replies mid held said after) now new → Serves Replies before after old new end.Lost
+  answer_lost before mid after old now new held more s said = record {
     exchanges = s.exchanges;
     rest = held ++ 10 ∷ more;
-    each = each_more D questions known after s.exchanges m s.each;
+    between = mid;
+    each = s.each;
     ends = inr (now, said.reply, inl (held, more, sym (append_assoc held (10 ∷ []) more), record { is_line = s.is_line; replied = said.fits }, s.told), said.broke);
   }
 
   -- the same, where the byte was a 10 and the line that was answered the one that was held
-  pub ends_line : (known after : List (Option Bool)) (old now new : Told) (held asked left more : List ℕ) (byte : ℕ)
-      → Serving D questions known old now held (byte ∷ more) → byte ≡ 10 → asked ≡ held → left ≡ [] → KnowsMore known after
-      → Says (MayReply D questions after asked) now new → Serving D questions after old new left more
-  ends_line known after old now new held asked left more byte s is same none m said =
-      subst (λ (l : List ℕ). Serving D questions after old new l more) (sym none)
-      (answers_on known after old now new held more (subst (λ (b : ℕ). Serving D questions known old now held (b ∷ more)) is s) m
-      (subst (λ (l : List ℕ). Says (MayReply D questions after l) now new) same said))
+  pub ends_line : (before mid after : S) (old now new : Told) (held asked left more : List ℕ) (byte : ℕ)
+      → Serving Replies before mid old now held (byte ∷ more) → byte ≡ 10 → asked ≡ held → left ≡ []
+      → Says (λ (said : Reply). Replies mid asked said after) now new → Serving Replies before after old new left more
+  ends_line before mid after old now new held asked left more byte s is same none said =
+      subst (λ (l : List ℕ). Serving Replies before after old new l more) (sym none)
+      (answers_on before mid after old now new held more (subst (λ (b : ℕ). Serving Replies before mid old now held (b ∷ more)) is s)
+      (subst (λ (l : List ℕ). Says (λ (said : Reply). Replies mid l said after) now new) same said))
 
-  pub ends_line_lost : (known after : List (Option Bool)) (old now new : Told) (held asked more : List ℕ) (byte : ℕ)
-      → Serving D questions known old now held (byte ∷ more) → byte ≡ 10 → asked ≡ held → KnowsMore known after
-      → FailsToSay (MayReply D questions after asked) now new → Serves D questions after old new end.Lost
-  ends_line_lost known after old now new held asked more byte s is same m said =
-      answer_lost known after old now new held more (subst (λ (b : ℕ). Serving D questions known old now held (b ∷ more)) is s) m
-      (subst (λ (l : List ℕ). FailsToSay (MayReply D questions after l) now new) same said)
+  pub ends_line_lost : (before mid after : S) (old now new : Told) (held asked more : List ℕ) (byte : ℕ)
+      → Serving Replies before mid old now held (byte ∷ more) → byte ≡ 10 → asked ≡ held
+      → FailsToSay (λ (said : Reply). Replies mid asked said after) now new → Serves Replies before after old new end.Lost
+  ends_line_lost before mid after old now new held asked more byte s is same said =
+      answer_lost before mid after old now new held more (subst (λ (b : ℕ). Serving Replies before mid old now held (b ∷ more)) is s)
+      (subst (λ (l : List ℕ). FailsToSay (λ (said : Reply). Replies mid l said after) now new) same said)
 
   is_too_long : (held more : List ℕ) (byte : ℕ) → IsLine held → (byte == 10) ≡ false → 4096 ≤ length held → IsTooLong (held ++ byte ∷ more)
   is_too_long held more byte is other long = record {
@@ -191,67 +165,73 @@ module _ (D : Type 0) (questions : ℕ) where
   }
 
   -- a line was too long
-  pub too_long : (known : List (Option Bool)) (old now new : Told) (held more : List ℕ) (byte : ℕ) → Serving D questions known old now held (byte ∷ more)
-      → (byte == 10) ≡ false → 4096 ≤ length held → Says (MaySay BadLine) now new → Serves D questions known old new end.TooLong
-  too_long known old now new held more byte s other long said = record {
+  pub too_long : (before after : S) (old now new : Told) (held more : List ℕ) (byte : ℕ) → Serving Replies before after old now held (byte ∷ more)
+      → (byte == 10) ≡ false → 4096 ≤ length held → Says (MaySay BadLine) now new → Serves Replies before after old new end.TooLong
+  too_long before after old now new held more byte s other long said = record {
     exchanges = s.exchanges;
     rest = held ++ byte ∷ more;
+    between = after;
     each = s.each;
-    ends = (said.reply, is_too_long held more byte s.is_line other long, said.fits, said.wrote ∙ ap (λ (t : Told). has_written t (line (reply_text said.reply))) s.told);
+    ends = (said.reply, is_too_long held more byte s.is_line other long, said.fits, refl, said.wrote ∙ ap (λ (t : Told). has_written t (line (reply_text said.reply))) s.told);
   }
 
-  pub too_long_lost : (known : List (Option Bool)) (old now new : Told) (held more : List ℕ) (byte : ℕ) → Serving D questions known old now held (byte ∷ more)
-      → (byte == 10) ≡ false → 4096 ≤ length held → FailsToSay (MaySay BadLine) now new → Serves D questions known old new end.Lost
-  too_long_lost known old now new held more byte s other long said = record {
+  pub too_long_lost : (before after : S) (old now new : Told) (held more : List ℕ) (byte : ℕ) → Serving Replies before after old now held (byte ∷ more)
+      → (byte == 10) ≡ false → 4096 ≤ length held → FailsToSay (MaySay BadLine) now new → Serves Replies before after old new end.Lost
+  too_long_lost before after old now new held more byte s other long said = record {
     exchanges = s.exchanges;
     rest = held ++ byte ∷ more;
+    between = after;
     each = s.each;
-    ends = inr (now, said.reply, inr (inl (is_too_long held more byte s.is_line other long, said.fits, s.told)), said.broke);
+    ends = inr (now, said.reply, inr (inl (is_too_long held more byte s.is_line other long, said.fits, refl, s.told)), said.broke);
   }
 
   -- a read failed
-  pub read_lost : (known : List (Option Bool)) (old now new : Told) (held : List ℕ) → Serving D questions known old now held []
-      → new ≡ has_failed now → Serves D questions known old new end.Lost
-  read_lost known old now new held s failed = record {
+  pub read_lost : (before after : S) (old now new : Told) (held : List ℕ) → Serving Replies before after old now held []
+      → new ≡ has_failed now → Serves Replies before after old new end.Lost
+  read_lost before after old now new held s failed = record {
     exchanges = s.exchanges;
     rest = held;
+    between = after;
     each = s.each;
-    ends = inl (s.is_line, failed ∙ ap has_failed (s.told ∙ ap (exchanged old s.exchanges) (append-nil held)));
+    ends = inl (s.is_line, refl, failed ∙ ap has_failed (s.told ∙ ap (exchanged old s.exchanges) (append-nil held)));
   }
 
   -- the input ended, and no line was held
-  pub ended : (known : List (Option Bool)) (old now new : Told) (held : List ℕ) → Serving D questions known old now held []
-      → held ≡ [] → new ≡ has_ended now → Serves D questions known old new end.Ended
-  ended known old now new held s none over = record {
+  pub ended : (before after : S) (old now new : Told) (held : List ℕ) → Serving Replies before after old now held []
+      → held ≡ [] → new ≡ has_ended now → Serves Replies before after old new end.Ended
+  ended before after old now new held s none over = record {
     exchanges = s.exchanges;
     rest = [];
+    between = after;
     each = s.each;
-    ends = inl (refl, over ∙ ap has_ended (s.told ∙ ap (λ (l : List ℕ). exchanged old s.exchanges (l ++ [])) none));
+    ends = inl (refl, refl, over ∙ ap has_ended (s.told ∙ ap (λ (l : List ℕ). exchanged old s.exchanges (l ++ [])) none));
   }
 
-  ended_at : (known : List (Option Bool)) (old now told : Told) (held : List ℕ) → (s : Serving D questions known old now held [])
+  ended_at : (before after : S) (old now told : Told) (held : List ℕ) → (s : Serving Replies before after old now held [])
       → told ≡ has_ended now → told ≡ has_ended (exchanged old s.exchanges held)
-  ended_at known old now told held s over = over ∙ ap has_ended (s.told ∙ ap (exchanged old s.exchanges) (append-nil held))
+  ended_at before after old now told held s over = over ∙ ap has_ended (s.told ∙ ap (exchanged old s.exchanges) (append-nil held))
 
   -- the input ended, and the line that was held was answered
-  pub ended_by_line : (known after : List (Option Bool)) (old now told new : Told) (held : List ℕ) → Serving D questions known old now held []
-      → 0 < length held → told ≡ has_ended now → KnowsMore known after → Says (MayReply D questions after held) told new → Serves D questions after old new end.Ended
-  ended_by_line known after old now told new held s some over m said = record {
+  pub ended_by_line : (before mid after : S) (old now told new : Told) (held : List ℕ) → Serving Replies before mid old now held []
+      → 0 < length held → told ≡ has_ended now → Says (λ (said : Reply). Replies mid held said after) told new → Serves Replies before after old new end.Ended
+  ended_by_line before mid after old now told new held s some over said = record {
     exchanges = s.exchanges;
     rest = held;
-    each = each_more D questions known after s.exchanges m s.each;
+    between = mid;
+    each = s.each;
     ends = inr (
       said.reply,
       (some, record { is_line = s.is_line; replied = said.fits }),
-      said.wrote ∙ ap (λ (t : Told). has_written t (line (reply_text said.reply))) (ended_at known old now told held s over),
+      said.wrote ∙ ap (λ (t : Told). has_written t (line (reply_text said.reply))) (ended_at before mid old now told held s over),
     );
   }
 
-  pub ended_lost : (known after : List (Option Bool)) (old now told new : Told) (held : List ℕ) → Serving D questions known old now held []
-      → 0 < length held → told ≡ has_ended now → KnowsMore known after → FailsToSay (MayReply D questions after held) told new → Serves D questions after old new end.Lost
-  ended_lost known after old now told new held s some over m said = record {
+  pub ended_lost : (before mid after : S) (old now told new : Told) (held : List ℕ) → Serving Replies before mid old now held []
+      → 0 < length held → told ≡ has_ended now → FailsToSay (λ (said : Reply). Replies mid held said after) told new → Serves Replies before after old new end.Lost
+  ended_lost before mid after old now told new held s some over said = record {
     exchanges = s.exchanges;
     rest = held;
-    each = each_more D questions known after s.exchanges m s.each;
-    ends = inr (told, said.reply, inr (inr ((some, record { is_line = s.is_line; replied = said.fits }), ended_at known old now told held s over)), said.broke);
+    between = mid;
+    each = s.each;
+    ends = inr (told, said.reply, inr (inr ((some, record { is_line = s.is_line; replied = said.fits }), ended_at before mid old now told held s over)), said.broke);
   }

@@ -1,52 +1,65 @@
 -- What a client's session reads and writes.
-use Rattle.std.specs.Prelude.{ℕ, ◌≡◌, ◌⊎◌, ◌<◌, ◌≤◌, Bool, Some, Option, Result, Ok, Err, List, [], ◌++◌, length}
-use Rattle.std.specs.List.{All, flat_map}
+use Rattle.std.specs.Prelude.{ℕ, ◌≡◌, ◌⊎◌, ◌<◌, ◌≤◌, Bool, Option, Result, Ok, Err, List, [], ◌∷◌, ◌++◌, length}
+use Rattle.std.specs.List.{flat_map}
 use Rattle.words.specs.Lines.{NoEnd, line}
-use Rattle.node.specs.Verdicts.{known_at}
+use Rattle.node.specs.Verdicts.{known_at, KnowsMore}
 use Rattle.node.specs.Views.{BookView}
 use Rattle.links.specs.Told.{Told, has_written, has_failed, has_ended, BreaksOff}
 use Rattle.desk.specs.Lines.{LineAsks}
 use Rattle.desk.specs.Commands.{AsksNothing, command_for}
-use Rattle.desk.specs.Answers.{Proposes, status_reply}
+use Rattle.desk.specs.Answers.{Proposes, status_reply, verdict_reply}
 use Rattle.desk.specs.Replies.{reply_text}
 use Rattle.desk.specs.declared.line.LineRequest.{LineRequest}
 use Rattle.desk.specs.declared.command.Command.{Command}
 use Rattle.desk.specs.declared.command.Command.TheVariants.{Propose, Ask, Status}
 use Rattle.desk.specs.declared.reply.Reply.{Reply}
-use Rattle.desk.specs.declared.reply.Reply.TheVariants.{BadLine, Decided, Undecided, Memory}
+use Rattle.desk.specs.declared.reply.Reply.TheVariants.{Taken, Have, Stopped, Decided, Undecided, Up, BadLine, BadQuestion, BadBit, Memory}
 use Rattle.desk.specs.declared.serving.DeskEnd.{DeskEnd}
 use Rattle.desk.specs.declared.serving.DeskEnd.TheVariants as end
 
--- what a book replies to a proposal
-abbrev pub IsProposalReply : Type 0 → ℕ → Bool → Reply → Type 0
-IsProposalReply D question bit reply =
-    (old : BookView D) × (new : BookView D) × (toss : ℕ) × Proposes old question bit toss reply new
+-- what a session goes on with: what its pass knows of the board, and its tosser
+pub record Sitting (T : Type 0) : Type 0 where
+  pub known : List (Option Bool)
+  pub tosser : T
 
--- what a book replies where it is asked how far it is
-abbrev pub IsStatusReply : Type 0 → Reply → Type 0
-IsStatusReply D reply = (book : BookView D) × (reply ≡ status_reply book)
+abbrev pub sitting : {T : Type 0} → List (Option Bool) → T → Sitting T
+sitting known tosser = record { known = known; tosser = tosser }
 
--- what is replied where a verdict is asked for: a decision is known of the board
-abbrev pub IsVerdictReply : List (Option Bool) → ℕ → Reply → Type 0
-IsVerdictReply known question reply =
-    (reply ≡ Undecided) ⊎ ((bit : Bool) × (reply ≡ Decided bit) × (known_at known question ≡ Some bit))
+-- what a book replies to a proposal that is done to it once, with the toss that was drawn for it
+pub record IsProposalReply {T : Type 0} (D : Type 0) (may_toss : T → ℕ → T → Type 0) (before : T) (question : ℕ) (bit : Bool) (reply : Reply) (after : T) : Type 0 where
+  pub toss : ℕ
+  pub drawn : may_toss before toss after
+  pub old : BookView D
+  pub new : BookView D
+  pub proposes : Proposes old question bit toss reply new
+
+-- what a book replies where it is asked how far it is; a toss is drawn for it too
+pub record IsStatusReply {T : Type 0} (D : Type 0) (may_toss : T → ℕ → T → Type 0) (before : T) (reply : Reply) (after : T) : Type 0 where
+  pub toss : ℕ
+  pub drawn : may_toss before toss after
+  pub book : BookView D
+  pub status : reply ≡ status_reply book
 
 -- the reply to a command
-abbrev pub AnswersCommand : Type 0 → List (Option Bool) → Command → Reply → Type 0
-AnswersCommand D known (Propose question bit) reply = IsProposalReply D question bit reply
-AnswersCommand D known (Ask question) reply = IsVerdictReply known question reply
-AnswersCommand D known Status reply = IsStatusReply D reply
+abbrev pub AnswersCommand : {T : Type 0} → Type 0 → (T → ℕ → T → Type 0) → Sitting T → Command → Reply → Sitting T → Type 0
+AnswersCommand D may_toss before (Propose question bit) reply after =
+    (after.known ≡ before.known) × IsProposalReply D may_toss before.tosser question bit reply after.tosser
+-- what was known stays known, and the reply is what is known then
+AnswersCommand D may_toss before (Ask question) reply after =
+    (after.tosser ≡ before.tosser) × KnowsMore before.known after.known × (reply ≡ verdict_reply (known_at after.known question))
+AnswersCommand D may_toss before Status reply after =
+    (after.known ≡ before.known) × IsStatusReply D may_toss before.tosser reply after.tosser
 
 -- the reply to a command, or the refusal where there is none
-abbrev pub AnswersRequest : Type 0 → List (Option Bool) → Result Command Reply → Reply → Type 0
-AnswersRequest D known (Ok command) reply = AnswersCommand D known command reply
-AnswersRequest D known (Err refusal) reply = reply ≡ refusal
+abbrev pub AnswersRequest : {T : Type 0} → Type 0 → (T → ℕ → T → Type 0) → Sitting T → Result Command Reply → Reply → Sitting T → Type 0
+AnswersRequest D may_toss before (Ok command) reply after = AnswersCommand D may_toss before command reply after
+AnswersRequest D may_toss before (Err refusal) reply after = (reply ≡ refusal) × (after ≡ before)
 
 -- the reply to a line, where there are so many questions
-abbrev pub AnswersLine : Type 0 → ℕ → List (Option Bool) → List ℕ → Reply → Type 0
-AnswersLine D questions known asked reply =
-    (AsksNothing asked × (reply ≡ BadLine))
-    ⊎ ((request : LineRequest) × LineAsks asked request × AnswersRequest D known (command_for questions request) reply)
+abbrev pub AnswersLine : {T : Type 0} → Type 0 → (T → ℕ → T → Type 0) → ℕ → Sitting T → List ℕ → Reply → Sitting T → Type 0
+AnswersLine D may_toss questions before asked reply after =
+    (AsksNothing asked × (reply ≡ BadLine) × (after ≡ before))
+    ⊎ ((request : LineRequest) × LineAsks asked request × AnswersRequest D may_toss before (command_for questions request) reply after)
 
 -- a line without its byte 10
 pub record IsLine (bytes : List ℕ) : Type 0 where
@@ -58,18 +71,39 @@ pub record Exchange : Type 0 where
   pub asked : List ℕ
   pub reply : Reply
 
--- this is written for a reply: that reply, or that memory was refused
+-- the reply with numbers in it, whose text takes memory
+abbrev pub HasNumbers : Reply → Type 0
+HasNumbers (Up statements decided) = Unit {0}
+HasNumbers Taken = ⊥
+HasNumbers (Have bit) = ⊥
+HasNumbers Stopped = ⊥
+HasNumbers (Decided bit) = ⊥
+HasNumbers Undecided = ⊥
+HasNumbers BadLine = ⊥
+HasNumbers BadQuestion = ⊥
+HasNumbers BadBit = ⊥
+HasNumbers Memory = ⊥
+
+-- this is written for a reply: that reply, or of one with numbers that memory was refused
 abbrev pub MaySay : Reply → Reply → Type 0
-MaySay reply said = (said ≡ Memory) ⊎ (said ≡ reply)
+MaySay reply said = ((said ≡ Memory) × HasNumbers reply) ⊎ (said ≡ reply)
 
 -- this is written for a line
-abbrev pub MayReply : Type 0 → ℕ → List (Option Bool) → List ℕ → Reply → Type 0
-MayReply D questions known asked said = (reply : Reply) × AnswersLine D questions known asked reply × MaySay reply said
+abbrev pub MayReply : {T : Type 0} → Type 0 → (T → ℕ → T → Type 0) → ℕ → Sitting T → List ℕ → Reply → Sitting T → Type 0
+MayReply D may_toss questions before asked said after =
+    (reply : Reply) × AnswersLine D may_toss questions before asked reply after × MaySay reply said
 
 -- the line has this reply
-pub record IsExchange (D : Type 0) (questions : ℕ) (known : List (Option Bool)) (x : Exchange) : Type 0 where
+pub record IsExchange {S : Type 0} (Replies : S → List ℕ → Reply → S → Type 0) (before : S) (x : Exchange) (after : S) : Type 0 where
   pub is_line : IsLine x.asked
-  pub replied : MayReply D questions known x.asked x.reply
+  pub replied : Replies before x.asked x.reply after
+
+-- The lines have these replies, in turn: each goes on from where the one before it ended. So a decision that was told is
+-- told again where it is asked for again.
+abbrev pub InTurn : {S : Type 0} → (S → List ℕ → Reply → S → Type 0) → S → List Exchange → S → Type 0
+InTurn Replies before [] after = after ≡ before
+InTurn {S} Replies before (x ∷ exchanges) after =
+    (between : S) × IsExchange Replies before x between × InTurn Replies between exchanges after
 
 -- the bytes of the lines, and those of the replies
 abbrev pub asked_in : List Exchange → List ℕ
@@ -94,35 +128,37 @@ pub record IsTooLong (bytes : List ℕ) : Type 0 where
   pub long : length front ≡ 4097
 
 -- the rest is the last line of an input, with no byte 10 behind it, and this is its reply
-abbrev pub IsLastLine : Type 0 → ℕ → List (Option Bool) → List ℕ → Reply → Type 0
-IsLastLine D questions known rest reply = (0 < length rest) × IsExchange D questions known (record { asked = rest; reply = reply })
+abbrev pub IsLastLine : {S : Type 0} → (S → List ℕ → Reply → S → Type 0) → S → List ℕ → Reply → S → Type 0
+IsLastLine Replies before rest reply after =
+    (0 < length rest) × IsExchange Replies before (record { asked = rest; reply = reply }) after
 
 -- This reply is owed for the rest, where the stream tells `now`: the rest begins with a line or is too long, or it is the
 -- last line of an input that ended.
-abbrev pub Owes : Type 0 → ℕ → List (Option Bool) → Told → List ℕ → Told → Reply → Type 0
-Owes D questions known served rest now reply =
+abbrev pub Owes : {S : Type 0} → (S → List ℕ → Reply → S → Type 0) → S → Told → List ℕ → Told → Reply → S → Type 0
+Owes Replies before served rest now reply after =
     ((asked : List ℕ) × (more : List ℕ) × (rest ≡ line asked ++ more)
-    × IsExchange D questions known (record { asked = asked; reply = reply }) × (now ≡ served))
-    ⊎ ((IsTooLong rest × MaySay BadLine reply × (now ≡ served))
-    ⊎ (IsLastLine D questions known rest reply × (now ≡ has_ended served)))
+    × IsExchange Replies before (record { asked = asked; reply = reply }) after × (now ≡ served))
+    ⊎ ((IsTooLong rest × MaySay BadLine reply × (after ≡ before) × (now ≡ served))
+    ⊎ (IsLastLine Replies before rest reply after × (now ≡ has_ended served)))
 
 -- how a session ends whose stream told `served` with the rest behind its last reply, and tells `now`
-abbrev pub EndsBy : Type 0 → ℕ → List (Option Bool) → Told → List ℕ → Told → DeskEnd → Type 0
+abbrev pub EndsBy : {S : Type 0} → (S → List ℕ → Reply → S → Type 0) → S → Told → List ℕ → Told → DeskEnd → S → Type 0
 -- the input ended, and what stands behind the last byte 10 was answered as a line
-EndsBy D questions known served rest now end.Ended =
-    ((rest ≡ []) × (now ≡ has_ended served))
-    ⊎ ((reply : Reply) × IsLastLine D questions known rest reply × (now ≡ has_written (has_ended served) (line (reply_text reply))))
+EndsBy Replies before served rest now end.Ended after =
+    ((rest ≡ []) × (after ≡ before) × (now ≡ has_ended served))
+    ⊎ ((reply : Reply) × IsLastLine Replies before rest reply after × (now ≡ has_written (has_ended served) (line (reply_text reply))))
 -- a line was too long, and was answered so
-EndsBy D questions known served rest now end.TooLong =
-    (reply : Reply) × IsTooLong rest × MaySay BadLine reply × (now ≡ has_written served (line (reply_text reply)))
+EndsBy Replies before served rest now end.TooLong after =
+    (reply : Reply) × IsTooLong rest × MaySay BadLine reply × (after ≡ before) × (now ≡ has_written served (line (reply_text reply)))
 -- a read failed within a line, or the write of a reply did
-EndsBy D questions known served rest now end.Lost =
-    (IsLine rest × (now ≡ has_failed served))
-    ⊎ ((told : Told) × (reply : Reply) × Owes D questions known served rest told reply × BreaksOff told now (line (reply_text reply)))
+EndsBy Replies before served rest now end.Lost after =
+    (IsLine rest × (after ≡ before) × (now ≡ has_failed served))
+    ⊎ ((told : Told) × (reply : Reply) × Owes Replies before served rest told reply after × BreaksOff told now (line (reply_text reply)))
 
 -- A client's session: its lines were answered in turn, each by one line, up to a rest, and then it ended.
-pub record Serves (D : Type 0) (questions : ℕ) (known : List (Option Bool)) (old now : Told) (why : DeskEnd) : Type 0 where
+pub record Serves {S : Type 0} (Replies : S → List ℕ → Reply → S → Type 0) (before after : S) (old now : Told) (why : DeskEnd) : Type 0 where
   pub exchanges : List Exchange
   pub rest : List ℕ
-  pub each : All (IsExchange D questions known) exchanges
-  pub ends : EndsBy D questions known (exchanged old exchanges rest) rest now why
+  pub between : S
+  pub each : InTurn Replies before exchanges between
+  pub ends : EndsBy Replies between (exchanged old exchanges rest) rest now why after

@@ -1,10 +1,9 @@
 -- A client's session under way.
-use Rattle.std.specs.Prelude.{ℕ, ◌≡◌, Bool, Option, List, ◌++◌}
-use Rattle.std.specs.List.{All}
+use Rattle.std.specs.Prelude.{ℕ, ◌≡◌, List, ◌++◌}
 use Rattle.words.specs.Lines.{line}
 use Rattle.links.specs.Told.{Told, has_written, BreaksOff}
 use Rattle.desk.specs.Replies.{reply_text}
-use Rattle.desk.specs.Sessions.{Exchange, IsExchange, IsLine, exchanged}
+use Rattle.desk.specs.Sessions.{Exchange, IsLine, InTurn, exchanged}
 use Rattle.desk.specs.declared.reply.Reply.{Reply}
 
 -- a reply's line was written, one that fits
@@ -20,8 +19,8 @@ pub record FailsToSay (Fits : Reply → Type 0) (old new : Told) : Type 0 where
   pub broke : BreaksOff old new (line (reply_text reply))
 
 -- Lines were answered, the line that is held isn't yet, and more was read behind it.
-pub record Serving (D : Type 0) (questions : ℕ) (known : List (Option Bool)) (old now : Told) (held more : List ℕ) : Type 0 where
+pub record Serving {S : Type 0} (Replies : S → List ℕ → Reply → S → Type 0) (before after : S) (old now : Told) (held more : List ℕ) : Type 0 where
   pub exchanges : List Exchange
-  pub each : All (IsExchange D questions known) exchanges
+  pub each : InTurn Replies before exchanges after
   pub is_line : IsLine held
   pub told : now ≡ exchanged old exchanges (held ++ more)

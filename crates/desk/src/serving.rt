@@ -1,13 +1,14 @@
 //! A client's session.
 
-ghost use Rattle.std.specs.Prelude.{◌≡◌, ◌∷◌, ℕ, List, [], Bool, IfOk, IfErr, OnOk, OnErr, string_bytes};
+ghost use Rattle.std.specs.Prelude.{◌≡◌, ◌∷◌, ℕ, List, [], Bool, false, length, IfOk, IfErr, IfSome, IfNone, OnOk, OnErr, string_bytes};
 ghost use Rattle.std.specs.Arc.{arc_value};
 ghost use Rattle.words.specs.Lines.{line};
+ghost use Rattle.member.specs.Readers.{member_saved};
 ghost use Rattle.node.specs.Verdicts.{KnowsMore, known_at};
 ghost use Rattle.links.specs.Told.{Told, has_written, has_ended, BreaksOff};
 ghost use Rattle.desk.specs.Replies.{reply_text};
-ghost use Rattle.desk.specs.Answers.{verdict_reply};
-ghost use Rattle.desk.specs.Sessions.{AnswersLine, IsProposalReply, IsStatusReply, MayReply, MaySay, Serves};
+ghost use Rattle.desk.specs.Answers.{Proposes, verdict_reply, status_reply};
+ghost use Rattle.desk.specs.Sessions.{Sitting, sitting, AnswersLine, IsProposalReply, IsStatusReply, HasNumbers, MayReply, MaySay, Serves};
 ghost use Rattle.desk.specs.Turns.{FailsToSay, Says, Serving};
 ghost use Rattle.desk.specs.declared.command.Command.TheVariants.{Propose, Status};
 
@@ -17,8 +18,8 @@ use crate::held::{HeldLine, LineStep};
 use crate::reply::Reply;
 use disk::Disk;
 use links::{Stream, write_all};
-use node::{Board, Hub, Naming, Pass};
-use rounds::Tosser;
+use node::{Board, Book, Hub, Naming, Pass};
+use rounds::{Toss, Tosser};
 use std::alloc::Global;
 use std::sync::Wait;
 use terms::Memory;
@@ -48,6 +49,24 @@ fn ask<D: Disk, J: Naming>(hub: &Hub<D, J>, pass: &mut Pass, question: u16) -> R
     verdict_reply(board.ask(pass, question))
 }
 
+/// Does a command on the book, once, and says whether the member has more records than before.
+fn answer_once<D: Disk, J: Naming>(
+    book: &mut Book<D, J>,
+    command: &Command,
+    toss: Toss,
+) -> (Reply, bool)
+    ensures propose { (question : ℕ) (bit : Bool) → command.now ≡ Propose question bit →
+        Proposes book.old question bit toss.0 result.0 book.new }
+    ensures status { command.now ≡ Status → (book.new ≡ book.old) × (result.0 ≡ status_reply book.old) }
+    ensures quiet { result.1 ≡ false →
+        length (member_saved book.new.member) ≡ length (member_saved book.old.member) }
+{
+    let before = book.records().len();
+    let reply = answer(book, command, toss);
+    let after = book.records().len();
+    (reply, after != before)
+}
+
 /// Does a command under the lock. It rings the bell where the member has more records than before.
 fn answer_alone<D: Disk, J: Naming, T: Tosser, R: Wait>(
     rt: &R,
@@ -55,14 +74,14 @@ fn answer_alone<D: Disk, J: Naming, T: Tosser, R: Wait>(
     tosser: &mut T,
     command: &Command,
 ) -> Reply
-    ensures propose { (question : ℕ) (bit : Bool) → command.now ≡ Propose question bit → IsProposalReply D question bit result }
-    ensures status { command.now ≡ Status → IsStatusReply D result }
+    ensures propose { (question : ℕ) (bit : Bool) → command.now ≡ Propose question bit →
+        IsProposalReply D T.may_toss tosser.old question bit result tosser.new }
+    ensures status { command.now ≡ Status → IsStatusReply D T.may_toss tosser.old result tosser.new }
 {
     let toss = tosser.toss();
     let mut book = hub.lock(rt);
-    let before = book.records().len();
-    let reply = answer(&mut *book, command, toss);
-    if book.records().len() != before {
+    let (reply, has_news) = answer_once(&mut *book, command, toss);
+    if has_news {
         hub.ring();
     }
     reply
@@ -78,8 +97,8 @@ fn reply_to<D: Disk, J: Naming, T: Tosser, R: Wait>(
 ) -> Reply
     requires { pass.old.cells ≡ J.names }
     ensures cells { pass.new.cells ≡ J.names }
-    ensures more { KnowsMore pass.old.known pass.new.known }
-    ensures reply { AnswersLine D hub.now.size.questions pass.new.known line.now result }
+    ensures reply { AnswersLine D T.may_toss hub.now.size.questions (sitting pass.old.known tosser.old) line.now result
+        (sitting pass.new.known tosser.new) }
 {
     match parse(line, hub.header().size()) {
         Err(refusal) => refusal,
@@ -109,14 +128,41 @@ fn write_line<S: Stream>(stream: &mut S, bytes: &[u8]) -> Result<(), DeskEnd>
     }
 }
 
-/// Writes a reply's line; that of [`Reply::Memory`] where memory for it is refused.
+/// The line of a reply, with the byte 10 at its end, where no number stands in it. It takes no memory.
+fn fixed_line(reply: Reply) -> Option<&'static [u8]>
+    ensures some { IfSome result (λ text. text.now ≡ line (reply_text reply)) }
+    ensures none { IfNone result (HasNumbers reply) }
+{
+    match reply {
+        Reply::Taken => Some(b"OK\n"),
+        Reply::Have(false) => Some(b"HAVE 0\n"),
+        Reply::Have(true) => Some(b"HAVE 1\n"),
+        Reply::Stopped => Some(b"STOPPED\n"),
+        Reply::Decided(false) => Some(b"DECIDED 0\n"),
+        Reply::Decided(true) => Some(b"DECIDED 1\n"),
+        Reply::Undecided => Some(b"UNDECIDED\n"),
+        Reply::Up {
+            statements: _,
+            decided: _,
+        } => None,
+        Reply::BadLine => Some(b"ERR 1 line\n"),
+        Reply::BadQuestion => Some(b"ERR 2 question\n"),
+        Reply::BadBit => Some(b"ERR 3 bit\n"),
+        Reply::Memory => Some(b"ERR 4 memory\n"),
+    }
+}
+
+/// Writes a reply's line; where a number stands in it and memory for its text is refused, that of [`Reply::Memory`].
 fn say<S: Stream>(alloc: Global, stream: &mut S, reply: Reply) -> Result<(), DeskEnd>
     ensures ok { OnOk result (Says (MaySay reply) (S.told stream.old) (S.told stream.new)) }
     ensures err { IfErr result (λ why. (why ≡ DeskEnd.Lost) × FailsToSay (MaySay reply) (S.told stream.old) (S.told stream.new)) }
 {
-    match line_of(alloc, reply) {
-        Ok(line) => write_line(stream, line.as_bytes()),
-        Err(_) => write_line(stream, b"ERR 4 memory\n"),
+    match fixed_line(reply) {
+        Some(line) => write_line(stream, line),
+        None => match line_of(alloc, reply) {
+            Ok(line) => write_line(stream, line.as_bytes()),
+            Err(_) => write_line(stream, b"ERR 4 memory\n"),
+        },
     }
 }
 
@@ -132,11 +178,12 @@ fn answer_held<D: Disk, J: Naming, S: Stream, T: Tosser, R: Wait>(
 ) -> Result<(), DeskEnd>
     requires { pass.old.cells ≡ J.names }
     ensures cells { pass.new.cells ≡ J.names }
-    ensures more { KnowsMore pass.old.known pass.new.known }
     ensures held { held.new ≡ [] }
-    ensures ok { OnOk result (Says (MayReply D hub.now.size.questions pass.new.known held.old) (S.told stream.old) (S.told stream.new)) }
+    ensures ok { OnOk result (Says (λ said. MayReply D T.may_toss hub.now.size.questions (sitting pass.old.known tosser.old)
+        held.old said (sitting pass.new.known tosser.new)) (S.told stream.old) (S.told stream.new)) }
     ensures err { IfErr result (λ why. (why ≡ DeskEnd.Lost)
-        × FailsToSay (MayReply D hub.now.size.questions pass.new.known held.old) (S.told stream.old) (S.told stream.new)) }
+        × FailsToSay (λ said. MayReply D T.may_toss hub.now.size.questions (sitting pass.old.known tosser.old)
+        held.old said (sitting pass.new.known tosser.new)) (S.told stream.old) (S.told stream.new)) }
 {
     let reply = reply_to(rt, hub, pass, tosser, held.line());
     held.clear();
@@ -156,12 +203,12 @@ fn take<D: Disk, J: Naming, S: Stream, T: Tosser, R: Wait>(
 ) -> Result<(), DeskEnd>
     requires { pass.old.cells ≡ J.names }
     ensures cells { pass.new.cells ≡ J.names }
-    ensures on { (old : Told) (more : List ℕ) →
-        Serving D hub.now.size.questions pass.old.known old (S.told stream.old) held.old (byte ∷ more) →
-        OnOk result (Serving D hub.now.size.questions pass.new.known old (S.told stream.new) held.new more) }
-    ensures off { (old : Told) (more : List ℕ) →
-        Serving D hub.now.size.questions pass.old.known old (S.told stream.old) held.old (byte ∷ more) →
-        IfErr result (Serves D hub.now.size.questions pass.new.known old (S.told stream.new)) }
+    ensures on { (begun : Sitting T) (old : Told) (more : List ℕ) →
+        Serving (MayReply D T.may_toss hub.now.size.questions) begun (sitting pass.old.known tosser.old) old (S.told stream.old) held.old (byte ∷ more) →
+        OnOk result (Serving (MayReply D T.may_toss hub.now.size.questions) begun (sitting pass.new.known tosser.new) old (S.told stream.new) held.new more) }
+    ensures off { (begun : Sitting T) (old : Told) (more : List ℕ) →
+        Serving (MayReply D T.may_toss hub.now.size.questions) begun (sitting pass.old.known tosser.old) old (S.told stream.old) held.old (byte ∷ more) →
+        IfErr result (Serves (MayReply D T.may_toss hub.now.size.questions) begun (sitting pass.new.known tosser.new) old (S.told stream.new)) }
 {
     match held.take(byte) {
         LineStep::More => Ok(()),
@@ -186,12 +233,12 @@ fn take_all<D: Disk, J: Naming, S: Stream, T: Tosser, R: Wait>(
 ) -> Result<(), DeskEnd>
     requires { pass.old.cells ≡ J.names }
     ensures cells { pass.new.cells ≡ J.names }
-    ensures on { (old : Told) →
-        Serving D hub.now.size.questions pass.old.known old (S.told stream.old) held.old piece.now →
-        OnOk result (Serving D hub.now.size.questions pass.new.known old (S.told stream.new) held.new []) }
-    ensures off { (old : Told) →
-        Serving D hub.now.size.questions pass.old.known old (S.told stream.old) held.old piece.now →
-        IfErr result (Serves D hub.now.size.questions pass.new.known old (S.told stream.new)) }
+    ensures on { (begun : Sitting T) (old : Told) →
+        Serving (MayReply D T.may_toss hub.now.size.questions) begun (sitting pass.old.known tosser.old) old (S.told stream.old) held.old piece.now →
+        OnOk result (Serving (MayReply D T.may_toss hub.now.size.questions) begun (sitting pass.new.known tosser.new) old (S.told stream.new) held.new []) }
+    ensures off { (begun : Sitting T) (old : Told) →
+        Serving (MayReply D T.may_toss hub.now.size.questions) begun (sitting pass.old.known tosser.old) old (S.told stream.old) held.old piece.now →
+        IfErr result (Serves (MayReply D T.may_toss hub.now.size.questions) begun (sitting pass.new.known tosser.new) old (S.told stream.new)) }
 {
     for byte in piece {
         if let Err(end) = take(rt, alloc, hub, pass, tosser, held, stream, *byte) {
@@ -213,9 +260,9 @@ fn finish<D: Disk, J: Naming, S: Stream, T: Tosser, R: Wait>(
 ) -> DeskEnd
     requires { pass.old.cells ≡ J.names }
     ensures cells { pass.new.cells ≡ J.names }
-    ensures off { (old : Told) (before : Told) → S.told stream.old ≡ has_ended before →
-        Serving D hub.now.size.questions pass.old.known old before held.old [] →
-        Serves D hub.now.size.questions pass.new.known old (S.told stream.new) result }
+    ensures off { (begun : Sitting T) (old : Told) (before : Told) → S.told stream.old ≡ has_ended before →
+        Serving (MayReply D T.may_toss hub.now.size.questions) begun (sitting pass.old.known tosser.old) old before held.old [] →
+        Serves (MayReply D T.may_toss hub.now.size.questions) begun (sitting pass.new.known tosser.new) old (S.told stream.new) result }
 {
     if held.line().is_empty() {
         return DeskEnd::Ended;
@@ -238,12 +285,12 @@ fn turn<D: Disk, J: Naming, S: Stream, T: Tosser, R: Wait>(
 ) -> Result<(), DeskEnd>
     requires { pass.old.cells ≡ J.names }
     ensures cells { pass.new.cells ≡ J.names }
-    ensures on { (old : Told) →
-        Serving D hub.now.size.questions pass.old.known old (S.told stream.old) held.old [] →
-        OnOk result (Serving D hub.now.size.questions pass.new.known old (S.told stream.new) held.new []) }
-    ensures off { (old : Told) →
-        Serving D hub.now.size.questions pass.old.known old (S.told stream.old) held.old [] →
-        IfErr result (Serves D hub.now.size.questions pass.new.known old (S.told stream.new)) }
+    ensures on { (begun : Sitting T) (old : Told) →
+        Serving (MayReply D T.may_toss hub.now.size.questions) begun (sitting pass.old.known tosser.old) old (S.told stream.old) held.old [] →
+        OnOk result (Serving (MayReply D T.may_toss hub.now.size.questions) begun (sitting pass.new.known tosser.new) old (S.told stream.new) held.new []) }
+    ensures off { (begun : Sitting T) (old : Told) →
+        Serving (MayReply D T.may_toss hub.now.size.questions) begun (sitting pass.old.known tosser.old) old (S.told stream.old) held.old [] →
+        IfErr result (Serves (MayReply D T.may_toss hub.now.size.questions) begun (sitting pass.new.known tosser.new) old (S.told stream.new)) }
 {
     let mut piece = [0u8; PIECE];
     match stream.read(&mut piece) {
@@ -256,9 +303,9 @@ fn turn<D: Disk, J: Naming, S: Stream, T: Tosser, R: Wait>(
 /// Answers the lines of a client in turn, each by one line, until its input ends, a line is too long, or the stream fails.
 ///
 /// A line ends at the byte 10, and bytes behind the last one are a line too. `ASK` goes by the board and takes no lock;
-/// `PROPOSE` and `STATUS` take the book's, and a toss each. The bell is rung where the member has new records. Where memory for a
-/// reply's text is refused, that of [`Reply::Memory`] is written in its place. The pass is of the hub's board, and knows each
-/// decision that was written.
+/// `PROPOSE` and `STATUS` take the book's, and a toss each. The bell is rung where the member has new records. Where memory for
+/// the text of [`Reply::Up`] is refused, [`Reply::Memory`] is written in its place. The pass is of the hub's board, and knows
+/// each decision that was written, so a decision that was told is told again.
 ///
 /// It may wait for the stream and for the lock. The stream stays open.
 pub fn serve<D: Disk, J: Naming, S: Stream, T: Tosser, R: Wait>(
@@ -271,7 +318,9 @@ pub fn serve<D: Disk, J: Naming, S: Stream, T: Tosser, R: Wait>(
 ) -> DeskEnd
     requires { pass.old.cells ≡ J.names }
     ensures cells { pass.new.cells ≡ J.names }
-    ensures serves { Serves D hub.now.size.questions pass.new.known (S.told stream.old) (S.told stream.new) result }
+    // Each reply is that to its line, by what the pass knows then and with the tosses of the tosser, one a command.
+    ensures serves { Serves (MayReply D T.may_toss hub.now.size.questions) (sitting pass.old.known tosser.old)
+        (sitting pass.new.known tosser.new) (S.told stream.old) (S.told stream.new) result }
 {
     let mut held = HeldLine::new();
     for _ in rt.forever() {

@@ -1,7 +1,8 @@
 //! The reader of a link.
 ghost use Rattle.std.specs.Prelude.{◌≡◌, ◌⊎◌, ◌≤◌, length, List, ℕ, true, false, IfOk, IfErr, IsErrOf, OnOk, OnErr};
 ghost use Rattle.wire.specs.Reading.{AreBytes};
-ghost use Rattle.node.specs.Groups.{said_in};
+ghost use Rattle.node.specs.Groups.{said_in, heard_from};
+ghost use Rattle.links.specs.Groups.{HandsInTo, RefusesGroup, end_of};
 ghost use Rattle.links.specs.Handing.{in_order, all_in_place, HandsInSome, HandsInFewer, HandsInAll, ReadsLink};
 ghost use Rattle.links.specs.Turns.{Waits, ReadsOn, ReadsOff};
 
@@ -10,7 +11,7 @@ use crate::sending::write_message;
 use crate::stream::Stream;
 use disk::Disk;
 use member::MemberFault;
-use node::{Hub, Naming, Seat};
+use node::{Book, Hub, Naming, Seat};
 use questions::Answer;
 use rounds::{Toss, Tosser};
 use std::alloc::Global;
@@ -48,6 +49,40 @@ impl Gate for Open {
     fn pass(&self, _point: Point) {}
 }
 
+/// How a session ends where the member refuses a group.
+fn end_of(fault: MemberFault) -> LinkEnd
+    ensures is { result ≡ end_of fault }
+    ensures only { (result ≡ LinkEnd.Stopped) ⊎ (result ≡ LinkEnd.Memory) }
+{
+    match fault {
+        MemberFault::Memory => LinkEnd::Memory,
+        MemberFault::Stopped => LinkEnd::Stopped,
+        MemberFault::Device => LinkEnd::Stopped,
+        MemberFault::JournalFull => LinkEnd::Stopped,
+        MemberFault::NoSuchQuestion => LinkEnd::Stopped,
+        MemberFault::NoSuchMember => LinkEnd::Stopped,
+    }
+}
+
+/// Hands in one group to the book, and says whether it was answered with records. Nothing else is done to the book.
+fn hand_in_to<D: Disk, J: Naming>(
+    book: &mut Book<D, J>,
+    seat: &mut Seat,
+    group: &[(Statement, Toss)],
+) -> Result<bool, LinkEnd>
+    requires { length group.now ≤ 256 }
+    ensures book { IfOk result (λ _. HandsInTo book.old (heard_from seat.old.peer group.now) book.new) }
+    ensures ok { OnOk result (HandsInAll seat.old seat.new (said_in group.now)) }
+    ensures err { OnErr result (seat.new ≡ seat.old) }
+    ensures refuses { IfErr result (λ why. RefusesGroup book.old (heard_from seat.old.peer group.now) why book.new) }
+    ensures only { IfErr result (λ why. (why ≡ LinkEnd.Stopped) ⊎ (why ≡ LinkEnd.Memory)) }
+{
+    match book.apply_all(seat, group) {
+        Ok(answers) => Ok(answers.iter().any(has_records)),
+        Err(fault) => Err(end_of(fault)),
+    }
+}
+
 /// Hands in one group. Where it is answered with records the bell rings for them, once.
 fn hand_in_group<D: Disk, J: Naming, G: Gate, R: Wait>(
     rt: &R,
@@ -62,17 +97,16 @@ fn hand_in_group<D: Disk, J: Naming, G: Gate, R: Wait>(
     ensures only { IfErr result (λ why. (why ≡ LinkEnd.Stopped) ⊎ (why ≡ LinkEnd.Memory)) }
 {
     gate.pass(Point::Before(seat.peer()));
-    let answers = hub.lock(rt).apply_all(seat, group);
+    let handed = hand_in_to(&mut hub.lock(rt), seat, group);
     gate.pass(Point::After(seat.peer()));
-    match answers {
-        Ok(answers) => {
-            if answers.iter().any(has_records) {
+    match handed {
+        Ok(has_news) => {
+            if has_news {
                 hub.ring();
             }
             Ok(())
         }
-        Err(MemberFault::Memory) => Err(LinkEnd::Memory),
-        Err(_) => Err(LinkEnd::Stopped),
+        Err(why) => Err(why),
     }
 }
 

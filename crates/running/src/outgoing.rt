@@ -7,6 +7,7 @@ ghost use Rattle.running.specs.Standings.{after_read, after_written, has_come_up
 use crate::events::LogEvent;
 use crate::watch::Telling;
 use links::{NetStream, Stream, StreamFault};
+use member::Sealed;
 use std::sync::{Mutex, Wait};
 
 /// How far a link that is written has come. Its writer says nothing behind the Hello before the Welcome was read, so the
@@ -122,6 +123,10 @@ impl<R: Wait> Stream for Outgoing<'_, R> {
             }
             Err(fault) => Err(fault),
         }
+    }
+
+    fn note_sent(&mut self, items: &[Sealed]) {
+        self.stream.note_sent(items);
     }
 
     fn close(&mut self) {

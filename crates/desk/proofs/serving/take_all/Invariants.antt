@@ -1,10 +1,14 @@
 use Rattle.std.proofs.Common.{◌≡◌, drop}
 use Rattle.links.specs.Told.{Told}
+use Rattle.desk.specs.Sessions.{Sitting, MayReply, sitting}
 use Rattle.desk.specs.Turns.{Serving}
 use Rattle.desk.proofs.serving.take_all.Given as goal
 
 -- what was to be done for all bytes is to be done for those that are left
 abbrev pub invariant-loop-byte : goal.invariant-loop-byte
 invariant-loop-byte g l = (l.pass.cells ≡ g.J.Naming.names)
-    × ((old : Told) → Serving g.row.D.Denot l.fn.hub.size.questions l.initial.pass.known old (g.S.Stream.told l.initial.stream) l.initial.held l.piece
-    → Serving g.row.D.Denot l.fn.hub.size.questions l.pass.known old (g.S.Stream.told l.stream) l.held (drop l.byte-index l.piece))
+    × ((begun : Sitting g.row.T.Denot) (old : Told)
+    → Serving (MayReply g.row.D.Denot g.T.Tosser.may_toss l.fn.hub.size.questions) begun (sitting l.initial.pass.known l.initial.tosser)
+    old (g.S.Stream.told l.initial.stream) l.initial.held l.piece
+    → Serving (MayReply g.row.D.Denot g.T.Tosser.may_toss l.fn.hub.size.questions) begun (sitting l.pass.known l.tosser)
+    old (g.S.Stream.told l.stream) l.held (drop l.byte-index l.piece))
