@@ -1,8 +1,9 @@
 //! The reader of a link.
-ghost use Rattle.std.specs.Prelude.{◌≡◌, ◌⊎◌, ◌≤◌, length, List, ℕ, true, false, IfOk, IfErr, IsErrOf, OnOk, OnErr};
+ghost use Rattle.std.specs.Prelude.{◌≡◌, ◌⊎◌, ◌≤◌, ◌∷◌, ◌++◌, length, List, [], ℕ, true, false, IfOk, IfErr, IsErrOf, OnOk, OnErr};
 ghost use Rattle.wire.specs.Reading.{AreBytes};
 ghost use Rattle.node.specs.Groups.{said_in, heard_from};
 ghost use Rattle.links.specs.Groups.{HandsInTo, RefusesGroup, end_of};
+ghost use Rattle.links.specs.Tosses.{Draws, tosses_in};
 ghost use Rattle.links.specs.Handing.{in_order, all_in_place, HandsInSome, HandsInFewer, HandsInAll, ReadsLink};
 ghost use Rattle.links.specs.Turns.{Waits, ReadsOn, ReadsOff};
 
@@ -141,18 +142,36 @@ fn hand_in_groups<D: Disk, J: Naming, G: Gate, R: Wait>(
     Ok(())
 }
 
+/// Adds a statement with the toss that is drawn for it.
+fn push_tossed<T: Tosser>(
+    events: &mut Vec<(Statement, Toss)>,
+    statement: Statement,
+    tosser: &mut T,
+) -> Result<(), Memory>
+    ensures said { OnOk result (said_in events.new.items ≡ said_in events.old.items ++ statement ∷ []) }
+    ensures toss { OnOk result ((begun : T) → Draws T.may_toss begun (tosses_in events.old.items) tosser.old →
+        Draws T.may_toss begun (tosses_in events.new.items) tosser.new) }
+{
+    let toss = tosser.toss();
+    match events.push((statement, toss)) {
+        Ok(()) => Ok(()),
+        Err(_) => Err(Memory),
+    }
+}
+
 /// The statements of these messages up to one that is out of place, each with a toss, which are drawn in order.
 fn gather<T: Tosser>(
     alloc: Global,
     messages: &[Message],
     tosser: &mut T,
 ) -> Result<Vec<(Statement, Toss)>, Memory>
-    ensures { IfOk result (λ events. said_in events.items ≡ in_order messages.now) }
+    ensures said { IfOk result (λ events. said_in events.items ≡ in_order messages.now) }
+    ensures tosses { IfOk result (λ events. Draws T.may_toss tosser.old (tosses_in events.items) tosser.new) }
 {
     let mut events = Vec::new(alloc);
     for message in messages {
         match message {
-            Message::Statement(statement) => events.push((*statement, tosser.toss()))?,
+            Message::Statement(statement) => push_tossed(&mut events, *statement, tosser)?,
             Message::Idle => {}
             Message::Hello {
                 cluster: _,

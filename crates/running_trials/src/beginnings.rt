@@ -42,7 +42,7 @@ pub(crate) fn goes_on_with<D: Disk, J: Naming>(
 }
 
 /// A statement that was heard, with its toss.
-pub(crate) fn heard(from: u8, statement: Statement, toss: u64) -> Entry {
+pub(crate) fn entry(from: u8, statement: Statement, toss: u64) -> Entry {
     Entry::Heard {
         from,
         statement,

@@ -5,7 +5,7 @@ ghost use Rattle.links.specs.Mem.{told_by, is_closed_mem};
 
 mod groups;
 
-use crate::beginnings::{Counting, at, board, goes_on_with, header, heard, open, take};
+use crate::beginnings::{Counting, at, board, entry, goes_on_with, header, open, take};
 use crate::books::closes;
 use disk::MemDisk;
 use links::{
@@ -14,6 +14,7 @@ use links::{
 };
 use member::Sealed;
 use node::{Board, Hub, Naming, Rack, Seat};
+use rounds::Toss;
 use std::alloc::Global;
 use std::marker::Brand;
 use std::net::{TcpListener, TcpStream};
@@ -230,9 +231,9 @@ fn hears_of_an_origin<J: Naming, R: Wait + Abort + AllocGlobal>(
     assert!(rt; session_of(rt, hub, rack, 3, &astray, (LinkEnd::OutOfOrder, 1))?);
     assert!(rt; hub.lock(rt).status() == Some((2, 0)));
     let noted = [
-        heard(0, of(Initial)?, 1),
-        heard(2, of(Ready)?, 201),
-        heard(3, of(Ready)?, 301),
+        entry(0, of(Initial)?, 1),
+        entry(2, of(Ready)?, 201),
+        entry(3, of(Ready)?, 301),
     ];
     assert!(rt; goes_on_with(&*hub.lock(rt), 0, &noted));
     Ok(())
@@ -457,7 +458,7 @@ fn run_at_once<J: Naming + Send + Sync, R: Threads + Wait + Clock + Abort + Allo
     rack.put(rt, second);
     assert!(rt; asked?);
     assert!(rt; !gate.gave_up.load(Ordering::SeqCst));
-    let noted = [heard(2, of(Echo)?, 201), heard(1, of(Echo)?, 101)];
+    let noted = [entry(2, of(Echo)?, 201), entry(1, of(Echo)?, 101)];
     assert!(rt; goes_on_with(&*hub.lock(rt), 0, &noted));
     Ok(())
 }
@@ -596,9 +597,9 @@ fn fail_at_each_call<J: Naming, R: Wait + Abort + AllocGlobal>(
     read_until_they_fail(rt, hub, rack, 2, false)?;
     // Each was whole for the first time where the call behind it failed.
     let noted = [
-        heard(0, of(Initial)?, 22),
-        heard(0, of(Ready)?, 33),
-        heard(2, of(Ready)?, 33),
+        entry(0, of(Initial)?, 22),
+        entry(0, of(Ready)?, 33),
+        entry(2, of(Ready)?, 33),
     ];
     assert!(rt; goes_on_with(&*hub.lock(rt), 0, &noted));
     hub.shut(rt);
@@ -631,7 +632,7 @@ fn is_flooded<J: Naming, R: Wait + Abort + AllocGlobal>(
 ) -> Result<(), Fail> {
     let bytes = flood(rt.alloc())?;
     assert!(rt; session(rt, hub, rack, 0, &bytes, (LinkEnd::Ended, 10_000))?);
-    assert!(rt; goes_on_with(&*hub.lock(rt), 0, &[heard(0, of(Initial)?, 1)]));
+    assert!(rt; goes_on_with(&*hub.lock(rt), 0, &[entry(0, of(Initial)?, 1)]));
     assert!(rt; hub.lock(rt).records().len() == 1);
     Ok(())
 }

@@ -3,7 +3,7 @@ ghost use Rattle.std.specs.Prelude.{◌≡◌, length};
 ghost use Rattle.std.specs.Arc.{arc_value};
 
 use super::frame;
-use crate::beginnings::{Counting, at, board, goes_on_with, header, heard, open, take};
+use crate::beginnings::{Counting, at, board, entry, goes_on_with, header, open, take};
 use crate::books::closes;
 use disk::MemDisk;
 use links::{Gate, LinkEnd, MemStream, Point, read_link};
@@ -143,9 +143,9 @@ fn reads_and_shuts<J: Naming, R: Wait + Clock + AllocGlobal>(
 /// Whether the book heard the three statements and nothing else, each with the toss that was drawn for it.
 fn are_noted<J: Naming, R: Wait>(rt: &R, hub: &Hub<MemDisk, J>) -> Result<bool, Fail> {
     let noted = [
-        heard(0, one_of_three(0, Initial)?, 41),
-        heard(0, one_of_three(1, Initial)?, 42),
-        heard(0, one_of_three(0, Ready)?, 43),
+        entry(0, one_of_three(0, Initial)?, 41),
+        entry(0, one_of_three(1, Initial)?, 42),
+        entry(0, one_of_three(0, Ready)?, 43),
     ];
     Ok(goes_on_with(&*hub.lock(rt), 0, &noted))
 }
