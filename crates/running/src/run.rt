@@ -1,9 +1,10 @@
 //! The life of a member, from its opening to its end.
 
-ghost use Rattle.std.specs.Prelude.{◌≡◌, [], false, length};
+ghost use Rattle.std.specs.Prelude.{◌≡◌, ◌*◌, ◌+◌, ◌<◌, ◌^◌, [], false, length, IfOk};
 ghost use Rattle.std.specs.Arc.{arc_value};
 ghost use Rattle.member.specs.Sound.{IsSound};
 ghost use Rattle.member.specs.Readers.{member_header, member_saved, member_is_stopped, MemberStandsFor};
+ghost use Rattle.running.specs.Streams.{streams};
 
 use crate::clients::accept_clients;
 use crate::events::LogEvent;
@@ -40,6 +41,11 @@ pub struct Addresses {
 
 /// Who starts a member and says when it ends.
 pub trait Operator {
+    ghost use Rattle.std.specs.Prelude.{ℕ, List};
+
+    /// The seeds that the member may toss from. An operator that says nothing of it takes any.
+    ghost may_toss_from: { Self → List ℕ → Type 0 } = { λ _ _. Unit {0} };
+
     /// Is told that both listeners stand. Threads start when it returns; where it fails the run ends with its fault.
     fn ready(&mut self) -> Result<(), RunFault>;
 
@@ -59,22 +65,42 @@ fn locked(alloc: Global, tossers: Vec<ChaChaTosser>) -> Result<Vec<Mutex<ChaChaT
     Ok(locked)
 }
 
+/// The tossers of a member's life, each behind a lock: those of its links, and those of its desk. They toss from a seed that
+/// the operator takes, and from the streams of this life alone.
+fn lock_tossers<D: Disk, O: Operator>(
+    alloc: Global,
+    _operator: &O,
+    _seed: [u8; 32],
+    _member: &Member<D>,
+    tossers: Tossers,
+) -> Result<(Vec<Mutex<ChaChaTosser>>, Vec<Mutex<ChaChaTosser>>), Memory>
+    requires seed { O.may_toss_from _operator.now _seed }
+    requires links { length (member_saved _member.now) < 2 ^ 55 → tossers.links.items
+        ≡ streams _seed (length (member_saved _member.now) * 256) (member_header _member.now).size.n }
+    requires desk { length (member_saved _member.now) < 2 ^ 55 → tossers.desk.items
+        ≡ streams _seed (length (member_saved _member.now) * 256 + 128) 32 }
+{
+    let Tossers { links, desk } = tossers;
+    Ok((locked(alloc, links)?, locked(alloc, desk)?))
+}
+
 /// What the threads of a member share that was just opened.
-fn share<D: Disk + Drop, J: Naming>(
+fn share<D: Disk + Drop, J: Naming, O: Operator>(
     alloc: Global,
     member: Member<D>,
     board: Arc<Board>,
     peers: Vec<SocketAddr>,
     seed: [u8; 32],
+    operator: &O,
 ) -> Result<Shared<D, J>, Memory>
+    requires seed { O.may_toss_from operator.now seed }
     requires sound { IsSound D.Disk member }
     requires fresh { member_is_stopped member ≡ false → MemberStandsFor member (member_saved member) [] }
     requires board { arc_value board ≡ J.names }
     requires cells { length (arc_value board) ≡ (member_header member).size.questions }
 {
-    let Tossers { links, desk } = tossers_of(alloc, seed, &member)?;
-    let link_tossers = locked(alloc, links)?;
-    let desk_tossers = locked(alloc, desk)?;
+    let tossers = tossers_of(alloc, seed, &member)?;
+    let (link_tossers, desk_tossers) = lock_tossers(alloc, operator, seed, &member, tossers)?;
     let (hub, seats) = Hub::<D, J>::open(alloc, member, board)?;
     Ok(Shared {
         alloc,
@@ -110,11 +136,25 @@ fn run_threads<D: Disk + Send, J: Naming + Send + Sync, O: Operator, R: Machine>
     desk: &TcpListener,
 ) -> Result<(), RunFault> {
     thread::scope(thread::scope_env(), rt, |scope| -> Result<(), RunFault> {
+        let dials = scope.spawn(move || dial_all(rt, it)).is_ok();
+        run_doors(rt, operator, it, listener, desk, dials)
+    })
+}
+
+/// Runs the clock and both doors until the operator ends the member, where the dialler was started, and ends all threads.
+fn run_doors<D: Disk + Send, J: Naming + Send + Sync, O: Operator, R: Machine>(
+    rt: &R,
+    operator: &mut O,
+    it: &Shared<D, J>,
+    listener: &TcpListener,
+    desk: &TcpListener,
+    dials: bool,
+) -> Result<(), RunFault> {
+    thread::scope(thread::scope_env(), rt, |scope| -> Result<(), RunFault> {
         let clock = scope.spawn(move || it.tick_on(rt));
         let links = scope.spawn(move || accept_links(rt, it, listener));
         let clients = scope.spawn(move || accept_clients(rt, it, desk));
-        let dialler = scope.spawn(move || dial_all(rt, it));
-        let started = clock.is_ok() && links.is_ok() && clients.is_ok() && dialler.is_ok();
+        let started = dials && clock.is_ok() && links.is_ok() && clients.is_ok();
         let end = if started {
             operator.until_end()
         } else {
@@ -186,13 +226,14 @@ fn run_named<
     operator: &mut O,
     log: Option<&Mutex<L>>,
 ) -> Result<(), RunFault>
+    requires seed { O.may_toss_from operator.old seed }
     requires sound { IsSound D.Disk member }
     requires fresh { member_is_stopped member ≡ false → MemberStandsFor member (member_saved member) [] }
     requires board { arc_value board ≡ J.names }
     requires cells { length (arc_value board) ≡ (member_header member).size.questions }
 {
     let (listener, desk) = listeners;
-    let shared = share::<D, J>(alloc, member, board, peers, seed)?;
+    let shared = share::<D, J, O>(alloc, member, board, peers, seed, operator)?;
     run_shared(rt, operator, log, &shared, &listener, &desk)
 }
 
@@ -208,7 +249,9 @@ fn listen<O: Operator, R: Machine>(
     rt: &R,
     address: SocketAddr,
     operator: &mut O,
-) -> Result<TcpListener, RunFault> {
+) -> Result<TcpListener, RunFault>
+    ensures { IfOk result (λ _. operator.new ≡ operator.old) }
+{
     match TcpListener::bind(rt, address) {
         Ok(listener) => Ok(listener),
         Err(error) => {
@@ -233,6 +276,8 @@ fn listen<O: Operator, R: Machine>(
 /// but for `Memory` where a thread is refused. [`RunFault::Stopped`] is told at the end, where the member is stopped by then.
 /// Whatever comes, the member is gone with its threads; what it saved is on its disk.
 ///
+/// All that its links and its desk toss comes from a seed that the operator takes.
+///
 /// It may wait: for its operator, for locks and for its threads.
 pub fn run_member<D: Disk + Drop + Send, O: Operator, L: Log + Send, R: Machine>(
     rt: &R,
@@ -243,6 +288,7 @@ pub fn run_member<D: Disk + Drop + Send, O: Operator, L: Log + Send, R: Machine>
     operator: &mut O,
     log: Option<&Mutex<L>>,
 ) -> Result<(), RunFault>
+    requires seed { O.may_toss_from operator.old seed }
     requires sound { IsSound D.Disk member }
     requires fresh { member_is_stopped member ≡ false → MemberStandsFor member (member_saved member) [] }
 {
