@@ -7,3 +7,4 @@ pub mod Talks
 pub mod Checks
 pub mod Places
 pub mod Damage
+pub mod Shows

@@ -8,6 +8,7 @@ mod dump;
 mod fault;
 mod init;
 mod places;
+mod shown;
 mod simulate;
 
 pub use check::{check_journal, print_settings};
@@ -17,4 +18,5 @@ pub use dump::{dump_count, dump_lines};
 pub use fault::{DumpFault, InitFault, SimulateFault, TalkFault};
 pub use init::init_disk;
 pub use places::{line_at, line_of_byte, line_of_key, text_fault};
+pub use shown::{Shelf, SimulationEnd, show_simulation};
 pub use simulate::{Pages, print, print_verdicts, simulate_pages, simulate_text, takes_output};
