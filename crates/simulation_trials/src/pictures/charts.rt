@@ -102,6 +102,33 @@ fn draws_disks_that_fail_and_decisions(rt: HostRuntime) {
     }
 }
 
+/// Each sign stands in the column of its member and the row of its event: a crash and an opening of member 2, an opening that
+/// fails, and an event that decides two questions.
+#[test]
+fn draws_signs_where_they_belong(rt: HostRuntime) {
+    let four = "n 4\nt 1\nquestions 1\nliars\nseed 1\n";
+    let alone = "n 1\nt 0\nquestions 2\nliars\nseed 1\npropose 0 0 1\npropose 0 1 0\n";
+    let groups =
+        "group 0 0 9\ngroup 0 0 9\ngroup 0 0 9\ngroup 0 0 9\ngroup 0 0 9\ngroup 0 0 9\ngroup 0 0 9\ngroup 0 0 9\ngroup 0 0 9";
+    let fails = "crash 2 kept\nfuse 2 0\nrestart 2";
+    for (head, events, words, times) in [
+        (four, "crash 2 kept", "class=\"cross\" d=\"M550 66m", 1),
+        (
+            four,
+            "crash 2 kept\nrestart 2",
+            "class=\"triangle\" d=\"M550 102m",
+            1,
+        ),
+        (four, fails, "class=\"triangle\" d=\"M550", 0),
+        (four, fails, ">restart<", 0),
+        (four, fails, "class=\"ring\" d=\"M550 138m", 1),
+        (alone, groups, ">decides 1 on 0, 0 on 1<", 1),
+    ] {
+        let found = count_in(rt.alloc(), head, events, words);
+        assert!(rt; found == Some(times), "{words}");
+    }
+}
+
 /// A group has one arrow, which says how many statements it has; the link then goes as many further.
 #[test]
 fn draws_a_group_as_one_arrow(rt: HostRuntime) -> Result<(), Fail> {
