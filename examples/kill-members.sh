@@ -1,7 +1,8 @@
 #!/usr/bin/env bash
 # Runs a cluster of four members on this machine and kills one of them, by SIGKILL, in the middle of the proposals on each
-# of ten questions. All members have to decide each question for the bit that was proposed, and each journal has to have
-# each decision once.
+# of twelve questions. On one all propose 0, on the next all propose 1, on the third two propose 0 and two propose 1, and so
+# on. All members have to decide each question alike, and for the bit that was proposed where there is one; each journal has
+# to have each decision once.
 #
 #   examples/kill-members.sh [PROGRAM]     PROGRAM is bracha; left out, it is crates/bracha/out/bracha of this repository
 set -euo pipefail
@@ -43,27 +44,36 @@ decision() {
 
 for member in 0 1 2 3; do "$program" init "member-$member.toml"; done
 for member in 0 1 2 3; do start "$member"; done
-for question in {0..9}; do
-    bit=$((question % 2))
+# The bit that a member proposes on a question.
+bit_of() {
+    if [ $(($1 % 3)) = 2 ]; then echo $(($2 % 2)); else echo $(($1 % 3)); fi
+}
+
+for question in {0..11}; do
     victim=$((question % 4))
     for member in 0 1 2 3; do
-        "$program" propose "127.0.0.1:4711$member" "$question" "$bit" >/dev/null
+        "$program" propose "127.0.0.1:4711$member" "$question" "$(bit_of "$question" "$member")" >/dev/null
         if [ "$member" = 1 ]; then
             kill -9 "${process[$victim]}"
             wait "${process[$victim]}" 2>/dev/null || true
             start "$victim"
         fi
     done
+    wanted="DECIDED $((question % 3))"
+    if [ $((question % 3)) = 2 ]; then
+        wanted=$(decision 0 "$question")
+        if [ "$wanted" != "DECIDED 0" ] && [ "$wanted" != "DECIDED 1" ]; then fail "question $question: $wanted"; fi
+    fi
     for member in 0 1 2 3; do
         reply=$(decision "$member" "$question")
-        if [ "$reply" != "DECIDED $bit" ]; then fail "member $member on question $question: $reply"; fi
+        if [ "$reply" != "$wanted" ]; then fail "member $member on question $question: $reply"; fi
     done
 done
 for member in 0 1 2 3; do
     kill "${process[$member]}"
     wait "${process[$member]}" 2>/dev/null || true
     count=$("$program" dump "member-$member.journal" | grep -c '^decided')
-    if [ "$count" != 10 ]; then fail "member $member has $count decisions"; fi
+    if [ "$count" != 12 ]; then fail "member $member has $count decisions"; fi
 done
 process=()
-echo "ten members were killed, and ten questions decided by all"
+echo "twelve times a member was killed, and twelve questions decided by all"

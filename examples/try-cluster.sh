@@ -1,5 +1,6 @@
 #!/bin/sh
-# Runs a cluster of four members on this machine, proposes a bit to each, and prints what they decided.
+# Runs a cluster of four members on this machine, proposes a bit to each on three questions, and prints what they decided:
+# on question 0 all propose 0, on question 1 all propose 1, and on question 2 two propose 0 and two propose 1.
 #
 #   examples/try-cluster.sh [PROGRAM]     PROGRAM is bracha; left out, it is crates/bracha/out/bracha of this repository,
 #                                         which `rt run` makes
@@ -54,18 +55,40 @@ for member in 0 1 2 3; do
     cat "output-$member"
 done
 
-for member in 0 1 2 3; do
-    printf 'propose 1 to member %s: ' "$member"
-    "$program" propose "127.0.0.1:4711$member" 0 1
-done
-for member in 0 1 2 3; do
-    reply=UNDECIDED
-    tries=0
-    while [ "$reply" = UNDECIDED ] && [ "$tries" -lt 600 ]; do
-        reply=$("$program" ask "127.0.0.1:4711$member" 0)
-        [ "$reply" = UNDECIDED ] && sleep 0.05
-        tries=$((tries + 1))
+# The bit that a member proposes on a question.
+bit_of() {
+    case $1 in
+    2) echo $(($2 % 2)) ;;
+    *) echo "$1" ;;
+    esac
+}
+
+for question in 0 1 2; do
+    for member in 0 1 2 3; do
+        bit=$(bit_of "$question" "$member")
+        printf 'propose %s to member %s on question %s: ' "$bit" "$member" "$question"
+        "$program" propose "127.0.0.1:4711$member" "$question" "$bit"
     done
-    echo "member $member on question 0: $reply"
+    decided=
+    for member in 0 1 2 3; do
+        reply=UNDECIDED
+        tries=0
+        while [ "$reply" = UNDECIDED ] && [ "$tries" -lt 600 ]; do
+            reply=$("$program" ask "127.0.0.1:4711$member" "$question")
+            [ "$reply" = UNDECIDED ] && sleep 0.05
+            tries=$((tries + 1))
+        done
+        echo "member $member on question $question: $reply"
+        # where all propose one bit it is decided, and in any case all decide the same
+        case $question in
+        2) wanted=${decided:-$reply} ;;
+        *) wanted="DECIDED $question" ;;
+        esac
+        decided=$reply
+        if [ "$reply" != "$wanted" ] || [ "$reply" = UNDECIDED ]; then
+            echo "not as it has to be: $wanted" >&2
+            exit 1
+        fi
+    done
 done
 echo "journals and logs are in $folder; try: $program dump $folder/member-0.journal"
