@@ -10,8 +10,8 @@ use crate::pages::{fault_at, keep_apart, write_page};
 use crate::telling::{journal_failure, not_text, script_failure, settings_failure};
 use crate::trouble::{Failure, Whereabouts};
 use commands::{
-    DumpFault, InitFault, check_journal, dump_count, dump_lines, init_disk, print_settings,
-    print_verdicts, simulate_pages, takes_output,
+    DumpFault, InitFault, Shelf, SimulationEnd, check_journal, dump_count, dump_lines, init_disk,
+    print_settings, show_simulation,
 };
 use disk::{Disk, FileDisk, MemDisk};
 use hearing::hear_lines;
@@ -182,6 +182,33 @@ pub fn dump_file(rt: &HostRuntime, path: &str, count: bool) -> Result<u8, Failur
     }
 }
 
+/// Where the pages of a simulation go: into the files at these paths, or to the standard output where a path is `-`.
+#[derive(Drop)]
+struct PageFiles<'a> {
+    rt: &'a HostRuntime,
+    trace: Option<&'a str>,
+    chart: Option<&'a str>,
+}
+
+impl<'a> Shelf for PageFiles<'a> {
+    type Fault = Failure;
+
+    fn put(&mut self, trace: Option<String>, chart: Option<String>) -> Result<(), Failure> {
+        write_page(
+            self.rt,
+            self.trace,
+            trace,
+            fault_at(self.trace, Fault::Trace),
+        )?;
+        write_page(
+            self.rt,
+            self.chart,
+            chart,
+            fault_at(self.chart, Fault::Chart),
+        )
+    }
+}
+
 /// Runs the script in the file, and writes a trace and a chart of it where they are asked for. Only then the verdicts are
 /// printed; they go to the standard error where a page takes the standard output.
 pub fn simulate_file(
@@ -192,15 +219,21 @@ pub fn simulate_file(
 ) -> Result<u8, Failure> {
     keep_apart(rt, path, trace, chart)?;
     let text = read_file(rt, path)?;
-    let pages = match simulate_pages(rt.alloc(), &text, trace.is_some(), chart.is_some()) {
-        Ok(pages) => pages,
-        Err(fault) => return Err(script_failure(rt.alloc(), path, &text, fault)),
-    };
-    write_page(rt, trace, pages.trace, fault_at(trace, Fault::Trace))?;
-    write_page(rt, chart, pages.chart, fault_at(chart, Fault::Chart))?;
-    let aside = takes_output(trace, chart);
+    let mut files = PageFiles { rt, trace, chart };
     let mut output = io::writer(rt);
     let mut errors = rt.stderr();
-    let printed = print_verdicts(aside, pages.verdicts.as_str(), &mut output, &mut errors);
-    Ok(printed.map_err(|fault| Fault::from(fault))?)
+    match show_simulation(
+        rt.alloc(),
+        &text,
+        trace,
+        chart,
+        &mut files,
+        &mut output,
+        &mut errors,
+    ) {
+        Ok(status) => Ok(status),
+        Err(SimulationEnd::Script(fault)) => Err(script_failure(rt.alloc(), path, &text, fault)),
+        Err(SimulationEnd::Page(failure)) => Err(failure),
+        Err(SimulationEnd::Printing(fault)) => Err(Failure::from(Fault::from(fault))),
+    }
 }

@@ -53,7 +53,7 @@ fn addresses_of(alloc: Global, settings: &Settings) -> Result<Addresses, Memory>
 #[derive(Drop)]
 struct Console<'a> {
     host: &'a HostRuntime,
-    me: u8,
+    settings: &'a Settings,
     /// The input is not looked at, and only a signal ends the member.
     stay: bool,
     /// What can be told of an address at which the member can't listen.
@@ -84,8 +84,11 @@ impl<'a> Console<'a> {
 }
 
 impl<'a> Operator for Console<'a> {
+    // The member tosses from the seed of its settings.
+    ghost may_toss_from = { λ console seed. seed ≡ console.settings.now.seed };
+
     fn ready(&mut self) -> Result<(), RunFault> {
-        match println!(self.host; "member {} ready", self.me) {
+        match println!(self.host; "member {} ready", self.settings.header.me()) {
             Ok(()) => Ok(()),
             Err(_) => Err(RunFault::Stream),
         }
@@ -166,7 +169,7 @@ pub fn run_file<R: Machine>(
     };
     let mut console = Console {
         host,
-        me: settings.header.me(),
+        settings: &settings,
         stay,
         trouble: None,
     };
