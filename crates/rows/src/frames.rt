@@ -1,0 +1,133 @@
+//! What a feeder makes of bytes, however they are cut.
+//!
+//! `size N T QUESTIONS` says for which cluster. A row of hexadecimal digits answers the messages in words, each before a
+//! comma, and how the stream ends: `More`, or the fault. It is fed whole, cut in two at every byte, and byte by byte; and the
+//! messages, encoded again, are to be the bytes that they were read from.
+
+use crate::phrases::{bytes_of, size_of, words_of};
+use std::alloc::Global;
+use terms::{Memory, Size};
+use wire::{Fed, Feeder, Message, encode};
+
+/// A cluster's streams.
+#[derive(Drop)]
+pub struct Stream {
+    alloc: Global,
+    size: Option<Size>,
+}
+
+/// A message in words.
+fn message_text(alloc: Global, message: &Message) -> Result<String, Memory> {
+    let text = match *message {
+        Message::Idle => format!(in alloc; "Idle, ")?,
+        Message::Welcome { next } => format!(in alloc; "Welcome {next}, ")?,
+        Message::Hello {
+            cluster,
+            size,
+            from,
+            to,
+        } => format!(in alloc;
+            "Hello {cluster} {} {} {} {from} {to}, ",
+            size.n(),
+            size.t(),
+            size.questions()
+        )?,
+        Message::Statement(said) => {
+            let place = said.place();
+            let (kind, value) = (said.kind(), said.value());
+            let (question, origin, round) = (place.question(), place.origin(), place.round());
+            format!(in alloc;
+                "{kind:?} {question} {origin} {round} {} {value:?}, ",
+                place.step()
+            )?
+        }
+    };
+    Ok(text)
+}
+
+/// The messages in words, and how the stream ends.
+fn shown(alloc: Global, messages: &[Message], fed: Fed) -> Result<String, Memory> {
+    let mut text = String::new(alloc);
+    for message in messages {
+        text.push_str(message_text(alloc, message)?.as_str())?;
+    }
+    let end = match fed {
+        Fed::More => format!(in alloc; "More")?,
+        Fed::Broken(fault) => format!(in alloc; "{fault}")?,
+    };
+    text.push_str(end.as_str())?;
+    Ok(text)
+}
+
+/// What a feeder tells of the bytes in pieces of that length, the first of another one.
+fn in_pieces(
+    alloc: Global,
+    size: Size,
+    bytes: &[u8],
+    first: usize,
+    piece: usize,
+) -> Result<String, Memory> {
+    let mut feeder = Feeder::new(size);
+    let mut messages = Vec::new(alloc);
+    let (front, mut rest) = bytes.split_at(first.min(bytes.len()));
+    let mut fed = feeder.feed(front, &mut messages)?;
+    for _turn in 0..bytes.len() {
+        let (next, behind) = rest.split_at(piece.min(rest.len()));
+        fed = feeder.feed(next, &mut messages)?;
+        rest = behind;
+    }
+    shown(alloc, &messages, fed)
+}
+
+/// Whether the messages that are read of the bytes are encoded as the bytes begin.
+fn is_spelled(alloc: Global, size: Size, bytes: &[u8]) -> Result<bool, Memory> {
+    let mut messages = Vec::new(alloc);
+    let _fed = Feeder::new(size).feed(bytes, &mut messages)?;
+    let mut again = Vec::new(alloc);
+    for message in &messages {
+        encode(message, &mut again)?;
+    }
+    Ok(bytes.starts_with(&again))
+}
+
+/// What a feeder tells of the bytes, if it tells the same however they are cut.
+fn however_cut(alloc: Global, size: Size, bytes: &[u8]) -> Result<String, Memory> {
+    let whole = in_pieces(alloc, size, bytes, bytes.len(), 1)?;
+    for cut in 0..bytes.len() {
+        let told = in_pieces(alloc, size, bytes, cut, bytes.len())?;
+        if told.as_str() != whole.as_str() {
+            return Ok(format!(in alloc; "cut at {cut} {told}")?);
+        }
+    }
+    let told = in_pieces(alloc, size, bytes, 0, 1)?;
+    if told.as_str() != whole.as_str() {
+        return Ok(format!(in alloc; "byte by byte {told}")?);
+    }
+    if !is_spelled(alloc, size, bytes)? {
+        return Ok(format!(in alloc; "encoded otherwise {told}")?);
+    }
+    Ok(whole)
+}
+
+impl Stream {
+    /// Of no cluster yet.
+    pub fn new(alloc: Global) -> Stream {
+        Stream { alloc, size: None }
+    }
+
+    /// Plays a row.
+    pub fn told(&mut self, action: &str) -> Option<String> {
+        let words = words_of(self.alloc, action)?;
+        match words.as_slice() {
+            ["size", n, t, questions] => {
+                self.size = Some(size_of(n, t, questions)?);
+                Some(String::new(self.alloc))
+            }
+            [digits] => {
+                let bytes = bytes_of(self.alloc, digits)?;
+                however_cut(self.alloc, self.size?, &bytes).ok()
+            }
+            _ => None,
+        }
+    }
+}

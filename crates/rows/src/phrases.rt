@@ -1,0 +1,88 @@
+//! Words of rows, and what they stand for.
+
+use questions::Answer;
+use rounds::Toss;
+use std::alloc::Global;
+use terms::{Header, Memory, Record, Size, Statement};
+use wire::{Feeder, Message, encode};
+
+/// The words of a text, between its spaces.
+pub fn words_of<'a>(alloc: Global, text: &'a str) -> Option<Vec<&'a str>> {
+    text.split(' ').collect(alloc).ok()
+}
+
+/// The size of these numbers, where there is one.
+pub fn size_of(n: &str, t: &str, questions: &str) -> Option<Size> {
+    Size::new(n.parse().ok()?, t.parse().ok()?, questions.parse().ok()?).ok()
+}
+
+/// The header of the cluster 7, of that size and member.
+pub fn header_of(n: &str, t: &str, questions: &str, me: &str) -> Option<Header> {
+    Header::new(7, size_of(n, t, questions)?, me.parse().ok()?)
+}
+
+/// The bytes of hexadecimal digits.
+pub fn bytes_of(alloc: Global, digits: &str) -> Option<Vec<u8>> {
+    hex::decode(alloc, digits.as_bytes()).ok()
+}
+
+/// The toss of sixteen hexadecimal digits.
+pub fn toss_of(alloc: Global, digits: &str) -> Option<Toss> {
+    let bytes = bytes_of(alloc, digits)?;
+    match bytes.as_slice() {
+        [a, b, c, d, e, f, g, h] => Some(Toss(u64::from_be_bytes([
+            *a, *b, *c, *d, *e, *f, *g, *h,
+        ]))),
+        _ => None,
+    }
+}
+
+/// The statement of a frame, for a cluster of that size.
+pub fn statement_of(alloc: Global, size: Size, digits: &str) -> Option<Statement> {
+    let bytes = bytes_of(alloc, digits)?;
+    let mut messages = Vec::new(alloc);
+    let _fed = Feeder::new(size).feed(&bytes, &mut messages).ok()?;
+    match messages.as_slice() {
+        [Message::Statement(statement)] => Some(*statement),
+        _ => None,
+    }
+}
+
+/// The digits of a record's seven bytes.
+fn record_text(alloc: Global, record: &Record) -> Result<String, Memory> {
+    match *record {
+        Record::Said(statement) => {
+            let mut bytes = Vec::new(alloc);
+            encode(&Message::Statement(statement), &mut bytes)?;
+            let (_, seven) = bytes.as_slice().split_at(bytes.len().min(3));
+            Ok(hex::encode(alloc, seven)?)
+        }
+        Record::Decided {
+            question,
+            round,
+            bit,
+        } => Ok(format!(in alloc; "04{question:04x}00{round:02x}00{:02x}", u8::from(bit))?),
+    }
+}
+
+/// A word, and behind it the records.
+pub fn records_text(alloc: Global, word: &str, records: &[Record]) -> Result<String, Memory> {
+    let mut text = word.to_string(alloc)?;
+    for record in records {
+        if text.len() > 0 {
+            text.push_str(" ")?;
+        }
+        text.push_str(record_text(alloc, record)?.as_str())?;
+    }
+    Ok(text)
+}
+
+/// What is said of an answer.
+pub fn answer_text(alloc: Global, answer: &Answer) -> Result<String, Memory> {
+    match answer {
+        Answer::Taken(records) => records_text(alloc, "taken", records.as_slice()),
+        Answer::Repeat => records_text(alloc, "repeat", &[]),
+        Answer::Foreign => records_text(alloc, "foreign", &[]),
+        Answer::Have(bit) => Ok(format!(in alloc; "have {}", u8::from(*bit))?),
+    }
+}

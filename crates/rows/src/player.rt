@@ -1,0 +1,42 @@
+//! What stands while the rows of a file are played.
+
+use crate::files::File;
+use crate::frames::Stream;
+use crate::jobs::Job;
+use crate::lives::Life;
+use std::alloc::Global;
+
+/// The player of a file.
+#[derive(Drop)]
+pub enum Player {
+    Frames(Stream),
+    Journals(File),
+    Jobs(Job),
+    Lives(Life),
+    /// There is no such player.
+    Nobody,
+}
+
+impl Player {
+    /// The player of that name.
+    pub fn new(alloc: Global, name: &str) -> Player {
+        match name {
+            "frames" => Player::Frames(Stream::new(alloc)),
+            "journals" => Player::Journals(File::new(alloc)),
+            "jobs" => Player::Jobs(Job::new(alloc)),
+            "lives" => Player::Lives(Life::new(alloc)),
+            _ => Player::Nobody,
+        }
+    }
+
+    /// Does what a row says, and gives what is answered: none where it says nothing that can be done.
+    pub fn told(&mut self, action: &str) -> Option<String> {
+        match self {
+            Player::Frames(stream) => stream.told(action),
+            Player::Journals(file) => file.told(action),
+            Player::Jobs(job) => job.told(action),
+            Player::Lives(life) => life.told(action),
+            Player::Nobody => None,
+        }
+    }
+}
