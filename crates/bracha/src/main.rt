@@ -37,7 +37,8 @@ fn work<R: Machine>(rt: &R, host: &HostRuntime, task: Task) -> Result<u8, Failur
             settings,
             stay,
             log,
-        } => run_file(rt, host, settings, stay, log),
+            any_host,
+        } => run_file(rt, host, settings, stay, log, any_host),
         Task::Propose {
             address,
             question,

@@ -47,7 +47,7 @@ fn reads_the_words(rt: HostRuntime) -> Result<(), Fail> {
         ("bracha hear --me=3 --questions=2 --t=1 --n=4", hear),
         ("bracha init a.toml", Task::Init { settings: "a.toml" }),
         ("bracha check a.toml", Task::Check { settings: "a.toml" }),
-        ("bracha run a.toml", run_of("a.toml", false, false)),
+        ("bracha run a.toml", run_of("a.toml", false, false, false)),
         ("bracha dump x.journal", dump_of("x.journal", false)),
         (
             "bracha simulate a.script",
@@ -78,11 +78,12 @@ fn reads_the_words(rt: HostRuntime) -> Result<(), Fail> {
     Ok(())
 }
 
-fn run_of(settings: &str, stay: bool, log: bool) -> Task<'_> {
+fn run_of(settings: &str, stay: bool, log: bool, any_host: bool) -> Task<'_> {
     Task::Run {
         settings,
         stay,
         log,
+        any_host,
     }
 }
 
@@ -114,12 +115,25 @@ fn reads_the_words_of_a_member(rt: HostRuntime) -> Result<(), Fail> {
         question: 7,
     };
     for (words, task) in [
-        ("bracha run --stay a.toml", run_of("a.toml", true, false)),
-        ("bracha run a.toml --stay", run_of("a.toml", true, false)),
-        ("bracha run --log a.toml", run_of("a.toml", false, true)),
+        (
+            "bracha run --stay a.toml",
+            run_of("a.toml", true, false, false),
+        ),
+        (
+            "bracha run a.toml --stay",
+            run_of("a.toml", true, false, false),
+        ),
+        (
+            "bracha run --log a.toml",
+            run_of("a.toml", false, true, false),
+        ),
+        (
+            "bracha run --any-host a.toml",
+            run_of("a.toml", false, false, true),
+        ),
         (
             "bracha run --stay a.toml --log",
-            run_of("a.toml", true, true),
+            run_of("a.toml", true, true, false),
         ),
         (
             "bracha propose 127.0.0.1:47111 65535 255",

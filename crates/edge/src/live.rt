@@ -2,13 +2,14 @@
 
 ghost use Rattle.edge.specs.Sockets.{AreSocketsOf, IsSocketOf};
 ghost use Rattle.edge.specs.declared.fault.Fault.TheVariants as ends;
-ghost use Rattle.std.specs.Prelude.{◌≡◌, IfErr, IfOk, Err, Ok};
+ghost use Rattle.running.specs.declared.hosts.Hosts.TheVariants as hosts;
+ghost use Rattle.std.specs.Prelude.{◌≡◌, true, false, IfErr, IfOk, Err, Ok};
 
 use crate::fault::Fault;
 use crate::files::{failure_of_journal, open_disk, read_settings};
 use crate::trouble::{Failure, Trouble, Whereabouts, trouble_of};
 use member::Member;
-use running::{Addresses, Log, LogEvent, Machine, Operator, RunFault, run_member};
+use running::{Addresses, Hosts, Log, LogEvent, Machine, Operator, RunFault, run_member};
 use settings::{Address, Settings};
 use std::alloc::Global;
 use std::io::{self, Read, Write};
@@ -37,14 +38,22 @@ fn socket_addresses(alloc: Global, addresses: &[Address]) -> Result<Vec<SocketAd
     Ok(sockets)
 }
 
-/// Where the members of the settings listen.
-fn addresses_of(alloc: Global, settings: &Settings) -> Result<Addresses, Memory>
+/// Where the members of the settings listen, and from where their links are taken: from their own hosts, unless any host
+/// may speak for any member.
+fn addresses_of(alloc: Global, settings: &Settings, any_host: bool) -> Result<Addresses, Memory>
     ensures peers { IfOk result (λ it. AreSocketsOf settings.now.peers.items it.peers.items) }
+    ensures any { any_host ≡ true → IfOk result (λ it. it.hosts ≡ hosts.Any) }
+    ensures own { any_host ≡ false → IfOk result (λ it. it.hosts ≡ hosts.OfMembers) }
     ensures desk { IfOk result (λ it. IsSocketOf settings.now.desk it.desk) }
 {
     let peers = socket_addresses(alloc, &settings.peers)?;
     Ok(Addresses {
         peers,
+        hosts: if any_host {
+            Hosts::Any
+        } else {
+            Hosts::OfMembers
+        },
         desk: socket_address(&settings.desk),
     })
 }
@@ -144,8 +153,17 @@ fn ended(run: Result<(), RunFault>, trouble: Option<Trouble>) -> Result<u8, Fail
     }
 }
 
+/// Says on the standard error that a link's sender is anybody's word.
+fn warn_of_strangers(host: &HostRuntime) {
+    let mut errors = host.stderr();
+    let _unsaid = errors.write_all(
+        b"bracha: --any-host is unsafe: any host may speak for any member\n",
+    );
+}
+
 /// Runs the member of the settings in the file until the standard input ends. The status is 0. Its events are told on the
-/// standard error where a log is wanted.
+/// standard error where a log is wanted. Links are taken from their members' own hosts, unless any host may speak for any
+/// member, which is told on the standard error first.
 ///
 /// Files and standard streams are those of the host. Threads and sockets are those of `rt`, under a bound that has
 /// neither files nor input, as threads ask for.
@@ -158,15 +176,19 @@ pub fn run_file<R: Machine>(
     path: &str,
     stay: bool,
     log: bool,
+    any_host: bool,
 ) -> Result<u8, Failure> {
     let settings = read_settings(host, path)?;
-    let addresses = addresses_of(host.alloc(), &settings).map_err(|_| Fault::Memory)?;
+    let addresses = addresses_of(host.alloc(), &settings, any_host).map_err(|_| Fault::Memory)?;
     let journal = settings.journal.as_str();
     let disk = open_disk(host, journal, false)?;
     let member = match Member::open(host.alloc(), disk, &settings.header) {
         Ok(member) => member,
         Err(fault) => return Err(failure_of_journal(host, journal, Fault::from(fault), fault)),
     };
+    if any_host {
+        warn_of_strangers(host);
+    }
     let mut console = Console {
         host,
         settings: &settings,

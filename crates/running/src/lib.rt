@@ -7,6 +7,7 @@
 mod clients;
 mod events;
 mod fault;
+mod hosts;
 mod linking;
 mod log;
 mod machine;
@@ -21,6 +22,7 @@ mod watch;
 
 pub use events::LogEvent;
 pub use fault::RunFault;
+pub use hosts::Hosts;
 pub use log::{Log, Queue};
 pub use machine::Machine;
 pub use outgoing::Standing;

@@ -1,6 +1,7 @@
 //! The threads of links.
 
 use crate::events::LogEvent;
+use crate::hosts::Sender;
 use crate::machine::Machine;
 use crate::outgoing::Outgoing;
 use crate::shared::{Guest, Shared};
@@ -69,7 +70,7 @@ fn dial_once<D: Disk, J: Naming, R: Machine>(
     let Ok(socket) = TcpStream::connect_timeout(rt, &address, Duration::from_secs(1)) else {
         return None;
     };
-    let place = it.sockets.lock(rt).enter(socket)?;
+    let place = it.sockets.lock(rt).enter_to(socket, peer)?;
     let end = write_at(rt, it, peer, place);
     it.sockets.lock(rt).leave(place);
     Some(end)
@@ -97,7 +98,7 @@ fn address_of<D: Disk, J: Naming>(it: &Shared<D, J>, peer: u8) -> Option<SocketA
     if it.is_closing() || peer >= it.hub.header().size().n() {
         return None;
     }
-    it.peers.get(usize::from(peer)).copied()
+    it.peers.addresses.get(usize::from(peer)).copied()
 }
 
 /// Dials each member, itself too, in a thread of its own, until the end. A thread that the system refuses is asked for
@@ -128,15 +129,18 @@ fn note_peer<D: Disk, J: Naming, R: Machine>(rt: &R, it: &Shared<D, J>, peer: u8
     }
 }
 
-/// Reads the link of a peer that greeted from this host, with its seat and its tosser. A stopped member reads none, which isn't told, since
-/// each peer dials again once a second.
+/// Reads the link of a peer that greeted from this host, which may speak for it, with its seat and its tosser. A stopped
+/// member reads none, which isn't told, since each peer dials again once a second. Where the link is lost the own link to
+/// that peer is cut too: after a cut of the network a writer wouldn't notice until the system's next attempt to send again,
+/// and the dialler begins anew at its next tick.
 fn read_from<D: Disk, J: Naming, R: Machine>(
     rt: &R,
     it: &Shared<D, J>,
-    peer: u8,
+    sender: Sender,
     host: IpAddr,
     stream: &mut NetStream,
 ) -> LinkEnd {
+    let peer = sender.peer();
     if it.hub.lock(rt).is_stopped() {
         return LinkEnd::Stopped;
     }
@@ -152,6 +156,9 @@ fn read_from<D: Disk, J: Naming, R: Machine>(
     let (seat, end) = read_link(rt, it.alloc, &it.hub, seat, stream, &Open, &mut *tosser);
     it.rack.put(rt, seat);
     note_peer(rt, it, peer, LogEvent::LinkDown(peer, end));
+    if end == LinkEnd::Lost && peer != it.hub.header().me() {
+        it.sockets.lock(rt).shut_to(peer);
+    }
     end
 }
 
@@ -171,12 +178,28 @@ fn greet_at<D: Disk, J: Naming, R: Machine>(
     greeted
 }
 
+/// Who greets at a place, from a host that may speak for that member; else a stranger, to whom nothing is written.
+fn sender_at<D: Disk, J: Naming, R: Machine>(
+    rt: &R,
+    it: &Shared<D, J>,
+    guest: Guest,
+    stream: &mut Option<NetStream>,
+) -> Result<Sender, LinkEnd> {
+    match greet_at(rt, it, guest.place, stream) {
+        Ok(peer) => match Sender::of(&it.peers, peer, guest.host) {
+            Some(sender) => Ok(sender),
+            None => Err(LinkEnd::Stranger),
+        },
+        Err(end) => Err(end),
+    }
+}
+
 /// Greets the peer, and reads its link.
 fn read_at<D: Disk, J: Naming, R: Machine>(rt: &R, it: &Shared<D, J>, guest: Guest) -> LinkEnd {
     let mut stream = stream_at(rt, it, guest.place);
-    match greet_at(rt, it, guest.place, &mut stream) {
-        Ok(peer) => match &mut stream {
-            Some(stream) => read_from(rt, it, peer, guest.host, stream),
+    match sender_at(rt, it, guest, &mut stream) {
+        Ok(sender) => match &mut stream {
+            Some(stream) => read_from(rt, it, sender, guest.host, stream),
             None => LinkEnd::Lost,
         },
         Err(end) => {

@@ -9,6 +9,7 @@ ghost use Rattle.running.specs.Streams.{streams};
 use crate::clients::accept_clients;
 use crate::events::LogEvent;
 use crate::fault::RunFault;
+use crate::hosts::{Hosts, Peers};
 use crate::linking::{accept_links, dial_all};
 use crate::log::Log;
 use crate::machine::Machine;
@@ -35,6 +36,8 @@ use terms::Memory;
 pub struct Addresses {
     /// The link address of each member, by its number. The own one is listened at and, like the others, dialled.
     pub peers: Vec<SocketAddr>,
+    /// From where the members' links are taken.
+    pub hosts: Hosts,
     /// The own address for clients.
     pub desk: SocketAddr,
 }
@@ -89,7 +92,7 @@ fn share<D: Disk + Drop, J: Naming, O: Operator>(
     alloc: Global,
     member: Member<D>,
     board: Arc<Board>,
-    peers: Vec<SocketAddr>,
+    peers: Peers,
     seed: [u8; 32],
     operator: &O,
 ) -> Result<Shared<D, J>, Memory>
@@ -220,7 +223,7 @@ fn run_named<
     alloc: Global,
     member: Member<D>,
     board: Arc<Board>,
-    peers: Vec<SocketAddr>,
+    peers: Peers,
     seed: [u8; 32],
     listeners: (TcpListener, TcpListener),
     operator: &mut O,
@@ -292,7 +295,7 @@ pub fn run_member<D: Disk + Drop + Send, O: Operator, L: Log + Send, R: Machine>
     requires sound { IsSound D.Disk member }
     requires fresh { member_is_stopped member ≡ false → MemberStandsFor member (member_saved member) [] }
 {
-    let Addresses { peers, desk } = addresses;
+    let Addresses { peers, hosts, desk } = addresses;
     let header = member.header();
     let Some(own) = peers.get(usize::from(header.me())) else {
         return Err(RunFault::Listen);
@@ -309,7 +312,10 @@ pub fn run_member<D: Disk + Drop + Send, O: Operator, L: Log + Send, R: Machine>
         alloc,
         member,
         board,
-        peers,
+        Peers {
+            addresses: peers,
+            hosts,
+        },
         seed,
         (listener, desk),
         operator,

@@ -1,6 +1,7 @@
 //! What the threads of a member share.
 
 use crate::events::LogEvent;
+use crate::hosts::Peers;
 use crate::log::Log;
 use crate::machine::Machine;
 use crate::places::Places;
@@ -11,7 +12,7 @@ use disk::Disk;
 use node::{Hub, Naming, Rack};
 use rounds::ChaChaTosser;
 use std::alloc::Global;
-use std::net::{IpAddr, SocketAddr, TcpListener, TcpStream};
+use std::net::{IpAddr, TcpListener, TcpStream};
 use std::sync::atomic::{AtomicBool, Ordering};
 use std::sync::{Condvar, Mutex};
 use std::thread;
@@ -24,8 +25,8 @@ pub(crate) const GREETINGS: u32 = 64;
 #[derive(Drop)]
 pub(crate) struct Shared<D: Disk, J: Naming> {
     pub(crate) alloc: Global,
-    /// Where the members listen, by their numbers.
-    pub(crate) peers: Vec<SocketAddr>,
+    /// Where the members listen, by their numbers, and from where their links are taken.
+    pub(crate) peers: Peers,
     pub(crate) hub: Hub<D, J>,
     pub(crate) rack: Rack,
     /// The tosser of the link from each member, for the whole life.

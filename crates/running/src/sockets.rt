@@ -16,6 +16,8 @@ struct OpenSocket {
     socket: TcpStream,
     /// How many ticks are left for the greeting; none where none is awaited.
     patience: Option<u8>,
+    /// The member that was dialled; none where it dialled.
+    to: Option<u8>,
 }
 
 /// The sockets of the sessions that are under way. A session has a copy of its socket, so that a shutdown here ends a read
@@ -40,7 +42,26 @@ impl Sockets {
         self.hold(OpenSocket {
             socket,
             patience: None,
+            to: None,
         })
+    }
+
+    /// Takes in the socket of a link to that member, like `enter`.
+    pub(crate) fn enter_to(&mut self, socket: TcpStream, peer: u8) -> Option<usize> {
+        self.hold(OpenSocket {
+            socket,
+            patience: None,
+            to: Some(peer),
+        })
+    }
+
+    /// Shuts down the sockets of links to that member, whose sessions end then.
+    pub(crate) fn shut_to(&self, peer: u8) {
+        for held in &self.held {
+            if let Some(held) = held {
+                held.shut_if_to(peer);
+            }
+        }
     }
 
     /// Takes in the socket of a peer that is to greet within ten ticks, like `enter`.
@@ -48,6 +69,7 @@ impl Sockets {
         self.hold(OpenSocket {
             socket,
             patience: Some(GREETING_TICKS),
+            to: None,
         })
     }
 
@@ -119,6 +141,13 @@ impl OpenSocket {
             Some(left) if left > 1 => self.patience = Some(left - 1),
             Some(_) => shut(&self.socket),
             None => {}
+        }
+    }
+
+    /// Is shut down if it is one of a link to that member.
+    fn shut_if_to(&self, peer: u8) {
+        if self.to == Some(peer) {
+            shut(&self.socket);
         }
     }
 }

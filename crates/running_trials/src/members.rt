@@ -9,7 +9,7 @@ use links::LinkEnd;
 use member::Member;
 use rounds::{ChaChaTosser, Tosser};
 use running::{
-    Addresses, Log, LogEvent, Machine, Operator, Places, Queue, RunFault, Slots, Standing,
+    Addresses, Hosts, Log, LogEvent, Machine, Operator, Places, Queue, RunFault, Slots, Standing,
     run_member, tosser_for, tossers_of,
 };
 use std::alloc::Global;
@@ -36,6 +36,8 @@ struct Cluster {
     n: u8,
     t: u8,
     port: u16,
+    /// From where links are taken, if the other members' addresses are of another host than this.
+    elsewhere: Option<Hosts>,
 }
 
 impl Cluster {
@@ -52,10 +54,15 @@ impl Cluster {
     fn addresses(&self, alloc: Global, me: u8) -> Result<Addresses, Memory> {
         let mut peers = Vec::new(alloc);
         for peer in 0..self.n {
-            peers.push(self.address(peer))?;
+            let mut address = self.address(peer);
+            if self.elsewhere.is_some() && peer != me {
+                address = SocketAddr::new(IpAddr::V4(Ipv4Addr::new(127, 0, 0, 2)), address.port());
+            }
+            peers.push(address)?;
         }
         Ok(Addresses {
             peers,
+            hosts: self.elsewhere.unwrap_or(Hosts::OfMembers),
             desk: self.desk(me),
         })
     }
@@ -315,6 +322,7 @@ fn joins_late<R: Machine + Abort>(rt: &R, alloc: Global) -> Result<(), Fail> {
         n: 4,
         t: 1,
         port: 47200,
+        elsewhere: None,
     };
     let cues = [Cue::new(), Cue::new(), Cue::new(), Cue::new()];
     let cues = &cues;
@@ -380,6 +388,7 @@ fn run_beside_one<R: Machine + Abort>(
         n: 4,
         t: 1,
         port: 47210,
+        elsewhere: None,
     };
     let cues = [Cue::new(), Cue::new(), Cue::new(), Cue::new()];
     let cues = &cues;
@@ -514,6 +523,7 @@ fn crowd<R: Machine + Abort>(rt: &R, alloc: Global) -> Result<(), Fail> {
         n: 1,
         t: 0,
         port: 47220,
+        elsewhere: None,
     };
     let cue = Cue::new();
     let cue = &cue;
@@ -542,6 +552,8 @@ enum Visitor {
     Dialled(TcpListener),
     /// A peer that dials.
     Dialling,
+    /// Who dials in a peer's name.
+    Impostor,
 }
 
 impl Visitor {
@@ -555,6 +567,7 @@ impl Visitor {
             Visitor::Stranger => comes_as_a_stranger(rt, cluster),
             Visitor::Dialled(listener) => is_dialled(rt, listener, log),
             Visitor::Dialling => dials(rt, cluster, log),
+            Visitor::Impostor => dials_for_another(rt, cluster, log),
         }
     }
 }
@@ -614,6 +627,7 @@ fn alone<R: Machine + Abort>(rt: &R, alloc: Global) -> Result<(), Fail> {
         n: 1,
         t: 0,
         port: 47240,
+        elsewhere: None,
     };
     let want = [
         LogEvent::Ready(0),
@@ -677,6 +691,7 @@ fn peer_leaves<R: Machine + Abort>(rt: &R, alloc: Global) -> Result<(), Fail> {
         n: 4,
         t: 1,
         port: 47250,
+        elsewhere: None,
     };
     let want = [
         LogEvent::Ready(0),
@@ -719,12 +734,28 @@ fn dials<R: Machine + Abort>(rt: &R, cluster: Cluster, log: &Mutex<Kept>) -> Res
     Ok(())
 }
 
+/// Who isn't at the peer's host dials in its name: nothing is written, unless links are taken from any host.
+fn dials_for_another<R: Machine + Abort>(
+    rt: &R,
+    cluster: Cluster,
+    log: &Mutex<Kept>,
+) -> Result<(), Fail> {
+    if cluster.elsewhere == Some(Hosts::Any) {
+        is_welcomed(rt, &mut connect(rt, cluster.address(0))?)?;
+        wait_for(rt, log, 3);
+    } else {
+        assert!(rt; is_refused(rt, cluster.address(0), &HELLO)?);
+    }
+    Ok(())
+}
+
 /// A member that has a log, and a peer that dials it twice, and leaves.
 fn peer_comes<R: Machine + Abort>(rt: &R, alloc: Global) -> Result<(), Fail> {
     let cluster = Cluster {
         n: 4,
         t: 1,
         port: 47260,
+        elsewhere: None,
     };
     let want = [
         LogEvent::Ready(0),
@@ -894,6 +925,7 @@ fn slow_peer<R: Machine + Abort>(rt: &R, alloc: Global) -> Result<(), Fail> {
         n: 4,
         t: 1,
         port: 47230,
+        elsewhere: None,
     };
     let cue = Cue::new();
     let cue = &cue;
@@ -955,4 +987,40 @@ fn tosses_are_of_the_place(rt: HostRuntime) -> Result<(), Fail> {
     let mut later = tosser_for([5; 32], 19, 3);
     assert!(&rt; later.toss() == ChaChaTosser::from_seed([5; 32], 4867).toss());
     Ok(())
+}
+
+/// Member 0 of four, whose peers' addresses are of another host, and who dials from here in a peer's name.
+fn impostor_comes<R: Machine + Abort>(
+    rt: &R,
+    alloc: Global,
+    hosts: Hosts,
+    port: u16,
+    want: &[LogEvent],
+) -> Result<(), Fail> {
+    let cluster = Cluster {
+        n: 4,
+        t: 1,
+        port,
+        elsewhere: Some(hosts),
+    };
+    tells(rt, alloc, cluster, &Visitor::Impostor, want)
+}
+
+/// A member's links are taken from its host alone, unless from any.
+#[test]
+fn a_link_comes_from_its_members_host(rt: HostRuntime) -> Result<(), Fail> {
+    let _types = no_sockets();
+    let refused = [
+        LogEvent::Ready(0),
+        LogEvent::Refused(here(), LinkEnd::Stranger),
+        LogEvent::End,
+    ];
+    impostor_comes(&rt, rt.alloc(), Hosts::OfMembers, 47280, &refused)?;
+    let taken = [
+        LogEvent::Ready(0),
+        LogEvent::LinkUp(1),
+        LogEvent::LinkDown(1, LinkEnd::Ended),
+        LogEvent::End,
+    ];
+    impostor_comes(&rt, rt.alloc(), Hosts::Any, 47290, &taken)
 }

@@ -118,7 +118,8 @@ run_demands words e =
     let settings = given_in (built_at run_app) words solid e _ (inl refl) refl in
     let stay = flag_in (codes "stay") (rows_after (built_at run_app).rules [] words) in
     let log = flag_in (codes "log") (rows_after (built_at run_app).rules [] words) in
-    (Run (at_some_place settings.0) stay.0 log.0, (refl, settings.1, stay.1, log.1))
+    let any_host = flag_in (codes "any-host") (rows_after (built_at run_app).rules [] words) in
+    (Run (at_some_place settings.0) stay.0 log.0 any_host.0, (refl, settings.1, stay.1, log.1, any_host.1))
 
 dump_demands : Demanding dump_app
 dump_demands words e =

@@ -22,7 +22,7 @@ pub only_hear : (rows : List Row) → ((n : ℕ) (t : ℕ) (questions : ℕ) (me
 only_hear rows none (Hear n t questions me) named = none n t questions me named
 only_hear rows none (Init settings) named = apart (codes "hear") (codes "init") refl named.0
 only_hear rows none (Check settings) named = apart (codes "hear") (codes "check") refl named.0
-only_hear rows none (Run settings stay log) named = apart (codes "hear") (codes "run") refl named.0
+only_hear rows none (Run settings stay log any_host) named = apart (codes "hear") (codes "run") refl named.0
 only_hear rows none (Propose address question bit) named = apart (codes "hear") (codes "propose") refl named.0
 only_hear rows none (Ask address question) named = apart (codes "hear") (codes "ask") refl named.0
 only_hear rows none (Status address) named = apart (codes "hear") (codes "status") refl named.0
@@ -33,7 +33,7 @@ pub only_init : (rows : List Row) → ((settings : Bor Text) → Names (codes "i
 only_init rows none (Hear n t questions me) named = apart (codes "init") (codes "hear") refl named.0
 only_init rows none (Init settings) named = none settings named
 only_init rows none (Check settings) named = apart (codes "init") (codes "check") refl named.0
-only_init rows none (Run settings stay log) named = apart (codes "init") (codes "run") refl named.0
+only_init rows none (Run settings stay log any_host) named = apart (codes "init") (codes "run") refl named.0
 only_init rows none (Propose address question bit) named = apart (codes "init") (codes "propose") refl named.0
 only_init rows none (Ask address question) named = apart (codes "init") (codes "ask") refl named.0
 only_init rows none (Status address) named = apart (codes "init") (codes "status") refl named.0
@@ -44,18 +44,18 @@ pub only_check : (rows : List Row) → ((settings : Bor Text) → Names (codes "
 only_check rows none (Hear n t questions me) named = apart (codes "check") (codes "hear") refl named.0
 only_check rows none (Init settings) named = apart (codes "check") (codes "init") refl named.0
 only_check rows none (Check settings) named = none settings named
-only_check rows none (Run settings stay log) named = apart (codes "check") (codes "run") refl named.0
+only_check rows none (Run settings stay log any_host) named = apart (codes "check") (codes "run") refl named.0
 only_check rows none (Propose address question bit) named = apart (codes "check") (codes "propose") refl named.0
 only_check rows none (Ask address question) named = apart (codes "check") (codes "ask") refl named.0
 only_check rows none (Status address) named = apart (codes "check") (codes "status") refl named.0
 only_check rows none (Simulate script trace chart) named = apart (codes "check") (codes "simulate") refl named.0
 only_check rows none (Dump journal count) named = apart (codes "check") (codes "dump") refl named.0
 
-pub only_run : (rows : List Row) → ((settings : Bor Text) (stay log : Bool) → Names (codes "run") rows (Run settings stay log) → ⊥) → (task : Task) → Names (codes "run") rows task → ⊥
+pub only_run : (rows : List Row) → ((settings : Bor Text) (stay log any_host : Bool) → Names (codes "run") rows (Run settings stay log any_host) → ⊥) → (task : Task) → Names (codes "run") rows task → ⊥
 only_run rows none (Hear n t questions me) named = apart (codes "run") (codes "hear") refl named.0
 only_run rows none (Init settings) named = apart (codes "run") (codes "init") refl named.0
 only_run rows none (Check settings) named = apart (codes "run") (codes "check") refl named.0
-only_run rows none (Run settings stay log) named = none settings stay log named
+only_run rows none (Run settings stay log any_host) named = none settings stay log any_host named
 only_run rows none (Propose address question bit) named = apart (codes "run") (codes "propose") refl named.0
 only_run rows none (Ask address question) named = apart (codes "run") (codes "ask") refl named.0
 only_run rows none (Status address) named = apart (codes "run") (codes "status") refl named.0
@@ -66,7 +66,7 @@ pub only_propose : (rows : List Row) → ((address : Bor Text) (question : ℕ) 
 only_propose rows none (Hear n t questions me) named = apart (codes "propose") (codes "hear") refl named.0
 only_propose rows none (Init settings) named = apart (codes "propose") (codes "init") refl named.0
 only_propose rows none (Check settings) named = apart (codes "propose") (codes "check") refl named.0
-only_propose rows none (Run settings stay log) named = apart (codes "propose") (codes "run") refl named.0
+only_propose rows none (Run settings stay log any_host) named = apart (codes "propose") (codes "run") refl named.0
 only_propose rows none (Propose address question bit) named = none address question bit named
 only_propose rows none (Ask address question) named = apart (codes "propose") (codes "ask") refl named.0
 only_propose rows none (Status address) named = apart (codes "propose") (codes "status") refl named.0
@@ -77,7 +77,7 @@ pub only_ask : (rows : List Row) → ((address : Bor Text) (question : ℕ) → 
 only_ask rows none (Hear n t questions me) named = apart (codes "ask") (codes "hear") refl named.0
 only_ask rows none (Init settings) named = apart (codes "ask") (codes "init") refl named.0
 only_ask rows none (Check settings) named = apart (codes "ask") (codes "check") refl named.0
-only_ask rows none (Run settings stay log) named = apart (codes "ask") (codes "run") refl named.0
+only_ask rows none (Run settings stay log any_host) named = apart (codes "ask") (codes "run") refl named.0
 only_ask rows none (Propose address question bit) named = apart (codes "ask") (codes "propose") refl named.0
 only_ask rows none (Ask address question) named = none address question named
 only_ask rows none (Status address) named = apart (codes "ask") (codes "status") refl named.0
@@ -88,7 +88,7 @@ pub only_status : (rows : List Row) → ((address : Bor Text) → Names (codes "
 only_status rows none (Hear n t questions me) named = apart (codes "status") (codes "hear") refl named.0
 only_status rows none (Init settings) named = apart (codes "status") (codes "init") refl named.0
 only_status rows none (Check settings) named = apart (codes "status") (codes "check") refl named.0
-only_status rows none (Run settings stay log) named = apart (codes "status") (codes "run") refl named.0
+only_status rows none (Run settings stay log any_host) named = apart (codes "status") (codes "run") refl named.0
 only_status rows none (Propose address question bit) named = apart (codes "status") (codes "propose") refl named.0
 only_status rows none (Ask address question) named = apart (codes "status") (codes "ask") refl named.0
 only_status rows none (Status address) named = none address named
@@ -99,7 +99,7 @@ pub only_simulate : (rows : List Row) → ((script : Bor Text) (trace : Option (
 only_simulate rows none (Hear n t questions me) named = apart (codes "simulate") (codes "hear") refl named.0
 only_simulate rows none (Init settings) named = apart (codes "simulate") (codes "init") refl named.0
 only_simulate rows none (Check settings) named = apart (codes "simulate") (codes "check") refl named.0
-only_simulate rows none (Run settings stay log) named = apart (codes "simulate") (codes "run") refl named.0
+only_simulate rows none (Run settings stay log any_host) named = apart (codes "simulate") (codes "run") refl named.0
 only_simulate rows none (Propose address question bit) named = apart (codes "simulate") (codes "propose") refl named.0
 only_simulate rows none (Ask address question) named = apart (codes "simulate") (codes "ask") refl named.0
 only_simulate rows none (Status address) named = apart (codes "simulate") (codes "status") refl named.0
@@ -110,7 +110,7 @@ pub only_dump : (rows : List Row) → ((journal : Bor Text) (count : Bool) → N
 only_dump rows none (Hear n t questions me) named = apart (codes "dump") (codes "hear") refl named.0
 only_dump rows none (Init settings) named = apart (codes "dump") (codes "init") refl named.0
 only_dump rows none (Check settings) named = apart (codes "dump") (codes "check") refl named.0
-only_dump rows none (Run settings stay log) named = apart (codes "dump") (codes "run") refl named.0
+only_dump rows none (Run settings stay log any_host) named = apart (codes "dump") (codes "run") refl named.0
 only_dump rows none (Propose address question bit) named = apart (codes "dump") (codes "propose") refl named.0
 only_dump rows none (Ask address question) named = apart (codes "dump") (codes "ask") refl named.0
 only_dump rows none (Status address) named = apart (codes "dump") (codes "status") refl named.0

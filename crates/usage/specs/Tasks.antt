@@ -37,8 +37,8 @@ Names name rows (Hear n t questions me) = (name ≡ codes "hear") × HasNumberOp
     × HasNumberOption 8 (codes "me") rows me
 Names name rows (Init settings) = (name ≡ codes "init") × HasText (codes "settings") rows settings.now
 Names name rows (Check settings) = (name ≡ codes "check") × HasText (codes "settings") rows settings.now
-Names name rows (Run settings stay log) = (name ≡ codes "run") × HasText (codes "settings") rows settings.now
-    × HasFlag (codes "stay") rows stay × HasFlag (codes "log") rows log
+Names name rows (Run settings stay log any_host) = (name ≡ codes "run") × HasText (codes "settings") rows settings.now
+    × HasFlag (codes "stay") rows stay × HasFlag (codes "log") rows log × HasFlag (codes "any-host") rows any_host
 Names name rows (Propose address question bit) = (name ≡ codes "propose")
     × HasText (codes "address") rows address.now × HasNumberOption 16 (codes "question") rows question
     × HasNumberOption 8 (codes "bit") rows bit

@@ -69,9 +69,10 @@ init_app = taking (codes "init") (word_rule (codes "settings") ∷ [])
 abbrev pub check_app : App
 check_app = taking (codes "check") (word_rule (codes "settings") ∷ [])
 
--- `bracha run [--stay] [--log] SETTINGS`
+-- `bracha run [--stay] [--log] [--any-host] SETTINGS`
 abbrev pub run_app : App
-run_app = taking (codes "run") (word_rule (codes "settings") ∷ flag_rule (codes "stay") ∷ flag_rule (codes "log") ∷ [])
+run_app = taking (codes "run")
+    (word_rule (codes "settings") ∷ flag_rule (codes "stay") ∷ flag_rule (codes "log") ∷ flag_rule (codes "any-host") ∷ [])
 
 -- `bracha propose ADDRESS Q V`
 abbrev pub propose_app : App

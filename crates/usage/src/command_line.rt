@@ -30,11 +30,13 @@ pub enum Task<'a> {
         settings: &'a str,
     },
     /// Runs the member of the settings in this file, until the standard input ends, or for good where it is to stay. Its
-    /// events are told on the standard error where a log is wanted.
+    /// events are told on the standard error where a log is wanted. Links are taken from their members' own hosts alone,
+    /// unless any host may speak for any member.
     Run {
         settings: &'a str,
         stay: bool,
         log: bool,
+        any_host: bool,
     },
     /// Proposes a bit on a question to the member whose desk is at this address.
     Propose {
@@ -212,10 +214,13 @@ fn run<'a>(alloc: Global) -> Built<'a>
     let help = "The file of the member's settings, whose journal `init` made";
     let stay = "Doesn't look at standard input, and runs until it is killed";
     let log = "Tells on standard error when links come and go, and what is decided";
+    let any_host =
+        "Unsafe: takes links from any host, so that whoever reaches the port may speak for any member";
     let command = named(alloc, "run", about, examples);
     let command = with_arg(command, word(alloc, "settings", "SETTINGS", help));
     let command = with_arg(command, flag(alloc, "stay", stay));
-    with_arg(command, flag(alloc, "log", log))
+    let command = with_arg(command, flag(alloc, "log", log));
+    with_arg(command, flag(alloc, "any-host", any_host))
 }
 
 /// The address of a desk.
@@ -399,6 +404,7 @@ fn run_of<'a>(options: &ArgMatches<'a>) -> Option<Task<'a>>
         settings: text_of(options, "settings")?,
         stay: flag_of(options, "stay"),
         log: flag_of(options, "log"),
+        any_host: flag_of(options, "any-host"),
     })
 }
 
