@@ -15,7 +15,7 @@ _bracha() {
     esac
     case ${COMP_WORDS[at]} in
     init | check) mapfile -t COMPREPLY < <(compgen -W "--verbose --help" -f -- "$word") ;;
-    run) mapfile -t COMPREPLY < <(compgen -W "--stay --log --verbose --help" -f -- "$word") ;;
+    run) mapfile -t COMPREPLY < <(compgen -W "--stay --log --any-host --verbose --help" -f -- "$word") ;;
     dump) mapfile -t COMPREPLY < <(compgen -W "--count --verbose --help" -f -- "$word") ;;
     simulate) mapfile -t COMPREPLY < <(compgen -W "--trace --chart --verbose --help" -f -- "$word") ;;
     hear) mapfile -t COMPREPLY < <(compgen -W "--n --t --questions --me --verbose --help" -- "$word") ;;

@@ -64,8 +64,8 @@ pub fn show_simulation<S: Shelf, W: Write, E: Write>(
         × ArePages (is_some trace.entry) (is_some chart.entry) script outcome pages
         × S.has (option_map string_bytes pages.trace) (option_map string_bytes pages.chart) shelf.new
         × AreSaid (option_map (λ path. path.now) trace.entry) (option_map (λ path. path.now) chart.entry)
-            (Appends (W.contents output.old) (W.contents output.new) (simulation_text outcome))
-            (Appends (E.contents errors.old) (E.contents errors.new) (simulation_text outcome))) }
+        (Appends (W.contents output.old) (W.contents output.new) (simulation_text outcome))
+        (Appends (E.contents errors.old) (E.contents errors.new) (simulation_text outcome))) }
     // The other writer is left alone.
     ensures no_output { TakesOutput (option_map (λ path. path.now) trace.entry) (option_map (λ path. path.now) chart.entry) →
         output.new ≡ output.old }

@@ -22,10 +22,10 @@ returns-in-Ok-print_verdicts-clause-all g c =
       c.in-Ok-put.ensures,
       record {
         in_output = λ none.
-          subst (λ (text : List ℕ). Appends (g.W.Write.contents c.args.output.now) (g.W.Write.contents c.print_verdicts.new.output) text)
-          (c.as_str.ensures.value ∙ of.4.verdicts_are) (said.output (not_so _ _ takes.0 none));
+            subst (λ (text : List ℕ). Appends (g.W.Write.contents c.args.output.now) (g.W.Write.contents c.print_verdicts.new.output) text)
+            (c.as_str.ensures.value ∙ of.4.verdicts_are) (said.output (not_so _ _ takes.0 none));
         aside = λ some.
-          subst (λ (text : List ℕ). Appends (g.E.Write.contents c.args.errors.now) (g.E.Write.contents c.print_verdicts.new.errors) text)
-          (c.as_str.ensures.value ∙ of.4.verdicts_are) (said.aside (takes.1 some));
+            subst (λ (text : List ℕ). Appends (g.E.Write.contents c.args.errors.now) (g.E.Write.contents c.print_verdicts.new.errors) text)
+            (c.as_str.ensures.value ∙ of.4.verdicts_are) (said.aside (takes.1 some));
       },
     )
