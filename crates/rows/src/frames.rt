@@ -2,11 +2,12 @@
 //!
 //! `size N T QUESTIONS` says for which cluster. A row of hexadecimal digits answers the messages in words, each before a
 //! comma, and how the stream ends: `More`, or the fault. It is fed whole, cut in two at every byte, and byte by byte; and the
-//! messages, encoded again, are to be the bytes that they were read from.
+//! messages, encoded again, are to be the bytes that they were read from. `encode KIND QUESTION ORIGIN ROUND STEP VALUE` answers a
+//! statement's frame.
 
-use crate::phrases::{bytes_of, size_of, words_of};
+use crate::phrases::{bytes_of, kind_of, size_of, value_of, words_of};
 use std::alloc::Global;
-use terms::{Memory, Size};
+use terms::{Memory, Place, Size, Statement};
 use wire::{Fed, Feeder, Message, encode};
 
 /// A cluster's streams.
@@ -109,6 +110,14 @@ fn however_cut(alloc: Global, size: Size, bytes: &[u8]) -> Result<String, Memory
     Ok(whole)
 }
 
+/// The frame of a statement.
+fn frame_of(alloc: Global, kind: &str, place: Place, value: &str) -> Option<String> {
+    let statement = Statement::new(kind_of(kind)?, place, value_of(value)?)?;
+    let mut bytes = Vec::new(alloc);
+    encode(&Message::Statement(statement), &mut bytes).ok()?;
+    hex::encode(alloc, &bytes).ok()
+}
+
 impl Stream {
     /// Of no cluster yet.
     pub fn new(alloc: Global) -> Stream {
@@ -122,6 +131,11 @@ impl Stream {
             ["size", n, t, questions] => {
                 self.size = Some(size_of(n, t, questions)?);
                 Some(String::new(self.alloc))
+            }
+            ["encode", kind, question, origin, round, step, value] => {
+                let (question, origin) = (question.parse().ok()?, origin.parse().ok()?);
+                let place = Place::new(question, origin, round.parse().ok()?, step.parse().ok()?)?;
+                frame_of(self.alloc, kind, place, value)
             }
             [digits] => {
                 let bytes = bytes_of(self.alloc, digits)?;

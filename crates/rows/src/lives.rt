@@ -4,9 +4,13 @@
 //! once more, and answers its records; `crash kept`, `crash lost` and `crash fill BYTE` open what a crash leaves. `hear FROM
 //! FRAME TOSS` and `propose QUESTION BIT TOSS` answer; `all FROM FRAME TOSS, ..` hears a group, and answers all in turn.
 //! `fuse CALLS` lets so many calls of the device pass, `fuse out` all. `outbox`, `verdict QUESTION`, `stopped`, `stop` are as
-//! the member has it, and `len` is its file's length. `empty` is a disk of nothing.
+//! the member has it, and `len` is its file's length. `empty` is a disk of nothing, and `disk DIGITS` one that has these
+//! bytes.
 
-use crate::phrases::{answer_text, header_of, records_text, statement_of, toss_of, words_of};
+use crate::files::disk_of;
+use crate::phrases::{
+    answer_text, bytes_of, header_of, records_text, statement_of, toss_of, words_of,
+};
 use disk::{Disk, MemDisk, Pick};
 use journal::create;
 use member::{Member, MemberFault};
@@ -149,10 +153,6 @@ impl Up {
                 self.member.stop();
                 Some(String::new(alloc))
             }
-            ["device"] => {
-                self.member.fuse(Some(0));
-                Some(String::new(alloc))
-            }
             ["fuse", "out"] => {
                 self.member.fuse(None);
                 Some(String::new(alloc))
@@ -248,6 +248,11 @@ impl Life {
             ["empty"] => {
                 self.up = None;
                 self.disk = Some(MemDisk::new(self.alloc));
+                Some(String::new(self.alloc))
+            }
+            ["disk", digits] => {
+                self.up = None;
+                self.disk = Some(disk_of(self.alloc, &bytes_of(self.alloc, digits)?).ok()?);
                 Some(String::new(self.alloc))
             }
             ["len"] => self.len(),

@@ -5,12 +5,15 @@
 //! they say, and before that each row that isn't, with its line. The file `stdout` beside `src` has what a good run prints.
 #![tactic(auto)]
 
+mod broadcasts;
 mod files;
 mod frames;
 mod jobs;
 mod lives;
+mod numbers;
 mod phrases;
 mod player;
+mod steps;
 
 use player::Player;
 use std::{fs, io};

@@ -3,7 +3,7 @@
 use questions::Answer;
 use rounds::Toss;
 use std::alloc::Global;
-use terms::{Header, Memory, Record, Size, Statement};
+use terms::{Header, Kind, Memory, Record, Size, Statement, Value};
 use wire::{Feeder, Message, encode};
 
 /// The words of a text, between its spaces.
@@ -24,6 +24,28 @@ pub fn header_of(n: &str, t: &str, questions: &str, me: &str) -> Option<Header> 
 /// The bytes of hexadecimal digits.
 pub fn bytes_of(alloc: Global, digits: &str) -> Option<Vec<u8>> {
     hex::decode(alloc, digits.as_bytes()).ok()
+}
+
+/// The kind of that name.
+pub fn kind_of(name: &str) -> Option<Kind> {
+    match name {
+        "Initial" => Some(Kind::Initial),
+        "Echo" => Some(Kind::Echo),
+        "Ready" => Some(Kind::Ready),
+        _ => None,
+    }
+}
+
+/// The value of that name.
+pub fn value_of(name: &str) -> Option<Value> {
+    match name {
+        "Zero" => Some(Value::Zero),
+        "One" => Some(Value::One),
+        "SureZero" => Some(Value::SureZero),
+        "SureOne" => Some(Value::SureOne),
+        "Unsure" => Some(Value::Unsure),
+        _ => None,
+    }
 }
 
 /// The toss of sixteen hexadecimal digits.

@@ -1,14 +1,14 @@
-//! Worked rows of one question. A call that is refused memory is made again, and is then to answer as with ample memory: so under
+//! A question that is refused memory. The rows of questions stand in `rows`. A call that is refused memory is made again, and is then to answer as with ample memory: so under
 //! `rt try --test --fail-alloc N` the same rows test a refusal of the Nth allocation.
 ghost use Rattle.std.specs.Prelude.{◌≡◌};
 ghost use Rattle.rounds.specs.Readers.{question_size, question_number};
 
 use Row::{Decide, Due, Next, Say, Take, Verdict};
-use rounds::{ChaChaTosser, Question, Toss, Tosser};
+use rounds::{Question, Toss};
 use std::process::Abort;
 use std::test::Fail;
 use terms::Kind::{Echo, Initial, Ready};
-use terms::Value::{One, SureOne, SureZero, Unsure, Zero};
+use terms::Value::{One, SureOne};
 use terms::{Kind, Memory, Place, Record, Size, Statement, Value};
 
 /// Question 0 at member 0, and the size that it was made for.
@@ -132,83 +132,6 @@ impl Asked {
 }
 
 #[test]
-fn first_toss_of_stream_zero(rt: HostRuntime) {
-    let mut tosser = ChaChaTosser::from_seed([0; 32], 0);
-    assert_eq!(rt; tosser.toss(), Toss(0x903d_f1a0_ade0_b876));
-}
-
-#[test]
-fn all_valid_messages_count(rt: HostRuntime) -> Result<(), Fail> {
-    Asked::new(&rt, 5)?.play(
-        &rt,
-        &[
-            Take(1, 1, &[Zero, Zero, One]),
-            Next(0, None),
-            Say(1, 1, Zero),
-            Next(0, None),
-            Take(1, 1, &[Zero, Zero, One, One]),
-            Next(0, Some((1, 2, Zero))),
-            Take(1, 1, &[Zero, Zero, One, One, One]),
-            Next(0, Some((1, 2, One))),
-        ],
-    )?;
-    Asked::new(&rt, 4)?.play(
-        &rt,
-        &[
-            Say(1, 1, Zero),
-            Take(1, 1, &[Zero, One, One, One]),
-            Next(0, Some((1, 2, One))),
-        ],
-    )
-}
-
-/// A question of four members that said its Initials of round 1, with those values of step 3 after ties in step 1.
-fn after_round_one<'a>(
-    rt: &(impl Abort + AllocGlobal),
-    second: &'a [Value],
-    third: &'a [Value],
-) -> Result<Asked, Fail> {
-    let mut asked = Asked::new(rt, 4)?;
-    asked.play(
-        rt,
-        &[
-            Say(1, 1, Zero),
-            Say(1, 2, Zero),
-            Say(1, 3, Unsure),
-            Take(1, 1, &[Zero, Zero, One, One]),
-            Take(1, 2, second),
-            Take(1, 3, third),
-        ],
-    )?;
-    Ok(asked)
-}
-
-#[test]
-fn help_set_outweighs_the_coin(rt: HostRuntime) -> Result<(), Fail> {
-    let zeros = [Zero, Zero, Zero, One];
-    after_round_one(&rt, &zeros, &[SureZero, SureZero, Unsure, Unsure])?.play(
-        &rt,
-        &[Next(1, Some((2, 1, Zero)))],
-    )?;
-    after_round_one(&rt, &zeros, &[SureZero, Unsure, Unsure, Unsure])?.play(
-        &rt,
-        &[Next(1, Some((2, 1, One))), Next(2, Some((2, 1, Zero)))],
-    )
-}
-
-#[test]
-fn coin_breaks_a_tie(rt: HostRuntime) -> Result<(), Fail> {
-    after_round_one(&rt, &[Zero, Zero, One, One], &[Unsure, Unsure, Unsure])?.play(
-        &rt,
-        &[
-            Next(2, Some((2, 1, Zero))),
-            Next(1, Some((2, 1, One))),
-            Due(None),
-        ],
-    )
-}
-
-#[test]
 fn accept_set_decides_once(rt: HostRuntime) -> Result<(), Fail> {
     Asked::new(&rt, 4)?.play(
         &rt,
@@ -230,51 +153,6 @@ fn accept_set_decides_once(rt: HostRuntime) -> Result<(), Fail> {
 }
 
 #[test]
-fn lower_round_may_come_to_decide(rt: HostRuntime) -> Result<(), Fail> {
-    Asked::of(&rt, Size::new(7, 2, 1)?).play(
-        &rt,
-        &[
-            Take(1, 1, &[Zero, Zero, Zero, One, One, One]),
-            Take(1, 2, &[Zero, Zero, One, One, One, One]),
-            Take(1, 3, &[Unsure, SureOne, SureOne, SureOne, SureOne]),
-            Take(2, 1, &[One; 5]),
-            Take(2, 2, &[One; 5]),
-            Due(None),
-            Take(2, 3, &[SureOne; 5]),
-            Due(Some((2, true))),
-            Take(1, 3, &[Unsure, SureOne, SureOne, SureOne, SureOne, SureOne]),
-            Due(Some((1, true))),
-        ],
-    )
-}
-
-/// Accepts a message of each of 32 members in every step but the first: One, and SureOne in step 3.
-fn take_later_steps(rt: &impl Abort, asked: &mut Asked) -> Result<(), Fail> {
-    for code in 5..100_u8 {
-        let step = (code - 1) % 3 + 1;
-        let value = if step == 3 { SureOne } else { One };
-        asked.take(rt, (code - 1) / 3, step, &[value; 32])?;
-    }
-    Ok(())
-}
-
-#[test]
-fn large_history_decides_at_once(rt: HostRuntime) -> Result<(), Fail> {
-    let mut asked = Asked::of(&rt, Size::new(32, 10, 1)?);
-    take_later_steps(&rt, &mut asked)?;
-    asked.play(
-        &rt,
-        &[
-            Take(1, 1, &[One; 21]),
-            Due(None),
-            Take(1, 1, &[One; 22]),
-            Due(Some((1, true))),
-            Verdict(None),
-        ],
-    )
-}
-
-#[test]
 fn other_records_change_nothing(rt: HostRuntime) -> Result<(), Fail> {
     let mut asked = Asked::new(&rt, 4)?;
     asked.play(&rt, &[Take(1, 1, &[One, One, One])])?;
@@ -283,49 +161,4 @@ fn other_records_change_nothing(rt: HostRuntime) -> Result<(), Fail> {
         asked.play(&rt, &[Next(0, None)])?;
     }
     asked.play(&rt, &[Say(1, 1, One), Next(0, Some((1, 2, One)))])
-}
-
-/// Says all Initials that are due, where each round is a tie that the coin breaks, and gives how many there are.
-fn drive(rt: &impl Abort, asked: &mut Asked, toss: u64) -> Result<u8, Fail> {
-    for code in 5..101_u8 {
-        let Some((round, step, value)) = asked.next(toss) else {
-            return Ok(code - 5);
-        };
-        let want = match step {
-            1 if (toss >> ((code - 5) / 3)) % 2 == 1 => One,
-            3 => Unsure,
-            _ => Zero,
-        };
-        assert!(rt; (round, step) == ((code - 1) / 3, (code - 1) % 3 + 1));
-        assert!(rt; value == want, "in round {round}, step {step}");
-        asked.say(round, step, value)?;
-    }
-    Err(Fail::from("no end"))
-}
-
-/// A question of four members with a tie in all 32 rounds.
-fn all_ties(rt: &(impl Abort + AllocGlobal)) -> Result<Asked, Fail> {
-    let mut asked = Asked::new(rt, 4)?;
-    for round in 1..33 {
-        asked.take(rt, round, 1, &[Zero, Zero, One, One])?;
-        asked.take(rt, round, 2, &[Zero, Zero, One, One])?;
-        asked.take(rt, round, 3, &[Unsure, Unsure, Unsure, Unsure])?;
-    }
-    asked.say(1, 1, Zero)?;
-    Ok(asked)
-}
-
-#[test]
-fn coins_lead_to_round_thirty_two(rt: HostRuntime) -> Result<(), Fail> {
-    let mut asked = all_ties(&rt)?;
-    assert_eq!(rt; drive(&rt, &mut asked, 0x903d_f1a0_ade0_b876)?, 95);
-    Ok(())
-}
-
-#[test]
-fn round_after_the_decision_is_the_last(rt: HostRuntime) -> Result<(), Fail> {
-    let mut asked = all_ties(&rt)?;
-    asked.decide(0, 5, true);
-    assert_eq!(rt; drive(&rt, &mut asked, 0x903d_f1a0_ade0_b876)?, 17);
-    Ok(())
 }

@@ -1,9 +1,8 @@
-//! Worked rows of the format, cut in every way, and refused memory.
+//! Frames where memory is refused. The rows of the format stand in `rows`.
 //!
 //! Where `rt try --test --fail-alloc N` refuses an allocation, the helpers see that nothing changed and go
 //! on with the same call again.
 
-use crate::texts::prints;
 use std::alloc::AllocGlobal;
 use std::process::Abort;
 use std::test::Fail;
@@ -14,9 +13,6 @@ use wire::{Fed, Feeder, Message, WireFault, encode};
 fn size() -> Result<Size, Fail> {
     Ok(Size::new(4, 1, 1).ok().ok_or("a size")?)
 }
-
-/// The initial statement One of question 0, origin 0, round 1, step 1.
-const FIRST: [u8; 10] = [0, 8, 3, 1, 0, 0, 0, 1, 1, 1];
 
 /// An echo whose value is none of step 1.
 const WRONG: [u8; 10] = [0, 8, 3, 2, 0, 0, 0, 1, 1, 2];
@@ -32,7 +28,7 @@ fn message(rt: &impl Abort, kind: Kind, place: (u16, u8, u8, u8), value: Value) 
     rt.abort()
 }
 
-/// The message of FIRST.
+/// The initial statement One of question 0, origin 0, round 1, step 1.
 fn first(rt: &impl Abort) -> Message {
     message(rt, Kind::Initial, (0, 0, 1, 1), Value::One)
 }
@@ -76,257 +72,6 @@ fn encode_again(rt: &impl Abort, message: &Message, out: &mut Vec<u8>) -> Result
     }
     assert!(rt; out.len() == before, "a refused encode added bytes");
     encode(message, out).ok().ok_or("memory, twice")?;
-    Ok(())
-}
-
-/// Whether the message has that frame of ten bytes, and has it once more behind the first.
-fn is_encoded(
-    rt: &(impl AllocGlobal + Abort),
-    message: &Message,
-    frame: &[u8],
-) -> Result<bool, Fail> {
-    let mut out = Vec::new(rt.alloc());
-    encode_again(rt, message, &mut out)?;
-    let has_frame = out.as_slice() == frame;
-    encode_again(rt, message, &mut out)?;
-    Ok(has_frame && out.len() == 20)
-}
-
-#[test]
-fn encodes(rt: HostRuntime) -> Result<(), Fail> {
-    let rows = [
-        (first(&rt), FIRST),
-        (
-            message(&rt, Kind::Echo, (258, 3, 32, 2), Value::Zero),
-            [0, 8, 3, 2, 1, 2, 3, 32, 2, 0],
-        ),
-        (
-            message(&rt, Kind::Ready, (255, 31, 7, 3), Value::SureZero),
-            [0, 8, 3, 3, 0, 255, 31, 7, 3, 2],
-        ),
-        (
-            message(&rt, Kind::Ready, (1, 2, 3, 3), Value::SureOne),
-            [0, 8, 3, 3, 0, 1, 2, 3, 3, 3],
-        ),
-        (
-            message(&rt, Kind::Initial, (1, 2, 3, 3), Value::Unsure),
-            [0, 8, 3, 1, 0, 1, 2, 3, 3, 4],
-        ),
-    ];
-    for (message, frame) in rows {
-        assert!(rt; is_encoded(&rt, &message, &frame)?, "{frame:?}");
-    }
-    Ok(())
-}
-
-/// Whether the message is encoded as that frame.
-fn has_frame(
-    rt: &(impl AllocGlobal + Abort),
-    message: &Message,
-    frame: &[u8],
-) -> Result<bool, Fail> {
-    let mut bytes = Vec::new(rt.alloc());
-    encode_again(rt, message, &mut bytes)?;
-    Ok(bytes.as_slice() == frame)
-}
-
-/// Whether the message is read once the rest of its frame is there, and not before.
-fn is_read_in_two(
-    rt: &(impl AllocGlobal + Abort),
-    message: &Message,
-    front: &[u8],
-    rest: &[u8],
-) -> Result<bool, Fail> {
-    Ok(reads(rt, &[front], &[], Fed::More)? && reads(rt, &[front, rest], &[*message], Fed::More)?)
-}
-
-/// The message has that frame, and is read from it however it is cut.
-fn is_spelled(
-    rt: &(impl AllocGlobal + Abort),
-    message: &Message,
-    frame: &[u8],
-) -> Result<(), Fail> {
-    assert!(rt; has_frame(rt, message, frame)?);
-    for cut in 0..frame.len() {
-        let (front, rest) = frame.split_at(cut);
-        assert!(rt; is_read_in_two(rt, message, front, rest)?, "cut at {cut}");
-    }
-    assert!(rt; reads(rt, &[frame, &[]], &[*message], Fed::More)?);
-    Ok(())
-}
-
-#[test]
-fn greets(rt: HostRuntime) -> Result<(), Fail> {
-    let hello = Message::Hello {
-        cluster: 7,
-        size: size()?,
-        from: 0,
-        to: 1,
-    };
-    let frame = [0, 16, 1, 1, 0, 0, 0, 0, 0, 0, 0, 7, 4, 1, 0, 1, 0, 1];
-    is_spelled(&rt, &hello, &frame)?;
-    let frame = [0, 9, 2, 0, 0, 0, 0, 0, 0, 0, 1];
-    is_spelled(&rt, &Message::Welcome { next: 1 }, &frame)?;
-    is_spelled(&rt, &Message::Idle, &[0, 1, 0])
-}
-
-#[test]
-fn takes_any_cluster_and_any_next(rt: HostRuntime) -> Result<(), Fail> {
-    let mut feeder = Feeder::new(size()?);
-    let mut out = Vec::new(rt.alloc());
-    let frame = [
-        0, 16, 1, 1, 255, 254, 253, 252, 251, 250, 249, 248, 4, 1, 0, 1, 3, 3,
-    ];
-    assert!(rt; feed(&rt, &mut feeder, &frame, &mut out)? == Fed::More);
-    let frame = [0, 9, 2, 255, 255, 255, 255, 255, 255, 255, 255];
-    assert!(rt; feed(&rt, &mut feeder, &frame, &mut out)? == Fed::More);
-    let hello = Message::Hello {
-        cluster: 0xfffe_fdfc_fbfa_f9f8,
-        size: size()?,
-        from: 3,
-        to: 3,
-    };
-    let welcome = Message::Welcome { next: u64::MAX };
-    assert!(rt; out.as_slice() == [hello, welcome].as_slice());
-    Ok(())
-}
-
-#[test]
-fn reads_a_frame_cut_anywhere(rt: HostRuntime) -> Result<(), Fail> {
-    is_spelled(&rt, &first(&rt), &FIRST)
-}
-
-#[test]
-fn reads_byte_by_byte(rt: HostRuntime) -> Result<(), Fail> {
-    let first = first(&rt);
-    let mut feeder = Feeder::new(size()?);
-    let mut out = Vec::new(rt.alloc());
-    for byte in &FIRST {
-        assert!(rt; out.is_empty());
-        assert!(rt; feed(&rt, &mut feeder, &[*byte], &mut out)? == Fed::More);
-    }
-    assert!(rt; out.as_slice() == [first].as_slice());
-    Ok(())
-}
-
-#[test]
-fn gives_the_messages_before_a_fault(rt: HostRuntime) -> Result<(), Fail> {
-    let first = [first(&rt)];
-    let broken = Fed::Broken(WireFault::BadValue);
-    let mut bytes = [0; 20];
-    bytes[..10].copy_from_slice(&FIRST);
-    bytes[10..].copy_from_slice(&WRONG);
-    assert!(rt; reads(&rt, &[&bytes], &first, broken)?);
-    // Behind a fault nothing is read.
-    assert!(rt; reads(&rt, &[&bytes, &FIRST], &first, broken)?);
-    assert!(rt; reads(&rt, &[&bytes, &FIRST, &[]], &first, broken)?);
-    Ok(())
-}
-
-/// Bytes of which the last is the first wrong one, for the size (4, 1, 1).
-const WRONG_BYTES: [(&[u8], WireFault); 29] = [
-    (&[1], WireFault::BadLength),
-    (&[0, 0], WireFault::BadLength),
-    (&[0, 2], WireFault::BadLength),
-    (&[0, 7], WireFault::BadLength),
-    (&[0, 10], WireFault::BadLength),
-    (&[0, 17], WireFault::BadLength),
-    (&[0, 1, 3], WireFault::BadType),
-    (&[0, 8, 2], WireFault::BadType),
-    (&[0, 9, 1], WireFault::BadType),
-    (&[0, 16, 0], WireFault::BadType),
-    (&[0, 16, 1, 2], WireFault::BadHello),
-    (
-        &[0, 16, 1, 1, 9, 9, 9, 9, 9, 9, 9, 9, 5],
-        WireFault::BadHello,
-    ),
-    (
-        &[0, 16, 1, 1, 0, 0, 0, 0, 0, 0, 0, 7, 4, 0],
-        WireFault::BadHello,
-    ),
-    (
-        &[0, 16, 1, 1, 0, 0, 0, 0, 0, 0, 0, 7, 4, 1, 1],
-        WireFault::BadHello,
-    ),
-    (
-        &[0, 16, 1, 1, 0, 0, 0, 0, 0, 0, 0, 7, 4, 1, 0, 2],
-        WireFault::BadHello,
-    ),
-    (
-        &[0, 16, 1, 1, 0, 0, 0, 0, 0, 0, 0, 7, 4, 1, 0, 1, 4],
-        WireFault::BadHello,
-    ),
-    (
-        &[0, 16, 1, 1, 0, 0, 0, 0, 0, 0, 0, 7, 4, 1, 0, 1, 0, 4],
-        WireFault::BadHello,
-    ),
-    (&[0, 8, 3, 0], WireFault::BadKind),
-    (&[0, 8, 3, 4], WireFault::BadKind),
-    (&[0, 8, 3, 1, 1], WireFault::BadPlace),
-    (&[0, 8, 3, 1, 0, 1], WireFault::BadPlace),
-    (&[0, 8, 3, 1, 0, 0, 4], WireFault::BadPlace),
-    (&[0, 8, 3, 1, 0, 0, 0, 0], WireFault::BadPlace),
-    (&[0, 8, 3, 1, 0, 0, 0, 33], WireFault::BadPlace),
-    (&[0, 8, 3, 1, 0, 0, 0, 1, 0], WireFault::BadPlace),
-    (&[0, 8, 3, 1, 0, 0, 0, 1, 4], WireFault::BadPlace),
-    (&[0, 8, 3, 1, 0, 0, 0, 1, 1, 2], WireFault::BadValue),
-    (&[0, 8, 3, 1, 0, 0, 0, 1, 2, 4], WireFault::BadValue),
-    (&[0, 8, 3, 1, 0, 0, 0, 1, 3, 1], WireFault::BadValue),
-];
-
-/// Whether the last of the bytes is the first wrong one, in one piece and in two.
-fn breaks_at_the_last(
-    rt: &(impl AllocGlobal + Abort),
-    bytes: &[u8],
-    fault: WireFault,
-) -> Result<bool, Fail> {
-    let (front, last) = bytes.split_at(bytes.len().saturating_sub(1));
-    let broken = Fed::Broken(fault);
-    Ok(
-        reads(rt, &[bytes], &[], broken)?
-            && reads(rt, &[front], &[], Fed::More)?
-            && reads(rt, &[front, last], &[], broken)?,
-    )
-}
-
-#[test]
-fn breaks_at_the_first_wrong_byte(rt: HostRuntime) -> Result<(), Fail> {
-    for (bytes, fault) in WRONG_BYTES {
-        assert!(rt;
-            breaks_at_the_last(&rt, bytes, fault)?,
-            "{fault} of {bytes:?}"
-        );
-    }
-    Ok(())
-}
-
-#[test]
-fn takes_as_many_questions_as_there_are(rt: HostRuntime) -> Result<(), Fail> {
-    let size = Size::new(32, 10, 256).ok().ok_or("a size")?;
-    let last = message(&rt, Kind::Ready, (255, 31, 32, 3), Value::Unsure);
-    let mut out = Vec::new(rt.alloc());
-    let mut feeder = Feeder::new(size);
-    let frame = [0, 8, 3, 3, 0, 255, 31, 32, 3, 4];
-    assert!(rt; feed(&rt, &mut feeder, &frame, &mut out)? == Fed::More);
-    assert!(rt; out.as_slice() == [last].as_slice());
-    let broken = Fed::Broken(WireFault::BadPlace);
-    assert!(rt; feed(&rt, &mut feeder, &[0, 8, 3, 3, 1], &mut out)? == broken);
-    Ok(())
-}
-
-#[test]
-fn names_each_fault(rt: HostRuntime) -> Result<(), Fail> {
-    let rows = [
-        (WireFault::BadLength, "BadLength"),
-        (WireFault::BadType, "BadType"),
-        (WireFault::BadKind, "BadKind"),
-        (WireFault::BadPlace, "BadPlace"),
-        (WireFault::BadValue, "BadValue"),
-        (WireFault::BadHello, "BadHello"),
-    ];
-    for (fault, name) in rows {
-        assert!(rt; prints(rt.alloc(), &fault, name)?, "{fault} for {name}");
-    }
     Ok(())
 }
 

@@ -1,15 +1,14 @@
-//! Worked rows over a disk in memory.
+//! A journal that is made, appended to and stopped. Openings of whole, cut and changed files stand in `rows`.
 //!
 //! Where `rt try --test --fail-alloc N` refuses an allocation, a row that comes out otherwise is played again, and is
 //! then to come out as with ample memory. A journal that was refused memory itself appends the same batch at once.
-ghost use Rattle.std.specs.Prelude.{◌≡◌, ℕ, ◌≤◌, List, IfOk, OnOk, OnErr, true, false, length};
+ghost use Rattle.std.specs.Prelude.{◌≡◌, IfOk};
 ghost use Rattle.vocabulary.specs.Terms.{Echo, One, Record, Said, Header, new_place, new_statement, new_size, new_header};
 
 use crate::texts::prints;
 use disk::{Disk, MemDisk, Pick};
-use journal::{Journal, JournalFault, create, peek};
+use journal::{Journal, JournalFault, create};
 use std::alloc::Global;
-use std::process::Abort;
 use std::test::Fail;
 use terms::{Header, Kind, Place, Record, Size, Statement, Value};
 
@@ -19,10 +18,6 @@ const EMPTY: [u8; 25] = *b"BRACHAJ1\0\0\0\0\0\0\0\x07\x04\x01\0\x01\x01\0\0\0\0"
 /// The same with the Echo One at question 0, origin 0, round 1, step 1.
 const ONE_ECHO: [u8; 35] =
     *b"BRACHAJ1\0\0\0\0\0\0\0\x07\x04\x01\0\x01\x01\0\0\0\x01\0\x01\x02\0\0\0\x01\x01\x01\0";
-
-/// And with the decision 1 in round 1 in the same batch.
-const AND_DECIDED: [u8; 42] =
-    *b"BRACHAJ1\0\0\0\0\0\0\0\x07\x04\x01\0\x01\x01\0\0\0\x01\0\x02\x02\0\0\0\x01\x01\x01\x04\0\0\0\x01\0\x01\0";
 
 fn header(me: u8) -> Result<Header, Fail>
     ensures { IfOk result (λ h. h ≡ new_header 7 (new_size 4 1 1) me) }
@@ -55,63 +50,6 @@ fn content(alloc: Global, disk: &mut MemDisk) -> Result<Vec<u8>, JournalFault> {
     Ok(bytes)
 }
 
-/// The answer of an append of the echo of which so many calls of the device pass, and how many records there are after
-/// a crash.
-fn after_a_crash(
-    alloc: Global,
-    header: Header,
-    echo: Record,
-    calls: u64,
-    pick: Pick,
-) -> Result<(Result<(), JournalFault>, usize), JournalFault>
-    requires header { header ≡ new_header 7 (new_size 4 1 1) 1 }
-    requires echo { echo ≡ Said (new_statement Echo (new_place 0 0 1 1) One) }
-{
-    let disk = disk_of(alloc, &EMPTY)?;
-    let (mut journal, _) = Journal::open(alloc, disk, &header)?;
-    journal.fuse(Some(calls));
-    let answer = journal.append(&[echo]);
-    let (_, records) = Journal::open(alloc, journal.into_disk().crash(pick)?, &header)?;
-    let echoes = records.iter().filter(|&&record| record == echo).count();
-    if echoes == records.len() {
-        Ok((answer, echoes))
-    } else {
-        Err(JournalFault::BadRecord)
-    }
-}
-
-const PICKS: [Pick; 5] = [
-    Pick::Kept,
-    Pick::Lost,
-    Pick::Fill(0),
-    Pick::Fill(0x7f),
-    Pick::Fill(0xff),
-];
-
-#[test]
-fn a_stop_at_each_call_of_an_append(rt: HostRuntime) -> Result<(), Fail> {
-    let device = Err(JournalFault::Device);
-    let rows = [
-        (0, device, [0, 0, 0, 0, 0]),
-        (1, device, [0, 0, 0, 0, 0]),
-        (2, device, [0, 0, 0, 1, 1]),
-        (3, device, [1, 0, 0, 1, 1]),
-        (4, Ok(()), [1, 1, 1, 1, 1]),
-    ];
-    let (header, echo) = (header(1)?, echo()?);
-    for (calls, answer, echoes) in rows {
-        for (pick, count) in PICKS.into_iter().zip(echoes) {
-            let wanted = Ok((answer, count));
-            let mut row = after_a_crash(rt.alloc(), header, echo, calls, pick);
-            if row != wanted {
-                row = after_a_crash(rt.alloc(), header, echo, calls, pick);
-            }
-            assert!(rt; row == wanted, "{calls} calls, {pick:?}");
-        }
-    }
-    Ok(())
-}
-
 /// The records that an opening of this file gives, or its fault.
 fn opening(alloc: Global, header: Header, bytes: &[u8]) -> Result<Vec<Record>, JournalFault> {
     let (_, records) = Journal::open(alloc, disk_of(alloc, bytes)?, &header)?;
@@ -130,82 +68,6 @@ fn count_of(
         return first;
     }
     opening(alloc, header, bytes).map(|records| records.len())
-}
-
-#[test]
-fn faults_of_files(rt: HostRuntime) -> Result<(), Fail> {
-    let rows: [(&[u8], JournalFault); 7] = [
-        (b"", JournalFault::BadHeader),
-        (b"BRACHAJ1\0\0", JournalFault::BadHeader),
-        (&EMPTY[..24], JournalFault::CutShort),
-        (
-            b"BRACHAJ1\0\0\0\0\0\0\0\x07\x04\x01\0\x01\x01\0\0\0\x01",
-            JournalFault::CutShort,
-        ),
-        (
-            b"BRACHAJ1\0\0\0\0\0\0\0\x07\x04\x01\0\x01\x01\0\0\0\x01\0\0\0",
-            JournalFault::BadRecord,
-        ),
-        (
-            b"BRACHAJ1\0\0\0\0\0\0\0\x07\x04\x01\0\x01\x02\0\0\0\0",
-            JournalFault::OtherHeader,
-        ),
-        (&ONE_ECHO[..34], JournalFault::CutShort),
-    ];
-    let header = header(1)?;
-    for (bytes, fault) in rows {
-        let answer = count_of(rt.alloc(), header, bytes, Err(fault));
-        assert!(rt; answer == Err(fault), "{bytes:?}");
-    }
-    Ok(())
-}
-
-#[test]
-fn faults_of_one_byte(rt: HostRuntime) -> Result<(), Fail> {
-    let rows = [
-        (23, 1, Err(JournalFault::BadHeader)),
-        (15, 9, Err(JournalFault::OtherHeader)),
-        (24, 0xff, Ok(1)),
-        (24, 0, Ok(0)),
-        (26, 0, Err(JournalFault::BadRecord)),
-        (27, 5, Err(JournalFault::BadRecord)),
-    ];
-    let header = header(1)?;
-    for (at, byte, wanted) in rows {
-        let mut bytes = ONE_ECHO;
-        bytes[at] = byte;
-        let answer = count_of(rt.alloc(), header, &bytes, wanted);
-        assert!(rt; answer == wanted, "{byte} at {at}");
-    }
-    Ok(())
-}
-
-/// Whether an opening and a look at the file with the decision give what it has.
-fn decision_is_read(alloc: Global, header: Header, echo: Record) -> Result<bool, JournalFault> {
-    let decided = Record::Decided {
-        question: 0,
-        round: 1,
-        bit: true,
-    };
-    let records = opening(alloc, header, &AND_DECIDED)?;
-    let mut disk = disk_of(alloc, &AND_DECIDED)?;
-    let mut short = disk_of(alloc, &EMPTY[..23])?;
-    Ok(
-        records.as_slice() == [echo, decided].as_slice()
-            && peek(&mut disk)? == header
-            && peek(&mut short) == Err(JournalFault::BadHeader),
-    )
-}
-
-#[test]
-fn a_decision_behind_the_echo(rt: HostRuntime) -> Result<(), Fail> {
-    let (header, echo) = (header(1)?, echo()?);
-    let mut is_read = decision_is_read(rt.alloc(), header, echo);
-    if is_read != Ok(true) {
-        is_read = decision_is_read(rt.alloc(), header, echo);
-    }
-    assert!(rt; is_read == Ok(true));
-    Ok(())
 }
 
 /// The answer to a creation that some calls of the device pass of, how many records an opening finds after a crash, and
@@ -256,39 +118,6 @@ fn a_stop_at_each_call_of_create(rt: HostRuntime) -> Result<(), Fail> {
             row = created_under(rt.alloc(), header, calls, pick);
         }
         assert!(rt; row == Ok(wanted), "{calls} calls, {pick:?}");
-    }
-    Ok(())
-}
-
-/// The fault of an adoption that so many calls of the device pass of, and how many records another one then gives of the
-/// disk that was handed back.
-fn handed_back(
-    alloc: Global,
-    header: Header,
-    calls: u64,
-) -> Result<(JournalFault, usize), JournalFault> {
-    let mut disk = disk_of(alloc, &ONE_ECHO)?;
-    disk.fuse(Some(calls));
-    match Journal::adopt(alloc, disk, &header) {
-        Ok(_) => Err(JournalFault::Full),
-        Err((fault, mut back)) => {
-            back.fuse(None);
-            let (_, records) = Journal::open(alloc, back, &header)?;
-            Ok((fault, records.len()))
-        }
-    }
-}
-
-#[test]
-fn a_disk_is_handed_back(rt: HostRuntime) -> Result<(), Fail> {
-    let header = header(1)?;
-    let wanted = Ok((JournalFault::Device, 1));
-    for calls in 0..3 {
-        let mut row = handed_back(rt.alloc(), header, calls);
-        if row != wanted {
-            row = handed_back(rt.alloc(), header, calls);
-        }
-        assert!(rt; row == wanted, "{calls} calls");
     }
     Ok(())
 }
@@ -382,19 +211,6 @@ fn two_at_once(alloc: Global, header: Header, echo: Record) -> Result<usize, Jou
 fn a_batch_of_two(rt: HostRuntime) -> Result<(), Fail> {
     let (header, echo) = (header(1)?, echo()?);
     assert!(rt; two_at_once(rt.alloc(), header, echo) == Ok(2));
-    Ok(())
-}
-
-#[test]
-fn a_batch_of_many_is_read(rt: HostRuntime) -> Result<(), Fail> {
-    let mut bytes = Vec::from_slice(rt.alloc(), &ONE_ECHO[..24])?;
-    bytes.extend_from_slice(&[0x01, 0x00, 150])?;
-    for _ in 0..150u8 {
-        bytes.extend_from_slice(&ONE_ECHO[27..34])?;
-    }
-    bytes.push(0x00)?;
-    let records = opening(rt.alloc(), header(1)?, bytes.as_slice())?;
-    assert!(rt; records.len() == 150);
     Ok(())
 }
 

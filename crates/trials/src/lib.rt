@@ -12,15 +12,11 @@ mod decisions;
 #[cfg(test)]
 mod documents;
 #[cfg(test)]
-mod draws;
-#[cfg(test)]
 mod frames;
 #[cfg(test)]
 mod journals;
 #[cfg(test)]
 mod members;
-#[cfg(test)]
-mod numbers;
 #[cfg(test)]
 mod pieces;
 #[cfg(test)]

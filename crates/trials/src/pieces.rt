@@ -1,4 +1,4 @@
-//! The worked rows of `hear`, and its faults.
+//! Streams of `hear` that fail, and its faults. Its answers stand in `rows`.
 
 use crate::texts::prints;
 use hearing::{HearFault, hear_lines};
@@ -6,100 +6,6 @@ use std::alloc::Global;
 use std::io::{self, BufRead, Read, Write};
 use std::test::Fail;
 use terms::Size;
-
-/// What `hear` answers to the input, and how it ends, as member 1 of 4 with one question.
-fn heard(rt: &HostRuntime, input: &str) -> Result<(String, Result<u8, HearFault>), Fail> {
-    let size = Size::new(4, 1, 1).ok().ok_or("a size")?;
-    let mut rest = input.as_bytes();
-    let mut output = Vec::new(rt.alloc());
-    let result = hear_lines(rt.alloc(), size, 1, &mut rest, &mut output);
-    let text = String::from_utf8(output).ok().ok_or("text")?;
-    Ok((text, result))
-}
-
-/// Whether `hear` answers the input so, to its end.
-fn is_answered(rt: &HostRuntime, input: &str, want: &str) -> Result<bool, Fail> {
-    let (text, result) = heard(rt, input)?;
-    Ok(text.as_str() == want && matches!(result, Ok(0)))
-}
-
-#[test]
-fn answers_line_by_line(rt: HostRuntime) -> Result<(), Fail> {
-    for (input, want) in [
-        (
-            "0 00080301\n0 000000010101\n0 00080301000000010100\n2 00080301000000010101\n3 ff\n3 000100\n",
-            "news\n00080302000000010101\nrepeat\nforeign\nbroken BadLength\nbroken BadLength\n",
-        ),
-        // A help set of Readys makes Echo and Ready due at once, with no Echo heard.
-        (
-            "2 00080303000000010101\n3 00080303000000010101\n",
-            "news\nnews\n00080302000000010101\n00080303000000010101\n",
-        ),
-        // Two frames and then a bad value in one piece; then the same fault again.
-        (
-            "0 0008030100000001010100080301000000010100000803020000000101020000\n0 00\n",
-            "news\n00080302000000010101\nrepeat\nbroken BadValue\nbroken BadValue\n",
-        ),
-        // An idle, a welcome and a hello print nothing; a hello of another size is a fault.
-        (
-            "0 000100\n0 0009020000000000000001\n0 001001010000000000000007040100010001\n0 00080301000000010101\n",
-            "news\n00080302000000010101\n",
-        ),
-        ("2 00100101000000000000000705\n", "broken BadHello\n"),
-        // Digits of either case, leading zeros, a last line without its end, and an input of nothing.
-        ("03 FF", "broken BadLength\n"),
-        ("3 fF\n", "broken BadLength\n"),
-        ("00000000000000000000003 00\n", ""),
-        ("", ""),
-    ] {
-        assert!(rt; is_answered(&rt, input, want)?, "at {input:?}");
-    }
-    Ok(())
-}
-
-/// Whether the line is the fault where it is the second, and the first is answered.
-fn is_bad(rt: &HostRuntime, line: &str) -> Result<bool, Fail> {
-    let input = format!(in rt.alloc(); "0 00080301000000010101\n{line}\n0 00\n")?;
-    let (text, result) = heard(rt, input.as_str())?;
-    Ok(text.as_str() == "news\n00080302000000010101\n" && matches!(result, Err(HearFault::Line(2))))
-}
-
-#[test]
-fn names_the_first_bad_line(rt: HostRuntime) -> Result<(), Fail> {
-    for line in [
-        "",
-        "0",
-        "0 ",
-        " 00",
-        "0 0",
-        "0 0g",
-        "0 00 00",
-        "0  00",
-        "4 00",
-        "+0 00",
-        "-1 00",
-        "256 00",
-        "99999999999999999999999 00",
-        "0x0 00",
-        "0 00\r",
-        "0\t00",
-        "a 00",
-        "0,00",
-    ] {
-        assert!(rt; is_bad(&rt, line)?, "at {line:?}");
-    }
-    Ok(())
-}
-
-#[test]
-fn asks_for_a_member(rt: HostRuntime) -> Result<(), Fail> {
-    let size = Size::new(4, 1, 1).ok().ok_or("a size")?;
-    let mut output = Vec::new(rt.alloc());
-    let result = hear_lines(rt.alloc(), size, 4, &mut "0 ff\n".as_bytes(), &mut output);
-    assert!(rt; matches!(result, Err(HearFault::Me)));
-    assert_eq!(rt; output.len(), 0);
-    Ok(())
-}
 
 /// A reader of lines that fails where its text ends.
 #[derive(Drop)]
