@@ -7,11 +7,48 @@ ghost use Rattle.member.specs.Readers.{member_header, member_saved, MemberStands
 use disk::Disk;
 use journal::Journal;
 use member::Member;
-use node::{Board, Hub, Naming, Rack, Seat};
+use node::{Board, Book, Entry, Hub, Naming, Rack, Seat};
+use rounds::{Toss, Tosser};
 use std::alloc::Global;
 use std::sync::{Arc, Wait};
 use std::test::Fail;
 use terms::{Header, Kind, Place, Record, Size, Statement, Value};
+
+/// A tosser that counts on from its last toss.
+#[derive(Drop)]
+pub(crate) struct Counting {
+    pub(crate) last: u64,
+}
+
+impl Tosser for Counting {
+    fn toss(&mut self) -> Toss {
+        self.last = self.last.wrapping_add(1);
+        Toss(self.last)
+    }
+}
+
+/// Whether the book's history from a place on is these events, each once, with their tosses.
+pub(crate) fn goes_on_with<D: Disk, J: Naming>(
+    book: &Book<D, J>,
+    from: usize,
+    events: &[Entry],
+) -> bool {
+    for (at, event) in events.iter().enumerate() {
+        if book.event(from.wrapping_add(at)) != Some(*event) {
+            return false;
+        }
+    }
+    book.events() == from.wrapping_add(events.len())
+}
+
+/// A statement that was heard, with its toss.
+pub(crate) fn entry(from: u8, statement: Statement, toss: u64) -> Entry {
+    Entry::Heard {
+        from,
+        statement,
+        toss: Toss(toss),
+    }
+}
 
 /// The header of the member `me` of the cluster 7, of `n` members of whom `t` may lie.
 pub(crate) fn header(n: u8, t: u8, questions: u16, me: u8) -> Result<Header, Fail>

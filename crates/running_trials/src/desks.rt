@@ -5,14 +5,14 @@ ghost use Rattle.member.specs.Memory.{memory_disk};
 ghost use Rattle.member.specs.Sound.{IsSound};
 ghost use Rattle.member.specs.Readers.{member_header, member_saved, member_is_stopped, MemberStandsFor};
 
-use crate::beginnings::{board, header};
+use crate::beginnings::{Counting, board, goes_on_with, header};
 use Row::{Line, Told};
 use desk::{Command, DeskEnd, Reply, answer, parse, serve};
 use disk::MemDisk;
 use links::MemStream;
 use member::Member;
-use node::{Board, Hub, Naming, Seat};
-use rounds::{ChaChaTosser, Toss};
+use node::{Board, Entry, Hub, Naming, Seat};
+use rounds::Toss;
 use std::alloc::Global;
 use std::marker::Brand;
 use std::process::Abort;
@@ -99,13 +99,17 @@ fn a_reply_is_its_line(rt: HostRuntime) {
     }
 }
 
-/// The member of a cluster of one, with one question, on a new disk, of which so many calls pass once it is open.
-fn member_of_one(rt: &impl AllocGlobal, calls: Option<u64>) -> Result<Member<MemDisk>, Fail>
+/// The member of a cluster of one, with so many questions, on a new disk, of which so many calls pass once it is open.
+fn member_of_one(
+    rt: &impl AllocGlobal,
+    questions: u16,
+    calls: Option<u64>,
+) -> Result<Member<MemDisk>, Fail>
     ensures sound { IfOk result (λ m. IsSound memory_disk m) }
     ensures fresh { IfOk result (λ m. member_is_stopped m ≡ false → MemberStandsFor m (member_saved m) []) }
-    ensures questions { IfOk result (λ m. (member_header m).size.questions ≡ 1) }
+    ensures questions { IfOk result (λ m. (member_header m).size.questions ≡ questions) }
 {
-    let header = header(1, 0, 1, 0)?;
+    let header = header(1, 0, questions, 0)?;
     let mut disk = MemDisk::new(rt.alloc());
     journal::create(&mut disk, &header)?;
     // Opening makes three calls.
@@ -129,7 +133,7 @@ fn deliver<J: Naming, R: Wait>(rt: &R, hub: &Hub<MemDisk, J>, seat: &mut Seat) -
         match items.as_slice() {
             [item] => {
                 let statement = item.statement();
-                book.apply(seat, &statement, Toss(0))?;
+                book.apply(seat, &statement, Toss(number))?;
             }
             _ => return Ok(()),
         }
@@ -172,7 +176,7 @@ fn plays<J: Naming, R: Wait + Abort + AllocGlobal>(
     requires names { arc_value board ≡ J.names }
     requires cells { length (arc_value board) ≡ 1 }
 {
-    let member = member_of_one(rt, calls)?;
+    let member = member_of_one(rt, 1, calls)?;
     let (hub, mut seats) = Hub::<MemDisk, J>::open(rt.alloc(), member, board)?;
     let mut seat = seats.pop().ok_or("a seat")?;
     play(rt, &hub, &mut seat, rows)
@@ -226,7 +230,7 @@ fn in_pieces(alloc: Global, input: &[u8], piece: usize) -> Result<MemStream, Fai
     Ok(client)
 }
 
-/// The session of this client writes this, and ends so.
+/// The session of this client writes this, and ends so. Its tosses count on from 100.
 fn serves<J: Naming, R: Wait + Abort>(
     rt: &R,
     alloc: Global,
@@ -237,12 +241,10 @@ fn serves<J: Naming, R: Wait + Abort>(
 ) -> Result<(), Fail> {
     let board: &Board = hub.board();
     let mut pass = board.pass()?;
-    let mut tosser = ChaChaTosser::from_seed([0; 32], 0);
+    let mut tosser = Counting { last: 100 };
     let ended = serve(rt, alloc, hub, &mut pass, &mut tosser, client);
-    assert!(rt;
-        ended == end && client.output() == written.as_bytes(),
-        "{ended:?}"
-    );
+    assert!(rt; ended == end);
+    assert!(rt; client.output() == written.as_bytes());
     Ok(())
 }
 
@@ -302,7 +304,7 @@ fn answers_sessions<J: Naming, R: Wait + Abort + AllocGlobal>(
     requires names { arc_value board ≡ J.names }
     requires cells { length (arc_value board) ≡ 1 }
 {
-    let (hub, _seats) = Hub::<MemDisk, J>::open(rt.alloc(), member_of_one(rt, None)?, board)?;
+    let (hub, _seats) = Hub::<MemDisk, J>::open(rt.alloc(), member_of_one(rt, 1, None)?, board)?;
     sessions(rt, &hub)
 }
 
@@ -364,7 +366,7 @@ fn loses_clients<J: Naming, R: Wait + Abort + AllocGlobal>(
     requires names { arc_value board ≡ J.names }
     requires cells { length (arc_value board) ≡ 1 }
 {
-    let (hub, _seats) = Hub::<MemDisk, J>::open(rt.alloc(), member_of_one(rt, None)?, board)?;
+    let (hub, _seats) = Hub::<MemDisk, J>::open(rt.alloc(), member_of_one(rt, 1, None)?, board)?;
     loses_each_client(rt, &hub)
 }
 
@@ -372,4 +374,58 @@ fn loses_clients<J: Naming, R: Wait + Abort + AllocGlobal>(
 fn a_session_ends_where_its_stream_fails(rt: HostRuntime) -> Result<(), Fail> {
     let board = board(&rt, 1)?;
     loses_clients::<Brand, _>(&rt, board)
+}
+
+/// A proposal with its toss.
+fn proposed(question: u16, bit: bool, toss: u64) -> Entry {
+    Entry::Proposed {
+        question,
+        bit,
+        toss: Toss(toss),
+    }
+}
+
+/// A session proposes both bits, and each of its proposals is done once with the toss that was drawn for it. Once all is
+/// decided, another is told so each time, and does nothing.
+fn serves_both_bits<J: Naming, R: Wait + Abort + AllocGlobal>(
+    rt: &R,
+    hub: &Hub<MemDisk, J>,
+    seat: &mut Seat,
+) -> Result<(), Fail> {
+    let lines =
+        b"PROPOSE 0 1\nPROPOSE 1 0\nPROPOSE 0 0\nASK 1\nSTATUS\nPROPOSE 9 1\nPROPOSE 2 1\nASK 2";
+    let written = "OK\nOK\nHAVE 1\nUNDECIDED\nUP 2 0\nERR 2 question\nOK\nUNDECIDED\n";
+    session(rt, hub, lines.as_slice(), 5, written, DeskEnd::Ended)?;
+    let noted = [
+        proposed(0, true, 101),
+        proposed(1, false, 102),
+        proposed(2, true, 105),
+    ];
+    assert!(rt; goes_on_with(&*hub.lock(rt), 0, &noted));
+    deliver(rt, hub, seat)?;
+    let events = hub.lock(rt).events();
+    let lines = b"ASK 0\nPROPOSE 0 0\nASK 1\nPROPOSE 1 0\nASK 2\nSTATUS\nASK 0\nASK 1\nASK 2";
+    let written =
+        "DECIDED 1\nHAVE 1\nDECIDED 0\nHAVE 0\nDECIDED 1\nUP 54 3\nDECIDED 1\nDECIDED 0\nDECIDED 1\n";
+    session(rt, hub, lines.as_slice(), 512, written, DeskEnd::Ended)?;
+    assert!(rt; goes_on_with(&*hub.lock(rt), events, &[]));
+    Ok(())
+}
+
+fn decides_both_bits<J: Naming, R: Wait + Abort + AllocGlobal>(
+    rt: &R,
+    board: Arc<Board>,
+) -> Result<(), Fail>
+    requires names { arc_value board ≡ J.names }
+    requires cells { length (arc_value board) ≡ 3 }
+{
+    let (hub, mut seats) = Hub::<MemDisk, J>::open(rt.alloc(), member_of_one(rt, 3, None)?, board)?;
+    let mut seat = seats.pop().ok_or("a seat")?;
+    serves_both_bits(rt, &hub, &mut seat)
+}
+
+#[test]
+fn a_session_does_each_command_once(rt: HostRuntime) -> Result<(), Fail> {
+    let board = board(&rt, 3)?;
+    decides_both_bits::<Brand, _>(&rt, board)
 }

@@ -5,7 +5,7 @@ ghost use Rattle.links.specs.Mem.{told_by, is_closed_mem};
 
 mod groups;
 
-use crate::beginnings::{at, board, header, open, take};
+use crate::beginnings::{Counting, at, board, entry, goes_on_with, header, open, take};
 use crate::books::closes;
 use disk::MemDisk;
 use links::{
@@ -14,7 +14,7 @@ use links::{
 };
 use member::Sealed;
 use node::{Board, Hub, Naming, Rack, Seat};
-use rounds::{Toss, Tosser};
+use rounds::Toss;
 use std::alloc::Global;
 use std::marker::Brand;
 use std::net::{TcpListener, TcpStream};
@@ -29,16 +29,6 @@ use terms::Kind::{Echo, Initial, Ready};
 use terms::Value::One;
 use terms::{Kind, Size, Statement};
 use wire::{Message, WireFault, encode};
-
-/// A tosser whose tosses are all 0.
-#[derive(Drop)]
-struct Zeros;
-
-impl Tosser for Zeros {
-    fn toss(&mut self) -> Toss {
-        Toss(0)
-    }
-}
 
 /// A statement with the value One at question 0, origin 0, round 1 and step 1.
 fn of(kind: Kind) -> Result<Statement, Fail> {
@@ -188,7 +178,7 @@ fn a_greeting_is_lost_where_the_stream_fails(rt: HostRuntime) -> Result<(), Fail
 }
 
 /// Whether a session of the link from a peer, which gives these bytes, ends so, the seat's next number being this one. It
-/// writes a Welcome. The seat is put back.
+/// writes a Welcome. The tosses count on from a hundred times the peer's number. The seat is put back.
 fn session<J: Naming, R: Wait + AllocGlobal>(
     rt: &R,
     hub: &Hub<MemDisk, J>,
@@ -199,7 +189,10 @@ fn session<J: Naming, R: Wait + AllocGlobal>(
 ) -> Result<bool, Fail> {
     let mut stream = of_bytes(rt.alloc(), bytes)?;
     let seat = take(rt, rack, peer)?;
-    let (seat, end) = read_link(rt, rt.alloc(), hub, seat, &mut stream, &Open, &mut Zeros);
+    let mut tosser = Counting {
+        last: u64::from(peer) * 100,
+    };
+    let (seat, end) = read_link(rt, rt.alloc(), hub, seat, &mut stream, &Open, &mut tosser);
     let next = seat.next();
     rack.put(rt, seat);
     let welcome = [0, 9, 2, 0, 0, 0, 0, 0, 0, 0, 0];
@@ -237,6 +230,12 @@ fn hears_of_an_origin<J: Naming, R: Wait + Abort + AllocGlobal>(
     let astray = [ready, Message::Welcome { next: 0 }, echo];
     assert!(rt; session_of(rt, hub, rack, 3, &astray, (LinkEnd::OutOfOrder, 1))?);
     assert!(rt; hub.lock(rt).status() == Some((2, 0)));
+    let noted = [
+        entry(0, of(Initial)?, 1),
+        entry(2, of(Ready)?, 201),
+        entry(3, of(Ready)?, 301),
+    ];
+    assert!(rt; goes_on_with(&*hub.lock(rt), 0, &noted));
     Ok(())
 }
 
@@ -425,7 +424,10 @@ fn reads<J: Naming, R: Wait + Clock + AllocGlobal>(
     if stream.give(bytes).is_err() {
         return (seat, LinkEnd::Memory);
     }
-    read_link(rt, rt.alloc(), hub, seat, &mut stream, gate, &mut Zeros)
+    let mut tosser = Counting {
+        last: u64::from(seat.peer()) * 100,
+    };
+    read_link(rt, rt.alloc(), hub, seat, &mut stream, gate, &mut tosser)
 }
 
 /// Two links and an asker run at once, each of the links with an Echo.
@@ -456,6 +458,8 @@ fn run_at_once<J: Naming + Send + Sync, R: Threads + Wait + Clock + Abort + Allo
     rack.put(rt, second);
     assert!(rt; asked?);
     assert!(rt; !gate.gave_up.load(Ordering::SeqCst));
+    let noted = [entry(2, of(Echo)?, 201), entry(1, of(Echo)?, 101)];
+    assert!(rt; goes_on_with(&*hub.lock(rt), 0, &noted));
     Ok(())
 }
 
@@ -501,7 +505,8 @@ fn reads_until_it_fails<J: Naming, R: Wait + Abort + AllocGlobal>(
     call: u64,
 ) -> Seat {
     let before = seat.next();
-    let (seat, end) = read_link(rt, rt.alloc(), hub, seat, stream, &Open, &mut Zeros);
+    let mut tosser = Counting { last: call };
+    let (seat, end) = read_link(rt, rt.alloc(), hub, seat, stream, &Open, &mut tosser);
     // Eleven calls write the Welcome, twenty read the frames, and the next meets the end.
     let wanted = if call < 32 {
         LinkEnd::Lost
@@ -590,6 +595,13 @@ fn fail_at_each_call<J: Naming, R: Wait + Abort + AllocGlobal>(
 ) -> Result<(), Fail> {
     read_until_they_fail(rt, hub, rack, 0, true)?;
     read_until_they_fail(rt, hub, rack, 2, false)?;
+    // Each was whole for the first time where the call behind it failed.
+    let noted = [
+        entry(0, of(Initial)?, 22),
+        entry(0, of(Ready)?, 33),
+        entry(2, of(Ready)?, 33),
+    ];
+    assert!(rt; goes_on_with(&*hub.lock(rt), 0, &noted));
     hub.shut(rt);
     writes_until_it_fails(rt, hub, true)?;
     writes_until_it_fails(rt, hub, false)?;
@@ -620,7 +632,8 @@ fn is_flooded<J: Naming, R: Wait + Abort + AllocGlobal>(
 ) -> Result<(), Fail> {
     let bytes = flood(rt.alloc())?;
     assert!(rt; session(rt, hub, rack, 0, &bytes, (LinkEnd::Ended, 10_000))?);
-    assert!(rt; hub.lock(rt).events() == 1 && hub.lock(rt).records().len() == 1);
+    assert!(rt; goes_on_with(&*hub.lock(rt), 0, &[entry(0, of(Initial)?, 1)]));
+    assert!(rt; hub.lock(rt).records().len() == 1);
     Ok(())
 }
 

@@ -2,8 +2,8 @@
 ghost use Rattle.std.specs.Prelude.{◌≡◌, length};
 ghost use Rattle.std.specs.Arc.{arc_value};
 
-use super::{Zeros, frame};
-use crate::beginnings::{board, header, open, take};
+use super::frame;
+use crate::beginnings::{Counting, at, board, entry, goes_on_with, header, open, take};
 use crate::books::closes;
 use disk::MemDisk;
 use links::{Gate, LinkEnd, MemStream, Point, read_link};
@@ -17,8 +17,8 @@ use std::test::Fail;
 use std::thread::{self, Threads, join};
 use std::time::{Clock, Duration};
 use terms::Kind::{Initial, Ready};
-use terms::Value::One;
-use terms::{Kind, Memory, Place, Statement};
+use terms::Value::{One, Zero};
+use terms::{Kind, Memory, Statement};
 use wire::{Message, encode};
 
 /// What two threads see of a row.
@@ -57,11 +57,14 @@ impl Gate for Seen {
     }
 }
 
-/// The frame of a statement with the value One at a question, origin 0, round 1 and step 1.
+/// A statement at a question, origin 0, round 1 and step 1, with the value One at question 0 and Zero at another.
+fn one_of_three(question: u16, kind: Kind) -> Result<Statement, Fail> {
+    at(question, 0, kind, if question == 0 { One } else { Zero })
+}
+
+/// The frame of that statement.
 fn said(alloc: Global, question: u16, kind: Kind) -> Result<Vec<u8>, Fail> {
-    let place = Place::new(question, 0, 1, 1).ok_or("a place")?;
-    let statement = Statement::new(kind, place, One).ok_or("a value of the step")?;
-    frame(alloc, &Message::Statement(statement))
+    frame(alloc, &Message::Statement(one_of_three(question, kind)?))
 }
 
 /// The frames of two Initials, an Idle and a Ready.
@@ -116,7 +119,8 @@ fn reads<J: Naming, R: Wait + AllocGlobal>(
     let Ok(mut stream) = behind_an_idle(rt.alloc(), bytes) else {
         return (seat, LinkEnd::Memory);
     };
-    read_link(rt, rt.alloc(), hub, seat, &mut stream, seen, &mut Zeros)
+    let mut tosser = Counting { last: 40 };
+    read_link(rt, rt.alloc(), hub, seat, &mut stream, seen, &mut tosser)
 }
 
 /// A session while another thread waits for the bell: how it ended, and how often that thread was woken by then.
@@ -134,6 +138,16 @@ fn reads_and_shuts<J: Naming, R: Wait + Clock + AllocGlobal>(
     let wakes = seen.wakes.load(Ordering::SeqCst);
     hub.shut(rt);
     (seat, end, if woken { wakes } else { 0 })
+}
+
+/// Whether the book heard the three statements and nothing else, each with the toss that was drawn for it.
+fn are_noted<J: Naming, R: Wait>(rt: &R, hub: &Hub<MemDisk, J>) -> Result<bool, Fail> {
+    let noted = [
+        entry(0, one_of_three(0, Initial)?, 41),
+        entry(0, one_of_three(1, Initial)?, 42),
+        entry(0, one_of_three(0, Ready)?, 43),
+    ];
+    Ok(goes_on_with(&*hub.lock(rt), 0, &noted))
 }
 
 /// What comes from member 0 is handed in as one group, and wakes a thread once.
@@ -154,6 +168,7 @@ fn reads_one_group<J: Naming + Send + Sync, R: Threads + Wait + Clock + Abort + 
     assert!(rt; end == LinkEnd::Ended && seat.next() == 3);
     assert!(rt; seen.points.load(Ordering::SeqCst) == 12);
     assert!(rt; wakes == 1 && hub.lock(rt).status() == Some((2, 0)));
+    assert!(rt; are_noted(rt, hub)?);
     rack.put(rt, seat);
     Ok(())
 }
