@@ -2,6 +2,7 @@
 ghost use Rattle.std.specs.Prelude.{◌≡◌, ◌<◌, length};
 ghost use Rattle.std.specs.Arc.{arc_value};
 
+mod bits;
 mod groups;
 
 use crate::beginnings::{at, board, header, open, take};
