@@ -15,6 +15,7 @@ use running::{
 use std::alloc::Global;
 use std::io::{ErrorKind, Read, Write};
 use std::net::{IpAddr, Ipv4Addr, SocketAddr, TcpListener, TcpStream};
+use std::os::fd::AsRawFd;
 use std::process::Abort;
 use std::sync::atomic::{AtomicBool, Ordering};
 use std::sync::{Mutex, Wait};
@@ -276,19 +277,27 @@ fn no_sockets() -> (Option<TcpListener>, Option<TcpStream>) {
     (None, None)
 }
 
-/// All these members are ready, take the proposal 1, and decide so.
+/// The line that proposes a bit, and the one that tells it as decided.
+const LINES: [(&[u8], &[u8]); 2] = [
+    (b"PROPOSE 0 0\n", b"DECIDED 0\n"),
+    (b"PROPOSE 0 1\n", b"DECIDED 1\n"),
+];
+
+/// All these members are ready, take the proposal of this bit, and decide so.
 fn decide<R: Machine + Abort>(
     rt: &R,
     cluster: Cluster,
     cues: &[Cue; 4],
     members: &[u8],
+    bit: bool,
 ) -> Result<(), Fail> {
+    let (propose, decided) = LINES[usize::from(bit)];
     for me in members {
         assert!(rt; cues[usize::from(*me & 3)].is_ready(rt));
-        assert!(rt; comes_to(rt, cluster.desk(*me), b"PROPOSE 0 1\n", b"OK\n"));
+        assert!(rt; comes_to(rt, cluster.desk(*me), propose, b"OK\n"));
     }
     for me in members {
-        assert!(rt; comes_to(rt, cluster.desk(*me), b"ASK 0\n", b"DECIDED 1\n"));
+        assert!(rt; comes_to(rt, cluster.desk(*me), b"ASK 0\n", decided));
     }
     Ok(())
 }
@@ -334,7 +343,7 @@ fn joins_late<R: Machine + Abort>(rt: &R, alloc: Global) -> Result<(), Fail> {
                 .is_ok();
             assert!(rt; runs);
         }
-        decide(rt, cluster, cues, &[0, 1, 2])?;
+        decide(rt, cluster, cues, &[0, 1, 2], true)?;
         let three = &cues[3];
         let runs = scope
             .spawn(move || run_to_cue(rt, alloc, cluster, 3, None, three))
@@ -366,8 +375,8 @@ fn decide_beside_one<R: Machine + Abort>(
 ) -> Result<(), Fail> {
     let stopped = cluster.desk(1);
     assert!(rt; cues[1].is_ready(rt));
-    assert!(rt; comes_to(rt, stopped, b"PROPOSE 0 0\n", b"STOPPED\n"));
-    decide(rt, cluster, cues, &[0, 2, 3])?;
+    assert!(rt; comes_to(rt, stopped, b"PROPOSE 0 1\n", b"STOPPED\n"));
+    decide(rt, cluster, cues, &[0, 2, 3], false)?;
     assert!(rt; comes_to(rt, stopped, b"STATUS\n", b"STOPPED\n"));
     // Its peers dial again meanwhile.
     thread::sleep(rt, Duration::from_millis(2500));
@@ -554,6 +563,8 @@ enum Visitor {
     Dialling,
     /// Who dials in a peer's name.
     Impostor,
+    /// More strangers than a log that is busy has places for.
+    Crowd,
 }
 
 impl Visitor {
@@ -568,6 +579,7 @@ impl Visitor {
             Visitor::Dialled(listener) => is_dialled(rt, listener, log),
             Visitor::Dialling => dials(rt, cluster, log),
             Visitor::Impostor => dials_for_another(rt, cluster, log),
+            Visitor::Crowd => crowd_of_strangers(rt, cluster, log),
         }
     }
 }
@@ -978,6 +990,7 @@ fn tosses_are_of_the_place(rt: HostRuntime) -> Result<(), Fail> {
         n: 4,
         t: 1,
         port: 0,
+        elsewhere: None,
     };
     let member = cluster.member(rt.alloc(), 1, None).ok_or("a member")?;
     let mut tossers = tossers_of(rt.alloc(), [5; 32], &member)?;
@@ -987,6 +1000,362 @@ fn tosses_are_of_the_place(rt: HostRuntime) -> Result<(), Fail> {
     let mut later = tosser_for([5; 32], 19, 3);
     assert!(&rt; later.toss() == ChaChaTosser::from_seed([5; 32], 4867).toss());
     Ok(())
+}
+
+/// Eleven hundred strangers are refused while the log is busy.
+fn crowd_of_strangers<R: Machine + Abort>(
+    rt: &R,
+    cluster: Cluster,
+    log: &Mutex<Kept>,
+) -> Result<(), Fail> {
+    let busy = log.lock(rt);
+    for _ in 0..1100u32 {
+        assert!(rt; is_refused(rt, cluster.address(0), &hello(8))?);
+    }
+    drop(busy);
+    Ok(())
+}
+
+/// A member by itself whose log is busy, and then tells how many events it missed.
+fn misses_some<R: Machine + Abort>(rt: &R, alloc: Global) -> Result<(), Fail> {
+    let cluster = Cluster {
+        n: 1,
+        t: 0,
+        port: 47270,
+        elsewhere: None,
+    };
+    let kept = Mutex::new(Kept {
+        events: Vec::new(alloc),
+    });
+    run_visited(rt, alloc, cluster, &Visitor::Crowd, &kept)?;
+    let told = kept.into_inner().events;
+    assert!(rt;
+        told.iter()
+            .any(|event| matches!(event, LogEvent::Missed(_)))
+    );
+    Ok(())
+}
+
+#[test]
+fn a_busy_log_is_told_what_it_missed(rt: HostRuntime) -> Result<(), Fail> {
+    let _types = no_sockets();
+    misses_some(&rt, rt.alloc())
+}
+
+/// Member 2 is up at member 0, and ends.
+fn comes_again<R: Machine + Abort>(
+    rt: &R,
+    cluster: Cluster,
+    cues: &[Cue; 4],
+    log: &Mutex<Kept>,
+) -> Result<(), Fail> {
+    for cue in &cues[..3] {
+        assert!(rt; cue.is_ready(rt));
+    }
+    // Ready, and the links from and to two peers.
+    wait_for(rt, log, 5);
+    assert!(rt; cues[2].ends(rt) == Some(Ok(())));
+    Ok(())
+}
+
+/// Member 2 starts again. Then the three decide for 0, none of whom can be spared: its second links are taken in.
+fn decides_again<R: Machine + Abort>(
+    rt: &R,
+    cluster: Cluster,
+    cues: &[Cue; 4],
+) -> Result<(), Fail> {
+    assert!(rt; cues[3].is_ready(rt));
+    decide(rt, cluster, cues, &[0, 1, 2], false)?;
+    for me in [0usize, 1, 3] {
+        assert!(rt; cues[me].ends(rt) == Some(Ok(())));
+    }
+    Ok(())
+}
+
+/// Three of four members, of whom one ends and starts again.
+fn decide_after_a_restart<R: Machine + Abort>(rt: &R, alloc: Global) -> Result<(), Fail> {
+    let cluster = Cluster {
+        n: 4,
+        t: 1,
+        port: 47280,
+        elsewhere: None,
+    };
+    let kept = Mutex::new(Kept {
+        events: Vec::new(alloc),
+    });
+    let log = &kept;
+    let cues = [Cue::new(), Cue::new(), Cue::new(), Cue::new()];
+    let cues = &cues;
+    thread::scope(thread::scope_env(), rt, |scope| -> Result<(), Fail> {
+        let zero = &cues[0];
+        let runs = scope
+            .spawn(move || {
+                let ended = run_told(rt, alloc, cluster, 0, None, zero, Some(log));
+                *zero.ended.lock(rt) = Some(ended);
+            })
+            .is_ok();
+        assert!(rt; runs);
+        for me in 1..3u8 {
+            let cue = &cues[usize::from(me)];
+            let runs = scope
+                .spawn(move || run_to_cue(rt, alloc, cluster, me, None, cue))
+                .is_ok();
+            assert!(rt; runs);
+        }
+        comes_again(rt, cluster, cues, log)?;
+        // The fourth cue is that of member 2's second life.
+        let again = &cues[3];
+        let runs = scope
+            .spawn(move || run_to_cue(rt, alloc, cluster, 2, None, again))
+            .is_ok();
+        assert!(rt; runs);
+        decides_again(rt, cluster, cues)
+    })
+}
+
+#[test]
+fn a_member_that_starts_again_is_needed(rt: HostRuntime) -> Result<(), Fail> {
+    let _types = no_sockets();
+    decide_after_a_restart(&rt, rt.alloc())
+}
+
+/// A hundred clients come, are answered and go; the system's number of a socket that is opened then is about that of before,
+/// so the member keeps nothing of them.
+fn hundred_clients<R: Machine + Abort>(rt: &R, desk: SocketAddr) -> Result<(), Fail> {
+    let before = connect(rt, desk)?.as_raw_fd();
+    for _ in 0..100u32 {
+        assert!(rt; comes_to(rt, desk, b"ASK 0\n", b"DECIDED 0\n"));
+    }
+    thread::sleep(rt, Duration::from_millis(500));
+    let after = connect(rt, desk)?.as_raw_fd();
+    assert!(rt;
+        after < before.saturating_add(20),
+        "from {before} to {after}"
+    );
+    Ok(())
+}
+
+/// Whether a link of a peer went down.
+fn went_down(events: &[LogEvent]) -> bool {
+    events.iter().any(|event| matches!(event, LogEvent::LinkDown(..) | LogEvent::LinkDownTo(..)))
+}
+
+/// Two members decide for 0, which is told at once, and then nobody says anything for twelve seconds: no link goes down, and
+/// a client that was silent is answered.
+fn say_nothing<R: Machine + Abort>(
+    rt: &R,
+    cluster: Cluster,
+    cues: &[Cue; 2],
+    log: &Mutex<Kept>,
+) -> Result<(), Fail> {
+    let mut silent = connect(rt, cluster.desk(0))?;
+    for me in 0..2u8 {
+        assert!(rt; comes_to(rt, cluster.desk(me), b"PROPOSE 0 0\n", b"OK\n"));
+    }
+    assert!(rt; comes_to(rt, cluster.desk(0), b"ASK 0\n", b"DECIDED 0\n"));
+    hundred_clients(rt, cluster.desk(0))?;
+    thread::sleep(rt, Duration::from_millis(12500));
+    assert!(rt; answers(&mut silent, b"ASK 0\n", b"DECIDED 0\n"));
+    let events = &log.lock(rt).events;
+    assert!(rt; !went_down(events), "a link went down");
+    assert!(rt; events.contains(&LogEvent::Decided(0, false)), "a decision");
+    for cue in cues {
+        cue.end.store(true, Ordering::SeqCst);
+    }
+    Ok(())
+}
+
+/// Two members, of whom the first has a log.
+fn idle<R: Machine + Abort>(rt: &R, alloc: Global) -> Result<(), Fail> {
+    let cluster = Cluster {
+        n: 2,
+        t: 0,
+        port: 47290,
+        elsewhere: None,
+    };
+    let kept = Mutex::new(Kept {
+        events: Vec::new(alloc),
+    });
+    let log = &kept;
+    let cues = [Cue::new(), Cue::new()];
+    let cues = &cues;
+    thread::scope(thread::scope_env(), rt, |scope| -> Result<(), Fail> {
+        let zero = &cues[0];
+        let runs = scope
+            .spawn(move || {
+                let ended = run_told(rt, alloc, cluster, 0, None, zero, Some(log));
+                *zero.ended.lock(rt) = Some(ended);
+            })
+            .is_ok();
+        let one = &cues[1];
+        let both = scope
+            .spawn(move || run_to_cue(rt, alloc, cluster, 1, None, one))
+            .is_ok();
+        assert!(rt; runs && both && zero.is_ready(rt) && one.is_ready(rt));
+        say_nothing(rt, cluster, cues, log)
+    })
+}
+
+#[test]
+fn who_says_nothing_stays(rt: HostRuntime) -> Result<(), Fail> {
+    let _types = no_sockets();
+    idle(&rt, rt.alloc())
+}
+
+/// The Readys that lead member 0, which proposes 0, to a coin: origin, step and value. The first votes are two for 0 and two
+/// for 1, the second ones one and two, and the third ones are for neither.
+const READYS: [[u8; 3]; 10] = [
+    [0, 1, 0],
+    [1, 1, 0],
+    [2, 1, 1],
+    [3, 1, 1],
+    [1, 2, 0],
+    [2, 2, 1],
+    [3, 2, 1],
+    [1, 3, 4],
+    [2, 3, 4],
+    [3, 3, 4],
+];
+
+/// A link from a peer to member 0, which is up.
+fn link_from<R: Machine + Abort>(rt: &R, cluster: Cluster, peer: u8) -> Result<TcpStream, Fail> {
+    let mut link = connect(rt, cluster.address(0))?;
+    let mut hello = HELLO;
+    hello[16] = peer;
+    link.write_all(&hello)?;
+    link.read_exact(&mut [0u8; 11])?;
+    Ok(link)
+}
+
+/// Two peers say these Readys. With the second one's the member says them too, and hears them on the link to itself, one
+/// after another.
+fn lead_to_a_coin<R: Machine + Abort>(rt: &R, cluster: Cluster) -> Result<(), Fail> {
+    let mut first = link_from(rt, cluster, 1)?;
+    let mut second = link_from(rt, cluster, 2)?;
+    for [origin, step, value] in READYS {
+        let frame = [0, 8, 3, 3, 0, 0, origin, 1, step, value];
+        first.write_all(&frame)?;
+        thread::sleep(rt, Duration::from_millis(50));
+        second.write_all(&frame)?;
+        thread::sleep(rt, Duration::from_millis(100));
+    }
+    Ok(())
+}
+
+/// The next statement that a member says on a link: kind, origin, round, step and value.
+fn next_said(link: &mut TcpStream) -> Result<[u8; 5], Fail> {
+    for _ in 0..100u32 {
+        let mut head = [0u8; 3];
+        link.read_exact(&mut head)?;
+        if head[1] == 8 {
+            let mut said = [0u8; 7];
+            link.read_exact(&mut said)?;
+            return Ok([said[0], said[3], said[4], said[5], said[6]]);
+        }
+    }
+    Err("a statement")?
+}
+
+/// How many statements the member says before its last Ready, and then its first Initial of round 2: 0 or 1.
+fn coin_of(link: &mut TcpStream) -> Result<(u32, u8), Fail> {
+    let mut last = 0;
+    for count in 1..100u32 {
+        match next_said(link)? {
+            [3, 3, 1, 3, _] => last = count,
+            [1, 0, 2, 1, value] => return Ok((last, value)),
+            _ => {}
+        }
+    }
+    Err("an Initial of round 2")?
+}
+
+/// Member 0 proposes 0, which a peer hears at once, and not with the next Idle, a second later. Then it comes to a coin: the
+/// toss with which it heard its last Ready is that of its seed, of the stream of the link to itself.
+fn tosses_by<R: Machine + Abort>(
+    rt: &R,
+    cluster: Cluster,
+    listener: &TcpListener,
+    seed: u8,
+) -> Result<(), Fail> {
+    let (mut link, _) = listener.accept()?;
+    welcome(rt, &mut link)?;
+    let start = Instant::now(rt)?;
+    assert!(rt; comes_to(rt, cluster.desk(0), b"PROPOSE 0 0\n", b"OK\n"));
+    assert!(rt; next_said(&mut link)? == [1, 0, 1, 1, 0]);
+    assert!(rt;
+        start.elapsed(rt)? < Duration::from_millis(500),
+        "a proposal waits"
+    );
+    lead_to_a_coin(rt, cluster)?;
+    let (last, value) = coin_of(&mut link)?;
+    let mut tosser = ChaChaTosser::from_seed([seed; 32], 0);
+    let mut toss = tosser.toss();
+    for _ in 0..last {
+        toss = tosser.toss();
+    }
+    assert!(rt; u64::from(value) == toss.0 % 2, "seed {seed}, toss {last}");
+    Ok(())
+}
+
+/// One run of member 0 of four, with that seed.
+fn run_seeded<R: Machine>(
+    rt: &R,
+    alloc: Global,
+    cluster: Cluster,
+    seed: u8,
+    cue: &Cue,
+) -> Result<(), RunFault> {
+    let addresses = cluster.addresses(alloc, 0)?;
+    let Some(member) = cluster.member(alloc, 0, None) else {
+        return Err(RunFault::Memory);
+    };
+    let mut prompter = Prompter { rt, cue };
+    let log: Option<&Mutex<Kept>> = None;
+    run_member(rt, alloc, member, addresses, [seed; 32], &mut prompter, log)
+}
+
+/// Member 0 of four runs with that seed, and comes to a coin.
+fn comes_to_a_coin<R: Machine + Abort>(
+    rt: &R,
+    alloc: Global,
+    listener: &TcpListener,
+    seed: u8,
+) -> Result<(), Fail> {
+    let cluster = Cluster {
+        n: 4,
+        t: 1,
+        port: 47300,
+        elsewhere: None,
+    };
+    let cue = Cue::new();
+    let cue = &cue;
+    thread::scope(thread::scope_env(), rt, |scope| -> Result<(), Fail> {
+        let runs = scope
+            .spawn(move || {
+                let ended = run_seeded(rt, alloc, cluster, seed, cue);
+                *cue.ended.lock(rt) = Some(ended);
+            })
+            .is_ok();
+        assert!(rt; runs && cue.is_ready(rt));
+        tosses_by(rt, cluster, listener, seed)?;
+        assert!(rt; cue.ends(rt) == Some(Ok(())));
+        Ok(())
+    })
+}
+
+/// A member with each of these seeds, and a peer that it dials.
+fn seeds_and_coins<R: Machine + Abort>(rt: &R, alloc: Global) -> Result<(), Fail> {
+    let listener = TcpListener::bind(rt, SocketAddr::new(here(), 47301))?;
+    for seed in [1u8, 2, 3] {
+        comes_to_a_coin(rt, alloc, &listener, seed)?;
+    }
+    Ok(())
+}
+
+#[test]
+fn coins_are_of_the_seed(rt: HostRuntime) -> Result<(), Fail> {
+    let _types = no_sockets();
+    seeds_and_coins(&rt, rt.alloc())
 }
 
 /// Member 0 of four, whose peers' addresses are of another host, and who dials from here in a peer's name.
@@ -1015,12 +1384,12 @@ fn a_link_comes_from_its_members_host(rt: HostRuntime) -> Result<(), Fail> {
         LogEvent::Refused(here(), LinkEnd::Stranger),
         LogEvent::End,
     ];
-    impostor_comes(&rt, rt.alloc(), Hosts::OfMembers, 47280, &refused)?;
+    impostor_comes(&rt, rt.alloc(), Hosts::OfMembers, 47310, &refused)?;
     let taken = [
         LogEvent::Ready(0),
         LogEvent::LinkUp(1),
         LogEvent::LinkDown(1, LinkEnd::Ended),
         LogEvent::End,
     ];
-    impostor_comes(&rt, rt.alloc(), Hosts::Any, 47290, &taken)
+    impostor_comes(&rt, rt.alloc(), Hosts::Any, 47320, &taken)
 }
