@@ -1002,14 +1002,15 @@ fn tosses_are_of_the_place(rt: HostRuntime) -> Result<(), Fail> {
     Ok(())
 }
 
-/// Eleven hundred strangers are refused while the log is busy.
+/// Strangers are refused while the log is busy: more than the 1,024 events that may be on their way to it and the 1,024 that
+/// may wait.
 fn crowd_of_strangers<R: Machine + Abort>(
     rt: &R,
     cluster: Cluster,
     log: &Mutex<Kept>,
 ) -> Result<(), Fail> {
     let busy = log.lock(rt);
-    for _ in 0..1100u32 {
+    for _ in 0..2200u32 {
         assert!(rt; is_refused(rt, cluster.address(0), &hello(8))?);
     }
     drop(busy);
