@@ -181,7 +181,7 @@ fn pages_have_each_command_and_option(rt: HostRuntime) -> Result<(), Fail> {
     let help = shown(rt.alloc(), &["bracha", "--help"])?;
     let names = names_in(rt.alloc(), help.as_str())?;
     let options = options_in(rt.alloc(), &pages, &names)?;
-    // The nine commands, and `help`; `--verbose` of nine, and nine of their own.
-    assert!(rt; (names.len(), options) == (10, 18), "{options} options");
+    // The nine commands, and `help`; `--verbose` of nine, and ten of their own.
+    assert!(rt; (names.len(), options) == (10, 19), "{options} options");
     Ok(())
 }
