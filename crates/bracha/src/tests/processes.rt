@@ -13,8 +13,8 @@ use std::test::Fail;
 use std::time::Duration;
 use std::{env, thread};
 use steps::Step::{
-    Begins, Clear, Ends, Has, HasSettings, Lacks, Names, Omits, Prints, Put, PutSettings, Says,
-    SaysClosed,
+    Begins, Clear, Closes, Ends, Has, HasSettings, Hears, Lacks, Names, Omits, Prints, Put,
+    PutSettings, Says, SaysClosed,
 };
 use steps::play;
 
@@ -113,6 +113,11 @@ fn an_argument_that_is_no_text(rt: HostRuntime) -> Result<(), Fail> {
         // It has more bytes than are taken at first.
         ("dump \"$(printf %05000d 0)\"", "", "last 5000\nstatus 0\n"),
         (
+            "dump \"$(printf %0100000d 0)\"",
+            "",
+            "last 100000\nstatus 0\n",
+        ),
+        (
             "dump \"$(printf 'x\\377')\"",
             "bracha: argument 3 is not UTF-8\n",
             "status 2\n",
@@ -182,7 +187,18 @@ const ONE_PROPOSAL: &str = "n 1\nt 0\nquestions 1\nliars\nseed 1\npropose 0 0 1\
 
 /// What the program says on its standard error, started with its input and output closed.
 fn said_when_closed(rt: &HostRuntime, words: &str) -> Result<String, Fail> {
-    let script = "exec \"$0\" tests::processes::a_process <&- >&-";
+    said_beside(rt, words, "exec \"$0\" tests::processes::a_process <&- >&-")
+}
+
+/// Runs the program with all three streams closed.
+fn run_closed(rt: &HostRuntime, words: &str) -> Result<(), Fail> {
+    let script = "exec \"$0\" tests::processes::a_process <&- >&- 2>&-";
+    let _said = said_beside(rt, words, script)?;
+    Ok(())
+}
+
+/// What the program says on its standard error, started by that script.
+fn said_beside(rt: &HostRuntime, words: &str, script: &str) -> Result<String, Fail> {
     let words = format!(in rt.alloc(); "bracha {words}")?;
     let (_, said) = told_with(rt, shell(rt, script)?, WORDS, words.as_str())?;
     Ok(said)
@@ -207,6 +223,11 @@ fn closed_streams_leave_files_alone(rt: HostRuntime) -> Result<(), Fail> {
         SaysClosed("run --stay bracha_tests_closed.toml", "bracha: stream"),
         Has(journal, &EMPTY),
         SaysClosed(simulate, "bracha: stream"),
+        Has(journal, &EMPTY),
+        // What can't be said anywhere isn't said into a file that was opened.
+        Closes("run bracha_tests_closed.toml"),
+        Has(journal, &EMPTY),
+        Closes("dump bracha_tests_closed.journal"),
         Has(journal, &EMPTY),
     ];
     play(&rt, &steps)?;
@@ -257,6 +278,15 @@ fn faults_of_words_and_files(rt: HostRuntime) -> Result<(), Fail> {
             "size NoQuestions",
             1,
         ),
+        Ends("hear --n 4 --t 1 --questions 1 --me 4", "me", 1),
+        Hears(
+            "hear --n 4 --t 1 --questions 2 --me 3",
+            "3 00080301000103010101\n",
+            "news\n00080302000103010101\nstatus 0\n",
+        ),
+        Prints("listen", "status 2\n"),
+        Prints("hear --n 4", "status 2\n"),
+        Prints("--version", "bracha 0.2.0\nstatus 0\n"),
         Ends("ask 127.0.0.1 0", "address", 1),
         Ends("status localhost", "address", 1),
         Ends("status 127.0.0.1:47199", "no answer", 1),
@@ -505,7 +535,10 @@ fn is_proposed(rt: &HostRuntime, words: &str) -> Result<bool, Fail> {
 
 /// What a member by itself says on the standard error, which takes a proposal and whose input then ends.
 fn said_in_a_life(rt: &HostRuntime) -> Result<String, Fail> {
-    let child = piped(rt, "run --log bracha_tests_alone.toml", Stdio::piped())?;
+    let mut child = piped(rt, "run --log bracha_tests_alone.toml", Stdio::piped())?;
+    // What comes in doesn't end the member; only that no more comes does.
+    child.stdin.as_mut().ok_or("an input")?.write_all(b"x\n")?;
+    thread::sleep(rt, Duration::from_millis(500));
     let proposed = is_proposed(rt, "propose 127.0.0.1:47139 0 1")?;
     want(proposed, "a proposal that is taken")?;
     // What the desk refuses is printed, with status 1.
@@ -558,6 +591,17 @@ fn init_makes_the_journal_once(rt: HostRuntime) -> Result<(), Fail> {
 /// A journal of no records: cluster 7, one member, one question.
 const ALONE: [u8; 25] = *b"BRACHAJ1\0\0\0\0\0\0\0\x07\x01\0\0\x01\0\0\0\0\0";
 
+/// A second member at a port that is taken says so.
+fn takes_no_port_twice(rt: &HostRuntime) -> Result<(), Fail> {
+    let (path, journal) = ("bracha_tests_taken.toml", "bracha_tests_taken.journal");
+    let settings = settings_alone(rt, journal, 47136)?;
+    let line = "bracha: listen\n127.0.0.1:47136: listen: Address already in use (os error 98)\n";
+    put(rt, path, settings.as_str().as_bytes())?;
+    put(rt, journal, &ALONE)?;
+    play(rt, &[Says("--verbose run bracha_tests_taken.toml", line)])?;
+    remove(rt, &[path, journal])
+}
+
 #[test]
 fn a_member_that_stays_outlives_its_input(rt: HostRuntime) -> Result<(), Fail> {
     let (path, journal) = ("bracha_tests_stay.toml", "bracha_tests_stay.journal");
@@ -569,6 +613,7 @@ fn a_member_that_stays_outlives_its_input(rt: HostRuntime) -> Result<(), Fail> {
     wait_ready(&mut child, 0, &rt)?;
     thread::sleep(&rt, Duration::from_millis(2000));
     assert!(rt; child.try_wait()?.is_none(), "the member has ended");
+    takes_no_port_twice(&rt)?;
     child.kill()?;
     let (_, said) = texts(child.wait_with_output(rt.alloc())?)?;
     assert!(rt; said.as_str().contains("ready member 0\n"), "{said}");
@@ -659,6 +704,7 @@ fn pages_keep_off_other_files(rt: HostRuntime) -> Result<(), Fail> {
     put(&rt, script, ONE_PROPOSAL.as_bytes())?;
     let _ = fs::remove_dir_all(&rt, folder);
     fs::create_dir(&rt, folder)?;
+    fs::create_dir(&rt, "bracha_tests_apart/b")?;
     fs::hard_link(&rt, script, "bracha_tests_apart/link")?;
     let is_kept = Has(script, ONE_PROPOSAL.as_bytes());
     let steps = [
@@ -699,6 +745,12 @@ fn pages_keep_off_other_files(rt: HostRuntime) -> Result<(), Fail> {
         ),
         is_kept,
         Lacks("bracha_tests_apart/a"),
+        // One name in two folders is two files.
+        Prints(
+            "simulate --trace bracha_tests_apart/x --chart bracha_tests_apart/b/x bracha_tests_apart.script",
+            "events 1 skipped 0\nstatus 0\n",
+        ),
+        Begins("bracha_tests_apart/b/x", b"<svg "),
     ];
     play(&rt, &steps)?;
     fs::remove_dir_all(&rt, folder)?;
@@ -718,6 +770,18 @@ fn a_page_goes_to_the_output(rt: HostRuntime) -> Result<(), Fail> {
         Omits(words, "events"),
         Says(words, "events 1 skipped 0\n"),
         Begins(chart, b"<svg "),
+        Prints(
+            "simulate --chart - bracha_tests_output.script",
+            "</svg>\nstatus 0\n",
+        ),
+        Omits(
+            "simulate --chart - bracha_tests_output.script",
+            "events 1 skipped",
+        ),
+        Says(
+            "simulate --chart - bracha_tests_output.script",
+            "events 1 skipped 0\n",
+        ),
         Lacks("-"),
     ];
     play(&rt, &steps)?;
@@ -822,17 +886,20 @@ fn decision(rt: &HostRuntime, member: u8, question: u16) -> Result<String, Fail>
     Err("a decision")?
 }
 
-/// Proposes 1 on the question to each member, and asks each for its decision.
-fn settle(rt: &HostRuntime, question: u16) -> Result<(), Fail> {
+/// Proposes the bit on the question to each member, and asks each for its decision.
+fn settle(rt: &HostRuntime, question: u16, bit: u8) -> Result<(), Fail> {
     for member in 0..4u8 {
-        let words = format!(in rt.alloc(); "propose 127.0.0.1:4711{member} {question} 1")?;
+        let words = format!(in rt.alloc(); "propose 127.0.0.1:4711{member} {question} {bit}")?;
         let taken = prints(rt, words.as_str(), "OK\nstatus 0\n")?;
         want(taken, "a proposal that is taken")?;
     }
     for member in 0..4u8 {
         let text = decision(rt, member, question)?;
-        let decided = text.as_str().contains("DECIDED 1\nstatus 0\n");
-        want(decided, "the decision 1")?;
+        let line = format!(in rt.alloc(); "DECIDED {bit}\nstatus 0\n")?;
+        want(
+            text.as_str().contains(line.as_str()),
+            "the decision of that bit",
+        )?;
     }
     Ok(())
 }
@@ -884,25 +951,25 @@ fn init_all(rt: &HostRuntime) -> Result<(), Fail> {
 /// Member 2 settles question 0 with the others, ends with its input, is started again, and still knows. Then it is killed.
 fn settle_and_be_killed(rt: &HostRuntime) -> Result<(), Fail> {
     let second = start(rt, 2)?;
-    settle(rt, 0)?;
+    settle(rt, 0, 0)?;
     let text = end_of(second, rt)?;
     want(text.as_str().contains("status 0\n"), "the end of member 2")?;
     let mut again = start(rt, 2)?;
     let text = decision(rt, 2, 0)?;
-    let known = text.as_str().contains("DECIDED 1\nstatus 0\n");
+    let known = text.as_str().contains("DECIDED 0\nstatus 0\n");
     want(known, "a decision that member 2 knows")?;
     again.kill()?;
     again.wait()?;
     Ok(())
 }
 
-/// The member's journal has two decisions for 1, and as many records as are counted.
+/// The member's journal has two decisions, for 0 and then for 1, and as many records as are counted.
 fn has_decided_twice(rt: &HostRuntime, member: u8) -> Result<(), Fail> {
     let found = decisions(rt, member)?;
     want(found.len() == 2, "two decisions")?;
     want(is_counted(rt, member)?, "a count of the records")?;
-    for line in found.as_slice() {
-        want(line.as_str().ends_with(" 1"), "decisions for 1")?;
+    for (line, end) in found.as_slice().iter().zip([" 0", " 1"]) {
+        want(line.as_str().ends_with(end), "a decision of that bit")?;
     }
     Ok(())
 }
@@ -919,7 +986,7 @@ fn four_processes_decide(rt: HostRuntime) -> Result<(), Fail> {
     settle_and_be_killed(&rt)?;
     // Started once more it goes on with the others.
     children.push(start(&rt, 2)?)?;
-    settle(&rt, 1)?;
+    settle(&rt, 1, 1)?;
     assert!(rt; is_up(&rt, 2, 2)?, "the status of member 2");
     for child in children {
         let text = end_of(child, &rt)?;

@@ -27,6 +27,10 @@ pub(super) enum Step<'a> {
     Says(&'a str, &'a str),
     /// The program says this there, started with its input and output closed.
     SaysClosed(&'a str, &'a str),
+    /// The program is run with all three streams closed.
+    Closes(&'a str),
+    /// The program reads this, and prints that.
+    Hears(&'a str, &'a str, &'a str),
     /// The program ends by that fault and status: one line, on the standard error alone.
     Ends(&'a str, &'a str, u8),
     /// The program says both lines with `--verbose` and with the environment's word, and without them the first alone.
@@ -61,6 +65,15 @@ fn says_closed(rt: &HostRuntime, words: &str, text: &str) -> Result<bool, Fail> 
     Ok(said_when_closed(rt, words)?.as_str().contains(text))
 }
 
+/// Whether the program, which reads the input to its end, prints the text.
+fn hears(rt: &HostRuntime, words: &str, input: &str, text: &str) -> Result<bool, Fail> {
+    let mut child = piped(rt, words, Stdio::piped())?;
+    let stdin = child.stdin.as_mut().ok_or("an input")?;
+    stdin.write_all(input.as_bytes())?;
+    let (printed, _) = texts(child.wait_with_output(rt.alloc())?)?;
+    Ok(printed.as_str().contains(text))
+}
+
 /// Does the step, or tells whether it is so.
 fn holds(rt: &HostRuntime, step: Step) -> Result<bool, Fail> {
     match step {
@@ -79,6 +92,8 @@ fn holds(rt: &HostRuntime, step: Step) -> Result<bool, Fail> {
         Step::Omits(words, text) => return Ok(!prints(rt, words, text)?),
         Step::Says(words, text) => return says(rt, words, text),
         Step::SaysClosed(words, text) => return says_closed(rt, words, text),
+        Step::Closes(words) => run_closed(rt, words)?,
+        Step::Hears(words, input, text) => return hears(rt, words, input, text),
         Step::Ends(words, fault, status) => return ends_by(rt, words, fault, status),
         Step::Names(words, lines) => return has_second_line(rt, words, lines),
     }
