@@ -330,7 +330,7 @@ fn joins_late<R: Machine + Abort>(rt: &R, alloc: Global) -> Result<(), Fail> {
     let cluster = Cluster {
         n: 4,
         t: 1,
-        port: 47200,
+        port: 7200,
         elsewhere: None,
     };
     let cues = [Cue::new(), Cue::new(), Cue::new(), Cue::new()];
@@ -396,7 +396,7 @@ fn run_beside_one<R: Machine + Abort>(
     let cluster = Cluster {
         n: 4,
         t: 1,
-        port: 47210,
+        port: 7210,
         elsewhere: None,
     };
     let cues = [Cue::new(), Cue::new(), Cue::new(), Cue::new()];
@@ -531,7 +531,7 @@ fn crowd<R: Machine + Abort>(rt: &R, alloc: Global) -> Result<(), Fail> {
     let cluster = Cluster {
         n: 1,
         t: 0,
-        port: 47220,
+        port: 7220,
         elsewhere: None,
     };
     let cue = Cue::new();
@@ -638,7 +638,7 @@ fn alone<R: Machine + Abort>(rt: &R, alloc: Global) -> Result<(), Fail> {
     let cluster = Cluster {
         n: 1,
         t: 0,
-        port: 47240,
+        port: 7240,
         elsewhere: None,
     };
     let want = [
@@ -702,7 +702,7 @@ fn peer_leaves<R: Machine + Abort>(rt: &R, alloc: Global) -> Result<(), Fail> {
     let cluster = Cluster {
         n: 4,
         t: 1,
-        port: 47250,
+        port: 7250,
         elsewhere: None,
     };
     let want = [
@@ -766,7 +766,7 @@ fn peer_comes<R: Machine + Abort>(rt: &R, alloc: Global) -> Result<(), Fail> {
     let cluster = Cluster {
         n: 4,
         t: 1,
-        port: 47260,
+        port: 7260,
         elsewhere: None,
     };
     let want = [
@@ -936,7 +936,7 @@ fn slow_peer<R: Machine + Abort>(rt: &R, alloc: Global) -> Result<(), Fail> {
     let cluster = Cluster {
         n: 4,
         t: 1,
-        port: 47230,
+        port: 7230,
         elsewhere: None,
     };
     let cue = Cue::new();
@@ -1022,7 +1022,7 @@ fn misses_some<R: Machine + Abort>(rt: &R, alloc: Global) -> Result<(), Fail> {
     let cluster = Cluster {
         n: 1,
         t: 0,
-        port: 47270,
+        port: 7270,
         elsewhere: None,
     };
     let kept = Mutex::new(Kept {
@@ -1078,7 +1078,7 @@ fn decide_after_a_restart<R: Machine + Abort>(rt: &R, alloc: Global) -> Result<(
     let cluster = Cluster {
         n: 4,
         t: 1,
-        port: 47280,
+        port: 7280,
         elsewhere: None,
     };
     let kept = Mutex::new(Kept {
@@ -1171,7 +1171,7 @@ fn idle<R: Machine + Abort>(rt: &R, alloc: Global) -> Result<(), Fail> {
     let cluster = Cluster {
         n: 2,
         t: 0,
-        port: 47290,
+        port: 7290,
         elsewhere: None,
     };
     let kept = Mutex::new(Kept {
@@ -1325,7 +1325,7 @@ fn comes_to_a_coin<R: Machine + Abort>(
     let cluster = Cluster {
         n: 4,
         t: 1,
-        port: 47300,
+        port: 7300,
         elsewhere: None,
     };
     let cue = Cue::new();
@@ -1346,7 +1346,7 @@ fn comes_to_a_coin<R: Machine + Abort>(
 
 /// A member with each of these seeds, and a peer that it dials.
 fn seeds_and_coins<R: Machine + Abort>(rt: &R, alloc: Global) -> Result<(), Fail> {
-    let listener = TcpListener::bind(rt, SocketAddr::new(here(), 47301))?;
+    let listener = TcpListener::bind(rt, SocketAddr::new(here(), 7301))?;
     for seed in [1u8, 2, 3] {
         comes_to_a_coin(rt, alloc, &listener, seed)?;
     }
@@ -1385,12 +1385,12 @@ fn a_link_comes_from_its_members_host(rt: HostRuntime) -> Result<(), Fail> {
         LogEvent::Refused(here(), LinkEnd::Stranger),
         LogEvent::End,
     ];
-    impostor_comes(&rt, rt.alloc(), Hosts::OfMembers, 47310, &refused)?;
+    impostor_comes(&rt, rt.alloc(), Hosts::OfMembers, 7310, &refused)?;
     let taken = [
         LogEvent::Ready(0),
         LogEvent::LinkUp(1),
         LogEvent::LinkDown(1, LinkEnd::Ended),
         LogEvent::End,
     ];
-    impostor_comes(&rt, rt.alloc(), Hosts::Any, 47320, &taken)
+    impostor_comes(&rt, rt.alloc(), Hosts::Any, 7320, &taken)
 }
