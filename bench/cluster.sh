@@ -10,7 +10,7 @@
 #   times        how many times the floor it took
 #
 # Usage: bench/cluster.sh [PROGRAM [FOLDER]], by default crates/bracha/out/bracha (made by `rt run` in crates/bracha) and
-# a new folder below /tmp. The disk that is measured is the folder's. Ports 47100 to 47103 and 47110 to 47113 are used.
+# a new folder below /tmp. The disk that is measured is the folder's. Ports 7100 to 7103 and 7110 to 7113 are used.
 set -euo pipefail
 here=$(cd "$(dirname "$0")/.." && pwd)
 program=$(realpath "${1:-$here/crates/bracha/out/bracha}")
@@ -65,7 +65,7 @@ settle() {
                 last if (<$desk> // die "desk") eq "DECIDED 1\n";
                 select(undef, undef, undef, 0.002);
             }
-        }' "4711$1" "$questions"
+        }' "711$1" "$questions"
 }
 
 # Of a journal, how many batches it has: its header and first gate take 25 bytes, a batch 3, and a record 7.

@@ -35,7 +35,7 @@ start() {
 decision() {
     local reply=UNDECIDED
     for _ in {1..300}; do
-        reply=$("$program" ask "127.0.0.1:4711$1" "$2") || true
+        reply=$("$program" ask "127.0.0.1:711$1" "$2") || true
         if [ "$reply" != UNDECIDED ]; then break; fi
         sleep 0.05
     done
@@ -52,7 +52,7 @@ bit_of() {
 for question in {0..11}; do
     victim=$((question % 4))
     for member in 0 1 2 3; do
-        "$program" propose "127.0.0.1:4711$member" "$question" "$(bit_of "$question" "$member")" >/dev/null
+        "$program" propose "127.0.0.1:711$member" "$question" "$(bit_of "$question" "$member")" >/dev/null
         if [ "$member" = 1 ]; then
             kill -9 "${process[$victim]}"
             wait "${process[$victim]}" 2>/dev/null || true

@@ -67,14 +67,14 @@ for question in 0 1 2; do
     for member in 0 1 2 3; do
         bit=$(bit_of "$question" "$member")
         printf 'propose %s to member %s on question %s: ' "$bit" "$member" "$question"
-        "$program" propose "127.0.0.1:4711$member" "$question" "$bit"
+        "$program" propose "127.0.0.1:711$member" "$question" "$bit"
     done
     decided=
     for member in 0 1 2 3; do
         reply=UNDECIDED
         tries=0
         while [ "$reply" = UNDECIDED ] && [ "$tries" -lt 600 ]; do
-            reply=$("$program" ask "127.0.0.1:4711$member" "$question")
+            reply=$("$program" ask "127.0.0.1:711$member" "$question")
             [ "$reply" = UNDECIDED ] && sleep 0.05
             tries=$((tries + 1))
         done
