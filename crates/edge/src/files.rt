@@ -60,17 +60,34 @@ fn read_file(rt: &HostRuntime, path: &str) -> Result<Vec<u8>, Failure>
     }
 }
 
-/// The disk in the file of a journal. A missing one is made, empty, where `make` says so.
-pub fn open_disk(rt: &HostRuntime, path: &str, make: bool) -> Result<FileDisk, Failure>
+/// What the file of a journal is opened for.
+#[derive(Clone, Copy, Debug, PartialEq, Eq)]
+pub enum Purpose {
+    /// To make the journal: a missing file is made, empty.
+    Make,
+    /// To look into it.
+    Look,
+    /// To run its member.
+    Run,
+}
+
+/// What is told of a member's journal that is missing: another one would let it say things twice.
+const MISSING: &str = "no such file: `bracha init` makes one for a new member, and for no other";
+
+/// The disk in the file of a journal.
+pub fn open_disk(rt: &HostRuntime, path: &str, purpose: Purpose) -> Result<FileDisk, Failure>
     ensures fault { IfErr result (λ failure. IsMeant ends.File failure.fault) }
     ensures named { IfErr result (IsNamed path.now) }
 {
-    match FileDisk::open(rt, path, make) {
+    match FileDisk::open(rt, path, purpose == Purpose::Make) {
         Ok(disk) => Ok(disk),
         // Its lock is held.
         Err(error) if error.kind() == io::ErrorKind::WouldBlock => {
             let words = "another process has it";
             Err(Failure::at(rt.alloc(), Fault::File, path, Whereabouts::Open, &words))
+        }
+        Err(error) if purpose == Purpose::Run && error.kind() == io::ErrorKind::NotFound => {
+            Err(Failure::at(rt.alloc(), Fault::File, path, Whereabouts::Open, &MISSING))
         }
         Err(error) => Err(Failure::of_system(
             rt.alloc(),
@@ -86,7 +103,7 @@ pub fn open_disk(rt: &HostRuntime, path: &str, make: bool) -> Result<FileDisk, F
 pub fn init_file(rt: &HostRuntime, path: &str) -> Result<u8, Failure> {
     let settings = read_settings(rt, path)?;
     let journal = settings.journal.as_str();
-    let mut disk = open_disk(rt, journal, true)?;
+    let mut disk = open_disk(rt, journal, Purpose::Make)?;
     match init_disk(&mut disk, &settings) {
         Ok(status) => Ok(status),
         Err(fault) => {
@@ -175,7 +192,7 @@ fn dump_disk(rt: &HostRuntime, disk: FileDisk, count: bool) -> Result<u8, DumpFa
 pub fn dump_file(rt: &HostRuntime, path: &str, count: bool) -> Result<u8, Failure>
     ensures named { IfErr result (IsNamed path.now) }
 {
-    let disk = open_disk(rt, path, false)?;
+    let disk = open_disk(rt, path, Purpose::Look)?;
     match dump_disk(rt, disk, count) {
         Ok(status) => Ok(status),
         Err(fault) => Err(dump_failure(rt, path, fault)),

@@ -6,7 +6,7 @@ ghost use Rattle.running.specs.declared.hosts.Hosts.TheVariants as hosts;
 ghost use Rattle.std.specs.Prelude.{◌≡◌, true, false, IfErr, IfOk, Err, Ok};
 
 use crate::fault::Fault;
-use crate::files::{failure_of_journal, open_disk, read_settings};
+use crate::files::{Purpose, failure_of_journal, open_disk, read_settings};
 use crate::trouble::{Failure, Trouble, Whereabouts, trouble_of};
 use member::Member;
 use running::{Addresses, Hosts, Log, LogEvent, Machine, Operator, RunFault, run_member};
@@ -16,6 +16,7 @@ use std::io::{self, Read, Write};
 use std::net::{IpAddr, SocketAddr};
 use std::rt::Stderr;
 use std::sync::Mutex;
+use std::sync::atomic::{AtomicBool, Ordering};
 use std::thread;
 use std::time::Duration;
 use terms::Memory;
@@ -58,13 +59,16 @@ fn addresses_of(alloc: Global, settings: &Settings, any_host: bool) -> Result<Ad
     })
 }
 
-/// The standard streams of a member that runs: it prints that it is ready, and ends where the input does.
+/// The standard streams of a member that runs: it prints that it is ready, and ends where the input does; or, where it stays,
+/// once it is stopped.
 #[derive(Drop)]
 struct Console<'a> {
     host: &'a HostRuntime,
     settings: &'a Settings,
-    /// The input is not looked at, and only a signal ends the member.
+    /// The input is not looked at: a signal ends the member, or that it is stopped.
     stay: bool,
+    /// Whether the member is stopped.
+    stopped: &'a AtomicBool,
     /// What can be told of an address at which the member can't listen.
     trouble: Option<Trouble>,
 }
@@ -84,10 +88,13 @@ impl<'a> Console<'a> {
         Ok(())
     }
 
-    /// Returns after more years than any machine lives.
+    /// Returns once the member is stopped, at most a quarter of a second late; else after more years than any machine lives.
     fn wait(&self) {
         for _ in 0..u64::MAX {
-            thread::sleep(self.host, Duration::from_secs(3600));
+            if self.stopped.load(Ordering::SeqCst) {
+                return;
+            }
+            thread::sleep(self.host, Duration::from_millis(250));
         }
     }
 }
@@ -106,6 +113,7 @@ impl<'a> Operator for Console<'a> {
     fn until_end(&mut self) -> Result<(), RunFault> {
         if self.stay {
             self.wait();
+            return Ok(());
         }
         self.drain()
     }
@@ -119,23 +127,31 @@ impl<'a> Operator for Console<'a> {
     }
 }
 
-/// A log on the standard error: a line for each event, by one write.
+/// A log on the standard error: a line for each event, by one write, where lines are wanted. It notes that the member is
+/// stopped in any case.
 #[derive(Drop)]
-struct ErrorLog {
+struct ErrorLog<'a> {
     alloc: Global,
     errors: Stderr,
+    prints: bool,
+    stopped: &'a AtomicBool,
 }
 
-impl ErrorLog {
+impl ErrorLog<'_> {
     fn print(&mut self, event: &LogEvent) -> io::Result<()> {
         let line = format!(in self.alloc; "{event}\n")?;
         self.errors.write_all(line.as_bytes())
     }
 }
 
-impl Log for ErrorLog {
+impl Log for ErrorLog<'_> {
     fn tell(&mut self, event: &LogEvent) {
-        let _lost = self.print(event).is_err();
+        if *event == LogEvent::Stopped {
+            self.stopped.store(true, Ordering::SeqCst);
+        }
+        if self.prints {
+            let _lost = self.print(event).is_err();
+        }
     }
 }
 
@@ -161,7 +177,8 @@ fn warn_of_strangers(host: &HostRuntime) {
     );
 }
 
-/// Runs the member of the settings in the file until the standard input ends. The status is 0. Its events are told on the
+/// Runs the member of the settings in the file until the standard input ends; where it stays, until it is stopped. The status
+/// is 0. Its events are told on the
 /// standard error where a log is wanted. Links are taken from their members' own hosts, unless any host may speak for any
 /// member, which is told on the standard error first.
 ///
@@ -181,7 +198,7 @@ pub fn run_file<R: Machine>(
     let settings = read_settings(host, path)?;
     let addresses = addresses_of(host.alloc(), &settings, any_host).map_err(|_| Fault::Memory)?;
     let journal = settings.journal.as_str();
-    let disk = open_disk(host, journal, false)?;
+    let disk = open_disk(host, journal, Purpose::Run)?;
     let member = match Member::open(host.alloc(), disk, &settings.header) {
         Ok(member) => member,
         Err(fault) => return Err(failure_of_journal(host, journal, Fault::from(fault), fault)),
@@ -189,15 +206,19 @@ pub fn run_file<R: Machine>(
     if any_host {
         warn_of_strangers(host);
     }
+    let stopped = AtomicBool::new(false);
     let mut console = Console {
         host,
         settings: &settings,
         stay,
+        stopped: &stopped,
         trouble: None,
     };
     let lines = Mutex::new(ErrorLog {
         alloc: host.alloc(),
         errors: host.stderr(),
+        prints: log,
+        stopped: &stopped,
     });
     let run = run_member(
         rt,
@@ -206,7 +227,7 @@ pub fn run_file<R: Machine>(
         addresses,
         settings.seed,
         &mut console,
-        if log { Some(&lines) } else { None },
+        if log || stay { Some(&lines) } else { None },
     );
     ended(run, console.trouble)
 }

@@ -7,7 +7,8 @@ ghost use Rattle.questions.specs.Replies.{reply_of};
 ghost use Rattle.world.specs.World.{World, IsCorrect};
 ghost use Rattle.member.specs.Answers.{verdict_of, IsFull};
 ghost use Rattle.member.specs.Groups.{replies_of, AllCome, IsFullOfAll, MayAllBeCutOff};
-ghost use Rattle.member.specs.Life.{MemberIsAt, Comes, MayBeCutOff};
+ghost use Rattle.member.specs.Life.{MemberIsAt, DoesStep, Comes, MayBeCutOff};
+ghost use Rattle.world.specs.World.Step.{Hears};
 ghost use Rattle.member.specs.Outcomes.{HasSaved, StaysOn};
 ghost use Rattle.member.specs.Sealed.{sealed_from};
 ghost use Rattle.member.specs.Sound.{IsSound};
@@ -36,16 +37,21 @@ use std::marker::{Brand, Model, PhantomData};
 use std::sync::Arc;
 use terms::{Header, Memory, Record, Statement};
 
-/// Which board it is, by the names of its cells: contracts say by it that a book, its hub and a pass are of one board. A
-/// program is generic over it, and is called at `Brand`.
+/// Which hub it is, by the names of its board's cells and the header of its member: contracts say by it that a book, its
+/// hub and a pass are of one board, and that a book and its hub are of one member of one cluster. A program is generic
+/// over it, and is called at `Brand`.
 pub trait Naming {
     ghost names: { List ℕ };
+
+    ghost header: { Header };
 }
 
 impl Naming for Brand {
     ghost use Rattle.std.specs.Prelude.{[]};
 
     ghost names = { [] };
+
+    ghost header = { record { cluster = 0; size = record { n = 0; t = 0; questions = 0 }; me = 0 } };
 }
 
 /// A member with what happened since its opening: its history has each event that it took, in order, and a member that
@@ -77,7 +83,7 @@ impl<D: Disk, J: Naming> Model for Book<D, J> {
 
     ghost view = { λ b. record { member = b.member; opening = take b.opened (member_saved b.member); history = map noted b.history.items; known = b.notes.known } };
 
-    ghost invariant = { λ b. IsKept D.Disk J.names b.notes.cells b.member b.opened (map noted b.history.items) b.notes.known };
+    ghost invariant = { λ b. IsKept D.Disk J.names J.header b.notes.cells b.member b.opened (map noted b.history.items) b.notes.known };
 }
 
 impl<D: Disk, J: Naming> Book<D, J> {
@@ -92,6 +98,7 @@ impl<D: Disk, J: Naming> Book<D, J> {
         D: Drop,
         requires sound { IsSound D.Disk member }
         requires fresh { member_is_stopped member ≡ false → MemberStandsFor member (member_saved member) [] }
+        requires header { member_header member ≡ J.header }
         requires board { arc_value board ≡ J.names }
         ensures { IfOk result (λ book. IsJustOpened member book) }
     {
@@ -321,9 +328,25 @@ impl<D: Disk, J: Naming> Book<D, J> {
         self.member.is_stopped()
     }
 
-    /// Whose journal it is.
+    /// Stops its member: each later event is refused. What it saved and what happened stay, and no call of the device is made.
+    pub fn stop(&mut self)
+        ensures stopped { member_is_stopped self.new.member ≡ true }
+        ensures saved { member_saved self.new.member ≡ member_saved self.old.member }
+        ensures disk { member_disk self.new.member ≡ member_disk self.old.member }
+        ensures history { self.new.history ≡ self.old.history }
+        ensures opening { self.new.opening ≡ self.old.opening }
+        // In the world a member that is up hears nothing and goes down, with no record in doubt.
+        ensures life { (header : Header) (liars : ℕ → Bool) (w : World) → IsCorrect header.size liars header.me →
+            MemberIsAt D.Disk header w self.old.member → member_is_stopped self.old.member ≡ false →
+            DoesStep D.Disk header liars w (Hears header.me [] [] false) self.new.member }
+    {
+        self.member.stop();
+    }
+
+    /// Whose journal it is: that of its hub's member.
     pub fn header(&self) -> Header
-        ensures { result ≡ member_header self.now.member }
+        ensures member { result ≡ member_header self.now.member }
+        ensures hub { result ≡ J.header }
     {
         self.member.header()
     }

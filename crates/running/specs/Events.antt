@@ -7,7 +7,7 @@ use Rattle.wire.specs.declared.message.WireFault.TheVariants.{BadLength, BadType
 use Rattle.links.specs.declared.ends.LinkEnd.{LinkEnd}
 use Rattle.links.specs.declared.ends.LinkEnd.TheVariants as cause
 use Rattle.running.specs.declared.events.LogEvent.{LogEvent}
-use Rattle.running.specs.declared.events.LogEvent.TheVariants.{Ready, LinkUp, LinkDown, LinkUpTo, LinkDownTo, Refused, Decided, Stopped, Missed, End}
+use Rattle.running.specs.declared.events.LogEvent.TheVariants.{Ready, LinkUp, LinkDown, LinkUpTo, LinkUpAhead, LinkDownTo, Refused, Decided, Stopped, Missed, End}
 
 -- what is wrong with bytes that begin no frame
 abbrev pub fault_text : WireFault → List ℕ
@@ -40,6 +40,7 @@ log_text (Ready me) = codes "ready member " ++ decimal me
 log_text (LinkUp peer) = codes "link-up from " ++ decimal peer
 log_text (LinkDown peer end) = codes "link-down from " ++ (decimal peer ++ (codes " " ++ cause_text end))
 log_text (LinkUpTo peer) = codes "link-up to " ++ decimal peer
+log_text (LinkUpAhead peer count) = codes "link-up to " ++ (decimal peer ++ (codes " ahead " ++ decimal count))
 log_text (LinkDownTo peer end) = codes "link-down to " ++ (decimal peer ++ (codes " " ++ cause_text end))
 log_text (Refused host end) = codes "refused from " ++ (ip_text host ++ (codes " " ++ cause_text end))
 log_text (Decided question bit) = codes "decided " ++ (decimal question ++ (codes " " ++ decimal (bit_number bit)))

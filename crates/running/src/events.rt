@@ -19,7 +19,10 @@ pub enum LogEvent {
     LinkDown(u8, LinkEnd),
     /// A link to this member was welcomed, and what this one says is written to it from now on.
     LinkUpTo(u8),
-    /// It isn't written any more, for this cause.
+    /// The same, and that member has heard so many statements more of this one than its journal holds: this is another
+    /// journal than it was, or an old copy.
+    LinkUpAhead(u8, u64),
+    /// A link to this member isn't written any more, for this cause.
     LinkDownTo(u8, LinkEnd),
     /// A connection from this host to the links' address was closed for this cause, before it became a link.
     Refused(IpAddr, LinkEnd),
@@ -75,6 +78,7 @@ impl fmt::Display for LogEvent {
             LogEvent::LinkUp(peer) => write!(f, "link-up from {peer}"),
             LogEvent::LinkDown(peer, end) => write!(f, "link-down from {peer} {}", cause_text(end)),
             LogEvent::LinkUpTo(peer) => write!(f, "link-up to {peer}"),
+            LogEvent::LinkUpAhead(peer, count) => write!(f, "link-up to {peer} ahead {count}"),
             LogEvent::LinkDownTo(peer, end) => write!(f, "link-down to {peer} {}", cause_text(end)),
             LogEvent::Refused(host, end) => write!(f, "refused from {host} {}", cause_text(end)),
             LogEvent::Decided(question, bit) => write!(f, "decided {question} {}", u8::from(bit)),

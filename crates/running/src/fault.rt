@@ -16,6 +16,10 @@ pub enum RunFault {
     /// memory.
     #[error("stopped")]
     Stopped,
+    /// More than t members have heard more of this member than its journal holds: it lost its journal, or runs on an old copy,
+    /// and would say things twice. It is stopped. The cure is to leave it down for good: the others go on without it.
+    #[error("forgotten")]
+    Forgotten,
     /// Memory, or a thread, was refused at the start.
     #[error("memory")]
     Memory,

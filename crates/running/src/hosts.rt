@@ -22,6 +22,36 @@ pub(crate) struct Peers {
     pub(crate) hosts: Hosts,
 }
 
+impl Peers {
+    /// The first member of the host, which stands for all that comes from there; none where no member is of it. From any
+    /// host it is member 0.
+    pub(crate) fn first_of(&self, host: IpAddr) -> Option<u8> {
+        if self.hosts == Hosts::Any {
+            return Some(0);
+        }
+        let first = self
+            .addresses
+            .iter()
+            .position(|address| address.ip() == host);
+        match first {
+            Some(member) => u8::try_from(member).ok(),
+            None => None,
+        }
+    }
+
+    /// How many of so many places a host may take: an equal share for each host of the members, so that what one does never
+    /// takes another's. From any host there is one share for all.
+    pub(crate) fn share_of(&self, places: usize) -> usize {
+        let mut hosts = 0usize;
+        for (member, address) in self.addresses.iter().enumerate() {
+            if self.first_of(address.ip()) == u8::try_from(member).ok() {
+                hosts = hosts.saturating_add(1);
+            }
+        }
+        places / hosts.max(1)
+    }
+}
+
 /// A member whose link comes from a host that may speak for it.
 #[derive(Clone, Copy, Drop)]
 pub(crate) struct Sender {

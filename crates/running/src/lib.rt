@@ -4,6 +4,7 @@
 //! [`Operator`] ends it. Nothing here decides: threads hand in what links read, write what the book has, and answer clients.
 #![tactic(auto)]
 
+mod ahead;
 mod clients;
 mod events;
 mod fault;

@@ -3,7 +3,7 @@
 use crate::events::LogEvent;
 use crate::hosts::Sender;
 use crate::machine::Machine;
-use crate::outgoing::Outgoing;
+use crate::outgoing::{Outgoing, Peer};
 use crate::shared::{Guest, Shared};
 use disk::Disk;
 use links::{LinkEnd, NetStream, Open, greet, read_link, write_link};
@@ -36,7 +36,13 @@ fn write_told<D: Disk, J: Naming, R: Machine>(
     peer: u8,
     stream: NetStream,
 ) -> LinkEnd {
-    let mut outgoing = Outgoing::new(rt, stream, &it.telling, LogEvent::LinkUpTo(peer));
+    let said = it.hub.lock(rt).outbox().len() as u64;
+    let to = Peer {
+        number: peer,
+        said,
+        size: it.hub.header().size(),
+    };
+    let mut outgoing = Outgoing::new(rt, it.alloc, stream, &it.telling, &it.ahead, to);
     let end = write_link(rt, it.alloc, &it.hub, peer, &mut outgoing, &Open);
     if outgoing.is_up() {
         it.note_link(rt, LogEvent::LinkDownTo(peer, end));

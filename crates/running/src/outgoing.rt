@@ -4,11 +4,15 @@ ghost use Rattle.std.specs.Prelude.{◌≡◌, true};
 ghost use Rattle.links.specs.Net.{told_net, is_closed_net};
 ghost use Rattle.running.specs.Standings.{after_read, after_written, has_come_up};
 
+use crate::ahead::Ahead;
 use crate::events::LogEvent;
 use crate::watch::Telling;
 use links::{NetStream, Stream, StreamFault};
 use member::Sealed;
+use std::alloc::Global;
 use std::sync::{Mutex, Wait};
+use terms::Size;
+use wire::{Feeder, Message};
 
 /// How far a link that is written has come. Its writer says nothing behind the Hello before the Welcome was read, so the
 /// first write behind a read is one to a peer that has welcomed it.
@@ -51,30 +55,48 @@ impl Standing {
     }
 }
 
-/// The stream of a link that is written. Once the link is up its event is to be told, if the member has a log.
+/// The peer of a link that is written: its number, and how many statements this member had said before it was dialled.
+#[derive(Clone, Copy, Drop)]
+pub(crate) struct Peer {
+    pub(crate) number: u8,
+    pub(crate) said: u64,
+    pub(crate) size: Size,
+}
+
+/// The stream of a link that is written. Once the link is up its event is to be told, if the member has a log; and where the
+/// peer has heard more of this member than it has said, that is noted.
 #[derive(Drop)]
 pub(crate) struct Outgoing<'a, R> {
     rt: &'a R,
     stream: NetStream,
     telling: &'a Mutex<Option<Telling>>,
-    up: LogEvent,
+    ahead: &'a Mutex<Ahead>,
+    peer: Peer,
     standing: Standing,
+    /// What reads the Welcome as it passes.
+    feeder: Feeder,
+    read: Vec<Message>,
 }
 
 impl<'a, R: Wait> Outgoing<'a, R> {
-    /// The stream of a link whose coming up is this event.
+    /// The stream of a link to this peer.
     pub(crate) fn new(
         rt: &'a R,
+        alloc: Global,
         stream: NetStream,
         telling: &'a Mutex<Option<Telling>>,
-        up: LogEvent,
+        ahead: &'a Mutex<Ahead>,
+        peer: Peer,
     ) -> Outgoing<'a, R> {
         Outgoing {
             rt,
             stream,
             telling,
-            up,
+            ahead,
+            peer,
             standing: Standing::Greeting,
+            feeder: Feeder::new(peer.size),
+            read: Vec::new(alloc),
         }
     }
 
@@ -83,14 +105,44 @@ impl<'a, R: Wait> Outgoing<'a, R> {
         self.standing == Standing::Up
     }
 
+    /// How many statements more the peer has heard of this member than it had said when it was dialled: 0 where the Welcome
+    /// names no more, or no memory was left to read it.
+    fn excess(&self) -> u64 {
+        match self.read.first() {
+            Some(Message::Welcome { next }) => next.saturating_sub(self.peer.said),
+            _ => 0,
+        }
+    }
+
+    /// The link is up: its event is to be told, and a peer that is ahead is noted.
+    fn note_up(&self) {
+        let excess = self.excess();
+        let mut event = LogEvent::LinkUpTo(self.peer.number);
+        if excess > 0 {
+            event = LogEvent::LinkUpAhead(self.peer.number, excess);
+            self.ahead
+                .lock(self.rt)
+                .note(self.peer.size, self.peer.number);
+        }
+        if let Some(telling) = &mut *self.telling.lock(self.rt) {
+            telling.queue.put(event);
+        }
+    }
+
+    /// Bytes were read. Until the link is up they are those of the Welcome.
+    fn note_read(&mut self, bytes: &[u8])
+        ensures { self.new.stream ≡ self.old.stream }
+    {
+        let _unread = self.feeder.feed(bytes, &mut self.read).is_err();
+        self.standing = self.standing.read();
+    }
+
     /// A write took bytes. Where the link is up by that its event is to be told.
     fn note_written(&mut self)
         ensures { self.new ≡ record self.old { standing = after_written self.old.standing } }
     {
         if self.standing.comes_up() {
-            if let Some(telling) = &mut *self.telling.lock(self.rt) {
-                telling.queue.put(self.up);
-            }
+            self.note_up();
         }
         self.standing = self.standing.written();
     }
@@ -104,8 +156,10 @@ impl<R: Wait> Stream for Outgoing<'_, R> {
     fn read(&mut self, buf: &mut [u8]) -> Result<usize, StreamFault> {
         match self.stream.read(buf) {
             Ok(count) => {
-                if count > 0 {
-                    self.standing = self.standing.read();
+                if let Some(bytes) = buf.get(..count) {
+                    if count > 0 {
+                        self.note_read(bytes);
+                    }
                 }
                 Ok(count)
             }

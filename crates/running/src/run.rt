@@ -6,6 +6,7 @@ ghost use Rattle.member.specs.Sound.{IsSound};
 ghost use Rattle.member.specs.Readers.{member_header, member_saved, member_is_stopped, MemberStandsFor};
 ghost use Rattle.running.specs.Streams.{streams};
 
+use crate::ahead::Ahead;
 use crate::clients::accept_clients;
 use crate::events::LogEvent;
 use crate::fault::RunFault;
@@ -16,7 +17,7 @@ use crate::machine::Machine;
 use crate::places::Places;
 use crate::shared::Shared;
 use crate::slots::Slots;
-use crate::sockets::{Sockets, shut_listener};
+use crate::sockets::{Door, Sockets};
 use crate::tossers::{Tossers, tossers_of};
 use crate::watch::Telling;
 use disk::Disk;
@@ -99,6 +100,7 @@ fn share<D: Disk + Drop, J: Naming, O: Operator>(
     requires seed { O.may_toss_from operator.now seed }
     requires sound { IsSound D.Disk member }
     requires fresh { member_is_stopped member ≡ false → MemberStandsFor member (member_saved member) [] }
+    requires header { member_header member ≡ J.header }
     requires board { arc_value board ≡ J.names }
     requires cells { length (arc_value board) ≡ (member_header member).size.questions }
 {
@@ -115,6 +117,7 @@ fn share<D: Disk + Drop, J: Naming, O: Operator>(
         slots: Mutex::new(Slots::new()),
         greetings: Mutex::new(Places::new()),
         sockets: Mutex::new(Sockets::new(alloc)),
+        ahead: Mutex::new(Ahead::nobody()),
         closing: AtomicBool::new(false),
         ticks: Mutex::new(0),
         ticked: Condvar::new(),
@@ -135,12 +138,11 @@ fn run_threads<D: Disk + Send, J: Naming + Send + Sync, O: Operator, R: Machine>
     rt: &R,
     operator: &mut O,
     it: &Shared<D, J>,
-    listener: &TcpListener,
-    desk: &TcpListener,
+    doors: &Doors,
 ) -> Result<(), RunFault> {
     thread::scope(thread::scope_env(), rt, |scope| -> Result<(), RunFault> {
         let dials = scope.spawn(move || dial_all(rt, it)).is_ok();
-        run_doors(rt, operator, it, listener, desk, dials)
+        run_doors(rt, operator, it, doors, dials)
     })
 }
 
@@ -149,14 +151,14 @@ fn run_doors<D: Disk + Send, J: Naming + Send + Sync, O: Operator, R: Machine>(
     rt: &R,
     operator: &mut O,
     it: &Shared<D, J>,
-    listener: &TcpListener,
-    desk: &TcpListener,
+    doors: &Doors,
     dials: bool,
 ) -> Result<(), RunFault> {
     thread::scope(thread::scope_env(), rt, |scope| -> Result<(), RunFault> {
         let clock = scope.spawn(move || it.tick_on(rt));
-        let links = scope.spawn(move || accept_links(rt, it, listener));
-        let clients = scope.spawn(move || accept_clients(rt, it, desk));
+        let (links, clients) = (&doors.links.listener, &doors.desk.listener);
+        let links = scope.spawn(move || accept_links(rt, it, links));
+        let clients = scope.spawn(move || accept_clients(rt, it, clients));
         let started = dials && clock.is_ok() && links.is_ok() && clients.is_ok();
         let end = if started {
             operator.until_end()
@@ -164,8 +166,8 @@ fn run_doors<D: Disk + Send, J: Naming + Send + Sync, O: Operator, R: Machine>(
             Err(RunFault::Memory)
         };
         it.close(rt);
-        shut_listener(listener);
-        shut_listener(desk);
+        doors.links.shut();
+        doors.desk.shut();
         end
     })
 }
@@ -177,13 +179,11 @@ fn run_logged<D: Disk + Send, J: Naming + Send + Sync, O: Operator, L: Log + Sen
     operator: &mut O,
     log: &Mutex<L>,
     it: &Shared<D, J>,
-    listener: &TcpListener,
-    desk: &TcpListener,
+    doors: &Doors,
 ) -> Result<(), RunFault> {
-    let ended = thread::scope(thread::scope_env(), rt, |scope| -> Result<(), RunFault> {
-        let _teller = scope.spawn(move || it.tell_on(rt, log)).is_ok();
-        run_threads(rt, operator, it, listener, desk)
-    });
+    let tells = || it.tell_on(rt, log);
+    let runs = || run_threads(rt, operator, it, doors);
+    let ((), ended) = thread::join(rt, tells, runs);
     tell_end(rt, it, log);
     ended
 }
@@ -194,16 +194,18 @@ fn run_shared<D: Disk + Send, J: Naming + Send + Sync, O: Operator, L: Log + Sen
     operator: &mut O,
     log: Option<&Mutex<L>>,
     it: &Shared<D, J>,
-    listener: &TcpListener,
-    desk: &TcpListener,
+    doors: &Doors,
 ) -> Result<(), RunFault> {
     if log.is_some() {
         begin_telling(rt, it)?;
     }
     operator.ready()?;
     match log {
-        Some(log) => run_logged(rt, operator, log, it, listener, desk)?,
-        None => run_threads(rt, operator, it, listener, desk)?,
+        Some(log) => run_logged(rt, operator, log, it, doors)?,
+        None => run_threads(rt, operator, it, doors)?,
+    }
+    if it.is_forgotten(rt) {
+        return Err(RunFault::Forgotten);
     }
     if it.hub.lock(rt).is_stopped() {
         return Err(RunFault::Stopped);
@@ -225,19 +227,19 @@ fn run_named<
     board: Arc<Board>,
     peers: Peers,
     seed: [u8; 32],
-    listeners: (TcpListener, TcpListener),
+    doors: Doors,
     operator: &mut O,
     log: Option<&Mutex<L>>,
 ) -> Result<(), RunFault>
     requires seed { O.may_toss_from operator.old seed }
     requires sound { IsSound D.Disk member }
     requires fresh { member_is_stopped member ≡ false → MemberStandsFor member (member_saved member) [] }
+    requires header { member_header member ≡ J.header }
     requires board { arc_value board ≡ J.names }
     requires cells { length (arc_value board) ≡ (member_header member).size.questions }
 {
-    let (listener, desk) = listeners;
     let shared = share::<D, J, O>(alloc, member, board, peers, seed, operator)?;
-    run_shared(rt, operator, log, &shared, &listener, &desk)
+    run_shared(rt, operator, log, &shared, &doors)
 }
 
 /// Tells what is left to tell when all threads have ended, and the end.
@@ -247,16 +249,28 @@ fn tell_end<D: Disk, J: Naming, L: Log, R: Machine>(rt: &R, it: &Shared<D, J>, l
     log.lock(rt).tell(&LogEvent::End);
 }
 
+/// Where links and clients come in.
+#[derive(Drop)]
+struct Doors {
+    links: Door,
+    desk: Door,
+}
+
+/// A listener at this address, and what shuts it down.
+fn door<R: Machine>(rt: &R, address: SocketAddr) -> io::Result<Door> {
+    Door::new(TcpListener::bind(rt, address)?)
+}
+
 /// Binds a listener. The operator is told why there is none.
 fn listen<O: Operator, R: Machine>(
     rt: &R,
     address: SocketAddr,
     operator: &mut O,
-) -> Result<TcpListener, RunFault>
+) -> Result<Door, RunFault>
     ensures { IfOk result (λ _. operator.new ≡ operator.old) }
 {
-    match TcpListener::bind(rt, address) {
-        Ok(listener) => Ok(listener),
+    match door(rt, address) {
+        Ok(door) => Ok(door),
         Err(error) => {
             operator.unheard(address, &error);
             Err(RunFault::Listen)
@@ -276,7 +290,8 @@ fn listen<O: Operator, R: Machine>(
 /// # Errors
 ///
 /// [`RunFault::Listen`], [`RunFault::Memory`] and what the operator says when it is told come before any thread starts,
-/// but for `Memory` where a thread is refused. [`RunFault::Stopped`] is told at the end, where the member is stopped by then.
+/// but for `Memory` where a thread is refused. [`RunFault::Stopped`] is told at the end, where the member is stopped by then, and
+/// [`RunFault::Forgotten`] where that is because more than t members have heard more of it than its journal holds.
 /// Whatever comes, the member is gone with its threads; what it saved is on its disk.
 ///
 /// All that its links and its desk toss comes from a seed that the operator takes.
@@ -300,8 +315,10 @@ pub fn run_member<D: Disk + Drop + Send, O: Operator, L: Log + Send, R: Machine>
     let Some(own) = peers.get(usize::from(header.me())) else {
         return Err(RunFault::Listen);
     };
-    let listener = listen(rt, *own, operator)?;
-    let desk = listen(rt, desk, operator)?;
+    let doors = Doors {
+        links: listen(rt, *own, operator)?,
+        desk: listen(rt, desk, operator)?,
+    };
     let board = Board::new(alloc, header.size().questions())?;
     let board = match Arc::new(alloc, board) {
         Ok(board) => board,
@@ -317,7 +334,7 @@ pub fn run_member<D: Disk + Drop + Send, O: Operator, L: Log + Send, R: Machine>
             hosts,
         },
         seed,
-        (listener, desk),
+        doors,
         operator,
         log,
     )

@@ -1,5 +1,6 @@
 //! What the threads of a member share.
 
+use crate::ahead::Ahead;
 use crate::events::LogEvent;
 use crate::hosts::Peers;
 use crate::log::Log;
@@ -9,6 +10,7 @@ use crate::slots::Slots;
 use crate::sockets::Sockets;
 use crate::watch::Telling;
 use disk::Disk;
+use links::LinkEnd;
 use node::{Hub, Naming, Rack};
 use rounds::ChaChaTosser;
 use std::alloc::Global;
@@ -36,6 +38,8 @@ pub(crate) struct Shared<D: Disk, J: Naming> {
     pub(crate) slots: Mutex<Slots>,
     pub(crate) greetings: Mutex<Places<GREETINGS>>,
     pub(crate) sockets: Mutex<Sockets>,
+    /// Which members have heard more of this one than its journal holds.
+    pub(crate) ahead: Mutex<Ahead>,
     pub(crate) closing: AtomicBool,
     /// How many seconds have passed; it counts on from 0 after 2^64 - 1.
     pub(crate) ticks: Mutex<u64>,
@@ -160,6 +164,18 @@ impl<D: Disk, J: Naming> Shared<D, J> {
         true
     }
 
+    /// Whether more than t members have heard more of this one than its journal holds.
+    pub(crate) fn is_forgotten<R: Machine>(&self, rt: &R) -> bool {
+        self.ahead.lock(rt).is_forgotten()
+    }
+
+    /// Stops a member that has forgotten what it said, before it says more.
+    fn stop_if_forgotten<R: Machine>(&self, rt: &R) {
+        if self.is_forgotten(rt) {
+            self.hub.lock(rt).stop();
+        }
+    }
+
     /// Ticks and rings the bell about once a second, and gives peers up that don't greet, until the end.
     pub(crate) fn tick_on<R: Machine>(&self, rt: &R) {
         for _ in rt.forever() {
@@ -169,6 +185,7 @@ impl<D: Disk, J: Naming> Shared<D, J> {
             self.tick(rt);
             self.sockets.lock(rt).tick();
             self.hub.ring();
+            self.stop_if_forgotten(rt);
             self.note_book(rt);
         }
         unreachable!()
@@ -200,17 +217,25 @@ impl<D: Disk, J: Naming> Shared<D, J> {
         unreachable!()
     }
 
-    /// Takes in the socket of a peer that is to greet. It is closed where 64 are to greet already.
+    /// Takes in the socket of a peer that is to greet. It is closed where it comes from a host that may speak for no member,
+    /// so that strangers take no place, where 64 are to greet already, and where its host has its share of these: 64 by the
+    /// number of the members' hosts.
     pub(crate) fn admit_peer<R: Machine>(
         &self,
         rt: &R,
         socket: TcpStream,
         host: IpAddr,
     ) -> Option<Guest> {
+        let Some(first) = self.peers.first_of(host) else {
+            self.note_link(rt, LogEvent::Refused(host, LinkEnd::Stranger));
+            return None;
+        };
         if !self.greetings.lock(rt).take() {
             return None;
         }
-        match self.sockets.lock(rt).enter_to_greet(socket) {
+        let share = self.peers.share_of(GREETINGS as usize);
+        let place = self.sockets.lock(rt).enter_to_greet(socket, first, share);
+        match place {
             Some(place) => Some(Guest { place, host }),
             None => {
                 self.greetings.lock(rt).leave();

@@ -18,6 +18,8 @@ struct OpenSocket {
     patience: Option<u8>,
     /// The member that was dialled; none where it dialled.
     to: Option<u8>,
+    /// The first member of the host from which a peer dialled.
+    from: Option<u8>,
 }
 
 /// The sockets of the sessions that are under way. A session has a copy of its socket, so that a shutdown here ends a read
@@ -43,6 +45,7 @@ impl Sockets {
             socket,
             patience: None,
             to: None,
+            from: None,
         })
     }
 
@@ -52,6 +55,7 @@ impl Sockets {
             socket,
             patience: None,
             to: Some(peer),
+            from: None,
         })
     }
 
@@ -64,12 +68,35 @@ impl Sockets {
         }
     }
 
-    /// Takes in the socket of a peer that is to greet within ten ticks, like `enter`.
-    pub(crate) fn enter_to_greet(&mut self, socket: TcpStream) -> Option<usize> {
+    /// How many peers from that member's host are to greet.
+    fn greeting_from(&self, first: u8) -> usize {
+        let mut count = 0usize;
+        for held in &self.held {
+            if let Some(held) = held {
+                if held.patience.is_some() && held.from == Some(first) {
+                    count = count.saturating_add(1);
+                }
+            }
+        }
+        count
+    }
+
+    /// Takes in the socket of a peer from that member's host that is to greet within ten ticks, like `enter`; it is closed too where
+    /// as many peers from there as its share are to greet already.
+    pub(crate) fn enter_to_greet(
+        &mut self,
+        socket: TcpStream,
+        first: u8,
+        share: usize,
+    ) -> Option<usize> {
+        if self.greeting_from(first) >= share {
+            return None;
+        }
         self.hold(OpenSocket {
             socket,
             patience: Some(GREETING_TICKS),
             to: None,
+            from: Some(first),
         })
     }
 
@@ -157,12 +184,27 @@ fn shut(socket: &TcpStream) {
     let _already = socket.shutdown(Shutdown::Both).is_err();
 }
 
-/// Shuts a listener down: a thread that waits in its `accept` gets an error, now and from now on.
-pub(crate) fn shut_listener(listener: &TcpListener) {
-    if let Ok(copy) = listener.try_clone() {
-        let descriptor: OwnedFd = copy.into();
-        let socket: TcpStream = descriptor.into();
-        shut(&socket);
+/// A listener, and a copy of its descriptor by which it is shut down. The copy is made at once, so that an end asks the system
+/// for nothing that it may not have left then.
+#[derive(Drop)]
+pub(crate) struct Door {
+    pub(crate) listener: TcpListener,
+    stop: TcpStream,
+}
+
+impl Door {
+    /// The door of a listener. The system's error comes where it gives no descriptor more.
+    pub(crate) fn new(listener: TcpListener) -> io::Result<Door> {
+        let descriptor: OwnedFd = listener.try_clone()?.into();
+        Ok(Door {
+            listener,
+            stop: descriptor.into(),
+        })
+    }
+
+    /// Shuts it down: a thread that waits in its `accept` gets an error, now and from now on.
+    pub(crate) fn shut(&self) {
+        shut(&self.stop);
     }
 }
 

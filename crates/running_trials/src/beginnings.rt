@@ -1,6 +1,7 @@
 //! What the tests begin with: a member on a new disk, its board and its seats, and statements.
 ghost use Rattle.std.specs.Prelude.{◌≡◌, ◌<◌, length, IfOk, []};
 ghost use Rattle.std.specs.Arc.{arc_value};
+ghost use Rattle.vocabulary.specs.Terms.{new_header, new_size};
 ghost use Rattle.member.specs.Sound.{IsSound};
 ghost use Rattle.member.specs.Readers.{member_header, member_saved, MemberStandsFor};
 
@@ -52,7 +53,8 @@ pub(crate) fn entry(from: u8, statement: Statement, toss: u64) -> Entry {
 
 /// The header of the member `me` of the cluster 7, of `n` members of whom `t` may lie.
 pub(crate) fn header(n: u8, t: u8, questions: u16, me: u8) -> Result<Header, Fail>
-    ensures { IfOk result (λ h. h.size.questions ≡ questions) }
+    ensures is { IfOk result (λ h. h ≡ new_header 7 (new_size n t questions) me) }
+    ensures questions { IfOk result (λ h. h.size.questions ≡ questions) }
 {
     Ok(Header::new(7, Size::new(n, t, questions)?, me).ok_or("a header")?)
 }
@@ -99,6 +101,7 @@ pub(crate) fn open<D: Disk + Drop, J: Naming>(
     board: Arc<Board>,
 ) -> Result<(Hub<D, J>, Rack), Fail>
     requires names { arc_value board ≡ J.names }
+    requires header { header.now ≡ J.header }
     requires cells { length (arc_value board) ≡ header.now.size.questions }
     requires questions { 0 < header.now.size.questions }
 {

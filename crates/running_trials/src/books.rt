@@ -1,6 +1,7 @@
 //! Worked rows of a book, over a disk in memory and a file.
 ghost use Rattle.std.specs.Prelude.{◌≡◌, ◌<◌, length};
 ghost use Rattle.std.specs.Arc.{arc_value};
+ghost use Rattle.vocabulary.specs.Terms.{new_header, new_size};
 
 mod bits;
 mod groups;
@@ -169,6 +170,7 @@ fn hears_a_peer<J: Naming, R: Wait + Abort + AllocGlobal>(
     board: Arc<Board>,
 ) -> Result<(), Fail>
     requires names { arc_value board ≡ J.names }
+    requires header { J.header ≡ new_header 7 (new_size 4 1 1) 1 }
     requires cells { length (arc_value board) ≡ 1 }
 {
     let header = header(4, 1, 1, 1)?;
@@ -290,6 +292,7 @@ fn settles<D: Disk + Drop, J: Naming, R: Wait + Abort + AllocGlobal>(
     board: Arc<Board>,
 ) -> Result<(), Fail>
     requires names { arc_value board ≡ J.names }
+    requires header { J.header ≡ new_header 7 (new_size 1 0 1) 0 }
     requires cells { length (arc_value board) ≡ 1 }
 {
     let header = header(1, 0, 1, 0)?;
@@ -431,6 +434,7 @@ fn at_once<J: Naming + Send + Sync, R: Threads + Wait + Clock + Abort + AllocGlo
     board: Arc<Board>,
 ) -> Result<(), Fail>
     requires names { arc_value board ≡ J.names }
+    requires header { J.header ≡ new_header 7 (new_size 4 1 1) 0 }
     requires cells { length (arc_value board) ≡ 1 }
 {
     let header = header(4, 1, 1, 0)?;

@@ -1,6 +1,7 @@
 //! Worked rows of lines and replies, and sessions over a stream in memory.
 ghost use Rattle.std.specs.Prelude.{◌≡◌, false, length, IfOk, []};
 ghost use Rattle.std.specs.Arc.{arc_value};
+ghost use Rattle.vocabulary.specs.Terms.{new_header, new_size};
 ghost use Rattle.member.specs.Memory.{memory_disk};
 ghost use Rattle.member.specs.Sound.{IsSound};
 ghost use Rattle.member.specs.Readers.{member_header, member_saved, member_is_stopped, MemberStandsFor};
@@ -107,7 +108,7 @@ fn member_of_one(
 ) -> Result<Member<MemDisk>, Fail>
     ensures sound { IfOk result (λ m. IsSound memory_disk m) }
     ensures fresh { IfOk result (λ m. member_is_stopped m ≡ false → MemberStandsFor m (member_saved m) []) }
-    ensures questions { IfOk result (λ m. (member_header m).size.questions ≡ questions) }
+    ensures header { IfOk result (λ m. member_header m ≡ new_header 7 (new_size 1 0 questions) 0) }
 {
     let header = header(1, 0, questions, 0)?;
     let mut disk = MemDisk::new(rt.alloc());
@@ -174,6 +175,7 @@ fn plays<J: Naming, R: Wait + Abort + AllocGlobal>(
     rows: &[Row],
 ) -> Result<(), Fail>
     requires names { arc_value board ≡ J.names }
+    requires header { J.header ≡ new_header 7 (new_size 1 0 1) 0 }
     requires cells { length (arc_value board) ≡ 1 }
 {
     let member = member_of_one(rt, 1, calls)?;
@@ -302,6 +304,7 @@ fn answers_sessions<J: Naming, R: Wait + Abort + AllocGlobal>(
     board: Arc<Board>,
 ) -> Result<(), Fail>
     requires names { arc_value board ≡ J.names }
+    requires header { J.header ≡ new_header 7 (new_size 1 0 1) 0 }
     requires cells { length (arc_value board) ≡ 1 }
 {
     let (hub, _seats) = Hub::<MemDisk, J>::open(rt.alloc(), member_of_one(rt, 1, None)?, board)?;
@@ -364,6 +367,7 @@ fn loses_clients<J: Naming, R: Wait + Abort + AllocGlobal>(
     board: Arc<Board>,
 ) -> Result<(), Fail>
     requires names { arc_value board ≡ J.names }
+    requires header { J.header ≡ new_header 7 (new_size 1 0 1) 0 }
     requires cells { length (arc_value board) ≡ 1 }
 {
     let (hub, _seats) = Hub::<MemDisk, J>::open(rt.alloc(), member_of_one(rt, 1, None)?, board)?;
@@ -417,6 +421,7 @@ fn decides_both_bits<J: Naming, R: Wait + Abort + AllocGlobal>(
     board: Arc<Board>,
 ) -> Result<(), Fail>
     requires names { arc_value board ≡ J.names }
+    requires header { J.header ≡ new_header 7 (new_size 1 0 3) 0 }
     requires cells { length (arc_value board) ≡ 3 }
 {
     let (hub, mut seats) = Hub::<MemDisk, J>::open(rt.alloc(), member_of_one(rt, 3, None)?, board)?;

@@ -4,6 +4,9 @@ ghost use Rattle.member.specs.Memory.{memory_disk};
 ghost use Rattle.member.specs.Sound.{IsSound};
 ghost use Rattle.member.specs.Readers.{member_saved, member_is_stopped, MemberStandsFor};
 
+mod forgotten;
+mod shares;
+
 use disk::MemDisk;
 use links::LinkEnd;
 use member::Member;
@@ -810,6 +813,7 @@ fn events_are_lines(rt: HostRuntime) {
     for (event, want) in [
         (LogEvent::Ready(1), "ready member 1"),
         (LogEvent::LinkUp(2), "link-up from 2"),
+        (LogEvent::LinkUpAhead(2, 5), "link-up to 2 ahead 5"),
         (
             LogEvent::LinkDown(31, LinkEnd::Lost),
             "link-down from 31 lost",

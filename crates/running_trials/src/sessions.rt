@@ -1,6 +1,7 @@
 //! Worked rows over streams in memory, and over TCP on this machine.
 ghost use Rattle.std.specs.Prelude.{◌≡◌, length, []};
 ghost use Rattle.std.specs.Arc.{arc_value};
+ghost use Rattle.vocabulary.specs.Terms.{new_header, new_size};
 ghost use Rattle.links.specs.Mem.{told_by, is_closed_mem};
 
 mod groups;
@@ -313,6 +314,7 @@ fn tries<J: Naming, R: Wait + Abort + AllocGlobal>(
     trial: Trial,
 ) -> Result<(), Fail>
     requires names { arc_value board ≡ J.names }
+    requires header { J.header ≡ new_header 7 (new_size 4 1 1) 1 }
     requires cells { length (arc_value board) ≡ 1 }
 {
     let alloc = rt.alloc();
@@ -469,6 +471,7 @@ fn at_once<J: Naming + Send + Sync, R: Threads + Wait + Clock + Abort + AllocGlo
     board: Arc<Board>,
 ) -> Result<(), Fail>
     requires names { arc_value board ≡ J.names }
+    requires header { J.header ≡ new_header 7 (new_size 4 1 1) 0 }
     requires cells { length (arc_value board) ≡ 1 }
 {
     let alloc = rt.alloc();
@@ -812,6 +815,7 @@ fn woken<J: Naming + Send + Sync, R: Threads + Wait + Clock + Abort + AllocGloba
     next: u64,
 ) -> Result<Vec<u8>, Fail>
     requires names { arc_value board ≡ J.names }
+    requires header { J.header ≡ new_header 7 (new_size 4 1 1) 1 }
     requires cells { length (arc_value board) ≡ 1 }
 {
     let alloc = rt.alloc();

@@ -591,12 +591,18 @@ fn init_makes_the_journal_once(rt: HostRuntime) -> Result<(), Fail> {
 /// A journal of no records: cluster 7, one member, one question.
 const ALONE: [u8; 25] = *b"BRACHAJ1\0\0\0\0\0\0\0\x07\x01\0\0\x01\0\0\0\0\0";
 
-/// A second member at a port that is taken says so.
+/// A member whose journal is missing says who may make one; a second member at a port that is taken says so.
 fn takes_no_port_twice(rt: &HostRuntime) -> Result<(), Fail> {
     let (path, journal) = ("bracha_tests_taken.toml", "bracha_tests_taken.journal");
     let settings = settings_alone(rt, journal, 47136)?;
     let line = "bracha: listen\n127.0.0.1:47136: listen: Address already in use (os error 98)\n";
+    let missing =
+        "bracha: file\nbracha_tests_taken.journal: open: no such file: `bracha init` makes one for a new member, and for no other\n";
     put(rt, path, settings.as_str().as_bytes())?;
+    play(
+        rt,
+        &[Says("--verbose run bracha_tests_taken.toml", missing)],
+    )?;
     put(rt, journal, &ALONE)?;
     play(rt, &[Says("--verbose run bracha_tests_taken.toml", line)])?;
     remove(rt, &[path, journal])

@@ -1,6 +1,7 @@
 //! Decisions of both bits, on two questions, and each event with a toss of its own.
 ghost use Rattle.std.specs.Prelude.{◌≡◌, length};
 ghost use Rattle.std.specs.Arc.{arc_value};
+ghost use Rattle.vocabulary.specs.Terms.{new_header, new_size};
 
 use super::Told::{Counts, Says};
 use super::{Told, asked, closes, event, said_at, status, told_by};
@@ -134,6 +135,7 @@ fn decides<J: Naming, R: Wait + Abort + AllocGlobal>(
     second: bool,
 ) -> Result<(), Fail>
     requires names { arc_value board ≡ J.names }
+    requires header { J.header ≡ new_header 7 (new_size 1 0 2) 0 }
     requires cells { length (arc_value board) ≡ 2 }
 {
     let header = header(1, 0, 2, 0)?;

@@ -1,6 +1,7 @@
 //! Groups of statements from one link.
 ghost use Rattle.std.specs.Prelude.{◌≡◌, ◌≤◌, length};
 ghost use Rattle.std.specs.Arc.{arc_value};
+ghost use Rattle.vocabulary.specs.Terms.{new_header, new_size};
 
 use super::{closes, event, propose, status};
 use crate::beginnings::{at, board, header, start, take};
@@ -34,6 +35,7 @@ fn open<J: Naming, R: AllocGlobal>(
     calls: u64,
 ) -> Result<(Hub<MemDisk, J>, Rack), Fail>
     requires names { arc_value board ≡ J.names }
+    requires header { J.header ≡ new_header 7 (new_size 4 1 2) 1 }
     requires cells { length (arc_value board) ≡ 2 }
 {
     let header = header(4, 1, 2, 1)?;
@@ -175,6 +177,7 @@ fn comes_to<J: Naming, R: Wait + Abort + AllocGlobal>(
     outcome: Outcome,
 ) -> Result<(), Fail>
     requires names { arc_value board ≡ J.names }
+    requires header { J.header ≡ new_header 7 (new_size 4 1 2) 1 }
     requires cells { length (arc_value board) ≡ 2 }
 {
     let (hub, rack) = open::<J, R>(rt, board, calls)?;

@@ -1,6 +1,7 @@
 //! The statements of a read, handed in as one group.
 ghost use Rattle.std.specs.Prelude.{◌≡◌, length};
 ghost use Rattle.std.specs.Arc.{arc_value};
+ghost use Rattle.vocabulary.specs.Terms.{new_header, new_size};
 
 use super::frame;
 use crate::beginnings::{Counting, at, board, entry, goes_on_with, header, open, take};
@@ -179,6 +180,7 @@ fn is_one_group<J: Naming + Send + Sync, R: Threads + Wait + Clock + Abort + All
     board: Arc<Board>,
 ) -> Result<(), Fail>
     requires names { arc_value board ≡ J.names }
+    requires header { J.header ≡ new_header 7 (new_size 4 1 2) 1 }
     requires cells { length (arc_value board) ≡ 2 }
 {
     let alloc = rt.alloc();

@@ -10,7 +10,7 @@ use Rattle.links.proofs.reader.read_session.Goals as goal
 
 pub loop-init : goal.loop-init
 loop-init g c =
-    let same : c.size-size.result ≡ c.args.hub.now.size = c.size-size.ensures ∙ ap (λ (h : Header). h.size) c.header.ensures in
+    let same : c.size-size.result ≡ c.args.hub.now.size = c.size-size.ensures ∙ ap (λ (h : Header). h.size) c.header.ensures.hub in
     nothing_read c.args.hub.now.size (g.S.Stream.told c.write_message.new.stream) c.new-feeder.result c.args.seat (partial0 c.args.hub.now.size)
     (subst IsSize same c.recall-2.ensures) c.recall.ensures (c.new-feeder.ensures.size ∙ same) c.new-feeder.ensures.end
 

@@ -1,0 +1,100 @@
+//! A member that lost its journal, among peers that have heard it before.
+
+use super::{Cluster, Cue, Kept, comes_to, no_sockets, run_told, wait_for};
+use running::{LogEvent, Machine, RunFault};
+use std::alloc::Global;
+use std::io::{Read, Write};
+use std::net::{TcpListener, TcpStream};
+use std::process::Abort;
+use std::sync::Mutex;
+use std::test::Fail;
+use std::thread;
+use std::time::Duration;
+
+/// As a peer that has heard five statements of the member that dials it.
+fn welcomes<R: Machine + Abort>(rt: &R, listener: &TcpListener) -> Result<TcpStream, Fail> {
+    let (mut link, _) = listener.accept()?;
+    link.set_read_timeout(Some(Duration::from_secs(5)))?;
+    let mut hello = [0u8; 18];
+    link.read_exact(&mut hello)?;
+    link.write_all(&[0, 9, 2, 0, 0, 0, 0, 0, 0, 0, 5])?;
+    let mut idle = [0u8; 3];
+    link.read_exact(&mut idle)?;
+    assert!(rt; idle == [0, 1, 0]);
+    Ok(link)
+}
+
+/// One peer alone, which may be a liar, doesn't stop the member; two of them do.
+fn meets_two<R: Machine + Abort>(
+    rt: &R,
+    cluster: Cluster,
+    peers: &[TcpListener; 2],
+    cue: &Cue,
+    log: &Mutex<Kept>,
+) -> Result<(), Fail> {
+    let _first = welcomes(rt, &peers[0])?;
+    wait_for(rt, log, 2);
+    thread::sleep(rt, Duration::from_millis(2500));
+    assert!(rt; comes_to(rt, cluster.desk(0), b"STATUS\n", b"UP 0 0\n"));
+    let _second = welcomes(rt, &peers[1])?;
+    wait_for(rt, log, 4);
+    assert!(rt; comes_to(rt, cluster.desk(0), b"PROPOSE 0 1\n", b"STOPPED\n"));
+    assert!(rt; cue.ends(rt) == Some(Err(RunFault::Forgotten)));
+    Ok(())
+}
+
+/// Runs member 0 with a new journal, and lets it meet them.
+fn runs_anew<R: Machine + Abort>(
+    rt: &R,
+    alloc: Global,
+    cluster: Cluster,
+    peers: &[TcpListener; 2],
+    log: &Mutex<Kept>,
+) -> Result<(), Fail> {
+    let cue = Cue::new();
+    let cue = &cue;
+    thread::scope(thread::scope_env(), rt, |scope| -> Result<(), Fail> {
+        let runs = scope
+            .spawn(move || {
+                let ended = run_told(rt, alloc, cluster, 0, None, cue, Some(log));
+                *cue.ended.lock(rt) = Some(ended);
+            })
+            .is_ok();
+        assert!(rt; runs && cue.is_ready(rt));
+        meets_two(rt, cluster, peers, cue, log)
+    })
+}
+
+/// The member tells which peers are ahead and by how much, and that it is stopped.
+fn forgets<R: Machine + Abort>(rt: &R, alloc: Global) -> Result<(), Fail> {
+    let cluster = Cluster {
+        n: 4,
+        t: 1,
+        port: 7480,
+        elsewhere: None,
+    };
+    let peers = [
+        TcpListener::bind(rt, cluster.address(1))?,
+        TcpListener::bind(rt, cluster.address(2))?,
+    ];
+    let kept = Mutex::new(Kept {
+        events: Vec::new(alloc),
+    });
+    runs_anew(rt, alloc, cluster, &peers, &kept)?;
+    let told = kept.into_inner().events;
+    let want = [
+        LogEvent::Ready(0),
+        LogEvent::LinkUpAhead(1, 5),
+        LogEvent::LinkUpAhead(2, 5),
+        LogEvent::Stopped,
+        LogEvent::End,
+    ];
+    assert!(rt; told.as_slice() == want.as_slice(), "told {told:?}");
+    Ok(())
+}
+
+#[test]
+fn a_member_that_forgot_is_stopped(rt: HostRuntime) -> Result<(), Fail> {
+    let _types = no_sockets();
+    forgets(&rt, rt.alloc())
+}
