@@ -129,7 +129,7 @@ fn main(rt: HostRuntime) -> io::Result<ExitCode> {
     let Some(length) = own_word(&rt, &mut word) else {
         return Ok(ExitCode::from(do_all(&rt, &rt, &of)?));
     };
-    let Some(name) = row_of(&word[..length]) else {
+    let Some(name) = word.get(..length).and_then(row_of) else {
         return Ok(ExitCode::from(Ending::Wrong("no such row").code()));
     };
     let ending = do_row(&rt, &rt, &of, name);

@@ -151,7 +151,7 @@ pub(crate) fn steps_accept(alloc: Global, of: &Subject) -> Ending {
     ending.if_so(is_so, "something else is valid")
 }
 
-/// The value by which a question is decided.
+/// The first accepted value of a question, by which and two more it is then decided.
 pub(crate) fn question_accepts(alloc: Global) -> Ending {
     let Ok(size) = Size::new(1, 0, 1) else {
         return Ending::Wrong("no such size");
@@ -160,18 +160,21 @@ pub(crate) fn question_accepts(alloc: Global) -> Ending {
         return Ending::Wrong("no such place");
     };
     let mut question = Question::new(alloc, size, 0, 0);
-    if question.accept(first, Value::One).is_err() || question.accept(second, Value::One).is_err() {
-        return Ending::Before;
-    }
-    let ending = match question.accept(third, Value::SureOne) {
+    let ending = match question.accept(first, Value::One) {
         Ok(()) => Ending::Ample,
-        Err(Memory) if question.decision_due().is_some() => return Ending::Wrong("decided"),
-        Err(Memory) => match question.accept(third, Value::SureOne) {
+        Err(Memory) => match question.accept(first, Value::One) {
             Ok(()) => Ending::Refused,
             Err(Memory) => return Ending::Wrong("refused again"),
         },
     };
-    ending.if_so(question.decision_due() == Some((1, true)), "not decided")
+    let is_early = question.decision_due().is_none();
+    let is_taken = question.accept(second, Value::One).is_ok()
+        && question.accept(third, Value::SureOne).is_ok();
+    let is_decided = question.decision_due() == Some((1, true));
+    ending.if_so(
+        is_early && is_taken && is_decided,
+        "not decided, or too early",
+    )
 }
 
 /// Whether these are just that statement.
