@@ -5,14 +5,14 @@
 # refused, then the second, and so on until a run meets none. Each run has to end with the answer of ample memory, or with
 # that for want of it and all as it should be then; within a disk or a stream in memory a refusal is a failed call of
 # that. It wants a C compiler, for the library that refuses (tests/refuse.c; it is no part of the product).
-# PROGRAM is `refusals` as it was built; without it the program is proved and built first. The last line is
-# `N passed, M failed`: rows.
+# PROGRAM is `refusals` as it was built; where there is none it is proved and built first, which takes many minutes. The last
+# line is `N passed, M failed`: rows.
 set -euo pipefail
 top=$(cd "$(dirname "$0")/.." && pwd)
 room=$(mktemp -d)
 trap 'rm -rf "$room"' EXIT
 program=${1:-}
-if [ -z "$program" ]; then
+if [ ! -x "$program" ]; then
     (cd "$top/crates/refusals" && rt run) > "$room/built" 2>&1 || { tail -5 "$room/built"; exit 1; }
     program=$top/crates/refusals/out/refusals
 fi
