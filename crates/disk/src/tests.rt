@@ -4,13 +4,14 @@
 //! call again.
 
 mod faulty;
+mod order;
 mod replay;
 
 use super::*;
 use crate::file::folder_of;
 use std::alloc::AllocError;
 use std::fs;
-use std::fs::{File, Permissions};
+use std::fs::Permissions;
 use std::os::unix::fs::PermissionsExt;
 use std::process::Abort;
 use std::test::Fail;
@@ -326,17 +327,6 @@ fn is_refused_without_leave(rt: &HostRuntime) -> Result<bool, Fail> {
     Ok(is_superuser || is_refused)
 }
 
-/// No file is made in a folder that can't be synced, since it can't be read.
-fn is_refused_in_a_closed_folder(rt: &HostRuntime) -> Result<bool, Fail> {
-    fs::set_permissions(rt, CLOSED, Permissions::from_mode(0o300))?;
-    let is_superuser = File::open(rt, CLOSED).is_ok();
-    let is_refused = FileDisk::open(rt, CLOSED_FILE, true).is_err();
-    let is_made = fs::metadata(rt, CLOSED_FILE).is_ok();
-    fs::set_permissions(rt, CLOSED, Permissions::from_mode(0o700))?;
-    let _ = fs::remove_file(rt, CLOSED_FILE);
-    Ok(is_superuser || is_refused && !is_made)
-}
-
 #[test]
 fn what_is_no_open_file_is_refused(rt: HostRuntime) -> Result<(), Fail> {
     let _ = fs::remove_file(&rt, CLOSED_FILE);
@@ -345,7 +335,6 @@ fn what_is_no_open_file_is_refused(rt: HostRuntime) -> Result<(), Fail> {
     assert!(rt; is_refused(&rt, CLOSED), "a folder");
     assert!(rt; is_refused(&rt, "disk_tests_none/file"), "no folder");
     assert!(rt; is_refused_without_leave(&rt)?, "no permission");
-    assert!(rt; is_refused_in_a_closed_folder(&rt)?, "a closed folder");
     fs::remove_dir(&rt, CLOSED)?;
     Ok(())
 }
