@@ -5,6 +5,7 @@ use Rattle.std.proofs.lemmas.Result.{IfOk-weaker}
 use Rattle.std.proofs.Math.Seq.{take-suc}
 use Rattle.vocabulary.specs.Terms.{Record, Said, Decided, Statement}
 use Rattle.report.specs.Charts.{statements_said, IsSvg}
+use Rattle.report.specs.Runs.{size_text, page_text, legend_text, picture}
 
 statements-append : (xs ys : List Record) → statements_said (xs ++ ys) ≡ statements_said xs ++ statements_said ys
 statements-append [] ys = refl
@@ -30,8 +31,25 @@ not_said (Said s) before h = absurd (h s refl)
 not_said (Decided question round bit) before h = append-nil before
 
 -- a text that begins and ends so
-pub svg_text : (r : Result (String Global) AllocError) (frame lifelines events legend : List ℕ)
-    → IfOk r (λ s. string_bytes s ≡ codes "<svg " ++ (frame ++ (lifelines ++ (events ++ (legend ++ codes "</svg>\n"))))) → IfOk r (λ s. IsSvg (string_bytes s))
-svg_text r frame lifelines events legend h =
-    IfOk-weaker r (λ s. string_bytes s ≡ codes "<svg " ++ (frame ++ (lifelines ++ (events ++ (legend ++ codes "</svg>\n"))))) (λ s. IsSvg (string_bytes s))
-    (λ s e. (frame ++ (lifelines ++ (events ++ legend)), e ∙ simp append_assoc)) h
+pub svg_text : (r : Result (String Global) AllocError) (size page lifelines events legend : List ℕ)
+    → IfOk r (λ s. string_bytes s ≡ codes "<svg " ++ (size ++ (page ++ (lifelines ++ (events ++ (legend ++ codes "</svg>\n")))))) → IfOk r (λ s. IsSvg (string_bytes s))
+svg_text r size page lifelines events legend h =
+    IfOk-weaker r (λ s. string_bytes s ≡ codes "<svg " ++ (size ++ (page ++ (lifelines ++ (events ++ (legend ++ codes "</svg>\n")))))) (λ s. IsSvg (string_bytes s))
+    (λ s e. (size ++ (page ++ (lifelines ++ (events ++ legend))), e ∙ simp append_assoc)) h
+
+-- the picture from its parts
+pub svg_picture : (r : Result (String Global) AllocError) (size page lifelines events legend : List ℕ) (width bottom below height : ℕ) (under over : List ℕ)
+    → below ≡ bottom + 36 → height ≡ bottom + 196 → size ≡ size_text width height → page ≡ page_text width height → lifelines ≡ under → events ≡ over
+    → legend ≡ legend_text below
+    → IfOk r (λ s. string_bytes s ≡ codes "<svg " ++ (size ++ (page ++ (lifelines ++ (events ++ (legend ++ codes "</svg>\n"))))))
+    → IfOk r (λ s. string_bytes s ≡ picture width bottom under over)
+svg_picture r size page lifelines events legend width bottom below height under over b h one two three four five is =
+    IfOk-weaker r (λ s. string_bytes s ≡ codes "<svg " ++ (size ++ (page ++ (lifelines ++ (events ++ (legend ++ codes "</svg>\n"))))))
+    (λ s. string_bytes s ≡ picture width bottom under over)
+    (λ s e. e
+    ∙ ap (λ (t : List ℕ). codes "<svg " ++ (t ++ (page ++ (lifelines ++ (events ++ (legend ++ codes "</svg>\n")))))) (one ∙ ap (size_text width) h)
+    ∙ ap (λ (t : List ℕ). codes "<svg " ++ (size_text width (bottom + 196) ++ (t ++ (lifelines ++ (events ++ (legend ++ codes "</svg>\n")))))) (two ∙ ap (page_text width) h)
+    ∙ ap (λ (t : List ℕ). codes "<svg " ++ (size_text width (bottom + 196) ++ (page_text width (bottom + 196) ++ (t ++ (events ++ (legend ++ codes "</svg>\n")))))) three
+    ∙ ap (λ (t : List ℕ). codes "<svg " ++ (size_text width (bottom + 196) ++ (page_text width (bottom + 196) ++ (under ++ (t ++ (legend ++ codes "</svg>\n")))))) four
+    ∙ ap (λ (t : List ℕ). codes "<svg " ++ (size_text width (bottom + 196) ++ (page_text width (bottom + 196) ++ (under ++ (over ++ (t ++ codes "</svg>\n"))))))
+    (five ∙ ap legend_text b)) is

@@ -1,5 +1,5 @@
 -- What the chart knows of a member.
-use Rattle.std.specs.Prelude.{ℕ, ◌≡◌, ◌++◌, Bool, true, false, Option, Some, None, List, [], length, replicate, slice_get}
+use Rattle.std.specs.Prelude.{ℕ, ◌≡◌, ◌++◌, Bool, true, false, not, if◌then◌else◌, Option, Some, None, List, [], length, replicate, slice_get}
 use Rattle.vocabulary.specs.Terms.{Record}
 use Rattle.sim.specs.declared.events.Event.{Event}
 use Rattle.sim.specs.declared.events.Event.TheVariants.{DeliverAll}
@@ -14,6 +14,11 @@ abbrev pub line_of : Bool → Bool → Lifeline
 line_of true runs = Lies
 line_of false true = Runs
 line_of false false = Down
+
+-- whether the lifeline of a member looks different from an event on
+abbrev pub turns : Event → Mark → Bool → Bool
+turns event mark true = not (runs_after event mark true)
+turns event mark false = runs_after event mark false
 
 -- a member of a cluster of n before the first event, its lifeline not drawn yet
 pub record IsNew (n : ℕ) (liar : Bool) (top : ℕ) (column : Column) : Type 0 where
@@ -39,9 +44,19 @@ pub record Follows (count : ℕ) (event : Event) (mark : Mark) (saved : List Rec
   pub runs : new.runs ≡ runs_after event mark old.runs
   pub said : new.said.items ≡ old.said.items ++ statements_said saved
   pub places : AreMoved count event mark old.places.items new.places.items
+  pub links : length new.places.items ≡ length old.places.items
 
 -- all members, before and after an event: its own follows it, and the others stay as they are
 abbrev pub FollowAll : Event → Mark → List Record → List Column → List Column → Type 0
 FollowAll event mark saved old new = (k : ℕ) (before after : Column)
     → slice_get old k ≡ Some before → slice_get new k ≡ Some after
     → (k ≡ member_of event → Follows (said_before event old) event mark saved before after) × ((k ≡ member_of event → ⊥) → after ≡ before)
+
+-- how far down the lifeline of the event's member is drawn: where it looks different from there on, down to the event
+abbrev pub drawn_after : Event → Mark → ℕ → Column → ℕ
+drawn_after event mark y column = if turns event mark column.runs then y else column.drawn
+
+-- the lifelines after an event that is so far down
+abbrev pub HaveLifelines : Event → Mark → ℕ → List Column → List Column → Type 0
+HaveLifelines event mark y old new = (before after : Column) → slice_get old (member_of event) ≡ Some before → slice_get new (member_of event) ≡ Some after
+    → after.drawn ≡ drawn_after event mark y before

@@ -1,9 +1,14 @@
 //! What `simulate --chart` draws: the events of a run as a sequence chart in SVG.
 
-ghost use Rattle.std.specs.Prelude.{◌≡◌, ◌+◌, ◌*◌, ◌/◌, ◌≤◌, IfOk, OnOk, string_bytes};
+ghost use Rattle.std.specs.Prelude.{ℕ, ◌≡◌, ◌+◌, ◌*◌, ◌/◌, ◌^◌, ◌<◌, ◌≤◌, IfOk, OnOk, Some, List, [], ◌∷◌, ◌++◌, length, slice_get, string_bytes};
+ghost use Rattle.std.specs.List.{count_by};
 ghost use Rattle.sim.specs.declared.TheConstants.{MOST_EVENTS};
 ghost use Rattle.sim.specs.Texts.{calls_text, pick_text};
 ghost use Rattle.report.specs.Charts.{IsSvg};
+ghost use Rattle.report.specs.Columns.{drawn_after};
+ghost use Rattle.report.specs.Runs.{AreNew, size_text, page_text, legend_text, picture, IsChart};
+ghost use Rattle.report.specs.Drawings.{Grows};
+ghost use Rattle.report.specs.Pictures.{heads, head_elements, head_text, piece_elements, last_piece, last_pieces, arrow_words, lie_words, on_question, decision, listed, is_said_of, counted, said_text, said_verb, decided_text};
 
 mod column;
 mod drawing;
@@ -80,7 +85,9 @@ fn y_of(row: u64) -> u64
 }
 
 /// The question, where there are several.
-fn on_question(alloc: Global, questions: u16, question: u16) -> Result<String, AllocError> {
+fn on_question(alloc: Global, questions: u16, question: u16) -> Result<String, AllocError>
+    ensures { IfOk result (λ text. string_bytes text ≡ on_question questions question) }
+{
     if questions > 1 {
         format!(in alloc; " on {question}")
     } else {
@@ -109,42 +116,112 @@ fn pick_text(alloc: Global, pick: Pick) -> Result<String, AllocError>
     }
 }
 
+/// Adds a part to a list behind a verb.
+fn add_part(text: &mut String, verb: &str, part: &str) -> Result<(), AllocError>
+    ensures { (parts : List (List ℕ)) → 0 < length verb.now → string_bytes text.old ≡ listed verb.now parts →
+        OnOk result (string_bytes text.new ≡ listed verb.now (parts ++ part.now ∷ [])) }
+{
+    let before = if text.is_empty() { verb } else { "," };
+    text.push_str(before)?;
+    text.push_str(" ")?;
+    text.push_str(part)
+}
+
 /// How many statements of that kind are among the records.
-fn count_of(kind: Kind, saved: &[Record]) -> usize {
+fn count_of(kind: Kind, saved: &[Record]) -> usize
+    ensures { result ≡ count_by (is_said_of kind) saved.now }
+{
     saved
         .iter()
         .filter(|record| matches!(record, Record::Said(statement) if statement.kind() == kind))
         .count()
 }
 
+/// Adds so many statements of a kind to a list behind a verb; nothing where there are none.
+fn add_kind(
+    alloc: Global,
+    text: &mut String,
+    verb: &str,
+    kind: Kind,
+    count: usize,
+) -> Result<(), AllocError>
+    ensures { (parts : List (List ℕ)) → 0 < length verb.now → string_bytes text.old ≡ listed verb.now parts →
+        OnOk result (string_bytes text.new ≡ listed verb.now (parts ++ counted kind count)) }
+{
+    let word = kind_word(kind);
+    match count {
+        0 => Ok(()),
+        1 => add_part(text, verb, word),
+        many => {
+            let part = format!(in alloc; "{many} {word}s")?;
+            add_part(text, verb, part.as_str())
+        }
+    }
+}
+
 /// What was said, by kinds, behind the verb; nothing where nothing was.
-fn said_text(alloc: Global, verb: &str, saved: &[Record]) -> Result<String, AllocError> {
+fn said_text(alloc: Global, verb: &str, saved: &[Record]) -> Result<String, AllocError>
+    ensures { 0 < length verb.now → IfOk result (λ text. string_bytes text ≡ said_text verb.now saved.now) }
+{
     let mut text = String::new(alloc);
     for kind in [Kind::Initial, Kind::Echo, Kind::Ready] {
-        let before = if text.is_empty() { verb } else { "," };
-        let word = kind_word(kind);
-        let part = match count_of(kind, saved) {
-            0 => String::new(alloc),
-            1 => format!(in alloc; "{before} {word}")?,
-            many => format!(in alloc; "{before} {many} {word}s")?,
-        };
-        text.push_str(part.as_str())?;
+        add_kind(alloc, &mut text, verb, kind, count_of(kind, saved))?;
     }
     Ok(text)
 }
 
+/// What a member does with the statements that are saved because of the event.
+fn said_verb(event: &Event) -> &'static str
+    ensures { result.now ≡ said_verb event.now }
+{
+    match event {
+        Event::Restart { .. } => "keeps",
+        _ => "says",
+    }
+}
+
+/// A decision.
+fn decision(alloc: Global, questions: u16, question: u16, bit: bool) -> Result<String, AllocError>
+    ensures { IfOk result (λ text. string_bytes text ≡ decision questions question bit) }
+{
+    let on = on_question(alloc, questions, question)?;
+    format!(in alloc; "{}{on}", u8::from(bit))
+}
+
 /// What was decided; nothing where nothing was.
-fn decided_text(alloc: Global, questions: u16, saved: &[Record]) -> Result<String, AllocError> {
+fn decided_text(alloc: Global, questions: u16, saved: &[Record]) -> Result<String, AllocError>
+    ensures { IfOk result (λ text. string_bytes text ≡ decided_text questions saved.now) }
+{
     let mut text = String::new(alloc);
     for record in saved {
         if let Record::Decided { question, bit, .. } = *record {
-            let before = if text.is_empty() { "decides" } else { "," };
-            let on = on_question(alloc, questions, question)?;
-            let part = format!(in alloc; "{before} {}{on}", u8::from(bit))?;
-            text.push_str(part.as_str())?;
+            let decision = decision(alloc, questions, question, bit)?;
+            add_part(&mut text, "decides", decision.as_str())?;
         }
     }
     Ok(text)
+}
+
+/// The words of an arrow to the right, or else to the left.
+fn arrow_words(is_rightward: bool) -> Words
+    ensures { result ≡ arrow_words is_rightward }
+{
+    if is_rightward {
+        Words::Rightward
+    } else {
+        Words::Leftward
+    }
+}
+
+/// The words of a liar's arrow to the right, or else to the left.
+fn lie_words(is_rightward: bool) -> Words
+    ensures { result ≡ lie_words is_rightward }
+{
+    if is_rightward {
+        Words::LieRightward
+    } else {
+        Words::LieLeftward
+    }
 }
 
 /// Draws the lifeline of the event's member down to it, where it looks different from there on.
@@ -155,29 +232,105 @@ fn draw_piece(
     mark: Mark,
     y: u64,
 ) -> Result<(), AllocError>
-    ensures { OnOk result (column.new ≡ record column.old { drawn = column.new.drawn }) }
+    ensures keeps { OnOk result (column.new ≡ record column.old { drawn = column.new.drawn }) }
+    ensures drawn { OnOk result (column.new.drawn ≡ drawn_after event.now mark y column.old) }
+    ensures piece { OnOk result (Grows lifelines.old lifelines.new (piece_elements (Some column.old) event.now mark y)) }
 {
-    if column.turns(event, mark) {
-        let x = x_of(member_of(event));
-        lifelines.lifeline(column.line(), x, column.drawn(), y)?;
-        column.draw_to(y);
+    if !column.turns(event, mark) {
+        return Ok(());
+    }
+    let x = x_of(member_of(event));
+    lifelines.lifeline(column.line(), x, column.drawn(), y)?;
+    column.draw_to(y);
+    Ok(())
+}
+
+/// Draws the last piece of a member's lifeline.
+fn draw_last_piece(
+    lifelines: &mut Drawing,
+    columns: &[Column],
+    member: u8,
+    bottom: u64,
+) -> Result<(), AllocError>
+    ensures { OnOk result (Grows lifelines.old lifelines.new (last_piece (slice_get columns.now member) member bottom)) }
+{
+    match columns.get(usize::from(member)) {
+        None => Ok(()),
+        Some(column) => lifelines.lifeline(column.line(), x_of(member), column.drawn(), bottom),
+    }
+}
+
+/// Draws the last pieces of the lifelines of n members.
+fn draw_last_pieces(
+    lifelines: &mut Drawing,
+    n: u8,
+    columns: &[Column],
+    bottom: u64,
+) -> Result<(), AllocError>
+    ensures { OnOk result (Grows lifelines.old lifelines.new (last_pieces n columns.now bottom)) }
+{
+    for member in 0..n {
+        draw_last_piece(lifelines, columns, member, bottom)?;
     }
     Ok(())
 }
 
-/// Draws the heads of the columns that far down.
-fn draw_heads(
+/// The name of a member, and whether it lies.
+fn head_text(alloc: Global, member: u8, is_liar: bool) -> Result<String, AllocError>
+    ensures { IfOk result (λ text. string_bytes text ≡ head_text member is_liar) }
+{
+    if is_liar {
+        format!(in alloc; "member {member} (lies)")
+    } else {
+        format!(in alloc; "member {member}")
+    }
+}
+
+/// Draws the head of a member's column that far down.
+fn draw_head(
     alloc: Global,
     events: &mut Drawing,
     columns: &[Column],
+    member: u8,
     y: u64,
-) -> Result<(), AllocError> {
-    for (member, column) in (0..=u8::MAX).zip(columns) {
-        let lies = if column.is_liar() { " (lies)" } else { "" };
-        let name = format!(in alloc; "member {member}{lies}")?;
-        events.words(Words::Head, x_of(member), y, name.as_str())?;
+) -> Result<(), AllocError>
+    ensures { OnOk result (Grows events.old events.new (head_elements (slice_get columns.now member) member y)) }
+{
+    match columns.get(usize::from(member)) {
+        None => Ok(()),
+        Some(column) => {
+            let name = head_text(alloc, member, column.is_liar())?;
+            events.words(Words::Head, x_of(member), y, name.as_str())
+        }
+    }
+}
+
+/// Draws the heads of the columns of n members that far down.
+fn draw_heads(
+    alloc: Global,
+    events: &mut Drawing,
+    n: u8,
+    columns: &[Column],
+    y: u64,
+) -> Result<(), AllocError>
+    ensures { OnOk result (Grows events.old events.new (heads n columns.now y)) }
+{
+    for member in 0..n {
+        draw_head(alloc, events, columns, member, y)?;
     }
     Ok(())
+}
+
+/// The columns of n members before the first event.
+fn new_columns(alloc: Global, n: u8, liars: &[u8]) -> Result<Vec<Column>, AllocError>
+    ensures { IfOk result (λ columns. AreNew n n liars.now columns.items) }
+{
+    let mut columns = Vec::new(alloc);
+    for member in 0..n {
+        let is_liar = liars.contains(&member);
+        columns.push(Column::new(alloc, n, is_liar, LIFE)?)?;
+    }
+    Ok(columns)
 }
 
 /// The run, as far as it is drawn.
@@ -192,20 +345,20 @@ struct Canvas {
 }
 
 impl Canvas {
-    ghost use Rattle.std.specs.Prelude.{ℕ, ◌≡◌, ◌+◌, ◌<◌, IfOk, OnOk, Some, length, slice_get, string_bytes};
+    ghost use Rattle.std.specs.Prelude.{ℕ, ◌≡◌, ◌+◌, ◌<◌, IfOk, OnOk, Some, List, length, slice_get, string_bytes};
     ghost use Rattle.sim.specs.declared.TheConstants.{MOST_EVENTS};
-    ghost use Rattle.report.specs.Scenes.{DrawsOnly};
-    ghost use Rattle.report.specs.Charts.{delivered, group_count, group_text, text_if, IsSvg};
-    ghost use Rattle.report.specs.Columns.{FollowAll, said_before};
+    ghost use Rattle.report.specs.Scenes.{DrawsOnly, IsBegun, Takes, Passes, IsFinished};
+    ghost use Rattle.report.specs.Charts.{member_of, delivered, group_count, group_text, text_if, IsLieLabel, IsSvg};
+    ghost use Rattle.report.specs.Columns.{FollowAll, HaveLifelines, said_before};
+    ghost use Rattle.report.specs.Drawings.{Element, Grows};
+    ghost use Rattle.report.specs.Pictures.{Carries, CarriesGroup, IsShown, IsRow, piece_elements, row_y, heads, heads_again, proposal_elements, arrow_elements, lie_elements, fuse_elements, crash_elements, restart_elements, reset_elements, failure_elements, saved_elements};
     ghost use Rattle.report.specs.declared.chart.column.Column.{Column};
 
     /// The columns, before the first event.
-    fn new(alloc: Global, size: Size, liars: &[u8]) -> Result<Canvas, AllocError> {
-        let mut columns = Vec::new(alloc);
-        for member in 0..size.n() {
-            let is_liar = liars.contains(&member);
-            columns.push(Column::new(alloc, size.n(), is_liar, LIFE)?)?;
-        }
+    fn new(alloc: Global, size: Size, liars: &[u8]) -> Result<Canvas, AllocError>
+        ensures { IfOk result (IsBegun size liars.now) }
+    {
+        let columns = new_columns(alloc, size.n(), liars)?;
         let mut scene = Canvas {
             alloc,
             size,
@@ -220,16 +373,20 @@ impl Canvas {
 
     /// Draws the heads of the columns that far down.
     fn show_heads(&mut self, y: u64) -> Result<(), AllocError>
-        ensures { DrawsOnly self.old self.new }
+        ensures only { DrawsOnly self.old self.new }
+        ensures drawn { OnOk result (Grows self.old.events self.new.events (heads self.old.size.n self.old.columns.items y)) }
     {
-        draw_heads(self.alloc, &mut self.events, self.columns.as_slice(), y)
+        let n = self.size.n();
+        draw_heads(self.alloc, &mut self.events, n, self.columns.as_slice(), y)
     }
 
     /// Draws the heads again above a row, where so many rows stand without them.
-    fn show_heads_again(&mut self, y: u64) -> Result<(), AllocError>
-        ensures { DrawsOnly self.old self.new }
+    fn show_heads_again(&mut self, row: u64, y: u64) -> Result<(), AllocError>
+        ensures only { DrawsOnly self.old self.new }
+        ensures drawn { OnOk result (Grows self.old.events self.new.events
+            (heads_again self.old.size.n self.old.columns.items row y)) }
     {
-        if self.rows > 0 && self.rows % HEADS == 0 {
+        if row > 0 && row % HEADS == 0 {
             self.show_heads(y.saturating_sub(ROW))?;
         }
         Ok(())
@@ -245,21 +402,62 @@ impl Canvas {
     ) -> Result<(), AllocError>
         ensures follow { OnOk result (FollowAll event.now mark saved.now self.old.columns.items self.new.columns.items) }
         ensures row { OnOk result (self.old.rows < MOST_EVENTS → self.new.rows ≡ self.old.rows + 1) }
+        ensures takes { OnOk result (self.old.rows < MOST_EVENTS → Takes number event.now mark saved.now self.old self.new) }
     {
-        let y = y_of(self.rows);
-        self.show_heads_again(y)?;
-        self.rows = self.rows.saturating_add(1);
+        let row = self.rows;
+        let y = y_of(row);
+        self.rows = row.saturating_add(1);
+        self.show_row(row, y, number, event, mark, saved)?;
+        self.follow(event, mark, saved, y)?;
+        Ok(())
+    }
+
+    /// Draws an event, unless it was skipped.
+    fn pass(
+        &mut self,
+        number: usize,
+        event: &Event,
+        mark: Mark,
+        saved: &[Record],
+    ) -> Result<(), AllocError>
+        ensures { OnOk result (self.old.rows < MOST_EVENTS → Passes number event.now mark saved.now self.old self.new) }
+    {
+        if is_skipped(&mark) {
+            return Ok(());
+        }
+        self.take(number, event, mark, saved)?;
+        Ok(())
+    }
+
+    /// Draws the row of an event.
+    fn show_row(
+        &mut self,
+        row: u64,
+        y: u64,
+        number: usize,
+        event: &Event,
+        mark: Mark,
+        saved: &[Record],
+    ) -> Result<(), AllocError>
+        ensures only { DrawsOnly self.old self.new }
+        ensures drawn { OnOk result ((elements : List Element) ×
+            IsRow self.old.size self.old.columns.items row y number event.now mark saved.now elements ×
+            Grows self.old.events self.new.events elements) }
+    {
+        self.show_heads_again(row, y)?;
         let number = format!(in self.alloc; "{number}")?;
         self.events
             .words(Words::Number, NUMBERS, y, number.as_str())?;
         self.show(event, mark, y)?;
-        self.show_saved(event, saved, y)?;
-        self.follow(event, mark, saved, y)
+        self.show_failure(member_of(event), mark, y)?;
+        self.show_saved(event, saved, y)
     }
 
     /// Draws what happens.
     fn show(&mut self, event: &Event, mark: Mark, y: u64) -> Result<(), AllocError>
-        ensures { DrawsOnly self.old self.new }
+        ensures only { DrawsOnly self.old self.new }
+        ensures drawn { OnOk result ((elements : List Element) ×
+            IsShown self.old.size self.old.columns.items event.now mark y elements × Grows self.old.events self.new.events elements) }
     {
         match event {
             Event::Propose {
@@ -267,34 +465,30 @@ impl Canvas {
                 question,
                 bit,
                 ..
-            } => self.show_proposal(*member, *question, *bit, y)?,
+            } => self.show_proposal(*member, *question, *bit, y),
             Event::Deliver {
                 from,
                 to,
                 which,
                 ..
-            } => self.show_delivery(*from, *to, *which, y)?,
+            } => self.show_delivery(*from, *to, *which, y),
             Event::DeliverAll {
                 from,
                 to,
                 count,
                 ..
-            } => self.show_group(*from, *to, *count, y)?,
+            } => self.show_group(*from, *to, *count, y),
             Event::LieBytes {
                 liar,
                 to,
                 bytes,
                 ..
-            } => self.show_lie(*liar, *to, bytes.as_slice(), y)?,
-            Event::Fuse { member, calls } => self.show_fuse(*member, *calls, y)?,
-            Event::Crash { member, pick } => self.show_crash(*member, *pick, y)?,
-            Event::Restart { member } => self.show_restart(*member, mark, y)?,
-            Event::Reset { from, to } => self.show_reset(*from, *to, y)?,
+            } => self.show_lie(*liar, *to, bytes.as_slice(), y),
+            Event::Fuse { member, calls } => self.show_fuse(*member, *calls, y),
+            Event::Crash { member, pick } => self.show_crash(*member, *pick, y),
+            Event::Restart { member } => self.show_restart(*member, mark, y),
+            Event::Reset { from, to } => self.show_reset(*from, *to, y),
         }
-        if mark == Mark::Failed {
-            self.show_failure(x_of(member_of(event)), y)?;
-        }
-        Ok(())
     }
 
     /// Draws a proposal.
@@ -305,7 +499,8 @@ impl Canvas {
         bit: bool,
         y: u64,
     ) -> Result<(), AllocError>
-        ensures { DrawsOnly self.old self.new }
+        ensures only { DrawsOnly self.old self.new }
+        ensures drawn { OnOk result (Grows self.old.events self.new.events (proposal_elements self.old.size.questions member question bit y)) }
     {
         let x = x_of(member);
         let on = on_question(self.alloc, self.size.questions(), question)?;
@@ -316,9 +511,10 @@ impl Canvas {
 
     /// What a delivery carries.
     fn carried(&self, from: u8, to: u8, which: Which) -> Result<String, AllocError>
-        ensures { (sender receiver : Column) (place : ℕ) → slice_get self.now.columns.items from ≡ Some sender →
+        ensures text { (sender receiver : Column) (place : ℕ) → slice_get self.now.columns.items from ≡ Some sender →
             slice_get self.now.columns.items to ≡ Some receiver → slice_get receiver.places.items from ≡ Some place →
             IfOk result (λ text. string_bytes text ≡ text_if (delivered sender.said.items place which)) }
+        ensures carries { IfOk result (λ text. Carries self.now.columns.items from to which (string_bytes text)) }
     {
         let (Some(sender), Some(receiver)) = (
             self.columns.get(usize::from(from)),
@@ -334,9 +530,10 @@ impl Canvas {
 
     /// What a group carries: how many statements it has.
     fn carried_together(&self, from: u8, to: u8, count: u16) -> Result<String, AllocError>
-        ensures { (sender receiver : Column) (place : ℕ) → slice_get self.now.columns.items from ≡ Some sender →
+        ensures text { (sender receiver : Column) (place : ℕ) → slice_get self.now.columns.items from ≡ Some sender →
             slice_get self.now.columns.items to ≡ Some receiver → slice_get receiver.places.items from ≡ Some place →
             IfOk result (λ text. string_bytes text ≡ group_text (group_count (length sender.said.items) place count)) }
+        ensures carries { IfOk result (λ text. CarriesGroup self.now.columns.items from to count (string_bytes text)) }
     {
         let (Some(sender), Some(receiver)) = (
             self.columns.get(usize::from(from)),
@@ -349,7 +546,9 @@ impl Canvas {
 
     /// Draws a delivery.
     fn show_delivery(&mut self, from: u8, to: u8, which: Which, y: u64) -> Result<(), AllocError>
-        ensures { DrawsOnly self.old self.new }
+        ensures only { DrawsOnly self.old self.new }
+        ensures drawn { OnOk result ((text : List ℕ) × Carries self.old.columns.items from to which text ×
+            Grows self.old.events self.new.events (arrow_elements from to text y)) }
     {
         let carried = self.carried(from, to, which)?;
         self.show_arrow(from, to, carried.as_str(), y)
@@ -357,7 +556,9 @@ impl Canvas {
 
     /// Draws a group, which has one arrow.
     fn show_group(&mut self, from: u8, to: u8, count: u16, y: u64) -> Result<(), AllocError>
-        ensures { DrawsOnly self.old self.new }
+        ensures only { DrawsOnly self.old self.new }
+        ensures drawn { OnOk result ((text : List ℕ) × CarriesGroup self.old.columns.items from to count text ×
+            Grows self.old.events self.new.events (arrow_elements from to text y)) }
     {
         let carried = self.carried_together(from, to, count)?;
         self.show_arrow(from, to, carried.as_str(), y)
@@ -365,39 +566,34 @@ impl Canvas {
 
     /// Draws an arrow between correct members, and what it carries.
     fn show_arrow(&mut self, from: u8, to: u8, carried: &str, y: u64) -> Result<(), AllocError>
-        ensures { DrawsOnly self.old self.new }
+        ensures only { DrawsOnly self.old self.new }
+        ensures drawn { OnOk result (Grows self.old.events self.new.events (arrow_elements from to carried.now y)) }
     {
         let (start, end) = (x_of(from), x_of(to));
         if from == to {
             self.events.turn(start, y)?;
             return self.events.words(Words::Turn, start, y, carried);
         }
-        let words = if from < to {
-            Words::Rightward
-        } else {
-            Words::Leftward
-        };
         self.events.arrow(false, start, end, y)?;
-        self.events.words(words, start, y, carried)
+        self.events.words(arrow_words(from < to), start, y, carried)
     }
 
     /// Draws a lie.
     fn show_lie(&mut self, liar: u8, to: u8, bytes: &[u8], y: u64) -> Result<(), AllocError>
-        ensures { DrawsOnly self.old self.new }
+        ensures only { DrawsOnly self.old self.new }
+        ensures drawn { OnOk result ((label : List ℕ) × IsLieLabel self.old.size bytes.now label ×
+            Grows self.old.events self.new.events (lie_elements liar to label y)) }
     {
         let label = lie_label(self.alloc, self.size, bytes)?;
-        let words = if liar < to {
-            Words::LieRightward
-        } else {
-            Words::LieLeftward
-        };
         self.events.arrow(true, x_of(liar), x_of(to), y)?;
-        self.events.words(words, x_of(liar), y, label.as_str())
+        self.events
+            .words(lie_words(liar < to), x_of(liar), y, label.as_str())
     }
 
     /// Draws a fuse that is set or taken out.
     fn show_fuse(&mut self, member: u8, calls: Option<u64>, y: u64) -> Result<(), AllocError>
-        ensures { DrawsOnly self.old self.new }
+        ensures only { DrawsOnly self.old self.new }
+        ensures drawn { OnOk result (Grows self.old.events self.new.events (fuse_elements member calls y)) }
     {
         let calls = calls_text(self.alloc, calls)?;
         let words = format!(in self.alloc; "fuse {calls}")?;
@@ -407,7 +603,8 @@ impl Canvas {
 
     /// Draws a crash.
     fn show_crash(&mut self, member: u8, pick: Pick, y: u64) -> Result<(), AllocError>
-        ensures { DrawsOnly self.old self.new }
+        ensures only { DrawsOnly self.old self.new }
+        ensures drawn { OnOk result (Grows self.old.events self.new.events (crash_elements member pick y)) }
     {
         let left = pick_text(self.alloc, pick)?;
         let words = format!(in self.alloc; "crash {left}")?;
@@ -418,7 +615,8 @@ impl Canvas {
 
     /// Draws an opening, unless it failed.
     fn show_restart(&mut self, member: u8, mark: Mark, y: u64) -> Result<(), AllocError>
-        ensures { DrawsOnly self.old self.new }
+        ensures only { DrawsOnly self.old self.new }
+        ensures drawn { OnOk result (Grows self.old.events self.new.events (restart_elements member mark y)) }
     {
         if mark != Mark::Done {
             return Ok(());
@@ -430,30 +628,34 @@ impl Canvas {
 
     /// Draws a link that starts anew.
     fn show_reset(&mut self, from: u8, to: u8, y: u64) -> Result<(), AllocError>
-        ensures { DrawsOnly self.old self.new }
+        ensures only { DrawsOnly self.old self.new }
+        ensures drawn { OnOk result (Grows self.old.events self.new.events (reset_elements from to y)) }
     {
         let words = format!(in self.alloc; "reset {from}")?;
         self.events.words(Words::Note, x_of(to), y, words.as_str())
     }
 
-    /// Draws that a disk failed.
-    fn show_failure(&mut self, x: u64, y: u64) -> Result<(), AllocError>
-        ensures { DrawsOnly self.old self.new }
+    /// Draws that a disk failed, where it did.
+    fn show_failure(&mut self, member: u8, mark: Mark, y: u64) -> Result<(), AllocError>
+        ensures only { DrawsOnly self.old self.new }
+        ensures drawn { OnOk result (Grows self.old.events self.new.events (failure_elements member mark y)) }
     {
-        self.events.sign(Sign::Ring, x, y)?;
-        self.events.words(Words::Failure, x, y, "disk fails")
+        if mark != Mark::Failed {
+            return Ok(());
+        }
+        self.events.sign(Sign::Ring, x_of(member), y)?;
+        self.events
+            .words(Words::Failure, x_of(member), y, "disk fails")
     }
 
     /// Writes what was saved because of the event.
     fn show_saved(&mut self, event: &Event, saved: &[Record], y: u64) -> Result<(), AllocError>
-        ensures { DrawsOnly self.old self.new }
+        ensures only { DrawsOnly self.old self.new }
+        ensures drawn { OnOk result (Grows self.old.events self.new.events (saved_elements self.old.size.questions event.now saved.now y)) }
     {
-        let x = x_of(member_of(event));
-        let verb = match event {
-            Event::Restart { .. } => "keeps",
-            _ => "says",
-        };
-        let said = said_text(self.alloc, verb, saved)?;
+        let own = member_of(event);
+        let x = x_of(own);
+        let said = said_text(self.alloc, said_verb(event), saved)?;
         let decided = decided_text(self.alloc, self.size.questions(), saved)?;
         if decided.is_empty() {
             return self.events.words(Words::Said, x, y, said.as_str());
@@ -484,6 +686,12 @@ impl Canvas {
     ) -> Result<(), AllocError>
         ensures follow { OnOk result (FollowAll event.now mark saved.now self.old.columns.items self.new.columns.items) }
         ensures row { OnOk result (self.new.rows ≡ self.old.rows) }
+        ensures lines { OnOk result (HaveLifelines event.now mark y self.old.columns.items self.new.columns.items) }
+        ensures count { OnOk result (length self.new.columns.items ≡ length self.old.columns.items) }
+        ensures piece { OnOk result (Grows self.old.lifelines self.new.lifelines
+            (piece_elements (slice_get self.old.columns.items (member_of event.now)) event.now mark y)) }
+        ensures size { self.new.size ≡ self.old.size }
+        ensures events { self.new.events ≡ self.old.events }
     {
         let member = member_of(event);
         let said = self.said_before(event);
@@ -498,15 +706,12 @@ impl Canvas {
 
     /// The picture, with the lifelines drawn to its end.
     fn finish(mut self) -> Result<String, AllocError>
-        ensures { IfOk result (λ text. IsSvg (string_bytes text)) }
+        ensures is_svg { IfOk result (λ text. IsSvg (string_bytes text)) }
+        ensures finished { self.rows ≤ MOST_EVENTS → IfOk result (λ text. IsFinished self (string_bytes text)) }
     {
         let bottom = y_of(self.rows);
-        for member in 0..self.size.n() {
-            if let Some(column) = self.columns.get(usize::from(member)) {
-                self.lifelines
-                    .lifeline(column.line(), x_of(member), column.drawn(), bottom)?;
-            }
-        }
+        let n = self.size.n();
+        draw_last_pieces(&mut self.lifelines, n, self.columns.as_slice(), bottom)?;
         svg(
             self.alloc,
             x_of(self.size.n()),
@@ -517,6 +722,32 @@ impl Canvas {
     }
 }
 
+/// The picture's own attributes, and the size of its page.
+fn size_text(alloc: Global, width: u64, height: u64) -> Result<String, AllocError>
+    ensures { IfOk result (λ text. string_bytes text ≡ size_text width height) }
+{
+    format!(in alloc;
+        "xmlns=\"http://www.w3.org/2000/svg\" width=\"{width}\" height=\"{height}\" viewBox=\"0 0 {width} {height}\">\n"
+    )
+}
+
+/// How the elements look, and the page below them.
+fn page_text(alloc: Global, width: u64, height: u64) -> Result<String, AllocError>
+    ensures { IfOk result (λ text. string_bytes text ≡ page_text width height) }
+{
+    format!(in alloc;
+        "{}\n<rect class=\"page\" width=\"{width}\" height=\"{height}\"/>\n",
+        STYLE
+    )
+}
+
+/// What the signs mean, that far down.
+fn legend_text(alloc: Global, below: u64) -> Result<String, AllocError>
+    ensures { IfOk result (λ text. string_bytes text ≡ legend_text below) }
+{
+    format!(in alloc; "<g transform=\"translate(0,{below})\">\n{}</g>\n", LEGEND)
+}
+
 /// The picture of that width, as far down as that, and the legend below it.
 fn svg(
     alloc: Global,
@@ -525,17 +756,17 @@ fn svg(
     lifelines: &Drawing,
     events: &Drawing,
 ) -> Result<String, AllocError>
-    ensures { IfOk result (λ text. IsSvg (string_bytes text)) }
+    ensures is_svg { IfOk result (λ text. IsSvg (string_bytes text)) }
+    ensures is { bottom + 196 < 2 ^ 64 → IfOk result (λ text. string_bytes text ≡
+        picture width bottom (string_bytes lifelines.now.text) (string_bytes events.now.text)) }
 {
     let below = bottom.saturating_add(36);
     let height = below.saturating_add(LEGEND_HEIGHT);
-    let frame = format!(in alloc;
-        "xmlns=\"http://www.w3.org/2000/svg\" width=\"{width}\" height=\"{height}\" viewBox=\"0 0 {width} {height}\">\n{}\n<rect class=\"page\" width=\"{width}\" height=\"{height}\"/>\n",
-        STYLE
-    )?;
-    let legend = format!(in alloc; "<g transform=\"translate(0,{below})\">\n{}</g>\n", LEGEND)?;
+    let size = size_text(alloc, width, height)?;
+    let page = page_text(alloc, width, height)?;
+    let legend = legend_text(alloc, below)?;
     format!(in alloc;
-        "<svg {frame}{}{}{legend}</svg>\n",
+        "<svg {size}{page}{}{}{legend}</svg>\n",
         lifelines.as_str(),
         events.as_str()
     )
@@ -553,14 +784,14 @@ pub fn chart_text(
     marks: &[Mark],
     saved: &[Vec<Record>],
 ) -> Result<String, AllocError>
-    ensures { IfOk result (λ text. IsSvg (string_bytes text)) }
+    ensures is_svg { IfOk result (λ text. IsSvg (string_bytes text)) }
+    ensures chart { length events.now ≤ MOST_EVENTS →
+        IfOk result (λ text. IsChart size liars.now events.now marks.now saved.now (string_bytes text)) }
 {
     let count = events.len().min(marks.len()).min(saved.len());
     let mut scene = Canvas::new(alloc, size, liars)?;
     for (index, event) in events[..count].iter().enumerate() {
-        if !is_skipped(&marks[index]) {
-            scene.take(index + 1, event, marks[index], &saved[index])?;
-        }
+        scene.pass(index + 1, event, marks[index], &saved[index])?;
     }
     scene.finish()
 }

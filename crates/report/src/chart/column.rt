@@ -109,7 +109,7 @@ pub(crate) struct Column {
 impl Column {
     ghost use Rattle.std.specs.Prelude.{ℕ, ◌≡◌, ◌≢◌, ◌↔◌, IsTrue, IfOk, OnOk, Some, length, slice_get};
     ghost use Rattle.report.specs.Charts.{runs_after, group_count, delivered};
-    ghost use Rattle.report.specs.Columns.{IsNew, Follows, line_of};
+    ghost use Rattle.report.specs.Columns.{IsNew, Follows, line_of, turns};
 
     /// A member of a cluster of n before the first event. Its lifeline begins that far down.
     pub(crate) fn new(alloc: Global, n: u8, is_liar: bool, top: u64) -> Result<Column, AllocError>
@@ -180,7 +180,8 @@ impl Column {
 
     /// Whether another piece of its lifeline begins with the event.
     pub(crate) fn turns(&self, event: &Event, mark: Mark) -> bool
-        ensures { IsTrue result ↔ (runs_after event.now mark self.now.runs ≢ self.now.runs) }
+        ensures is { IsTrue result ↔ (runs_after event.now mark self.now.runs ≢ self.now.runs) }
+        ensures value { result ≡ turns event.now mark self.now.runs }
     {
         runs_after(event, mark, self.runs) != self.runs
     }
