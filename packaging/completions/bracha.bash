@@ -4,7 +4,7 @@ _bracha() {
     COMPREPLY=()
     [ "${COMP_WORDS[1]}" != --verbose ] || at=2
     if [ "$COMP_CWORD" -le "$at" ]; then
-        mapfile -t COMPREPLY < <(compgen -W "init check run propose ask status dump simulate hear help --verbose --help --version" -- "$word")
+        mapfile -t COMPREPLY < <(compgen -W "init check run propose ask status transcript audit dump simulate hear help --verbose --help --version" -- "$word")
         return
     fi
     case $before in
@@ -19,8 +19,9 @@ _bracha() {
     dump) mapfile -t COMPREPLY < <(compgen -W "--count --verbose --help" -f -- "$word") ;;
     simulate) mapfile -t COMPREPLY < <(compgen -W "--trace --chart --verbose --help" -f -- "$word") ;;
     hear) mapfile -t COMPREPLY < <(compgen -W "--n --t --questions --me --verbose --help" -- "$word") ;;
-    propose | ask | status) mapfile -t COMPREPLY < <(compgen -W "--verbose --help" -- "$word") ;;
-    help) mapfile -t COMPREPLY < <(compgen -W "init check run propose ask status dump simulate hear" -- "$word") ;;
+    audit) mapfile -t COMPREPLY < <(compgen -W "--n --t --questions --verbose --help" -f -- "$word") ;;
+    propose | ask | status | transcript) mapfile -t COMPREPLY < <(compgen -W "--verbose --help" -- "$word") ;;
+    help) mapfile -t COMPREPLY < <(compgen -W "init check run propose ask status transcript audit dump simulate hear" -- "$word") ;;
     esac
 }
 complete -o filenames -F _bracha bracha

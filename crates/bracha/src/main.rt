@@ -8,8 +8,9 @@ ghost use Rattle.std.specs.Prelude.{◌≡◌, ◌≢◌, ◌⊎◌, IfOk};
 
 use clap::error::ErrorKind;
 use edge::{
-    Failure, Fault, ask_at, check_file, dump_file, hear_input, hold_streams, init_file, own_words,
-    propose_at, run_file, simulate_file, status_at, wants_more,
+    Failure, Fault, HeldStreams, ask_at, audit_file, check_file, dump_file, hear_input,
+    hold_streams, init_file, own_words, propose_at, run_file, simulate_file, status_at,
+    transcript_at, wants_more,
 };
 use running::Machine;
 use std::convert::AsStr;
@@ -46,6 +47,16 @@ fn work<R: Machine>(rt: &R, host: &HostRuntime, task: Task) -> Result<u8, Failur
         } => propose_at(host, address, question, bit),
         Task::Ask { address, question } => ask_at(host, address, question),
         Task::Status { address } => status_at(host, address),
+        Task::Transcript { address, question } => transcript_at(host, address, question),
+        Task::Audit {
+            file,
+            n,
+            t,
+            questions,
+        } => {
+            let size = size_from(n, t, questions).map_err(|fault| Fault::Size(fault))?;
+            audit_file(host, file, size)
+        }
         Task::Dump { journal, count } => dump_file(host, journal, count),
         Task::Simulate {
             script,
@@ -64,9 +75,15 @@ fn status_of(error: &clap::Error) -> u8
     error.exit_code() as u8
 }
 
-/// Does what the words ask for, the program's name first among them. Help, the version and faults of the words are printed
-/// here. What can be told of a failure is told where the words or the environment ask for it.
-fn run<R: Machine, S: AsStr>(rt: &R, host: &HostRuntime, words: &[S]) -> Result<u8, Failure> {
+/// Does what the words ask for, the program's name first among them, while no file can get the number of a standard stream.
+/// Help, the version and faults of the words are printed here. What can be told of a failure is told where the words or the
+/// environment ask for it.
+fn run<R: Machine, S: AsStr>(
+    rt: &R,
+    host: &HostRuntime,
+    _held: &HeldStreams,
+    words: &[S],
+) -> Result<u8, Failure> {
     match command(host.alloc(), words) {
         Ok(order) => match work(rt, host, order.task) {
             Ok(status) => Ok(status),
@@ -81,9 +98,9 @@ fn run<R: Machine, S: AsStr>(rt: &R, host: &HostRuntime, words: &[S]) -> Result<
 }
 
 /// Does what the words ask for with which the program was started.
-fn run_own<R: Machine>(rt: &R, host: &HostRuntime) -> Result<u8, Failure> {
+fn run_own<R: Machine>(rt: &R, host: &HostRuntime, held: &HeldStreams) -> Result<u8, Failure> {
     let words = own_words(host, host.alloc())?;
-    run(rt, host, words.as_slice())
+    run(rt, host, held, words.as_slice())
 }
 
 /// Prints the line of a fault, and behind it the line of what can be told.
@@ -115,8 +132,8 @@ fn no_sockets() -> (Option<TcpListener>, Option<TcpStream>) {
 
 fn main(rt: HostRuntime) -> io::Result<ExitCode> {
     let _sockets = no_sockets();
-    let _held = hold_streams(&rt)?;
-    end(&rt, run_own(&rt, &rt))
+    let held = hold_streams(&rt)?;
+    end(&rt, run_own(&rt, &rt, &held))
 }
 
 #[cfg(test)]

@@ -7,3 +7,6 @@ pub mod Reading
 pub mod Checking
 pub mod Finding
 pub mod Batches
+pub mod Lines
+pub mod Owning
+pub mod Asking

@@ -1,11 +1,16 @@
 -- Which faults end a command, and when.
-use Rattle.std.specs.Prelude.{ℕ, ◌≡◌, ◌⊎◌, List}
+use Rattle.std.specs.Prelude.{ℕ, ◌≡◌, ◌≢◌, ◌⊎◌, List}
+use Rattle.std.specs.IoError.{error_kind}
+use Rattle.std.specs.declared.io.Error.{Error}
+use Rattle.std.specs.declared.io.ErrorKind.TheVariants.{OutOfMemory}
 use Rattle.commands.specs.declared.fault.InitFault.{InitFault}
 use Rattle.commands.specs.declared.fault.InitFault.TheVariants as made
 use Rattle.commands.specs.declared.fault.DumpFault.{DumpFault}
 use Rattle.commands.specs.declared.fault.DumpFault.TheVariants as dump
 use Rattle.commands.specs.declared.fault.SimulateFault.{SimulateFault}
 use Rattle.commands.specs.declared.fault.SimulateFault.TheVariants as simulate
+use Rattle.commands.specs.declared.fault.TalkFault.{TalkFault}
+use Rattle.commands.specs.declared.fault.TalkFault.TheVariants as talk
 use Rattle.journal.specs.Faults.{IsFaultOfOpening}
 use Rattle.journal.specs.declared.fault.JournalFault.{JournalFault}
 use Rattle.journal.specs.declared.fault.JournalFault.TheVariants as unheld
@@ -88,3 +93,24 @@ IsOfSimulate text (simulate.Size size) = IsFirstFault text (unread.Size size)
 IsOfSimulate text (simulate.Sim why) = CannotRun text why
 IsOfSimulate text simulate.Stream = Unit {0}
 IsOfSimulate text simulate.Memory = Unit {0}
+
+-- the fault that an error of a stream is: want of memory, or the stream's own
+abbrev pub IsDumpFaultOf : Error → DumpFault → Type 0
+IsDumpFaultOf error ends =
+    ((ends ≡ dump.Memory) ⊎ (ends ≡ dump.Stream))
+    × (error_kind error ≡ OutOfMemory → ends ≡ dump.Memory)
+    × (error_kind error ≢ OutOfMemory → ends ≡ dump.Stream)
+
+-- the same, of a simulation
+abbrev pub IsSimulateFaultOf : Error → SimulateFault → Type 0
+IsSimulateFaultOf error ends =
+    ((ends ≡ simulate.Memory) ⊎ (ends ≡ simulate.Stream))
+    × (error_kind error ≡ OutOfMemory → ends ≡ simulate.Memory)
+    × (error_kind error ≢ OutOfMemory → ends ≡ simulate.Stream)
+
+-- the same, of a client
+abbrev pub IsTalkFaultOf : Error → TalkFault → Type 0
+IsTalkFaultOf error ends =
+    ((ends ≡ talk.Memory) ⊎ (ends ≡ talk.Stream))
+    × (error_kind error ≡ OutOfMemory → ends ≡ talk.Memory)
+    × (error_kind error ≢ OutOfMemory → ends ≡ talk.Stream)

@@ -4,7 +4,10 @@ pub mod Simulations
 pub mod Counts
 pub mod Pages
 pub mod Talks
+pub mod Transcripts
 pub mod Checks
 pub mod Places
 pub mod Damage
 pub mod Shows
+pub mod Owners
+pub mod Asked

@@ -16,6 +16,10 @@ ask_line question = line (sentence (codes "ASK" ∷ decimal question ∷ []))
 abbrev pub status_line : List ℕ
 status_line = line (codes "STATUS")
 
+-- the line that asks for what was heard of a question
+abbrev pub transcript_line : ℕ → List ℕ
+transcript_line question = line (sentence (codes "TRANSCRIPT" ∷ decimal question ∷ []))
+
 -- the member is up: what follows are its counts
 abbrev pub IsUp : List ℕ → Type 0
 IsUp reply = (counts : List ℕ) × (reply ≡ codes "UP " ++ counts)

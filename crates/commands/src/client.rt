@@ -74,7 +74,7 @@ fn next_byte<R: Read>(connection: &mut R) -> Option<u8>
 }
 
 /// The reply: a line without its end.
-fn reply_of<R: Read>(alloc: Global, connection: &mut R) -> Result<Vec<u8>, TalkFault>
+pub(crate) fn reply_of<R: Read>(alloc: Global, connection: &mut R) -> Result<Vec<u8>, TalkFault>
     ensures { IfOk result (λ reply. NoEnd reply.items
         × Consumes (R.remaining connection.old) (R.remaining connection.new) (reply.items ++ 10 ∷ [])) }
 {
@@ -90,7 +90,7 @@ fn reply_of<R: Read>(alloc: Global, connection: &mut R) -> Result<Vec<u8>, TalkF
 }
 
 /// Sends the line.
-fn send<W: Write>(line: &str, connection: &mut W) -> Result<(), TalkFault>
+pub(crate) fn send<W: Write>(line: &str, connection: &mut W) -> Result<(), TalkFault>
     ensures sent { IfOk result (λ _. Appends (W.contents connection.old) (W.contents connection.new) line.now) }
     ensures only { IfErr result (λ fault. fault ≡ NoAnswer) }
 {
@@ -132,7 +132,7 @@ pub fn talk<R: Read, S: Write, W: Write>(
 }
 
 /// Writes the reply.
-fn print_reply<W: Write>(reply: &[u8], output: &mut W) -> Result<(), TalkFault>
+pub(crate) fn print_reply<W: Write>(reply: &[u8], output: &mut W) -> Result<(), TalkFault>
     ensures written { IfOk result (λ _. Appends (W.contents output.old) (W.contents output.new) reply.now) }
     ensures only { result ≢ Err NoAnswer }
 {

@@ -27,7 +27,7 @@ const RECORD: usize = 7;
 const SHOWN: usize = 16;
 
 /// A disk in memory whose file has these bytes.
-fn disk_of(alloc: Global, bytes: &[u8]) -> Result<MemDisk, Memory>
+pub(crate) fn disk_of(alloc: Global, bytes: &[u8]) -> Result<MemDisk, Memory>
     ensures { IfOk result (λ disk. (memory_state disk).seen ≡ bytes.now) }
 {
     let mut disk = MemDisk::new(alloc);
@@ -38,7 +38,7 @@ fn disk_of(alloc: Global, bytes: &[u8]) -> Result<MemDisk, Memory>
 }
 
 /// The header with which the file begins, if it begins with one.
-fn header_of(alloc: Global, file: &[u8]) -> Result<Option<Header>, Memory>
+pub(crate) fn header_of(alloc: Global, file: &[u8]) -> Result<Option<Header>, Memory>
     ensures some { IfOk result (λ found. IfSome found (λ header. HasHeader header file.now)) }
     ensures none { IfOk result (λ found. IsNone found → (header : Header) → HasHeader header file.now → ⊥) }
 {

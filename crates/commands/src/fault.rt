@@ -1,6 +1,6 @@
 //! What ends a command. The program prints the text of a fault after `bracha: ` and ends with status 1.
 
-ghost use Rattle.std.specs.Prelude.{◌≡◌, ◌⊎◌};
+ghost use Rattle.std.specs.Prelude.{◌≡◌};
 ghost use Rattle.commands.specs.declared.fault.DumpFault.TheVariants as dump;
 ghost use Rattle.commands.specs.declared.fault.SimulateFault.TheVariants as simulate;
 ghost use Rattle.commands.specs.declared.fault.TalkFault.TheVariants as talk;
@@ -73,7 +73,9 @@ impl From<AllocError> for DumpFault {
 }
 
 impl From<io::Error> for DumpFault {
-    ghost from_gives = { λ _ ends. (ends ≡ dump.Memory) ⊎ (ends ≡ dump.Stream) };
+    ghost use Rattle.commands.specs.Faults.{IsDumpFaultOf};
+
+    ghost from_gives = { λ error ends. IsDumpFaultOf error ends };
 
     fn from(error: io::Error) -> DumpFault {
         if error.kind() == io::ErrorKind::OutOfMemory {
@@ -152,7 +154,9 @@ impl From<AllocError> for SimulateFault {
 }
 
 impl From<io::Error> for SimulateFault {
-    ghost from_gives = { λ _ ends. (ends ≡ simulate.Memory) ⊎ (ends ≡ simulate.Stream) };
+    ghost use Rattle.commands.specs.Faults.{IsSimulateFaultOf};
+
+    ghost from_gives = { λ error ends. IsSimulateFaultOf error ends };
 
     fn from(error: io::Error) -> SimulateFault {
         if error.kind() == io::ErrorKind::OutOfMemory {
@@ -194,7 +198,9 @@ impl<T: Drop> From<AllocFailed<T>> for TalkFault {
 }
 
 impl From<io::Error> for TalkFault {
-    ghost from_gives = { λ _ ends. (ends ≡ talk.Memory) ⊎ (ends ≡ talk.Stream) };
+    ghost use Rattle.commands.specs.Faults.{IsTalkFaultOf};
+
+    ghost from_gives = { λ error ends. IsTalkFaultOf error ends };
 
     fn from(error: io::Error) -> TalkFault {
         if error.kind() == io::ErrorKind::OutOfMemory {

@@ -1,17 +1,20 @@
 -- What a session has answered.
-use Rattle.std.proofs.Common.{◌≡◌, ℕ, ◌+◌, ◌<◌, ◌≤◌, ◌==◌, List, [], ◌∷◌, ◌++◌, length, codes, inl, inr, refl, sym, ap, ◌∙◌, subst, arith, false, Result, Err, append_assoc, append-nil, length-append}
+use Rattle.std.proofs.Common.{◌≡◌, ◌⊎◌, ℕ, zero, suc, ◌+◌, ◌<◌, ◌≤◌, ◌==◌, List, [], ◌∷◌, ◌++◌, length, inl, inr, refl, sym, ap, ◌∙◌, subst, arith, false, Result, Err, append_assoc, append-nil, length-append}
 use Rattle.std.specs.List.{flat_map}
 use Rattle.std.proofs.lemmas.Grind.{flat_map-append}
+use Rattle.std.proofs.lemmas.List.Elements.{All-append}
 use Rattle.words.specs.Lines.{NoEnd, line}
 use Rattle.links.specs.Told.{Told, has_read, has_written, has_failed, has_ended, BreaksOff}
 use Rattle.desk.specs.declared.command.Command.{Command}
 use Rattle.desk.specs.declared.reply.Reply.{Reply}
-use Rattle.desk.specs.declared.reply.Reply.TheVariants.{BadLine, Memory}
+use Rattle.desk.specs.declared.reply.Reply.TheVariants.{BadLine}
+use Rattle.desk.specs.declared.serving.DeskEnd.{DeskEnd}
 use Rattle.desk.specs.declared.serving.DeskEnd.TheVariants as end
 use Rattle.desk.specs.Replies.{reply_text}
 use Rattle.desk.specs.Commands.{Parses, command_for}
-use Rattle.desk.specs.Sessions.{Sitting, AnswersRequest, AnswersLine, IsLine, Exchange, HasNumbers, MaySay, IsExchange, InTurn, asked_in, replied_in, exchanged, IsTooLong, Serves}
-use Rattle.desk.specs.Turns.{Says, FailsToSay, Serving}
+use Rattle.desk.specs.Sessions.{Sitting, AnswersRequest, AnswersLine, IsLine, Exchange, IsExchange, InTurn, NoRequests, asked_in, replied_in, exchanged, BeginsRequest, EndsBy, IsTooLong, Serves}
+use Rattle.desk.specs.Lines.{IsRequest}
+use Rattle.desk.specs.Turns.{Says, FailsToSay, Refuses, Serving}
 
 -- the reply to the command or refusal that a line is found to be is the reply to the line
 pub answers_line : {T : Type 0} (D : Type 0) (may_toss : T → ℕ → T → Type 0) (questions count : ℕ) (before after : Sitting T) (asked : List ℕ)
@@ -22,20 +25,6 @@ answers_line D may_toss questions count before after asked parsed found reply (i
     inl (nothing.0, refused.0, refused.1)
 answers_line D may_toss questions count before after asked parsed found reply (inr request) same is answers =
     inr (request.0, request.1, subst (λ p. AnswersRequest D may_toss before p reply after) (sym is ∙ request.2 ∙ ap (λ n. command_for n request.0) same) answers)
-
--- the reply written for a refused memory
-pub says_memory : (reply : Reply) (old new : Told) → HasNumbers reply → new ≡ has_written old (line (codes "ERR 4 memory")) → Says (MaySay reply) old new
-says_memory reply old new numbers wrote = record { reply = Memory; fits = inl (refl, numbers); wrote = wrote }
-
-pub fails_to_say_memory : (reply : Reply) (old new : Told) → HasNumbers reply → BreaksOff old new (line (codes "ERR 4 memory")) → FailsToSay (MaySay reply) old new
-fails_to_say_memory reply old new numbers broke = record { reply = Memory; fits = inl (refl, numbers); broke = broke }
-
--- the reply's own line
-pub says_line : (reply : Reply) (old new : Told) (text : List ℕ) → text ≡ line (reply_text reply) → new ≡ has_written old text → Says (MaySay reply) old new
-says_line reply old new text is wrote = record { reply = reply; fits = inr refl; wrote = wrote ∙ ap (λ (l : List ℕ). has_written old l) is }
-
-pub fails_to_say_line : (reply : Reply) (old new : Told) (text : List ℕ) → text ≡ line (reply_text reply) → BreaksOff old new text → FailsToSay (MaySay reply) old new
-fails_to_say_line reply old new text is broke = record { reply = reply; fits = inr refl; broke = subst (λ (l : List ℕ). BreaksOff old new l) is broke }
 
 -- what was read and written
 
@@ -88,6 +77,7 @@ module _ {S : Type 0} (Replies : S → List ℕ → Reply → S → Type 0) wher
   begun before old = record {
     exchanges = [];
     each = refl;
+    none_requests = λ k d l. absurd (omega (arith, l));
     is_line = record { no_end = tt; short = omega arith };
     told = λ i. record old { taken = sym (append-nil old.taken) i; written = sym (append-nil old.written) i };
   }
@@ -98,6 +88,7 @@ module _ {S : Type 0} (Replies : S → List ℕ → Reply → S → Type 0) wher
   reads_on before after old now new held piece s read = record {
     exchanges = s.exchanges;
     each = s.each;
+    none_requests = s.none_requests;
     is_line = s.is_line;
     told = read ∙ ap (λ (t : Told). has_read t piece) s.told ∙ read_behind old s.exchanges held piece;
   }
@@ -108,6 +99,7 @@ module _ {S : Type 0} (Replies : S → List ℕ → Reply → S → Type 0) wher
   holds_on before after old now held longer more byte s other short is = subst (λ (l : List ℕ). Serving Replies before after old now l more) (sym is) (record {
     exchanges = s.exchanges;
     each = s.each;
+    none_requests = s.none_requests;
     is_line = record {
       no_end = no_end-append held (byte ∷ []) s.is_line.no_end (other, tt);
       short = (let n : length (held ++ byte ∷ []) ≡ length held + 1 = length-append held (byte ∷ []) in omega arith);
@@ -116,17 +108,22 @@ module _ {S : Type 0} (Replies : S → List ℕ → Reply → S → Type 0) wher
   })
 
   -- a line was answered
-  pub answers_on : (before mid after : S) (old now new : Told) (held more : List ℕ) → Serving Replies before mid old now held (10 ∷ more)
+  pub answers_on : (before mid after : S) (old now new : Told) (held more : List ℕ) → Serving Replies before mid old now held (10 ∷ more) → (IsRequest held → ⊥)
       → Says (λ (said : Reply). Replies mid held said after) now new → Serving Replies before after old new [] more
-  answers_on before mid after old now new held more s said =
+  answers_on before mid after old now new held more s ours said =
       let x : Exchange = record { asked = held; reply = said.reply } in
       let is : IsExchange Replies mid x after = record { is_line = s.is_line; replied = said.fits } in
       record {
         exchanges = s.exchanges ++ x ∷ [];
         each = in_turn-snoc before mid after s.exchanges x s.each is;
+        none_requests = All-append (λ y. IsRequest y.asked → ⊥) s.exchanges (x ∷ []) s.none_requests (only x ours);
         is_line = record { no_end = tt; short = omega arith };
         told = said.wrote ∙ ap (λ (t : Told). has_written t (line (reply_text said.reply))) s.told ∙ sym (one_more old s.exchanges x more);
       }
+    where
+      only : (x : Exchange) → (IsRequest x.asked → ⊥) → NoRequests (x ∷ [])
+      only x none zero d l = none
+      only x none (suc k) d l = absurd (omega (arith, l))
 
   -- its answer wasn't written
   pub answer_lost : (before mid after : S) (old now new : Told) (held more : List ℕ) → Serving Replies before mid old now held (10 ∷ more)
@@ -136,16 +133,17 @@ module _ {S : Type 0} (Replies : S → List ℕ → Reply → S → Type 0) wher
     rest = held ++ 10 ∷ more;
     between = mid;
     each = s.each;
+    none_requests = s.none_requests;
     ends = inr (now, said.reply, inl (held, more, sym (append_assoc held (10 ∷ []) more), record { is_line = s.is_line; replied = said.fits }, s.told), said.broke);
   }
 
   -- the same, where the byte was a 10 and the line that was answered the one that was held
   pub ends_line : (before mid after : S) (old now new : Told) (held asked left more : List ℕ) (byte : ℕ)
-      → Serving Replies before mid old now held (byte ∷ more) → byte ≡ 10 → asked ≡ held → left ≡ []
+      → Serving Replies before mid old now held (byte ∷ more) → byte ≡ 10 → asked ≡ held → left ≡ [] → (IsRequest held → ⊥)
       → Says (λ (said : Reply). Replies mid asked said after) now new → Serving Replies before after old new left more
-  ends_line before mid after old now new held asked left more byte s is same none said =
+  ends_line before mid after old now new held asked left more byte s is same none ours said =
       subst (λ (l : List ℕ). Serving Replies before after old new l more) (sym none)
-      (answers_on before mid after old now new held more (subst (λ (b : ℕ). Serving Replies before mid old now held (b ∷ more)) is s)
+      (answers_on before mid after old now new held more (subst (λ (b : ℕ). Serving Replies before mid old now held (b ∷ more)) is s) ours
       (subst (λ (l : List ℕ). Says (λ (said : Reply). Replies mid l said after) now new) same said))
 
   pub ends_line_lost : (before mid after : S) (old now new : Told) (held asked more : List ℕ) (byte : ℕ)
@@ -164,26 +162,47 @@ module _ {S : Type 0} (Replies : S → List ℕ → Reply → S → Type 0) wher
     long = (let n : length (held ++ byte ∷ []) ≡ length held + 1 = length-append held (byte ∷ []) in let s = is.short in omega arith);
   }
 
-  -- a line was too long
-  pub too_long : (before after : S) (old now new : Told) (held more : List ℕ) (byte : ℕ) → Serving Replies before after old now held (byte ∷ more)
-      → (byte == 10) ≡ false → 4096 ≤ length held → Says (MaySay BadLine) now new → Serves Replies before after old new end.TooLong
-  too_long before after old now new held more byte s other long said = record {
+  -- a line ends the session, for a cause that is answered as a bad line
+  refused : (before after : S) (old now new : Told) (held more : List ℕ) (why ended : DeskEnd) → (s : Serving Replies before after old now held more)
+      → IsTooLong (held ++ more) ⊎ BeginsRequest (held ++ more)
+      → (new ≡ has_written (exchanged old s.exchanges (held ++ more)) (line (reply_text BadLine)) → EndsBy Replies after (exchanged old s.exchanges (held ++ more)) (held ++ more) new why after)
+      → Refuses now new why ended → Serves Replies before after old new ended
+  refused before after old now new held more why ended s cause ends (inl done) = subst (λ (w : DeskEnd). Serves Replies before after old new w) (sym done.0) (record {
     exchanges = s.exchanges;
-    rest = held ++ byte ∷ more;
+    rest = held ++ more;
     between = after;
     each = s.each;
-    ends = (said.reply, is_too_long held more byte s.is_line other long, said.fits, refl, said.wrote ∙ ap (λ (t : Told). has_written t (line (reply_text said.reply))) s.told);
-  }
+    none_requests = s.none_requests;
+    ends = ends (done.1 ∙ ap (λ (t : Told). has_written t (line (reply_text BadLine))) s.told);
+  })
+  refused before after old now new held more why ended s cause ends (inr broke) = subst (λ (w : DeskEnd). Serves Replies before after old new w) (sym broke.0) (record {
+    exchanges = s.exchanges;
+    rest = held ++ more;
+    between = after;
+    each = s.each;
+    none_requests = s.none_requests;
+    ends = inr (now, BadLine, inr (inl (cause, refl, refl, s.told)), broke.1);
+  })
 
-  pub too_long_lost : (before after : S) (old now new : Told) (held more : List ℕ) (byte : ℕ) → Serving Replies before after old now held (byte ∷ more)
-      → (byte == 10) ≡ false → 4096 ≤ length held → FailsToSay (MaySay BadLine) now new → Serves Replies before after old new end.Lost
-  too_long_lost before after old now new held more byte s other long said = record {
-    exchanges = s.exchanges;
-    rest = held ++ byte ∷ more;
-    between = after;
-    each = s.each;
-    ends = inr (now, said.reply, inr (inl (is_too_long held more byte s.is_line other long, said.fits, refl, s.told)), said.broke);
-  }
+  -- a line was too long
+  pub too_long : (before after : S) (old now new : Told) (held more : List ℕ) (byte : ℕ) (ended : DeskEnd) → Serving Replies before after old now held (byte ∷ more)
+      → (byte == 10) ≡ false → 4096 ≤ length held → Refuses now new end.TooLong ended → Serves Replies before after old new ended
+  too_long before after old now new held more byte ended s other long said =
+      let is = is_too_long held more byte s.is_line other long in
+      refused before after old now new held (byte ∷ more) end.TooLong ended s (inl is) (λ wrote. (is, refl, wrote)) said
+
+  -- a line was the first one of a request of HTTP
+  pub is_foreign : (before after : S) (old now new : Told) (held asked more : List ℕ) (byte : ℕ) (ended : DeskEnd) → Serving Replies before after old now held (byte ∷ more)
+      → byte ≡ 10 → asked ≡ held → IsRequest asked → Refuses now new end.Request ended → Serves Replies before after old new ended
+  is_foreign before after old now new held asked more byte ended s is same request said =
+      let begins : BeginsRequest (held ++ byte ∷ more) = record {
+        asked = held;
+        more = more;
+        whole = ap (λ (b : ℕ). held ++ b ∷ more) is ∙ sym (append_assoc held (10 ∷ []) more);
+        is_line = s.is_line;
+        request = subst (λ (l : List ℕ). IsRequest l) same request;
+      } in
+      refused before after old now new held (byte ∷ more) end.Request ended s (inr begins) (λ wrote. (begins, refl, wrote)) said
 
   -- a read failed
   pub read_lost : (before after : S) (old now new : Told) (held : List ℕ) → Serving Replies before after old now held []
@@ -193,6 +212,7 @@ module _ {S : Type 0} (Replies : S → List ℕ → Reply → S → Type 0) wher
     rest = held;
     between = after;
     each = s.each;
+    none_requests = s.none_requests;
     ends = inl (s.is_line, refl, failed ∙ ap has_failed (s.told ∙ ap (exchanged old s.exchanges) (append-nil held)));
   }
 
@@ -204,6 +224,7 @@ module _ {S : Type 0} (Replies : S → List ℕ → Reply → S → Type 0) wher
     rest = [];
     between = after;
     each = s.each;
+    none_requests = s.none_requests;
     ends = inl (refl, refl, over ∙ ap has_ended (s.told ∙ ap (λ (l : List ℕ). exchanged old s.exchanges (l ++ [])) none));
   }
 
@@ -219,6 +240,7 @@ module _ {S : Type 0} (Replies : S → List ℕ → Reply → S → Type 0) wher
     rest = held;
     between = mid;
     each = s.each;
+    none_requests = s.none_requests;
     ends = inr (
       said.reply,
       (some, record { is_line = s.is_line; replied = said.fits }),
@@ -233,5 +255,6 @@ module _ {S : Type 0} (Replies : S → List ℕ → Reply → S → Type 0) wher
     rest = held;
     between = mid;
     each = s.each;
+    none_requests = s.none_requests;
     ends = inr (told, said.reply, inr (inr ((some, record { is_line = s.is_line; replied = said.fits }), ended_at before mid old now told held s over)), said.broke);
   }

@@ -1,2 +1,4 @@
 mod Words
 mod Exchanging
+mod Blocks
+mod Requests

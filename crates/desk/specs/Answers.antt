@@ -1,5 +1,5 @@
 -- The replies to commands.
-use Rattle.std.specs.Prelude.{ℕ, ◌≡◌, ◌⊎◌, ◌<◌, nat_lt, Bool, true, Option, Some, None, length, if◌then◌else◌}
+use Rattle.std.specs.Prelude.{ℕ, ◌≡◌, ◌⊎◌, ◌<◌, ◌≤◌, nat_lt, Bool, true, false, Option, Some, None, length, if◌then◌else◌}
 use Rattle.terms.specs.Reply.{Reply as Answers}
 use Rattle.vocabulary.specs.Terms.{Proposal}
 use Rattle.terms.specs.Reply.Reply.{Foreign as AsForeign, Repeat as AsRepeat, Have as AsHave, Taken as AsTaken}
@@ -12,9 +12,11 @@ use Rattle.member.specs.Readers.{member_disk, member_header, member_saved, membe
 use Rattle.member.specs.declared.fault.MemberFault.{MemberFault}
 use Rattle.member.specs.declared.fault.MemberFault.TheVariants as member
 use Rattle.node.specs.Books.{Applies, RefusesEvent, decided_below}
+use Rattle.node.specs.Transcripts.{HasNoTranscript, IsTranscript, questions_of}
 use Rattle.node.specs.Views.{BookView}
+use Rattle.node.specs.declared.transcript.TranscriptFault.TheVariants as thin
 use Rattle.desk.specs.declared.reply.Reply.{Reply}
-use Rattle.desk.specs.declared.reply.Reply.TheVariants.{Taken, Have, Stopped, Decided, Undecided, Up, BadQuestion, Memory}
+use Rattle.desk.specs.declared.reply.Reply.TheVariants.{Taken, Have, Stopped, Decided, Undecided, Up, Transcript, Thin, BadLine, BadQuestion, BadBit, Memory}
 
 -- the reply to a proposal that the member answered so; it calls none foreign or a repeat
 abbrev pub IsReplyFor : Answers → Reply → Type 0
@@ -60,3 +62,24 @@ abbrev pub status_reply : {D : Type 0} → BookView D → Reply
 status_reply b =
     if member_is_stopped b.member then Stopped
     else Up (length (sealed_from 0 (member_saved b.member))) (decided_below (member_header b.member).size.questions (member_saved b.member))
+
+-- the question is the book's, and its member isn't stopped
+pub record MayBeShown {D : Type 0} (b : BookView D) (question : ℕ) : Type 0 where
+  pub asked : question < questions_of b
+  pub is_up : member_is_stopped b.member ≡ false
+
+-- the reply to a transcript's asking, the first that holds: there is no such question; the member is stopped; the question
+-- isn't decided; what was heard is no proof; memory was refused; or the transcript
+abbrev pub IsTranscriptReply : {D : Type 0} → BookView D → ℕ → Reply → Type 0
+IsTranscriptReply b question BadQuestion = questions_of b ≤ question
+IsTranscriptReply b question Stopped = (question < questions_of b) × (member_is_stopped b.member ≡ true)
+IsTranscriptReply b question Undecided = MayBeShown b question × HasNoTranscript b question thin.Undecided
+IsTranscriptReply b question Thin = MayBeShown b question × HasNoTranscript b question thin.Thin
+IsTranscriptReply b question Memory = MayBeShown b question × HasNoTranscript b question thin.Memory
+IsTranscriptReply b question (Transcript asked transcript) = (asked ≡ question) × MayBeShown b question × IsTranscript b question transcript
+IsTranscriptReply b question Taken = ⊥
+IsTranscriptReply b question (Have bit) = ⊥
+IsTranscriptReply b question (Decided bit) = ⊥
+IsTranscriptReply b question (Up statements decided) = ⊥
+IsTranscriptReply b question BadLine = ⊥
+IsTranscriptReply b question BadBit = ⊥

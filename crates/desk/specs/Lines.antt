@@ -1,9 +1,9 @@
 -- What the lines of clients ask.
-use Rattle.std.specs.Prelude.{ℕ, ◌≡◌, ◌-◌, ◌<◌, ◌≤◌, ◌==◌, Bool, false, true, Option, Some, None, List, ◌∷◌, ◌++◌, codes, length, take, slice_get, if◌then◌else◌}
+use Rattle.std.specs.Prelude.{ℕ, ◌≡◌, ◌-◌, ◌<◌, ◌≤◌, ◌==◌, Bool, false, true, Option, Some, None, List, [], ◌∷◌, ◌++◌, codes, length, take, slice_get, if◌then◌else◌}
 use Rattle.std.specs.Str.Parse.{IsNumeral, digits_value}
 use Rattle.words.specs.Spaces.{NoSpace}
 use Rattle.desk.specs.declared.line.LineRequest.{LineRequest}
-use Rattle.desk.specs.declared.line.LineRequest.TheVariants.{Propose, Ask, Status}
+use Rattle.desk.specs.declared.line.LineRequest.TheVariants.{Propose, Ask, Status, Transcript}
 
 -- decimal digits alone, one to five of them, that write the number
 pub record IsQuestion (digits : List ℕ) (question : ℕ) : Type 0 where
@@ -36,6 +36,14 @@ abbrev pub Asks : List ℕ → LineRequest → Type 0
 Asks text (Propose question bit) = (rest : List ℕ) × (text ≡ codes "PROPOSE " ++ rest) × IsProposal rest question bit
 Asks text (Ask question) = (digits : List ℕ) × (text ≡ codes "ASK " ++ digits) × IsQuestion digits question
 Asks text Status = text ≡ codes "STATUS"
+Asks text (Transcript question) = (digits : List ℕ) × (text ≡ codes "TRANSCRIPT " ++ digits) × IsQuestion digits question
+
+-- what is asked is a proposal
+abbrev pub IsPropose : LineRequest → Type 0
+IsPropose (Propose question bit) = Unit {0}
+IsPropose (Ask question) = ⊥
+IsPropose Status = ⊥
+IsPropose (Transcript question) = ⊥
 
 -- a byte 13
 abbrev pub is_return : Option ℕ → Bool
@@ -50,3 +58,10 @@ trimmed line = if is_return (slice_get line (length line - 1)) then take (length
 pub record LineAsks (line : List ℕ) (asked : LineRequest) : Type 0 where
   pub short : length line ≤ 4096
   pub asks : Asks (trimmed line) asked
+
+-- The line is the first one of a request of HTTP: it ends in ` HTTP/1.` and one byte more. It is no line of a client's, but
+-- a page in a browser may send it.
+pub record IsRequest (line : List ℕ) : Type 0 where
+  pub front : List ℕ
+  pub minor : ℕ
+  pub whole : trimmed line ≡ front ++ (codes " HTTP/1." ++ minor ∷ [])

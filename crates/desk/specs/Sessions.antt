@@ -1,19 +1,19 @@
 -- What a client's session reads and writes.
 use Rattle.std.specs.Prelude.{ℕ, ◌≡◌, ◌⊎◌, ◌<◌, ◌≤◌, Bool, Option, Result, Ok, Err, List, [], ◌∷◌, ◌++◌, length}
-use Rattle.std.specs.List.{flat_map}
+use Rattle.std.specs.List.{All, flat_map}
 use Rattle.words.specs.Lines.{NoEnd, line}
 use Rattle.node.specs.Verdicts.{known_at, KnowsMore}
 use Rattle.node.specs.Views.{BookView}
 use Rattle.links.specs.Told.{Told, has_written, has_failed, has_ended, BreaksOff}
-use Rattle.desk.specs.Lines.{LineAsks}
+use Rattle.desk.specs.Lines.{LineAsks, IsRequest}
 use Rattle.desk.specs.Commands.{AsksNothing, command_for}
-use Rattle.desk.specs.Answers.{Proposes, status_reply, verdict_reply}
+use Rattle.desk.specs.Answers.{IsTranscriptReply, Proposes, status_reply, verdict_reply}
 use Rattle.desk.specs.Replies.{reply_text}
 use Rattle.desk.specs.declared.line.LineRequest.{LineRequest}
 use Rattle.desk.specs.declared.command.Command.{Command}
-use Rattle.desk.specs.declared.command.Command.TheVariants.{Propose, Ask, Status}
+use Rattle.desk.specs.declared.command.Command.TheVariants.{Propose, Ask, Status, Transcript}
 use Rattle.desk.specs.declared.reply.Reply.{Reply}
-use Rattle.desk.specs.declared.reply.Reply.TheVariants.{Taken, Have, Stopped, Decided, Undecided, Up, BadLine, BadQuestion, BadBit, Memory}
+use Rattle.desk.specs.declared.reply.Reply.TheVariants.{BadLine}
 use Rattle.desk.specs.declared.serving.DeskEnd.{DeskEnd}
 use Rattle.desk.specs.declared.serving.DeskEnd.TheVariants as end
 
@@ -49,6 +49,9 @@ AnswersCommand D may_toss before (Ask question) reply after =
     (after.tosser ≡ before.tosser) × KnowsMore before.known after.known × (reply ≡ verdict_reply (known_at after.known question))
 AnswersCommand D may_toss before Status reply after =
     (after.known ≡ before.known) × IsStatusReply D may_toss before.tosser reply after.tosser
+-- no toss is drawn
+AnswersCommand D may_toss before (Transcript question) reply after =
+    (after ≡ before) × (book : BookView D) × IsTranscriptReply book question reply
 
 -- the reply to a command, or the refusal where there is none
 abbrev pub AnswersRequest : {T : Type 0} → Type 0 → (T → ℕ → T → Type 0) → Sitting T → Result Command Reply → Reply → Sitting T → Type 0
@@ -70,28 +73,6 @@ pub record IsLine (bytes : List ℕ) : Type 0 where
 pub record Exchange : Type 0 where
   pub asked : List ℕ
   pub reply : Reply
-
--- the reply with numbers in it, whose text takes memory
-abbrev pub HasNumbers : Reply → Type 0
-HasNumbers (Up statements decided) = Unit {0}
-HasNumbers Taken = ⊥
-HasNumbers (Have bit) = ⊥
-HasNumbers Stopped = ⊥
-HasNumbers (Decided bit) = ⊥
-HasNumbers Undecided = ⊥
-HasNumbers BadLine = ⊥
-HasNumbers BadQuestion = ⊥
-HasNumbers BadBit = ⊥
-HasNumbers Memory = ⊥
-
--- this is written for a reply: that reply, or of one with numbers that memory was refused
-abbrev pub MaySay : Reply → Reply → Type 0
-MaySay reply said = ((said ≡ Memory) × HasNumbers reply) ⊎ (said ≡ reply)
-
--- this is written for a line
-abbrev pub MayReply : {T : Type 0} → Type 0 → (T → ℕ → T → Type 0) → ℕ → Sitting T → List ℕ → Reply → Sitting T → Type 0
-MayReply D may_toss questions before asked said after =
-    (reply : Reply) × AnswersLine D may_toss questions before asked reply after × MaySay reply said
 
 -- the line has this reply
 pub record IsExchange {S : Type 0} (Replies : S → List ℕ → Reply → S → Type 0) (before : S) (x : Exchange) (after : S) : Type 0 where
@@ -132,13 +113,21 @@ abbrev pub IsLastLine : {S : Type 0} → (S → List ℕ → Reply → S → Typ
 IsLastLine Replies before rest reply after =
     (0 < length rest) × IsExchange Replies before (record { asked = rest; reply = reply }) after
 
--- This reply is owed for the rest, where the stream tells `now`: the rest begins with a line or is too long, or it is the
--- last line of an input that ended.
+-- the rest begins with a line that is the first one of a request of HTTP
+pub record BeginsRequest (rest : List ℕ) : Type 0 where
+  pub asked : List ℕ
+  pub more : List ℕ
+  pub whole : rest ≡ line asked ++ more
+  pub is_line : IsLine asked
+  pub request : IsRequest asked
+
+-- This reply is owed for the rest, where the stream tells `now`: the rest begins with a line, or with one that is too long or
+-- a request of HTTP, or it is the last line of an input that ended.
 abbrev pub Owes : {S : Type 0} → (S → List ℕ → Reply → S → Type 0) → S → Told → List ℕ → Told → Reply → S → Type 0
 Owes Replies before served rest now reply after =
     ((asked : List ℕ) × (more : List ℕ) × (rest ≡ line asked ++ more)
     × IsExchange Replies before (record { asked = asked; reply = reply }) after × (now ≡ served))
-    ⊎ ((IsTooLong rest × MaySay BadLine reply × (after ≡ before) × (now ≡ served))
+    ⊎ (((IsTooLong rest ⊎ BeginsRequest rest) × (reply ≡ BadLine) × (after ≡ before) × (now ≡ served))
     ⊎ (IsLastLine Replies before rest reply after × (now ≡ has_ended served)))
 
 -- how a session ends whose stream told `served` with the rest behind its last reply, and tells `now`
@@ -149,16 +138,24 @@ EndsBy Replies before served rest now end.Ended after =
     ⊎ ((reply : Reply) × IsLastLine Replies before rest reply after × (now ≡ has_written (has_ended served) (line (reply_text reply))))
 -- a line was too long, and was answered so
 EndsBy Replies before served rest now end.TooLong after =
-    (reply : Reply) × IsTooLong rest × MaySay BadLine reply × (after ≡ before) × (now ≡ has_written served (line (reply_text reply)))
+    IsTooLong rest × (after ≡ before) × (now ≡ has_written served (line (reply_text BadLine)))
+-- a line was the first one of a request of HTTP, and was answered so
+EndsBy Replies before served rest now end.Request after =
+    BeginsRequest rest × (after ≡ before) × (now ≡ has_written served (line (reply_text BadLine)))
 -- a read failed within a line, or the write of a reply did
 EndsBy Replies before served rest now end.Lost after =
     (IsLine rest × (after ≡ before) × (now ≡ has_failed served))
     ⊎ ((told : Told) × (reply : Reply) × Owes Replies before served rest told reply after × BreaksOff told now (line (reply_text reply)))
 
--- A client's session: its lines were answered in turn, each by one line, up to a rest, and then it ended.
+-- none of the lines is a request of HTTP
+abbrev pub NoRequests : List Exchange → Type 0
+NoRequests exchanges = All (λ x. IsRequest x.asked → ⊥) exchanges
+
+-- A client's session: its lines were answered in turn, up to a rest, and then it ended.
 pub record Serves {S : Type 0} (Replies : S → List ℕ → Reply → S → Type 0) (before after : S) (old now : Told) (why : DeskEnd) : Type 0 where
   pub exchanges : List Exchange
   pub rest : List ℕ
   pub between : S
   pub each : InTurn Replies before exchanges between
+  pub none_requests : NoRequests exchanges
   pub ends : EndsBy Replies between (exchanged old exchanges rest) rest now why after

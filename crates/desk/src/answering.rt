@@ -2,15 +2,15 @@
 
 ghost use Rattle.std.specs.Prelude.{ℕ, ◌≡◌, Bool};
 ghost use Rattle.member.specs.Readers.{member_disk};
-ghost use Rattle.desk.specs.Answers.{Proposes, WhyStopped, verdict_reply, asking_reply, status_reply, refusal_reply};
-ghost use Rattle.desk.specs.declared.command.Command.TheVariants.{Propose, Ask, Status};
+ghost use Rattle.desk.specs.Answers.{IsTranscriptReply, Proposes, WhyStopped, verdict_reply, asking_reply, status_reply, refusal_reply};
+ghost use Rattle.desk.specs.declared.command.Command.TheVariants.{Propose, Ask, Status, Transcript};
 ghost use Rattle.desk.specs.declared.reply.Reply.TheVariants as reply;
 
 use crate::command::Command;
 use crate::reply::Reply;
 use disk::Disk;
 use member::MemberFault;
-use node::{Book, Naming};
+use node::{Book, Naming, TranscriptFault};
 use questions::Answer;
 use rounds::Toss;
 
@@ -77,6 +77,28 @@ fn status<D: Disk, J: Naming>(book: &Book<D, J>) -> Reply
     }
 }
 
+/// What was heard of a question, if it shows the decision.
+pub(crate) fn transcribe<D: Disk, J: Naming>(book: &Book<D, J>, question: u16) -> Reply
+    ensures { IsTranscriptReply book.now question result }
+{
+    if question >= book.header().size().questions() {
+        return Reply::BadQuestion;
+    }
+    if book.is_stopped() {
+        return Reply::Stopped;
+    }
+    match book.transcript(question) {
+        Ok(transcript) => Reply::Transcript {
+            question,
+            transcript,
+        },
+        Err(TranscriptFault::NoSuchQuestion) => Reply::BadQuestion,
+        Err(TranscriptFault::Undecided) => Reply::Undecided,
+        Err(TranscriptFault::Thin) => Reply::Thin,
+        Err(TranscriptFault::Memory) => Reply::Memory,
+    }
+}
+
 /// Does a command on a book, with this toss, and gives the reply. It waits for nobody.
 ///
 /// A proposal is answered [`Reply::Taken`] or [`Reply::Have`] as the book answers it. It is answered
@@ -86,7 +108,9 @@ fn status<D: Disk, J: Naming>(book: &Book<D, J>) -> Reply
 /// - [`Reply::Memory`] where memory was refused: the disk is as it was, and the member is stopped from now on;
 /// - [`Reply::BadQuestion`] where there is no such question, which changes nothing.
 ///
-/// The other commands change nothing. A stopped member still answers [`Command::Ask`] from what it saved.
+/// The other commands change nothing. A stopped member still answers [`Command::Ask`] from what it saved, and
+/// [`Command::Transcript`] with [`Reply::Stopped`]. A transcript takes memory for what was heard of its question and for the
+/// audit of it; where that is refused, the reply is [`Reply::Memory`], and the member goes on.
 pub fn answer<D: Disk, J: Naming>(book: &mut Book<D, J>, command: &Command, toss: Toss) -> Reply
     ensures propose { (question : ℕ) (bit : Bool) → command.now ≡ Propose question bit →
         Proposes book.old question bit toss.0 result book.new }
@@ -97,10 +121,13 @@ pub fn answer<D: Disk, J: Naming>(book: &mut Book<D, J>, command: &Command, toss
     ensures ask { (question : ℕ) → command.now ≡ Ask question →
         (book.new ≡ book.old) × (result ≡ asking_reply book.old question) }
     ensures status { command.now ≡ Status → (book.new ≡ book.old) × (result ≡ status_reply book.old) }
+    ensures transcript { (question : ℕ) → command.now ≡ Transcript question →
+        (book.new ≡ book.old) × IsTranscriptReply book.old question result }
 {
     match *command {
         Command::Propose { question, bit } => propose(book, question, bit, toss),
         Command::Ask { question } => ask(book, question),
         Command::Status => status(book),
+        Command::Transcript { question } => transcribe(book, question),
     }
 }

@@ -1,10 +1,11 @@
-//! The desk of a member: the lines of clients, and a line of reply to each.
+//! The desk of a member: the lines of clients, and a reply to each.
 //!
 //! | line | reply |
 //! |---|---|
 //! | `PROPOSE q v` | `OK` where the bit v is taken, `HAVE b` with the bit that stands, or `STOPPED` |
 //! | `ASK q` | `DECIDED b` or `UNDECIDED` |
 //! | `STATUS` | `UP m d`, with m statements in the outbox and d questions decided, or `STOPPED` |
+//! | `TRANSCRIPT q` | `STOPPED`, `UNDECIDED`, `THIN`, or `transcript q bit b count c` and c lines, each a sender and a frame |
 //!
 //! Refusals, the first that holds: `ERR 1 line`, `ERR 2 question`, `ERR 3 bit`; `ERR 4 memory` where memory is refused.
 //!
@@ -18,7 +19,9 @@ mod command;
 mod held;
 mod line;
 mod reply;
+mod request;
 mod serving;
+mod writing;
 
 pub use answering::answer;
 pub use command::{Command, parse};

@@ -1,10 +1,10 @@
 //! What a line asks, whether or not there is such a question.
 
 ghost use Rattle.std.specs.Prelude.{ℕ, ◌≡◌, ◌-◌, ◌<◌, ◌↔◌, ◌∷◌, ◌++◌, List, Bool, Option, Some, length, slice_get, IfSome, IsTrue, MatchOption};
-ghost use Rattle.desk.specs.Lines.{IsQuestion, IsWord, IsBitWord, IsProposal, Asks, LineAsks, is_return, trimmed};
+ghost use Rattle.desk.specs.Lines.{IsQuestion, IsWord, IsBitWord, IsProposal, IsPropose, Asks, LineAsks, is_return, trimmed};
 ghost use Rattle.desk.specs.declared.line.LineRequest.{LineRequest};
 
-use words::{first_space, is, number, split_at_space};
+use words::{behind, first_space, is, number, split_at_space};
 
 /// The most bytes of a line before the byte 10 that ends it.
 pub(crate) const LONGEST: usize = 4096;
@@ -18,6 +18,8 @@ pub(crate) enum LineRequest {
     Ask { question: u64 },
     /// How far the member is.
     Status,
+    /// What was heard of a question that is decided.
+    Transcript { question: u64 },
 }
 
 /// The number that one to five decimal digits write.
@@ -61,22 +63,6 @@ fn is_word(text: &[u8]) -> bool
     }
 }
 
-/// What stands behind these words, if the text begins with them.
-fn behind<'a>(text: &'a [u8], words: &str) -> Option<&'a [u8]>
-    ensures some { IfSome result (λ rest. text.now ≡ words.now ++ rest.now) }
-    ensures exact { (rest : List ℕ) → text.now ≡ words.now ++ rest → MatchOption result ⊥ (λ found. found.now ≡ rest) }
-{
-    let length = words.len();
-    if text.len() < length {
-        return None;
-    }
-    if is(&text[..length], words) {
-        Some(&text[length..])
-    } else {
-        None
-    }
-}
-
 /// The question and the bit that a proposal has.
 fn proposal(text: &[u8]) -> Option<(u64, Option<bool>)>
     ensures some { IfSome result (λ found. IsProposal text.now found.0 found.1) }
@@ -95,6 +81,20 @@ fn proposal(text: &[u8]) -> Option<(u64, Option<bool>)>
     }
 }
 
+/// What the text proposes.
+fn proposed(text: &[u8]) -> Option<LineRequest>
+    ensures some { IfSome result (λ asked. IsPropose asked × Asks text.now asked) }
+    ensures exact { (asked : LineRequest) → IsPropose asked → Asks text.now asked → result ≡ Some asked }
+{
+    match behind(text, "PROPOSE ") {
+        Some(rest) => match proposal(rest) {
+            Some((question, bit)) => Some(LineRequest::Propose { question, bit }),
+            None => None,
+        },
+        None => None,
+    }
+}
+
 /// What the text asks.
 fn asked(text: &[u8]) -> Option<LineRequest>
     ensures some { IfSome result (Asks text.now) }
@@ -108,12 +108,12 @@ fn asked(text: &[u8]) -> Option<LineRequest>
             Some(question) => Some(LineRequest::Ask { question }),
             None => None,
         },
-        None => match behind(text, "PROPOSE ") {
-            Some(rest) => match proposal(rest) {
-                Some((question, bit)) => Some(LineRequest::Propose { question, bit }),
+        None => match behind(text, "TRANSCRIPT ") {
+            Some(digits) => match question(digits) {
+                Some(question) => Some(LineRequest::Transcript { question }),
                 None => None,
             },
-            None => None,
+            None => proposed(text),
         },
     }
 }
@@ -129,7 +129,7 @@ fn ends_in_return(line: &[u8]) -> bool
 }
 
 /// The line without its last byte where that is a 13.
-fn trimmed(line: &[u8]) -> &[u8]
+pub(crate) fn trimmed(line: &[u8]) -> &[u8]
     ensures { result.now ≡ trimmed line.now }
 {
     if ends_in_return(line) {

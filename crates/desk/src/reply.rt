@@ -1,9 +1,11 @@
 //! The replies to lines.
 
+use node::Transcript;
 use std::fmt;
+use transcripts::TranscriptText;
 
-/// The reply to a line, one variant for each. Its text is the reply's line without the byte 10 at its end.
-#[derive(Clone, Copy, Debug, PartialEq, Eq)]
+/// The reply to a line, one variant for each. Its text has no byte 10 at its end.
+#[derive(Debug, PartialEq, Eq, Drop)]
 pub enum Reply {
     /// The proposal was taken.
     Taken,
@@ -22,6 +24,15 @@ pub enum Reply {
         /// How many questions it has decided.
         decided: u16,
     },
+    /// What was heard of a question, which is proof of its decision. It is the only reply of several lines.
+    Transcript {
+        /// The question.
+        question: u16,
+        /// Its decision, and what was heard of it.
+        transcript: Transcript,
+    },
+    /// The question was decided in an earlier life, and what was heard since then is no proof of the decision.
+    Thin,
     /// 1: there is no such line.
     BadLine,
     /// 2: there is no such question.
@@ -39,7 +50,7 @@ impl fmt::Display for Reply {
     ghost output = { λ reply. Some (reply_text reply) };
 
     fn fmt<W: fmt::Write>(&self, f: &mut fmt::Formatter<W>) -> fmt::Result {
-        match *self {
+        match self {
             Reply::Taken => f.write_str("OK"),
             Reply::Have(false) => f.write_str("HAVE 0"),
             Reply::Have(true) => f.write_str("HAVE 1"),
@@ -51,6 +62,18 @@ impl fmt::Display for Reply {
                 statements,
                 decided,
             } => write!(f, "UP {statements} {decided}"),
+            Reply::Transcript {
+                question,
+                transcript,
+            } => {
+                let text = TranscriptText {
+                    question: *question,
+                    bit: transcript.bit,
+                    pairs: &transcript.heard,
+                };
+                write!(f, "{text}")
+            }
+            Reply::Thin => f.write_str("THIN"),
             Reply::BadLine => f.write_str("ERR 1 line"),
             Reply::BadQuestion => f.write_str("ERR 2 question"),
             Reply::BadBit => f.write_str("ERR 3 bit"),

@@ -1,28 +1,26 @@
 //! A client's session.
 
-ghost use Rattle.std.specs.Prelude.{◌≡◌, ◌∷◌, ℕ, List, [], Bool, false, length, IfOk, IfErr, IfSome, IfNone, OnOk, OnErr, string_bytes};
-ghost use Rattle.std.specs.Arc.{arc_value};
-ghost use Rattle.words.specs.Lines.{line};
+ghost use Rattle.std.specs.Prelude.{◌≡◌, ◌∷◌, ℕ, List, [], Bool, false, length, IfErr, OnOk};
 ghost use Rattle.member.specs.Readers.{member_saved};
 ghost use Rattle.node.specs.Verdicts.{KnowsMore, known_at};
-ghost use Rattle.links.specs.Told.{Told, has_written, has_ended, BreaksOff};
-ghost use Rattle.desk.specs.Replies.{reply_text};
-ghost use Rattle.desk.specs.Answers.{Proposes, verdict_reply, status_reply};
-ghost use Rattle.desk.specs.Sessions.{Sitting, sitting, AnswersLine, IsProposalReply, IsStatusReply, HasNumbers, MayReply, MaySay, Serves};
-ghost use Rattle.desk.specs.Turns.{FailsToSay, Says, Serving};
+ghost use Rattle.links.specs.Told.{Told, has_ended};
+ghost use Rattle.node.specs.Views.{BookView};
+ghost use Rattle.desk.specs.Answers.{IsTranscriptReply, Proposes, verdict_reply, status_reply};
+ghost use Rattle.desk.specs.Sessions.{Sitting, sitting, AnswersLine, IsProposalReply, IsStatusReply, Serves};
+ghost use Rattle.desk.specs.Turns.{FailsToSay, Refuses, Says, Serving};
 ghost use Rattle.desk.specs.declared.command.Command.TheVariants.{Propose, Status};
 
-use crate::answering::{answer, verdict_reply};
+use crate::answering::{answer, transcribe, verdict_reply};
 use crate::command::{Command, parse};
 use crate::held::{HeldLine, LineStep};
 use crate::reply::Reply;
+use crate::request::is_request;
+use crate::writing::write_reply;
 use disk::Disk;
-use links::{Stream, write_all};
+use links::Stream;
 use node::{Board, Book, Hub, Naming, Pass};
 use rounds::{Toss, Tosser};
-use std::alloc::Global;
 use std::sync::Wait;
-use terms::Memory;
 
 /// The most bytes of a read.
 const PIECE: usize = 512;
@@ -36,6 +34,9 @@ pub enum DeskEnd {
     Lost,
     /// A line had more than 4,096 bytes, which was answered by [`Reply::BadLine`].
     TooLong,
+    /// A line was the first one of a request of HTTP, which was answered by [`Reply::BadLine`]: a page in a browser sends it
+    /// before lines of its own, and these are not read.
+    Request,
 }
 
 /// What the board has of a question. It takes no lock.
@@ -67,6 +68,15 @@ fn answer_once<D: Disk, J: Naming>(
     (reply, after != before)
 }
 
+/// Rings the bell behind a command, once the book was given back: for its news, or for a thread that wants the book.
+fn ring_behind<D: Disk, J: Naming, R: Wait>(rt: &R, hub: &Hub<D, J>, has_news: bool) {
+    if has_news {
+        hub.ring(rt);
+    } else {
+        hub.ring_if_wanted(rt);
+    }
+}
+
 /// Does a command under the lock. It rings the bell where the member has more records than before.
 fn answer_alone<D: Disk, J: Naming, T: Tosser, R: Wait>(
     rt: &R,
@@ -81,9 +91,19 @@ fn answer_alone<D: Disk, J: Naming, T: Tosser, R: Wait>(
     let toss = tosser.toss();
     let mut book = hub.lock(rt);
     let (reply, has_news) = answer_once(&mut *book, command, toss);
-    if has_news {
-        hub.ring();
-    }
+    drop(book);
+    ring_behind(rt, hub, has_news);
+    reply
+}
+
+/// What was heard of a question, if it shows the decision. The lock is held until it is copied, and not while it is written.
+fn transcript_of<D: Disk, J: Naming, R: Wait>(rt: &R, hub: &Hub<D, J>, question: u16) -> Reply
+    ensures { (book : BookView D) × IsTranscriptReply book question result }
+{
+    let book = hub.lock(rt);
+    let reply = transcribe(&*book, question);
+    drop(book);
+    hub.ring_if_wanted(rt);
     reply
 }
 
@@ -107,69 +127,23 @@ fn reply_to<D: Disk, J: Naming, T: Tosser, R: Wait>(
             answer_alone(rt, hub, tosser, &Command::Propose { question, bit })
         }
         Ok(Command::Status) => answer_alone(rt, hub, tosser, &Command::Status),
+        Ok(Command::Transcript { question }) => transcript_of(rt, hub, question),
     }
 }
 
-/// A reply's line, with the byte 10 at its end.
-fn line_of(alloc: Global, reply: Reply) -> Result<String, Memory>
-    ensures { IfOk result (λ text. string_bytes text ≡ line (reply_text reply)) }
+/// Answers a line that ends the session with [`Reply::BadLine`], and says why it ended.
+fn refuse<S: Stream>(stream: &mut S, why: DeskEnd) -> DeskEnd
+    ensures { Refuses (S.told stream.old) (S.told stream.new) why result }
 {
-    Ok(format!(in alloc; "{reply}\n")?)
-}
-
-/// Writes these bytes.
-fn write_line<S: Stream>(stream: &mut S, bytes: &[u8]) -> Result<(), DeskEnd>
-    ensures ok { OnOk result (S.told stream.new ≡ has_written (S.told stream.old) bytes.now) }
-    ensures err { IfErr result (λ why. (why ≡ DeskEnd.Lost) × BreaksOff (S.told stream.old) (S.told stream.new) bytes.now) }
-{
-    match write_all(stream, bytes) {
-        Ok(()) => Ok(()),
-        Err(_) => Err(DeskEnd::Lost),
-    }
-}
-
-/// The line of a reply, with the byte 10 at its end, where no number stands in it. It takes no memory.
-fn fixed_line(reply: Reply) -> Option<&'static [u8]>
-    ensures some { IfSome result (λ text. text.now ≡ line (reply_text reply)) }
-    ensures none { IfNone result (HasNumbers reply) }
-{
-    match reply {
-        Reply::Taken => Some(b"OK\n"),
-        Reply::Have(false) => Some(b"HAVE 0\n"),
-        Reply::Have(true) => Some(b"HAVE 1\n"),
-        Reply::Stopped => Some(b"STOPPED\n"),
-        Reply::Decided(false) => Some(b"DECIDED 0\n"),
-        Reply::Decided(true) => Some(b"DECIDED 1\n"),
-        Reply::Undecided => Some(b"UNDECIDED\n"),
-        Reply::Up {
-            statements: _,
-            decided: _,
-        } => None,
-        Reply::BadLine => Some(b"ERR 1 line\n"),
-        Reply::BadQuestion => Some(b"ERR 2 question\n"),
-        Reply::BadBit => Some(b"ERR 3 bit\n"),
-        Reply::Memory => Some(b"ERR 4 memory\n"),
-    }
-}
-
-/// Writes a reply's line; where a number stands in it and memory for its text is refused, that of [`Reply::Memory`].
-fn say<S: Stream>(alloc: Global, stream: &mut S, reply: Reply) -> Result<(), DeskEnd>
-    ensures ok { OnOk result (Says (MaySay reply) (S.told stream.old) (S.told stream.new)) }
-    ensures err { IfErr result (λ why. (why ≡ DeskEnd.Lost) × FailsToSay (MaySay reply) (S.told stream.old) (S.told stream.new)) }
-{
-    match fixed_line(reply) {
-        Some(line) => write_line(stream, line),
-        None => match line_of(alloc, reply) {
-            Ok(line) => write_line(stream, line.as_bytes()),
-            Err(_) => write_line(stream, b"ERR 4 memory\n"),
-        },
+    match write_reply(stream, &Reply::BadLine) {
+        Ok(()) => why,
+        Err(_) => DeskEnd::Lost,
     }
 }
 
 /// Answers the line that is held, and begins a new one.
 fn answer_held<D: Disk, J: Naming, S: Stream, T: Tosser, R: Wait>(
     rt: &R,
-    alloc: Global,
     hub: &Hub<D, J>,
     pass: &mut Pass,
     tosser: &mut T,
@@ -179,21 +153,20 @@ fn answer_held<D: Disk, J: Naming, S: Stream, T: Tosser, R: Wait>(
     requires { pass.old.cells ≡ J.names }
     ensures cells { pass.new.cells ≡ J.names }
     ensures held { held.new ≡ [] }
-    ensures ok { OnOk result (Says (λ said. MayReply D T.may_toss hub.now.size.questions (sitting pass.old.known tosser.old)
+    ensures ok { OnOk result (Says (λ said. AnswersLine D T.may_toss hub.now.size.questions (sitting pass.old.known tosser.old)
         held.old said (sitting pass.new.known tosser.new)) (S.told stream.old) (S.told stream.new)) }
     ensures err { IfErr result (λ why. (why ≡ DeskEnd.Lost)
-        × FailsToSay (λ said. MayReply D T.may_toss hub.now.size.questions (sitting pass.old.known tosser.old)
+        × FailsToSay (λ said. AnswersLine D T.may_toss hub.now.size.questions (sitting pass.old.known tosser.old)
         held.old said (sitting pass.new.known tosser.new)) (S.told stream.old) (S.told stream.new)) }
 {
     let reply = reply_to(rt, hub, pass, tosser, held.line());
     held.clear();
-    say(alloc, stream, reply)
+    write_reply(stream, &reply)
 }
 
 /// Takes a byte, and answers the line that it ends.
 fn take<D: Disk, J: Naming, S: Stream, T: Tosser, R: Wait>(
     rt: &R,
-    alloc: Global,
     hub: &Hub<D, J>,
     pass: &mut Pass,
     tosser: &mut T,
@@ -204,26 +177,27 @@ fn take<D: Disk, J: Naming, S: Stream, T: Tosser, R: Wait>(
     requires { pass.old.cells ≡ J.names }
     ensures cells { pass.new.cells ≡ J.names }
     ensures on { (begun : Sitting T) (old : Told) (more : List ℕ) →
-        Serving (MayReply D T.may_toss hub.now.size.questions) begun (sitting pass.old.known tosser.old) old (S.told stream.old) held.old (byte ∷ more) →
-        OnOk result (Serving (MayReply D T.may_toss hub.now.size.questions) begun (sitting pass.new.known tosser.new) old (S.told stream.new) held.new more) }
+        Serving (AnswersLine D T.may_toss hub.now.size.questions) begun (sitting pass.old.known tosser.old) old (S.told stream.old) held.old (byte ∷ more) →
+        OnOk result (Serving (AnswersLine D T.may_toss hub.now.size.questions) begun (sitting pass.new.known tosser.new) old (S.told stream.new) held.new more) }
     ensures off { (begun : Sitting T) (old : Told) (more : List ℕ) →
-        Serving (MayReply D T.may_toss hub.now.size.questions) begun (sitting pass.old.known tosser.old) old (S.told stream.old) held.old (byte ∷ more) →
-        IfErr result (Serves (MayReply D T.may_toss hub.now.size.questions) begun (sitting pass.new.known tosser.new) old (S.told stream.new)) }
+        Serving (AnswersLine D T.may_toss hub.now.size.questions) begun (sitting pass.old.known tosser.old) old (S.told stream.old) held.old (byte ∷ more) →
+        IfErr result (Serves (AnswersLine D T.may_toss hub.now.size.questions) begun (sitting pass.new.known tosser.new) old (S.told stream.new)) }
 {
     match held.take(byte) {
         LineStep::More => Ok(()),
-        LineStep::Ends => answer_held(rt, alloc, hub, pass, tosser, held, stream),
-        LineStep::TooLong => match say(alloc, stream, Reply::BadLine) {
-            Ok(()) => Err(DeskEnd::TooLong),
-            Err(end) => Err(end),
-        },
+        LineStep::Ends => {
+            if is_request(held.line()) {
+                return Err(refuse(stream, DeskEnd::Request));
+            }
+            answer_held(rt, hub, pass, tosser, held, stream)
+        }
+        LineStep::TooLong => Err(refuse(stream, DeskEnd::TooLong)),
     }
 }
 
 /// Takes the bytes of a read, and answers the lines that they end.
 fn take_all<D: Disk, J: Naming, S: Stream, T: Tosser, R: Wait>(
     rt: &R,
-    alloc: Global,
     hub: &Hub<D, J>,
     pass: &mut Pass,
     tosser: &mut T,
@@ -234,14 +208,14 @@ fn take_all<D: Disk, J: Naming, S: Stream, T: Tosser, R: Wait>(
     requires { pass.old.cells ≡ J.names }
     ensures cells { pass.new.cells ≡ J.names }
     ensures on { (begun : Sitting T) (old : Told) →
-        Serving (MayReply D T.may_toss hub.now.size.questions) begun (sitting pass.old.known tosser.old) old (S.told stream.old) held.old piece.now →
-        OnOk result (Serving (MayReply D T.may_toss hub.now.size.questions) begun (sitting pass.new.known tosser.new) old (S.told stream.new) held.new []) }
+        Serving (AnswersLine D T.may_toss hub.now.size.questions) begun (sitting pass.old.known tosser.old) old (S.told stream.old) held.old piece.now →
+        OnOk result (Serving (AnswersLine D T.may_toss hub.now.size.questions) begun (sitting pass.new.known tosser.new) old (S.told stream.new) held.new []) }
     ensures off { (begun : Sitting T) (old : Told) →
-        Serving (MayReply D T.may_toss hub.now.size.questions) begun (sitting pass.old.known tosser.old) old (S.told stream.old) held.old piece.now →
-        IfErr result (Serves (MayReply D T.may_toss hub.now.size.questions) begun (sitting pass.new.known tosser.new) old (S.told stream.new)) }
+        Serving (AnswersLine D T.may_toss hub.now.size.questions) begun (sitting pass.old.known tosser.old) old (S.told stream.old) held.old piece.now →
+        IfErr result (Serves (AnswersLine D T.may_toss hub.now.size.questions) begun (sitting pass.new.known tosser.new) old (S.told stream.new)) }
 {
     for byte in piece {
-        if let Err(end) = take(rt, alloc, hub, pass, tosser, held, stream, *byte) {
+        if let Err(end) = take(rt, hub, pass, tosser, held, stream, *byte) {
             return Err(end);
         }
     }
@@ -251,7 +225,6 @@ fn take_all<D: Disk, J: Naming, S: Stream, T: Tosser, R: Wait>(
 /// At the end of the input, answers the line that is held, if it has any bytes.
 fn finish<D: Disk, J: Naming, S: Stream, T: Tosser, R: Wait>(
     rt: &R,
-    alloc: Global,
     hub: &Hub<D, J>,
     pass: &mut Pass,
     tosser: &mut T,
@@ -261,13 +234,13 @@ fn finish<D: Disk, J: Naming, S: Stream, T: Tosser, R: Wait>(
     requires { pass.old.cells ≡ J.names }
     ensures cells { pass.new.cells ≡ J.names }
     ensures off { (begun : Sitting T) (old : Told) (before : Told) → S.told stream.old ≡ has_ended before →
-        Serving (MayReply D T.may_toss hub.now.size.questions) begun (sitting pass.old.known tosser.old) old before held.old [] →
-        Serves (MayReply D T.may_toss hub.now.size.questions) begun (sitting pass.new.known tosser.new) old (S.told stream.new) result }
+        Serving (AnswersLine D T.may_toss hub.now.size.questions) begun (sitting pass.old.known tosser.old) old before held.old [] →
+        Serves (AnswersLine D T.may_toss hub.now.size.questions) begun (sitting pass.new.known tosser.new) old (S.told stream.new) result }
 {
     if held.line().is_empty() {
         return DeskEnd::Ended;
     }
-    match answer_held(rt, alloc, hub, pass, tosser, held, stream) {
+    match answer_held(rt, hub, pass, tosser, held, stream) {
         Ok(()) => DeskEnd::Ended,
         Err(end) => end,
     }
@@ -276,7 +249,6 @@ fn finish<D: Disk, J: Naming, S: Stream, T: Tosser, R: Wait>(
 /// Reads a piece, and answers the lines that it ends.
 fn turn<D: Disk, J: Naming, S: Stream, T: Tosser, R: Wait>(
     rt: &R,
-    alloc: Global,
     hub: &Hub<D, J>,
     pass: &mut Pass,
     tosser: &mut T,
@@ -286,31 +258,31 @@ fn turn<D: Disk, J: Naming, S: Stream, T: Tosser, R: Wait>(
     requires { pass.old.cells ≡ J.names }
     ensures cells { pass.new.cells ≡ J.names }
     ensures on { (begun : Sitting T) (old : Told) →
-        Serving (MayReply D T.may_toss hub.now.size.questions) begun (sitting pass.old.known tosser.old) old (S.told stream.old) held.old [] →
-        OnOk result (Serving (MayReply D T.may_toss hub.now.size.questions) begun (sitting pass.new.known tosser.new) old (S.told stream.new) held.new []) }
+        Serving (AnswersLine D T.may_toss hub.now.size.questions) begun (sitting pass.old.known tosser.old) old (S.told stream.old) held.old [] →
+        OnOk result (Serving (AnswersLine D T.may_toss hub.now.size.questions) begun (sitting pass.new.known tosser.new) old (S.told stream.new) held.new []) }
     ensures off { (begun : Sitting T) (old : Told) →
-        Serving (MayReply D T.may_toss hub.now.size.questions) begun (sitting pass.old.known tosser.old) old (S.told stream.old) held.old [] →
-        IfErr result (Serves (MayReply D T.may_toss hub.now.size.questions) begun (sitting pass.new.known tosser.new) old (S.told stream.new)) }
+        Serving (AnswersLine D T.may_toss hub.now.size.questions) begun (sitting pass.old.known tosser.old) old (S.told stream.old) held.old [] →
+        IfErr result (Serves (AnswersLine D T.may_toss hub.now.size.questions) begun (sitting pass.new.known tosser.new) old (S.told stream.new)) }
 {
     let mut piece = [0u8; PIECE];
     match stream.read(&mut piece) {
-        Ok(0) => Err(finish(rt, alloc, hub, pass, tosser, held, stream)),
-        Ok(count) => take_all(rt, alloc, hub, pass, tosser, held, stream, &piece[..count]),
+        Ok(0) => Err(finish(rt, hub, pass, tosser, held, stream)),
+        Ok(count) => take_all(rt, hub, pass, tosser, held, stream, &piece[..count]),
         Err(_) => Err(DeskEnd::Lost),
     }
 }
 
-/// Answers the lines of a client in turn, each by one line, until its input ends, a line is too long, or the stream fails.
+/// Answers the lines of a client in turn, until its input ends, a line is too long or begins a request of HTTP, or the
+/// stream fails.
 ///
 /// A line ends at the byte 10, and bytes behind the last one are a line too. `ASK` goes by the board and takes no lock;
-/// `PROPOSE` and `STATUS` take the book's, and a toss each. The bell is rung where the member has new records. Where memory for
-/// the text of [`Reply::Up`] is refused, [`Reply::Memory`] is written in its place. The pass is of the hub's board, and knows
-/// each decision that was written, so a decision that was told is told again.
+/// `PROPOSE` and `STATUS` take the book's, and a toss each; `TRANSCRIPT` takes the lock and no toss. The bell is rung where the
+/// member has new records. Replies are written without memory, and no lock is held while they are. The pass is of the hub's
+/// board, and knows each decision that was written, so a decision that was told is told again.
 ///
 /// It may wait for the stream and for the lock. The stream stays open.
 pub fn serve<D: Disk, J: Naming, S: Stream, T: Tosser, R: Wait>(
     rt: &R,
-    alloc: Global,
     hub: &Hub<D, J>,
     pass: &mut Pass,
     tosser: &mut T,
@@ -319,12 +291,12 @@ pub fn serve<D: Disk, J: Naming, S: Stream, T: Tosser, R: Wait>(
     requires { pass.old.cells ≡ J.names }
     ensures cells { pass.new.cells ≡ J.names }
     // Each reply is that to its line, by what the pass knows then and with the tosses of the tosser, one a command.
-    ensures serves { Serves (MayReply D T.may_toss hub.now.size.questions) (sitting pass.old.known tosser.old)
+    ensures serves { Serves (AnswersLine D T.may_toss hub.now.size.questions) (sitting pass.old.known tosser.old)
         (sitting pass.new.known tosser.new) (S.told stream.old) (S.told stream.new) result }
 {
     let mut held = HeldLine::new();
     for _ in rt.forever() {
-        if let Err(end) = turn(rt, alloc, hub, pass, tosser, &mut held, stream) {
+        if let Err(end) = turn(rt, hub, pass, tosser, &mut held, stream) {
             return end;
         }
     }

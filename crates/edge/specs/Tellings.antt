@@ -1,8 +1,8 @@
 -- What is told of faults in texts and journals.
-use Rattle.std.specs.Prelude.{ℕ, ◌≡◌, ◌≢◌, ◌-◌, ◌==◌, ◌||◌, nat_lt, Bool, false, List, [], codes, Option, Some, None, slice_get, ⊤}
+use Rattle.std.specs.Prelude.{ℕ, ◌≡◌, ◌≢◌, ◌-◌, ◌==◌, ◌⊎◌, ◌||◌, nat_lt, Bool, false, List, [], codes, Option, Some, None, slice_get, ⊤}
 use Rattle.std.specs.List.{list_any}
 use Rattle.std.specs.Str.{IsUtf8}
-use Rattle.vocabulary.specs.Terms.{SizeFault}
+use Rattle.vocabulary.specs.Terms.{Header, SizeFault}
 use Rattle.terms.specs.declared.SizeFault.TheVariants.{NoMembers, TooManyMembers, TooManyLiars, NoQuestions, TooManyQuestions}
 use Rattle.settings.specs.Keys.{key_text}
 use Rattle.settings.specs.declared.fault.SettingsFault.{SettingsFault}
@@ -10,10 +10,15 @@ use Rattle.settings.specs.declared.fault.SettingsFault.TheVariants as unset
 use Rattle.settings.specs.declared.keys.Key.{Key}
 use Rattle.settings.specs.declared.keys.Key.TheVariants as key
 use Rattle.journal.specs.declared.fault.JournalFault.{JournalFault}
+use Rattle.journal.specs.declared.fault.JournalFault.TheVariants as unheld
+use Rattle.commands.specs.Asked.{IsSaidOfKey, asked_words}
+use Rattle.commands.specs.Owners.{IsHeadless, IsNoJournal, IsOtherOwner, IsOwner}
 use Rattle.commands.specs.Places.{IsFirstLine, IsLineIn, SaysKey, lines_in}
 use Rattle.commands.specs.Damage.{IsPlaceOf}
 use Rattle.commands.specs.declared.fault.SimulateFault.{SimulateFault}
 use Rattle.commands.specs.declared.fault.SimulateFault.TheVariants as unplayed
+use Rattle.transcripts.specs.declared.fault.AuditFault.{AuditFault}
+use Rattle.transcripts.specs.declared.fault.AuditFault.TheVariants as unread
 use Rattle.edge.specs.declared.fault.Fault.{Fault}
 use Rattle.edge.specs.declared.fault.Fault.TheVariants as ends
 use Rattle.edge.specs.declared.trouble.Whereabouts.{Whereabouts}
@@ -52,18 +57,26 @@ IsSettingsPlace (unset.Key key) text at = IsPlaceOfKey key text at
 IsSettingsPlace (unset.Size fault) text at = IsPlaceOfKey (size_key fault) text at
 IsSettingsPlace unset.Memory text at = ⊥
 
--- and what is said of it: the key, and never its value
-abbrev pub IsSettingsWords : SettingsFault → List ℕ → Type 0
-IsSettingsWords unset.Text text = ⊤
-IsSettingsWords (unset.Key key) text = text ≡ key_text key
-IsSettingsWords (unset.Size fault) text = text ≡ key_text (size_key fault)
-IsSettingsWords unset.Memory text = ⊥
+-- and what is said of it: the key and what its value has to be, and never the value
+abbrev pub IsSettingsWords : SettingsFault → List ℕ → List ℕ → Type 0
+IsSettingsWords unset.Text document text = ⊤
+IsSettingsWords (unset.Key key) document text = IsSaidOfKey key document text
+IsSettingsWords (unset.Size fault) document text = text ≡ asked_words (size_key fault)
+IsSettingsWords unset.Memory document text = ⊥
 
 -- where a journal with these bytes is wrong by this fault, or all of it where that isn't known
 abbrev pub IsJournalPlace : JournalFault → List ℕ → Whereabouts → Type 0
 IsJournalPlace found file (place.Byte at) = IsPlaceOf found file (Some at)
 IsJournalPlace found file place.Whole = ⊤
 IsJournalPlace found file other = ⊥
+
+-- and what is said of it where this header was asked for, if one was: whose journal it is, where it should have been empty or
+-- another's, and where it is one
+abbrev pub IsJournalWords : JournalFault → Option Header → List ℕ → List ℕ → Type 0
+IsJournalWords unheld.NotEmpty asked file text = IsOwner file text ⊎ IsNoJournal file
+IsJournalWords unheld.OtherHeader None file text = ⊤
+IsJournalWords unheld.OtherHeader (Some asked) file text = IsOtherOwner file asked text ⊎ IsHeadless file
+IsJournalWords other asked file text = ⊤
 
 -- where a script goes wrong by this fault: in its line, or as a whole
 abbrev pub IsScriptPlace : SimulateFault → Whereabouts → Type 0
@@ -89,3 +102,13 @@ AreLineWords (Some line) text = IsLineWords line text
 abbrev pub IsScriptWords : SimulateFault → List ℕ → List ℕ → Type 0
 IsScriptWords (unplayed.Line number) script text = AreLineWords (slice_get (lines_in script) (number - 1)) text
 IsScriptWords other script text = ⊤
+
+-- where a transcript goes wrong by this fault: in its line, or as a whole
+abbrev pub IsTranscriptPlace : AuditFault → Whereabouts → Type 0
+IsTranscriptPlace (unread.Line number) at = at ≡ place.Line number
+IsTranscriptPlace other at = at ≡ place.Whole
+
+-- what is said of a transcript
+abbrev pub IsTranscriptWords : AuditFault → List ℕ → List ℕ → Type 0
+IsTranscriptWords (unread.Line number) transcript text = AreLineWords (slice_get (lines_in transcript) (number - 1)) text
+IsTranscriptWords other transcript text = ⊤

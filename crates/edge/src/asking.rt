@@ -1,4 +1,4 @@
-//! The commands `propose`, `ask` and `status`: a line to the desk of a member that runs.
+//! The commands `propose`, `ask`, `status` and `transcript`: a line to the desk of a member that runs.
 
 ghost use Rattle.edge.specs.Troubles.{IsNamed};
 ghost use Rattle.edge.specs.declared.fault.Fault.TheVariants as ends;
@@ -7,17 +7,32 @@ ghost use Rattle.std.specs.Prelude.{◌≡◌, IfErr};
 use crate::fault::Fault;
 use crate::live::socket_address;
 use crate::trouble::{Failure, Whereabouts};
-use commands::{TalkFault, ask_line, propose_line, status_line, talk};
+use commands::{
+    TalkFault, ask_line, fetch_transcript, propose_line, status_line, talk, transcript_line,
+};
 use settings::Address;
-use std::io;
+use std::io::{self, BufReader};
 use std::net::TcpStream;
 use std::time::Duration;
 
+/// How many seconds a client waits until its connection is made.
+const CONNECT_LIMIT: u64 = 10;
+
+/// How many it waits until the member takes more of its line.
+const LINE_LIMIT: u64 = 30;
+
+/// How many it waits for more of the reply.
+const REPLY_LIMIT: u64 = 30;
+
 /// A connection to the desk at this address. A member that doesn't answer for half a minute doesn't answer.
 fn connect(rt: &HostRuntime, address: &Address) -> io::Result<TcpStream> {
-    let socket = TcpStream::connect_timeout(rt, &socket_address(address), Duration::from_secs(10))?;
-    socket.set_read_timeout(Some(Duration::from_secs(30)))?;
-    socket.set_write_timeout(Some(Duration::from_secs(30)))?;
+    let socket = TcpStream::connect_timeout(
+        rt,
+        &socket_address(address),
+        Duration::from_secs(CONNECT_LIMIT),
+    )?;
+    socket.set_read_timeout(Some(Duration::from_secs(REPLY_LIMIT)))?;
+    socket.set_write_timeout(Some(Duration::from_secs(LINE_LIMIT)))?;
     Ok(socket)
 }
 
@@ -41,26 +56,54 @@ fn talk_failure(rt: &HostRuntime, address: &str, fault: TalkFault) -> Failure
     }
 }
 
-/// Sends the line to the desk at the address, and prints the reply.
-fn ask_desk(rt: &HostRuntime, text: &str, line: &str) -> Result<u8, Failure>
+/// A connection to the desk at the address, HOST:PORT.
+fn desk_at(rt: &HostRuntime, text: &str) -> Result<TcpStream, Failure>
     ensures named { IfErr result (IsNamed text.now) }
 {
     let Some(address) = Address::parse(text) else {
         let words = "not HOST:PORT";
         return Err(Failure::at(rt.alloc(), Fault::Address, text, Whereabouts::Whole, &words));
     };
-    let socket = match connect(rt, &address) {
-        Ok(socket) => socket,
+    match connect(rt, &address) {
+        Ok(socket) => Ok(socket),
         Err(error) => {
             let fault = Fault::Talk(TalkFault::NoAnswer);
-            return Err(Failure::at(rt.alloc(), fault, text, Whereabouts::Connect, &error));
+            Err(Failure::at(rt.alloc(), fault, text, Whereabouts::Connect, &error))
         }
-    };
+    }
+}
+
+/// Sends the line to the desk at the address, and prints the reply.
+fn ask_desk(rt: &HostRuntime, text: &str, line: &str) -> Result<u8, Failure>
+    ensures named { IfErr result (IsNamed text.now) }
+{
+    let socket = desk_at(rt, text)?;
     let mut to = &socket;
     let mut from = &socket;
     match talk(rt.alloc(), line, &mut to, &mut from, &mut io::writer(rt)) {
         Ok(status) => Ok(status),
         Err(fault) => Err(talk_failure(rt, text, fault)),
+    }
+}
+
+/// Asks the member whose desk is at the address for what it heard of a question, and prints its reply. The status is 0 for a
+/// transcript, and 1 for any other reply.
+pub fn transcript_at(rt: &HostRuntime, address: &str, question: u16) -> Result<u8, Failure>
+    ensures named { IfErr result (IsNamed address.now) }
+{
+    let line = transcript_line(rt.alloc(), question).map_err(|_| Fault::Memory)?;
+    let socket = desk_at(rt, address)?;
+    let mut to = &socket;
+    let mut from = BufReader::new(rt.alloc(), &socket).map_err(|_| Fault::Memory)?;
+    match fetch_transcript(
+        rt.alloc(),
+        line.as_str(),
+        &mut to,
+        &mut from,
+        &mut io::writer(rt),
+    ) {
+        Ok(status) => Ok(status),
+        Err(fault) => Err(talk_failure(rt, address, fault)),
     }
 }
 

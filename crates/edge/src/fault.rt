@@ -13,6 +13,7 @@ use std::alloc::{AllocError, AllocFailed};
 use std::io;
 use terms::SizeFault;
 use thiserror::Error;
+use transcripts::AuditFault;
 
 /// Why a command ended before its work was done. The program prints the text after `bracha: ` and ends with
 /// status 2 for the faults of the words, [`Fault::Argument`] and [`Fault::SameFile`], and with status 1 for the others.
@@ -52,9 +53,12 @@ pub enum Fault {
     /// The address of a desk isn't one.
     #[error("address")]
     Address,
-    /// What ended `propose`, `ask` or `status`.
+    /// What ended `propose`, `ask`, `status` or `transcript`.
     #[error(transparent)]
     Talk(#[from] TalkFault),
+    /// What ended `audit`.
+    #[error(transparent)]
+    Audit(#[from] AuditFault),
     /// What ended `simulate`.
     #[error(transparent)]
     Simulate(#[from] SimulateFault),

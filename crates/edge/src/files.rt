@@ -7,7 +7,9 @@ ghost use Rattle.std.specs.Prelude.{◌≡◌, IfErr};
 
 use crate::fault::Fault;
 use crate::pages::{fault_at, keep_apart, write_page};
-use crate::telling::{journal_failure, not_text, script_failure, settings_failure};
+use crate::telling::{
+    journal_failure, not_text, script_failure, settings_failure, transcript_failure,
+};
 use crate::trouble::{Failure, Whereabouts};
 use commands::{
     DumpFault, InitFault, Shelf, SimulationEnd, check_journal, dump_count, dump_lines, init_disk,
@@ -19,13 +21,26 @@ use journal::JournalFault;
 use settings::Settings;
 use std::fs::{self, OpenOptions};
 use std::io::{self, BufReader, LineWriter, Read};
-use terms::Size;
+use terms::{Header, Size};
+use transcripts::audit_text;
 
 /// Reads lines from the standard input, and answers each as it comes.
 pub fn hear_input(rt: &HostRuntime, size: Size, me: u8) -> Result<u8, Fault> {
     let mut input = BufReader::new(rt.alloc(), rt.reader())?;
     let mut output = LineWriter::new(rt.alloc(), io::writer(rt))?;
     Ok(hear_lines(rt.alloc(), size, me, &mut input, &mut output)?)
+}
+
+/// Reads the transcript in the file, of a cluster of that size, and prints whether it is proof of its decision. The status
+/// is 0 for `yes` and 1 for `no`.
+pub fn audit_file(rt: &HostRuntime, path: &str, size: Size) -> Result<u8, Failure>
+    ensures named { IfErr result (IsNamed path.now) }
+{
+    let text = read_file(rt, path)?;
+    match audit_text(rt.alloc(), &text, size, &mut io::writer(rt)) {
+        Ok(status) => Ok(status),
+        Err(fault) => Err(transcript_failure(rt.alloc(), path, &text, fault)),
+    }
 }
 
 /// The settings in the file.
@@ -116,41 +131,92 @@ pub fn init_file(rt: &HostRuntime, path: &str) -> Result<u8, Failure> {
     }
 }
 
-/// The failure of the journal in the file, in which that was found. Its bytes are read anew.
-pub fn failure_of_journal(
+/// The most bytes of a file that are read for a second line. A journal of 256 questions has fewer.
+const MOST: u64 = 1 << 24;
+
+/// How many bytes of a journal's file the second line of that fault is told from: where the header is wrong, it and one more;
+/// none where the fault isn't the file's.
+fn needed(found: JournalFault) -> u64 {
+    match found {
+        JournalFault::BadHeader | JournalFault::OtherHeader => 25,
+        JournalFault::NotEmpty | JournalFault::BadRecord | JournalFault::CutShort => MOST,
+        JournalFault::Device | JournalFault::Memory | JournalFault::Stopped | JournalFault::Full =>
+            0,
+    }
+}
+
+/// Whether a file with so many bytes is too long to tell where its batches go wrong.
+fn is_too_long(found: JournalFault, length: u64) -> bool {
+    match found {
+        JournalFault::BadRecord | JournalFault::CutShort => length > MOST,
+        _ => false,
+    }
+}
+
+/// The bytes of the file from which the second line of that fault is told; none where it is no regular file, or too long.
+fn read_needed(rt: &HostRuntime, path: &str, found: JournalFault) -> io::Result<Option<Vec<u8>>> {
+    let known = fs::metadata(rt, path)?;
+    let most = needed(found);
+    if most == 0 || !known.is_file() || is_too_long(found, known.len()) {
+        return Ok(None);
+    }
+    Ok(Some(read_unlocked(rt, path, most)?))
+}
+
+/// The failure of the journal in the file, in which that was found, where the one of this header was asked for, if one was.
+/// Its bytes are read anew, as many as are needed.
+pub fn failure_for(
     rt: &HostRuntime,
     path: &str,
     fault: Fault,
     found: JournalFault,
+    asked: Option<&Header>,
 ) -> Failure
     ensures fault { result.fault ≡ fault }
     ensures named { IsNamed path.now result }
 {
-    match read_unlocked(rt, path) {
-        Ok(bytes) => journal_failure(rt.alloc(), path, fault, found, &bytes),
-        Err(_) => Failure::about(rt.alloc(), fault, path),
+    match read_needed(rt, path, found) {
+        Ok(Some(bytes)) => journal_failure(rt.alloc(), path, fault, found, asked, &bytes),
+        _ => Failure::about(rt.alloc(), fault, path),
     }
 }
 
-/// The failure of a journal that was to be printed, or counted. A write that failed is not the journal's.
-fn dump_failure(rt: &HostRuntime, path: &str, fault: DumpFault) -> Failure
+/// The failure of the journal in the file, in which that was found.
+fn failure_of_journal(rt: &HostRuntime, path: &str, fault: Fault, found: JournalFault) -> Failure
+    ensures fault { result.fault ≡ fault }
+    ensures named { IsNamed path.now result }
+{
+    failure_for(rt, path, fault, found, None)
+}
+
+/// The failure of a journal that was to be printed, counted or checked; the one of this header, if one was asked for. A write
+/// that failed is not the journal's.
+fn dump_failure(rt: &HostRuntime, path: &str, fault: DumpFault, asked: Option<&Header>) -> Failure
     ensures fault { result.fault ≡ ends.Dump fault }
     ensures named { IsNamed path.now result }
 {
     match fault {
         DumpFault::Journal(found) => {
-            failure_of_journal(rt, path, Fault::Dump(DumpFault::Journal(found)), found)
+            failure_for(
+                rt,
+                path,
+                Fault::Dump(DumpFault::Journal(found)),
+                found,
+                asked,
+            )
         }
         other => Failure::from(Fault::Dump(other)),
     }
 }
 
-/// The bytes of the file, which is opened for reading and writing as `run` does it. No lock is taken, and nothing written.
-fn read_unlocked(rt: &HostRuntime, path: &str) -> io::Result<Vec<u8>> {
+/// The bytes of the file, or so many of them, which is opened for reading and writing as `run` does it. No lock is taken, and
+/// nothing written. A device has no length, so none of it is read; a journal's disk sees it so too.
+fn read_unlocked(rt: &HostRuntime, path: &str, most: u64) -> io::Result<Vec<u8>> {
     let mut options = OpenOptions::new();
-    let mut file = options.read(true).write(true).open(rt, path)?;
+    let file = options.read(true).write(true).open(rt, path)?;
+    let length = file.metadata()?.len();
     let mut bytes = Vec::new(rt.alloc());
-    file.read_to_end(&mut bytes)?;
+    file.take(length.min(most)).read_to_end(&mut bytes)?;
     Ok(bytes)
 }
 
@@ -160,7 +226,7 @@ pub fn check_file(rt: &HostRuntime, path: &str) -> Result<u8, Failure> {
     let journal = settings.journal.as_str();
     let mut output = io::writer(rt);
     print_settings(rt.alloc(), &settings, &mut output).map_err(|fault| Fault::from(fault))?;
-    let bytes = match read_unlocked(rt, journal) {
+    let bytes = match read_unlocked(rt, journal, u64::MAX) {
         Ok(bytes) => bytes,
         Err(error) => return Err(Failure::of_system(
             rt.alloc(),
@@ -174,7 +240,7 @@ pub fn check_file(rt: &HostRuntime, path: &str) -> Result<u8, Failure> {
     disk.write_at(0, &bytes).map_err(|_| Fault::Memory)?;
     match check_journal(rt.alloc(), &settings.header, disk, &mut output) {
         Ok(status) => Ok(status),
-        Err(fault) => Err(dump_failure(rt, journal, fault)),
+        Err(fault) => Err(dump_failure(rt, journal, fault, Some(&settings.header))),
     }
 }
 
@@ -195,7 +261,7 @@ pub fn dump_file(rt: &HostRuntime, path: &str, count: bool) -> Result<u8, Failur
     let disk = open_disk(rt, path, Purpose::Look)?;
     match dump_disk(rt, disk, count) {
         Ok(status) => Ok(status),
-        Err(fault) => Err(dump_failure(rt, path, fault)),
+        Err(fault) => Err(dump_failure(rt, path, fault, None)),
     }
 }
 

@@ -6,7 +6,7 @@ ghost use Rattle.running.specs.declared.hosts.Hosts.TheVariants as hosts;
 ghost use Rattle.std.specs.Prelude.{◌≡◌, true, false, IfErr, IfOk, Err, Ok};
 
 use crate::fault::Fault;
-use crate::files::{Purpose, failure_of_journal, open_disk, read_settings};
+use crate::files::{Purpose, failure_for, open_disk, read_settings};
 use crate::trouble::{Failure, Trouble, Whereabouts, trouble_of};
 use member::Member;
 use running::{Addresses, Hosts, Log, LogEvent, Machine, Operator, RunFault, run_member};
@@ -201,7 +201,10 @@ pub fn run_file<R: Machine>(
     let disk = open_disk(host, journal, Purpose::Run)?;
     let member = match Member::open(host.alloc(), disk, &settings.header) {
         Ok(member) => member,
-        Err(fault) => return Err(failure_of_journal(host, journal, Fault::from(fault), fault)),
+        Err(fault) => {
+            let asked = Some(&settings.header);
+            return Err(failure_for(host, journal, Fault::from(fault), fault, asked));
+        }
     };
     if any_host {
         warn_of_strangers(host);

@@ -13,17 +13,23 @@ fn holder(rt: &HostRuntime) -> io::Result<File> {
     }
 }
 
-/// A file for each standard stream that is closed. Without them the next files that are opened would get the numbers of
-/// these streams, and what is printed would be written into them. They are to be kept as long as the program runs: a
-/// write to them fails, and a read is at its end. Where all streams are open it holds none, whatever devices there are.
-pub fn hold_streams(rt: &HostRuntime) -> io::Result<Vec<File>> {
-    let mut held = Vec::new(rt.alloc());
+/// A file for each standard stream that was closed: a write to it fails, and a read is at its end. To be kept as long as the
+/// program runs. Who does a command's work asks for it, so that none is done without.
+#[derive(Drop)]
+pub struct HeldStreams {
+    files: Vec<File>,
+}
+
+/// Holds each standard stream that is closed. Else the next files that are opened would get the numbers of these streams, and
+/// what is printed would be written into them. Where all streams are open it holds none, whatever devices there are.
+pub fn hold_streams(rt: &HostRuntime) -> io::Result<HeldStreams> {
+    let mut files = Vec::new(rt.alloc());
     for _ in 0..3u8 {
         let file = holder(rt)?;
         if file.as_raw_fd() > 2 {
             break;
         }
-        held.push(file)?;
+        files.push(file)?;
     }
-    Ok(held)
+    Ok(HeldStreams { files })
 }

@@ -1,6 +1,6 @@
 //! What ends `hear`.
 
-ghost use Rattle.std.specs.Prelude.{◌≡◌, ◌⊎◌};
+ghost use Rattle.std.specs.Prelude.{◌≡◌};
 ghost use Rattle.hearing.specs.declared.fault.HearFault.TheVariants as fault;
 
 use std::alloc::{AllocError, AllocFailed};
@@ -50,7 +50,9 @@ impl<T: Drop> From<AllocFailed<T>> for HearFault {
 }
 
 impl From<io::Error> for HearFault {
-    ghost from_gives = { λ _ ends. (ends ≡ fault.Memory) ⊎ (ends ≡ fault.Stream) };
+    ghost use Rattle.hearing.specs.Faults.{IsHearFaultOf};
+
+    ghost from_gives = { λ error ends. IsHearFaultOf error ends };
 
     fn from(error: io::Error) -> HearFault {
         if error.kind() == io::ErrorKind::OutOfMemory {

@@ -98,12 +98,16 @@ fn hand_in_group<D: Disk, J: Naming, G: Gate, R: Wait>(
     ensures only { IfErr result (λ why. (why ≡ LinkEnd.Stopped) ⊎ (why ≡ LinkEnd.Memory)) }
 {
     gate.pass(Point::Before(seat.peer()));
+    let turn = hub.take_turn(rt);
     let handed = hand_in_to(&mut hub.lock(rt), seat, group);
+    hub.ring_if_wanted(rt);
+    hub.give_way(rt);
+    drop(turn);
     gate.pass(Point::After(seat.peer()));
     match handed {
         Ok(has_news) => {
             if has_news {
-                hub.ring();
+                hub.ring(rt);
             }
             Ok(())
         }

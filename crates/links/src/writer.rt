@@ -14,7 +14,7 @@ use crate::sending::{send, write_message};
 use crate::stream::Stream;
 use disk::Disk;
 use member::Sealed;
-use node::{Book, Hub, Naming};
+use node::{Book, Hub, Naming, Watch};
 use std::alloc::Global;
 use std::sync::Wait;
 use terms::{Header, Size};
@@ -71,30 +71,17 @@ fn pull<D: Disk, J: Naming>(book: &Book<D, J>, from: u64) -> Result<Vec<Sealed>,
     }
 }
 
-/// What is new in the outbox from a number on, once the bell rang for it; nothing where it rang for nothing.
-fn next_items<D: Disk, J: Naming, R: Wait>(
-    rt: &R,
+/// What is new in a book that was lent, from a number on. At a hub that is shut the session ends where there is nothing.
+fn look<D: Disk, J: Naming>(
     hub: &Hub<D, J>,
+    book: &Book<D, J>,
     from: u64,
 ) -> Result<Vec<Sealed>, LinkEnd>
     ensures numbered { IfOk result (λ v. is_numbered from v.items ≡ true) }
     ensures fits { IfOk result (λ v. 0 < vec_len v → from + vec_len v < 2 ^ 64) }
     ensures only { IfErr result IsEndOrMemory }
 {
-    let book = hub.lock(rt);
-    match pull(&book, from) {
-        Err(why) => return Err(why),
-        Ok(items) => {
-            if !items.is_empty() {
-                return Ok(items);
-            }
-        }
-    }
-    if hub.is_shut() {
-        return Err(LinkEnd::Ended);
-    }
-    let book = hub.wait(rt, book);
-    match pull(&book, from) {
+    match pull(book, from) {
         Err(why) => Err(why),
         Ok(items) => {
             if items.is_empty() && hub.is_shut() {
@@ -103,6 +90,56 @@ fn next_items<D: Disk, J: Naming, R: Wait>(
             Ok(items)
         }
     }
+}
+
+/// The same, where no other thread has the book; else nothing, and the bell is to ring once it is given back.
+fn try_look<'a, D: Disk, J: Naming>(
+    alloc: Global,
+    hub: &'a Hub<D, J>,
+    watch: Watch<'a>,
+    from: u64,
+) -> (Watch<'a>, Result<Vec<Sealed>, LinkEnd>)
+    ensures numbered { IfOk result.1 (λ v. is_numbered from v.items ≡ true) }
+    ensures fits { IfOk result.1 (λ v. 0 < vec_len v → from + vec_len v < 2 ^ 64) }
+    ensures only { IfErr result.1 IsEndOrMemory }
+{
+    match hub.try_lock() {
+        Some(book) => (watch, look(hub, &book, from)),
+        None => (hub.want(watch), Ok(Vec::new(alloc))),
+    }
+}
+
+/// What is new in the outbox from a number on, once the bell rang for it; nothing where it rang for nothing, or while another
+/// thread has the book.
+fn next_items<D: Disk, J: Naming, R: Wait>(
+    rt: &R,
+    alloc: Global,
+    hub: &Hub<D, J>,
+    from: u64,
+) -> Result<Vec<Sealed>, LinkEnd>
+    ensures numbered { IfOk result (λ v. is_numbered from v.items ≡ true) }
+    ensures fits { IfOk result (λ v. 0 < vec_len v → from + vec_len v < 2 ^ 64) }
+    ensures only { IfErr result IsEndOrMemory }
+{
+    let watch = hub.watch(rt);
+    let (watch, found) = try_look(alloc, hub, watch, from);
+    match found {
+        Err(why) => return Err(why),
+        Ok(items) => {
+            if !items.is_empty() {
+                return Ok(items);
+            }
+        }
+    }
+    if hub.is_shut() {
+        // Nobody rings any more, and no peer is to be told Idle.
+        hub.leave(watch);
+        return look(hub, &hub.lock(rt), from);
+    }
+    let watch = hub.wait(rt, watch);
+    let (watch, found) = try_look(alloc, hub, watch, from);
+    hub.leave(watch);
+    found
 }
 
 /// Writes an Idle frame.
@@ -145,7 +182,7 @@ fn write_some<D: Disk, J: Naming, S: Stream, R: Wait>(
     ensures ok { IfOk result (λ next. WritesTokens (S.told stream.old) (S.told stream.new) from next) }
     ensures err { IfErr result (λ why. WritesOn (S.told stream.old) (S.told stream.new) from why) }
 {
-    match next_items(rt, hub, from) {
+    match next_items(rt, alloc, hub, from) {
         Err(why) => Err(why),
         Ok(items) => {
             if items.is_empty() {
@@ -203,7 +240,7 @@ fn write_session<D: Disk, J: Naming, S: Stream, R: Wait>(
 
 /// A session of the link to a peer, a number below n: writes the Hello, reads the Welcome, at most 11 bytes in all, and
 /// then writes the statements of the outbox from its next on, in order and at most 64 at a time, until the session ends.
-/// Woken by the bell with nothing new it writes an Idle. The stream is closed.
+/// Woken by the bell with nothing new, or while another thread has the book, it writes an Idle. The stream is closed.
 ///
 /// It ends:
 ///

@@ -1,7 +1,10 @@
+pub mod Blocks
 pub mod Cells
 pub mod Rulings
 pub mod Published
 pub mod Settling
+pub mod Members
+pub mod Thin
 pub mod Replaying
 pub mod Handing
 pub mod Grouping

@@ -1,12 +1,15 @@
+pub mod Compact
 pub mod Entries
 pub mod Verdicts
 pub mod Firsts
 pub mod Views
 pub mod Books
 pub mod Keeps
+pub mod Histories
 pub mod Settled
 pub mod Groups
 pub mod Laws
 pub mod Lives
 pub mod Marks
+pub mod Transcripts
 pub mod Words

@@ -7,5 +7,6 @@ pub use Rattle.node.specs.Groups.{AppliesAll, LivesOnAll, heard_from, lengthened
 pub use Rattle.node.specs.Keeps.{AreDecided, IsKept}
 pub use Rattle.node.specs.Marks.{AreMarked}
 pub use Rattle.node.specs.Settled.{AreSeated, IsSeatOf, IsSeated, all_below, is_seated, is_settled, same_statements}
+pub use Rattle.node.specs.Transcripts.{HasNoTranscript, IsHeardProof, IsTranscript, heard_on, questions_of}
 pub use Rattle.node.specs.Verdicts.{KnownCells, KnowsMore, known_at, ruling_at, ruling_in, ruling_of, told, told_from}
 pub use Rattle.node.specs.Views.{BookView}

@@ -1,5 +1,5 @@
 //! The book: a member, what happened since its opening, and what it published.
-ghost use Rattle.std.specs.Prelude.{◌≡◌, ◌⊎◌, ◌↔◌, ◌+◌, ◌<◌, ◌≤◌, ◌^◌, ℕ, List, [], ◌∷◌, ◌++◌, length, take, drop, map, Bool, true, false, IfOk, IfErr, IfSome, OnOk, OnErr, Some, None, IsErrOf, IsSome, IfNone, slice_get, vec_len, vec_capacity};
+ghost use Rattle.std.specs.Prelude.{◌≡◌, ◌⊎◌, ◌↔◌, ◌+◌, ◌<◌, ◌≤◌, ◌^◌, ℕ, List, [], ◌∷◌, ◌++◌, length, take, drop, Bool, true, false, IfOk, IfErr, IfSome, OnOk, OnErr, Some, None, IsErrOf, IsSome, IfNone, slice_get, vec_len, vec_capacity};
 ghost use Rattle.std.specs.Arc.{arc_value};
 ghost use Rattle.vocabulary.specs.Terms.{Hearing, Proposal, records_of, records_of_all, Header};
 ghost use Rattle.questions.specs.Replay.Entry.{Heard, Proposed};
@@ -20,17 +20,20 @@ ghost use Rattle.node.specs.Groups.{heard_from, said_in, AppliesAll, RefusesAll,
 ghost use Rattle.node.specs.Keeps.{AreDecided};
 ghost use Rattle.node.specs.Lives.{LivesOn, Spares};
 ghost use Rattle.node.specs.Settled.{is_settled};
+ghost use Rattle.node.specs.Transcripts.{IsTranscript, HasNoTranscript};
 ghost use Rattle.node.specs.Verdicts.{known_at, KnowsMore};
 
 use crate::board::{Board, Pass};
 use crate::entry::Entry;
 use crate::group::{note_all, prepare};
+use crate::history::History;
 use crate::notes::Notes;
 use crate::seat::{Seat, keep_first, keep_firsts};
 use crate::settle::is_settled;
+use crate::transcript::{Transcript, TranscriptFault, heard_on};
 use disk::Disk;
 use member::{Member, MemberFault, Sealed};
-use questions::Answer;
+use questions::{Answer, audit};
 use rounds::Toss;
 use std::alloc::Global;
 use std::marker::{Brand, Model, PhantomData};
@@ -57,33 +60,33 @@ impl Naming for Brand {
 /// A member with what happened since its opening: its history has each event that it took, in order, and a member that
 /// opens with the same records and is told the history with its tosses does the same.
 ///
-/// The history stays in memory, at 24 bytes an entry. Of each sender one Echo and one Ready a place are taken, one Initial
-/// of each of its own places, and of each question one proposal. With 32 members and 256 questions these are 51,118,336
-/// entries at most, or 1.2 GB; where all are honest and each question is decided in round 1 they are some 3.2 million, or
-/// 77 MB. The list doubles when it is full, so for a moment it takes up to three times as much.
+/// The history stays in memory, at 15 bytes an entry, in blocks of 4,096 entries. Nothing that was noted is copied when it
+/// grows: a block is begun, and where a group found no room in the one before, up to 255 entries of that one stay unused.
+/// Of each sender one Echo and one Ready a place are taken, one Initial of each of its own places, and of each question one
+/// proposal. With 32 members and 256 questions these are 51,118,336 entries at most, or 0.77 GB; where all are honest and
+/// each question is decided in round 1 they are some 3.2 million, or 48 MB.
 #[derive(Drop)]
 pub struct Book<D: Disk, J: Naming> {
     alloc: Global,
     member: Member<D>,
     opened: usize,
-    history: Vec<Entry>,
+    history: History,
     notes: Notes,
     of: PhantomData<J>,
 }
 
 impl<D: Disk, J: Naming> Model for Book<D, J> {
-    ghost use Rattle.std.specs.Prelude.{map, take};
+    ghost use Rattle.std.specs.Prelude.{take};
     ghost use Rattle.member.specs.Readers.{member_saved};
     ghost use Rattle.node.specs.Views.{BookView};
 
     ghost Value = { BookView D };
 
-    ghost use Rattle.node.specs.Entries.{noted};
     ghost use Rattle.node.specs.Keeps.{IsKept};
 
-    ghost view = { λ b. record { member = b.member; opening = take b.opened (member_saved b.member); history = map noted b.history.items; known = b.notes.known } };
+    ghost view = { λ b. record { member = b.member; opening = take b.opened (member_saved b.member); history = b.history.entries; known = b.notes.known } };
 
-    ghost invariant = { λ b. IsKept D.Disk J.names J.header b.notes.cells b.member b.opened (map noted b.history.items) b.notes.known };
+    ghost invariant = { λ b. IsKept D.Disk J.names J.header b.notes.cells b.member b.opened b.history.entries b.notes.known };
 }
 
 impl<D: Disk, J: Naming> Book<D, J> {
@@ -109,7 +112,7 @@ impl<D: Disk, J: Naming> Book<D, J> {
             alloc,
             member,
             opened,
-            history: Vec::new(alloc),
+            history: History::new(alloc),
             notes,
             of: PhantomData,
         })
@@ -263,7 +266,7 @@ impl<D: Disk, J: Naming> Book<D, J> {
         if self.member.is_stopped() {
             return Err(MemberFault::Stopped);
         }
-        if !make_room(&mut self.history) {
+        if !self.history.make_room(1) {
             self.member.stop();
             return Err(MemberFault::Memory);
         }
@@ -321,6 +324,34 @@ impl<D: Disk, J: Naming> Book<D, J> {
         self.member.verdict(question)
     }
 
+    /// What was heard of a question that is decided, since the member was opened: the bit, and each statement on the question
+    /// with its sender, in order. An audit of it is true: whoever has the transcript finds by it alone that the bit may be
+    /// decided.
+    ///
+    /// Refused with the first that holds: [`TranscriptFault::NoSuchQuestion`]; [`TranscriptFault::Undecided`];
+    /// [`TranscriptFault::Memory`]; [`TranscriptFault::Thin`], where what was heard since the opening is no proof of the bit,
+    /// which was decided before. It goes through the whole history. A member that is stopped gives what it heard until then.
+    pub fn transcript(&self, question: u16) -> Result<Transcript, TranscriptFault>
+        ensures ok { IfOk result (IsTranscript self.now question) }
+        ensures err { IfErr result (HasNoTranscript self.now question) }
+    {
+        let size = self.member.header().size();
+        if question >= size.questions() {
+            return Err(TranscriptFault::NoSuchQuestion);
+        }
+        let Some(bit) = self.member.verdict(question) else {
+            return Err(TranscriptFault::Undecided);
+        };
+        let Ok(heard) = heard_on(self.alloc, &self.history, question) else {
+            return Err(TranscriptFault::Memory);
+        };
+        match audit(self.alloc, size, question, bit, &heard) {
+            Ok(true) => Ok(Transcript { bit, heard }),
+            Ok(false) => Err(TranscriptFault::Thin),
+            Err(_) => Err(TranscriptFault::Memory),
+        }
+    }
+
     /// Whether its member is stopped: then it takes no event.
     pub fn is_stopped(&self) -> bool
         ensures { result ≡ member_is_stopped self.now.member }
@@ -372,23 +403,19 @@ impl<D: Disk, J: Naming> Book<D, J> {
         self.history.len()
     }
 
-    /// The event at this place of the history, counted from 0.
+    /// The event at this place of the history, counted from 0. It goes through the blocks before.
     pub fn event(&self, at: usize) -> Option<Entry>
         ensures some { IfSome result (λ entry. slice_get self.now.history at ≡ Some (noted entry)) }
         ensures none { IfNone result (length self.now.history ≤ at) }
     {
-        self.history.get(at).copied()
+        self.history.get(at)
     }
 
     /// Whether the seats are those of all members, each with the link part of its peer.
     pub(crate) fn is_settled(&self, seats: &[Seat]) -> bool
         ensures { result ≡ is_settled (member_header self.now.member).size.n self.now.history seats.now }
     {
-        is_settled(
-            self.member.header().size().n(),
-            self.history.as_slice(),
-            seats,
-        )
+        is_settled(self.member.header().size().n(), &self.history, seats)
     }
 
     /// What the book knows to stand on its board for the question is its decision, and a pass of the board that knows a
@@ -406,28 +433,19 @@ impl<D: Disk, J: Naming> Book<D, J> {
 }
 
 /// Makes room for one more entry and one more statement, if there is memory. Both lists stay.
-fn make_room_for_both(history: &mut Vec<Entry>, firsts: &mut Vec<Statement>) -> bool
-    ensures history { history.new.items ≡ history.old.items }
+fn make_room_for_both(history: &mut History, firsts: &mut Vec<Statement>) -> bool
+    ensures history { history.new.entries ≡ history.old.entries }
     ensures firsts { firsts.new.items ≡ firsts.old.items }
-    ensures room { result ≡ true → (vec_len history.new < vec_capacity history.new)
-        × (vec_len firsts.new < vec_capacity firsts.new) }
+    ensures room { result ≡ true → (0 < history.new.room) × (vec_len firsts.new < vec_capacity firsts.new) }
 {
-    make_room(history) && firsts.reserve(1).is_ok()
-}
-
-/// Makes room for one more entry, if there is memory. The list stays.
-fn make_room(history: &mut Vec<Entry>) -> bool
-    ensures history { history.new.items ≡ history.old.items }
-    ensures room { result ≡ true → vec_len history.new < vec_capacity history.new }
-{
-    history.reserve(1).is_ok()
+    history.make_room(1) && firsts.reserve(1).is_ok()
 }
 
 /// Notes the entry where the answer takes it.
-pub(crate) fn note(history: &mut Vec<Entry>, entry: Entry, answer: &Answer)
-    requires { vec_len history.old < vec_capacity history.old }
-    ensures entries { map noted history.new.items ≡ lengthened (map noted history.old.items) (noted entry) (reply_of answer.now) }
-    ensures room { (vec_len history.new ≤ vec_len history.old + 1) × (vec_capacity history.new ≡ vec_capacity history.old) }
+pub(crate) fn note(history: &mut History, entry: Entry, answer: &Answer)
+    requires { 0 < history.old.room }
+    ensures entries { history.new.entries ≡ lengthened history.old.entries (noted entry) (reply_of answer.now) }
+    ensures room { history.old.room ≤ history.new.room + 1 }
 {
     if let Answer::Taken(_) = answer {
         history.push_reserved(entry);

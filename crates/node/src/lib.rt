@@ -5,8 +5,10 @@
 
 mod board;
 mod book;
+mod compact;
 mod entry;
 mod group;
+mod history;
 mod hub;
 pub mod laws;
 mod marks;
@@ -14,11 +16,13 @@ mod notes;
 mod rack;
 mod seat;
 mod settle;
+mod transcript;
 
 pub use board::{Board, Pass};
 pub use book::{Book, Naming};
 pub use entry::Entry;
-pub use hub::Hub;
+pub use hub::{Hub, Watch};
 pub use rack::Rack;
 pub use seat::Seat;
 pub use settle::{Closing, close};
+pub use transcript::{Transcript, TranscriptFault};

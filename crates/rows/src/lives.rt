@@ -5,7 +5,7 @@
 //! FRAME TOSS` and `propose QUESTION BIT TOSS` answer; `all FROM FRAME TOSS, ..` hears a group, and answers all in turn.
 //! `fuse CALLS` lets so many calls of the device pass, `fuse out` all. `outbox`, `verdict QUESTION`, `stopped`, `stop` are as
 //! the member has it, and `len` is its file's length. `empty` is a disk of nothing, and `disk DIGITS` one that has these
-//! bytes.
+//! bytes; `create` makes a journal there, and `create with CALLS` where so many calls of the device pass.
 
 use crate::files::disk_of;
 use crate::phrases::{
@@ -195,6 +195,19 @@ impl Life {
         }
     }
 
+    /// Makes its journal on the disk that is there, where so many calls of it pass, and tells the fault. It is down then.
+    fn make(&mut self, calls: Option<u64>) -> Option<String> {
+        let (mut disk, header) = (self.take_disk()?, self.header?);
+        disk.fuse(calls);
+        let made = create(&mut disk, &header);
+        disk.fuse(None);
+        self.disk = Some(disk);
+        match made {
+            Ok(()) => Some(String::new(self.alloc)),
+            Err(fault) => format!(in self.alloc; "{fault}").ok(),
+        }
+    }
+
     /// Opens it on that disk, and tells its records or the fault. After a fault it is down.
     fn open(&mut self, disk: MemDisk, header: &Header) -> Option<String> {
         match Member::adopt(self.alloc, disk, header) {
@@ -255,6 +268,8 @@ impl Life {
                 self.disk = Some(disk_of(self.alloc, &bytes_of(self.alloc, digits)?).ok()?);
                 Some(String::new(self.alloc))
             }
+            ["create"] => self.make(None),
+            ["create", "with", calls] => self.make(Some(calls.parse().ok()?)),
             ["len"] => self.len(),
             _ => match &mut self.up {
                 Some(up) => up.told(self.alloc, words),

@@ -5,6 +5,7 @@
 //! they say, and before that each row that isn't, with its line. The file `stdout` beside `src` has what a good run prints.
 #![tactic(auto)]
 
+mod audits;
 mod broadcasts;
 mod files;
 mod frames;

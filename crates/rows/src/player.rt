@@ -1,5 +1,6 @@
 //! What stands while the rows of a file are played.
 
+use crate::audits::Audit;
 use crate::broadcasts::Casts;
 use crate::files::File;
 use crate::frames::Stream;
@@ -12,6 +13,7 @@ use std::alloc::Global;
 /// The player of a file.
 #[derive(Drop)]
 pub enum Player {
+    Audits(Audit),
     Broadcasts(Casts),
     Frames(Stream),
     Journals(File),
@@ -27,6 +29,7 @@ impl Player {
     /// The player of that name.
     pub fn new(alloc: Global, name: &str) -> Player {
         match name {
+            "audits" => Player::Audits(Audit::new(alloc)),
             "broadcasts" => Player::Broadcasts(Casts::new(alloc)),
             "frames" => Player::Frames(Stream::new(alloc)),
             "journals" => Player::Journals(File::new(alloc)),
@@ -41,6 +44,7 @@ impl Player {
     /// Does what a row says, and gives what is answered: none where it says nothing that can be done.
     pub fn told(&mut self, action: &str) -> Option<String> {
         match self {
+            Player::Audits(audit) => audit.told(action),
             Player::Broadcasts(casts) => casts.told(action),
             Player::Frames(stream) => stream.told(action),
             Player::Journals(file) => file.told(action),

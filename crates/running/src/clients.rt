@@ -25,7 +25,7 @@ fn serve_chair<D: Disk, J: Naming, R: Machine>(
         return None;
     };
     let mut tosser = tosser.lock(rt);
-    Some(serve(rt, it.alloc, &it.hub, &mut pass, &mut *tosser, &mut client))
+    Some(serve(rt, &it.hub, &mut pass, &mut *tosser, &mut client))
 }
 
 /// A session of the client in a chair.

@@ -30,4 +30,5 @@ pub use outgoing::Standing;
 pub use places::Places;
 pub use run::{Addresses, Operator, run_member};
 pub use slots::Slots;
+pub use sockets::client_stream;
 pub use tossers::{Tossers, tosser_for, tossers_of};

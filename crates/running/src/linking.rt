@@ -37,6 +37,7 @@ fn write_told<D: Disk, J: Naming, R: Machine>(
     stream: NetStream,
 ) -> LinkEnd {
     let said = it.hub.lock(rt).outbox().len() as u64;
+    it.hub.ring_if_wanted(rt);
     let to = Peer {
         number: peer,
         said,
@@ -147,7 +148,9 @@ fn read_from<D: Disk, J: Naming, R: Machine>(
     stream: &mut NetStream,
 ) -> LinkEnd {
     let peer = sender.peer();
-    if it.hub.lock(rt).is_stopped() {
+    let is_stopped = it.hub.lock(rt).is_stopped();
+    it.hub.ring_if_wanted(rt);
+    if is_stopped {
         return LinkEnd::Stopped;
     }
     let Some(tosser) = it.link_tossers.get(usize::from(peer)) else {

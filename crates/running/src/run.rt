@@ -127,6 +127,7 @@ fn share<D: Disk + Drop, J: Naming, O: Operator>(
 
 /// From now on what happens is to be told, and first that the member is ready.
 fn begin_telling<D: Disk, J: Naming, R: Machine>(rt: &R, it: &Shared<D, J>) -> Result<(), Memory> {
+    // No thread of a link or of a client runs yet, which could want the bell.
     let telling = Telling::new(it.alloc, &it.hub.lock(rt))?;
     *it.telling.lock(rt) = Some(telling);
     it.note(rt, LogEvent::Ready(it.hub.header().me()));

@@ -11,7 +11,7 @@ use crate::sockets::Sockets;
 use crate::watch::Telling;
 use disk::Disk;
 use links::LinkEnd;
-use node::{Hub, Naming, Rack};
+use node::{Book, Hub, Naming, Rack};
 use rounds::ChaChaTosser;
 use std::alloc::Global;
 use std::net::{IpAddr, TcpListener, TcpStream};
@@ -95,9 +95,39 @@ impl<D: Disk, J: Naming> Shared<D, J> {
         if self.telling.lock(rt).is_none() {
             return;
         }
-        let book = self.hub.lock(rt);
+        self.look(rt, &self.hub.lock(rt));
+        self.hub.ring_if_wanted(rt);
+    }
+
+    /// The same, but where another thread has the book for longer than a tenth of a second, as while its disk stalls, nothing:
+    /// the clock waits for no book.
+    fn try_note_book<R: Machine>(&self, rt: &R) {
+        if self.telling.lock(rt).is_none() {
+            return;
+        }
+        for _ in 0..20u32 {
+            if self.try_look(rt) {
+                return;
+            }
+            thread::sleep(rt, Duration::from_millis(5));
+        }
+    }
+
+    /// What the book has that wasn't told is to be told, if no other thread has the book; false where one has.
+    fn try_look<R: Machine>(&self, rt: &R) -> bool {
+        let Some(book) = self.hub.try_lock() else {
+            return false;
+        };
+        self.look(rt, &book);
+        drop(book);
+        self.hub.ring_if_wanted(rt);
+        true
+    }
+
+    /// What a book has that wasn't told is to be told.
+    fn look<R: Machine>(&self, rt: &R, book: &Book<D, J>) {
         if let Some(telling) = &mut *self.telling.lock(rt) {
-            telling.look(&book);
+            telling.look(book);
         }
     }
 
@@ -173,6 +203,7 @@ impl<D: Disk, J: Naming> Shared<D, J> {
     fn stop_if_forgotten<R: Machine>(&self, rt: &R) {
         if self.is_forgotten(rt) {
             self.hub.lock(rt).stop();
+            self.hub.ring_if_wanted(rt);
         }
     }
 
@@ -184,9 +215,9 @@ impl<D: Disk, J: Naming> Shared<D, J> {
             }
             self.tick(rt);
             self.sockets.lock(rt).tick();
-            self.hub.ring();
+            self.hub.ring(rt);
             self.stop_if_forgotten(rt);
-            self.note_book(rt);
+            self.try_note_book(rt);
         }
         unreachable!()
     }

@@ -210,7 +210,7 @@ impl Door {
 
 /// The stream of the client at this socket, whose bytes leave at once, however few they are. One that says nothing for ten
 /// minutes, or takes nothing for ten seconds, is given up: the read or the write fails.
-pub(crate) fn client_stream(socket: TcpStream) -> io::Result<NetStream> {
+pub fn client_stream(socket: TcpStream) -> io::Result<NetStream> {
     socket.set_nodelay(true)?;
     socket.set_read_timeout(Some(Duration::from_secs(600)))?;
     socket.set_write_timeout(Some(Duration::from_secs(10)))?;

@@ -224,7 +224,7 @@ fn tell<D: Disk, J: Naming, R: Wait + Abort>(
             is_told(rt, hub, seat, number, number > 8)?,
             "number {number}"
         );
-        hub.ring();
+        hub.ring(rt);
     }
     Ok(())
 }

@@ -6,7 +6,7 @@ ghost use Rattle.member.specs.Memory.{memory_disk};
 ghost use Rattle.member.specs.Sound.{IsSound};
 ghost use Rattle.member.specs.Readers.{member_header, member_saved, member_is_stopped, MemberStandsFor};
 
-use crate::beginnings::{Counting, board, goes_on_with, header};
+use crate::beginnings::{Counting, board, goes_on_with, header, open};
 use Row::{Line, Told};
 use desk::{Command, DeskEnd, Reply, answer, parse, serve};
 use disk::MemDisk;
@@ -41,6 +41,14 @@ fn a_line_asks_what_it_says(rt: HostRuntime) -> Result<(), Fail> {
         ),
         ("ASK 00007", Ok(Command::Ask { question: 7 })),
         ("STATUS", Ok(Command::Status)),
+        (
+            "TRANSCRIPT 255\r",
+            Ok(Command::Transcript { question: 255 }),
+        ),
+        ("TRANSCRIPT", Err(Reply::BadLine)),
+        ("TRANSCRIPT 0 1", Err(Reply::BadLine)),
+        ("transcript 0", Err(Reply::BadLine)),
+        ("TRANSCRIPT 256", Err(Reply::BadQuestion)),
         ("", Err(Reply::BadLine)),
         ("ask 0", Err(Reply::BadLine)),
         ("ASK", Err(Reply::BadLine)),
@@ -69,7 +77,7 @@ fn a_line_asks_what_it_says(rt: HostRuntime) -> Result<(), Fail> {
 }
 
 /// Whether that is the reply's line.
-fn is_line(alloc: Global, reply: Reply, want: &str) -> bool {
+fn is_line(alloc: Global, reply: &Reply, want: &str) -> bool {
     match reply.to_string(alloc) {
         Ok(text) => text.as_str() == want,
         Err(_) => false,
@@ -84,6 +92,7 @@ fn a_reply_is_its_line(rt: HostRuntime) {
         (Reply::Stopped, "STOPPED"),
         (Reply::Decided(false), "DECIDED 0"),
         (Reply::Undecided, "UNDECIDED"),
+        (Reply::Thin, "THIN"),
         (
             Reply::Up {
                 statements: 18,
@@ -96,7 +105,7 @@ fn a_reply_is_its_line(rt: HostRuntime) {
         (Reply::BadBit, "ERR 3 bit"),
         (Reply::Memory, "ERR 4 memory"),
     ] {
-        assert!(rt; is_line(rt.alloc(), reply, text), "{text}");
+        assert!(rt; is_line(rt.alloc(), &reply, text), "{text}");
     }
 }
 
@@ -128,7 +137,17 @@ fn replies<J: Naming, R: Wait>(rt: &R, hub: &Hub<MemDisk, J>, line: &str) -> Rep
 
 /// Hands the member all that it says, until it says no more.
 fn deliver<J: Naming, R: Wait>(rt: &R, hub: &Hub<MemDisk, J>, seat: &mut Seat) -> Result<(), Fail> {
-    for number in 0..64u64 {
+    deliver_some(rt, hub, seat, 64)
+}
+
+/// Hands the member the first of all that it says, so many.
+fn deliver_some<J: Naming, R: Wait>(
+    rt: &R,
+    hub: &Hub<MemDisk, J>,
+    seat: &mut Seat,
+    count: u64,
+) -> Result<(), Fail> {
+    for number in 0..count {
         let mut book = hub.lock(rt);
         let items = book.pull(number, 1)?;
         match items.as_slice() {
@@ -143,7 +162,7 @@ fn deliver<J: Naming, R: Wait>(rt: &R, hub: &Hub<MemDisk, J>, seat: &mut Seat) -
 }
 
 /// What comes to a member with a desk.
-#[derive(Clone, Copy)]
+#[derive(Drop)]
 enum Row<'a> {
     /// That line, which the desk answers so.
     Line(&'a str, Reply),
@@ -159,8 +178,8 @@ fn play<J: Naming, R: Wait + Abort>(
     rows: &[Row],
 ) -> Result<(), Fail> {
     for (at, row) in rows.iter().enumerate() {
-        match *row {
-            Line(line, reply) => assert!(rt; replies(rt, hub, line) == reply, "row {at}"),
+        match row {
+            Line(line, reply) => assert!(rt; &replies(rt, hub, line) == reply, "row {at}"),
             Told => deliver(rt, hub, seat)?,
         }
     }
@@ -194,6 +213,8 @@ fn a_desk_of_one_member(rt: HostRuntime) -> Result<(), Fail> {
         Line("PROPOSE 0 1", Reply::Taken),
         Line("PROPOSE 0 0", Reply::Have(true)),
         Line("ASK 0", Reply::Undecided),
+        Line("TRANSCRIPT 0", Reply::Undecided),
+        Line("TRANSCRIPT 1", Reply::BadQuestion),
         Told,
         Line("ASK 0", Reply::Decided(true)),
         Line("STATUS", up),
@@ -217,6 +238,7 @@ fn a_disk_that_fails_stops_the_member(rt: HostRuntime) -> Result<(), Fail> {
         Line("PROPOSE 0 1", Reply::Stopped),
         Line("PROPOSE 0 1", Reply::Stopped),
         Line("STATUS", Reply::Stopped),
+        Line("TRANSCRIPT 0", Reply::Stopped),
         Line("ASK 0", Reply::Undecided),
     ];
     let board = board(&rt, 1)?;
@@ -235,7 +257,6 @@ fn in_pieces(alloc: Global, input: &[u8], piece: usize) -> Result<MemStream, Fai
 /// The session of this client writes this, and ends so. Its tosses count on from 100.
 fn serves<J: Naming, R: Wait + Abort>(
     rt: &R,
-    alloc: Global,
     hub: &Hub<MemDisk, J>,
     client: &mut MemStream,
     written: &str,
@@ -244,7 +265,7 @@ fn serves<J: Naming, R: Wait + Abort>(
     let board: &Board = hub.board();
     let mut pass = board.pass()?;
     let mut tosser = Counting { last: 100 };
-    let ended = serve(rt, alloc, hub, &mut pass, &mut tosser, client);
+    let ended = serve(rt, hub, &mut pass, &mut tosser, client);
     assert!(rt; ended == end);
     assert!(rt; client.output() == written.as_bytes());
     Ok(())
@@ -260,7 +281,7 @@ fn session<J: Naming, R: Wait + Abort + AllocGlobal>(
     end: DeskEnd,
 ) -> Result<(), Fail> {
     let mut client = in_pieces(rt.alloc(), input, piece)?;
-    serves(rt, rt.alloc(), hub, &mut client, written, end)
+    serves(rt, hub, &mut client, written, end)
 }
 
 /// A session of a line of so many bytes, and one behind it.
@@ -296,7 +317,19 @@ fn sessions<J: Naming, R: Wait + Abort + AllocGlobal>(
         "ERR 1 line\nUNDECIDED\n",
         DeskEnd::Ended,
     )?;
-    long_session(rt, hub, 4097, 512, "ERR 1 line\n", DeskEnd::TooLong)
+    long_session(rt, hub, 4097, 512, "ERR 1 line\n", DeskEnd::TooLong)?;
+    let page = b"ASK 0\nPOST / HTTP/1.1\r\nHost: a\r\n\r\nPROPOSE 0 1\n";
+    session(
+        rt,
+        hub,
+        page,
+        7,
+        "UNDECIDED\nERR 1 line\n",
+        DeskEnd::Request,
+    )?;
+    let near = b"GET / HTTP/2\nHTTP/1.1\n HTTP/1.\nASK 0";
+    let refused = "ERR 1 line\nERR 1 line\nERR 1 line\nUNDECIDED\n";
+    session(rt, hub, near, 64, refused, DeskEnd::Ended)
 }
 
 fn answers_sessions<J: Naming, R: Wait + Abort + AllocGlobal>(
@@ -327,7 +360,7 @@ fn loses_a_client<J: Naming, R: Wait + Abort + AllocGlobal>(
 ) -> Result<(), Fail> {
     let mut client = in_pieces(rt.alloc(), b"ASK 0\nASK\n", 512)?;
     client.fail_at(call)?;
-    serves(rt, rt.alloc(), hub, &mut client, written, end)
+    serves(rt, hub, &mut client, written, end)
 }
 
 /// A client of one line, whose stream takes so many bytes a call.
@@ -340,7 +373,7 @@ fn answers_slowly<J: Naming, R: Wait + Abort + AllocGlobal>(
 ) -> Result<(), Fail> {
     let mut client = in_pieces(rt.alloc(), b"ASK 0", 512)?;
     client.take_at_most(most);
-    serves(rt, rt.alloc(), hub, &mut client, written, end)
+    serves(rt, hub, &mut client, written, end)
 }
 
 /// Clients whose streams fail at each call, and take nothing or a byte a call.
@@ -433,4 +466,97 @@ fn decides_both_bits<J: Naming, R: Wait + Abort + AllocGlobal>(
 fn a_session_does_each_command_once(rt: HostRuntime) -> Result<(), Fail> {
     let board = board(&rt, 3)?;
     decides_both_bits::<Brand, _>(&rt, board)
+}
+
+/// What a member by itself heard until it decided.
+const SHOWN: &str = "transcript 0 bit 1 count 9
+0 00080301000000010101
+0 00080302000000010101
+0 00080303000000010101
+0 00080301000000010201
+0 00080302000000010201
+0 00080303000000010201
+0 00080301000000010303
+0 00080302000000010303
+0 00080303000000010303
+DECIDED 1
+";
+
+/// A member is told its first nine statements, and shows them; a second question isn't decided.
+fn shows_a_decision<J: Naming, R: Wait + Abort + AllocGlobal>(
+    rt: &R,
+    hub: &Hub<MemDisk, J>,
+    seat: &mut Seat,
+) -> Result<(), Fail> {
+    let lines = b"PROPOSE 0 1\nTRANSCRIPT 0\nTRANSCRIPT 2";
+    session(
+        rt,
+        hub,
+        lines,
+        3,
+        "OK\nUNDECIDED\nERR 2 question\n",
+        DeskEnd::Ended,
+    )?;
+    deliver_some(rt, hub, seat, 9)?;
+    session(rt, hub, b"TRANSCRIPT 0\nASK 0", 64, SHOWN, DeskEnd::Ended)?;
+    session(rt, hub, b"TRANSCRIPT 1", 64, "UNDECIDED\n", DeskEnd::Ended)?;
+    for call in 1..3 {
+        loses_a_transcript(rt, hub, call)?;
+    }
+    Ok(())
+}
+
+/// A client whose stream fails at that call has a beginning of the transcript.
+fn loses_a_transcript<J: Naming, R: Wait + Abort + AllocGlobal>(
+    rt: &R,
+    hub: &Hub<MemDisk, J>,
+    call: u64,
+) -> Result<(), Fail> {
+    let mut client = in_pieces(rt.alloc(), b"TRANSCRIPT 0\n", 512)?;
+    client.take_at_most(100);
+    client.fail_at(call)?;
+    let part = &SHOWN[..100 * (call as usize - 1)];
+    serves(rt, hub, &mut client, part, DeskEnd::Lost)
+}
+
+fn shows_decisions<J: Naming, R: Wait + Abort + AllocGlobal>(
+    rt: &R,
+    board: Arc<Board>,
+) -> Result<(), Fail>
+    requires names { arc_value board ≡ J.names }
+    requires header { J.header ≡ new_header 7 (new_size 1 0 2) 0 }
+    requires cells { length (arc_value board) ≡ 2 }
+{
+    let (hub, mut seats) = Hub::<MemDisk, J>::open(rt.alloc(), member_of_one(rt, 2, None)?, board)?;
+    let mut seat = seats.pop().ok_or("a seat")?;
+    shows_a_decision(rt, &hub, &mut seat)
+}
+
+#[test]
+fn a_session_shows_a_decision(rt: HostRuntime) -> Result<(), Fail> {
+    let board = board(&rt, 2)?;
+    shows_decisions::<Brand, _>(&rt, board)
+}
+
+/// A member that decided question 0 in an earlier life, and has heard nothing since, has no proof to show.
+fn shows_no_earlier_life<J: Naming, R: Wait + Abort + AllocGlobal>(
+    rt: &R,
+    board: Arc<Board>,
+) -> Result<(), Fail>
+    requires names { arc_value board ≡ J.names }
+    requires header { J.header ≡ new_header 7 (new_size 1 0 2) 0 }
+    requires cells { length (arc_value board) ≡ 2 }
+{
+    let alloc = rt.alloc();
+    let header = header(1, 0, 2, 0)?;
+    let (hub, _rack) = open::<MemDisk, J>(alloc, MemDisk::new(alloc), &header, true, board)?;
+    let lines = b"ASK 0\nTRANSCRIPT 0\nTRANSCRIPT 1";
+    let replies = "DECIDED 1\nTHIN\nUNDECIDED\n";
+    session(rt, &hub, lines, 64, replies, DeskEnd::Ended)
+}
+
+#[test]
+fn a_decision_of_an_earlier_life_is_thin(rt: HostRuntime) -> Result<(), Fail> {
+    let board = board(&rt, 2)?;
+    shows_no_earlier_life::<Brand, _>(&rt, board)
 }

@@ -6,6 +6,7 @@ ghost use Rattle.member.specs.Readers.{member_saved, member_is_stopped, MemberSt
 
 mod forgotten;
 mod shares;
+mod silent;
 
 use disk::MemDisk;
 use links::LinkEnd;
@@ -568,6 +569,8 @@ enum Visitor {
     Impostor,
     /// More strangers than a log that is busy has places for.
     Crowd,
+    /// A peer that is dialled and dials, and then says nothing more.
+    Silent(TcpListener),
 }
 
 impl Visitor {
@@ -583,6 +586,7 @@ impl Visitor {
             Visitor::Dialling => dials(rt, cluster, log),
             Visitor::Impostor => dials_for_another(rt, cluster, log),
             Visitor::Crowd => crowd_of_strangers(rt, cluster, log),
+            Visitor::Silent(listener) => silent::falls_silent(rt, cluster, listener, log),
         }
     }
 }
@@ -1124,15 +1128,22 @@ fn a_member_that_starts_again_is_needed(rt: HostRuntime) -> Result<(), Fail> {
     decide_after_a_restart(&rt, rt.alloc())
 }
 
+/// The system's number of a socket that is opened beside another, which has the first one that is free. What is kept open
+/// has the numbers behind that.
+fn second_number<R: Machine>(rt: &R, desk: SocketAddr) -> io::Result<i32> {
+    let _first = connect(rt, desk)?;
+    Ok(connect(rt, desk)?.as_raw_fd())
+}
+
 /// A hundred clients come, are answered and go; the system's number of a socket that is opened then is about that of before,
 /// so the member keeps nothing of them.
 fn hundred_clients<R: Machine + Abort>(rt: &R, desk: SocketAddr) -> Result<(), Fail> {
-    let before = connect(rt, desk)?.as_raw_fd();
+    let before = second_number(rt, desk)?;
     for _ in 0..100u32 {
         assert!(rt; comes_to(rt, desk, b"ASK 0\n", b"DECIDED 0\n"));
     }
     thread::sleep(rt, Duration::from_millis(500));
-    let after = connect(rt, desk)?.as_raw_fd();
+    let after = second_number(rt, desk)?;
     assert!(rt;
         after < before.saturating_add(20),
         "from {before} to {after}"

@@ -5,6 +5,7 @@ ghost use Rattle.vocabulary.specs.Terms.{new_header, new_size};
 ghost use Rattle.links.specs.Mem.{told_by, is_closed_mem};
 
 mod groups;
+mod stalls;
 
 use crate::beginnings::{Counting, at, board, entry, goes_on_with, header, open, take};
 use crate::books::closes;
@@ -16,6 +17,7 @@ use links::{
 use member::Sealed;
 use node::{Board, Hub, Naming, Rack, Seat};
 use rounds::Toss;
+use running::client_stream;
 use std::alloc::Global;
 use std::marker::Brand;
 use std::net::{TcpListener, TcpStream};
@@ -334,14 +336,21 @@ fn a_writer_stops_in_the_second_frame(rt: HostRuntime) -> Result<(), Fail> {
     tries::<Brand, _>(&rt, board(&rt, 1)?, Trial::Sends)
 }
 
+/// Both ends of a connection on this machine: that of who dialled, and that of who took it.
+fn connected(rt: &HostRuntime) -> Result<(TcpStream, TcpStream), Fail> {
+    let listener = TcpListener::bind(rt, "127.0.0.1:0").map_err(|_| "a port")?;
+    let address = listener.local_addr().map_err(|_| "an address")?;
+    let dialled = TcpStream::connect(rt, address).map_err(|_| "a connection")?;
+    let (accepted, _) = listener.accept().map_err(|_| "a connection")?;
+    Ok((dialled, accepted))
+}
+
 /// A Hello over TCP, its closing, and a peer that says nothing.
 #[test]
 fn greets_over_tcp(rt: HostRuntime) -> Result<(), Fail> {
     let alloc = rt.alloc();
-    let listener = TcpListener::bind(&rt, "127.0.0.1:0").map_err(|_| "a port")?;
-    let address = listener.local_addr().map_err(|_| "an address")?;
-    let dialled = TcpStream::connect(&rt, address).map_err(|_| "a connection")?;
-    let (accepted, _) = listener.accept().map_err(|_| "a connection")?;
+    let (dialled, accepted) = connected(&rt)?;
+    dialled.set_read_timeout(Some(Duration::from_secs(5)))?;
     let mut dialler = NetStream::new(dialled);
     let mut listens = NetStream::with_limit(accepted, Duration::from_millis(50)).map_err(
         |_| "a limit",
@@ -353,6 +362,50 @@ fn greets_over_tcp(rt: HostRuntime) -> Result<(), Fail> {
     assert!(&rt; greet(alloc, &mut listens, &header(4, 1, 1, 1)?) == Err(LinkEnd::Lost));
     let mut buf = [0u8; 4];
     assert!(&rt; dialler.read(&mut buf) == Ok(0));
+    Ok(())
+}
+
+/// Whether a write fails before the stream has taken more than sockets hold.
+fn fills_up(stream: &mut NetStream) -> bool {
+    let piece = [0u8; 8192];
+    for _ in 0..65_536u32 {
+        if stream.write(&piece).is_err() {
+            return true;
+        }
+    }
+    false
+}
+
+/// Whether the socket's bytes leave at once, and its reads and writes wait so long at most, each.
+fn has_limit(socket: &TcpStream, limit: Duration) -> Result<bool, Fail> {
+    let waits = (socket.read_timeout()?, socket.write_timeout()?);
+    Ok(socket.nodelay()? && waits == (Some(limit), Some(limit)))
+}
+
+/// A peer that reads nothing holds a writer no longer than the limit.
+#[test]
+fn a_stalled_peer_holds_no_writer(rt: HostRuntime) -> Result<(), Fail> {
+    let limit = Duration::from_millis(100);
+    let (_stalled, socket) = connected(&rt)?;
+    let held = socket.try_clone()?;
+    let mut stream = NetStream::with_limit(socket, limit).map_err(|_| "a limit")?;
+    assert!(&rt; has_limit(&held, limit)?);
+    assert!(&rt; fills_up(&mut stream));
+    Ok(())
+}
+
+/// A client, too, isn't waited for without an end: ten minutes for what it asks, and ten seconds until it takes a reply.
+#[test]
+fn a_client_has_limits(rt: HostRuntime) -> Result<(), Fail> {
+    let (_client, socket) = connected(&rt)?;
+    let held = socket.try_clone()?;
+    let _stream = client_stream(socket)?;
+    let waits = (held.read_timeout()?, held.write_timeout()?);
+    let wanted = (
+        Some(Duration::from_secs(600)),
+        Some(Duration::from_secs(10)),
+    );
+    assert!(&rt; waits == wanted && held.nodelay()?);
     Ok(())
 }
 
@@ -682,7 +735,7 @@ impl Stream for Watched<'_> {
 }
 
 /// Rings until there were so many writes.
-fn rings_until<J: Naming, R: Clock>(
+fn rings_until<J: Naming, R: Wait + Clock>(
     rt: &R,
     hub: &Hub<MemDisk, J>,
     writes: &Writes,
@@ -692,7 +745,7 @@ fn rings_until<J: Naming, R: Clock>(
         if writes.count.load(Ordering::SeqCst) >= wanted {
             return true;
         }
-        hub.ring();
+        hub.ring(rt);
         thread::sleep(rt, Duration::from_millis(1));
     }
     false

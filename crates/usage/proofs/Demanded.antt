@@ -19,10 +19,10 @@ use Rattle.clap.specs.Kinds.{or_else}
 use Rattle.clap.proofs.ValueTestLemmas.{accepts-Accepts}
 use Rattle.clap.specs.declared.error.kind.ErrorKind.TheVariants.{DisplayHelp, InvalidSubcommand}
 use Rattle.clap.specs.declared.builder.value_parser.ValueParser.TheVariants as parser
-use Rattle.usage.specs.Usage.{program_app, init_app, check_app, run_app, propose_app, ask_app, status_app, dump_app, simulate_app, hear_app}
+use Rattle.usage.specs.Usage.{program_app, init_app, check_app, run_app, propose_app, ask_app, status_app, transcript_app, audit_app, dump_app, simulate_app, hear_app}
 use Rattle.usage.specs.Tasks.{AreFaultless, AskFor, HasFlag, HasNumberOption, IsAskedFor, MayHaveText, Names as NamesTask, WritesNumber}
 use Rattle.usage.specs.declared.command_line.Task.{Task}
-use Rattle.usage.specs.declared.command_line.Task.TheVariants.{Hear, Init, Check, Run, Propose, Ask, Status, Simulate, Dump}
+use Rattle.usage.specs.declared.command_line.Task.TheVariants.{Hear, Init, Check, Run, Propose, Ask, Status, Transcript, Audit, Simulate, Dump}
 use Rattle.usage.proofs.Walking.{StopOk, left_of, not_some, right_of, same_under, walk_ok}
 use Rattle.usage.proofs.Given.{IsSolid, given_in, second_none}
 
@@ -142,6 +142,24 @@ ask_demands words e =
     let question = has_number 16 65535 (codes "question") rows (omega arith) (given_in (built_at ask_app) words solid e _ (inr (inl refl)) refl) in
     (Ask (at_some_place address.0) question.0, (refl, address.1, question.1))
 
+transcript_demands : Demanding transcript_app
+transcript_demands words e =
+    let solid : IsSolid (built_at transcript_app) = record { each = refl; apart = refl; demands = refl } in
+    let rows = rows_after (built_at transcript_app).rules [] words in
+    let address = given_in (built_at transcript_app) words solid e _ (inl refl) refl in
+    let question = has_number 16 65535 (codes "question") rows (omega arith) (given_in (built_at transcript_app) words solid e _ (inr (inl refl)) refl) in
+    (Transcript (at_some_place address.0) question.0, (refl, address.1, question.1))
+
+audit_demands : Demanding audit_app
+audit_demands words e =
+    let solid : IsSolid (built_at audit_app) = record { each = refl; apart = refl; demands = refl } in
+    let rows = rows_after (built_at audit_app).rules [] words in
+    let file = given_in (built_at audit_app) words solid e _ (inl refl) refl in
+    let n = has_number 16 65535 (codes "n") rows (omega arith) (given_in (built_at audit_app) words solid e _ (inr (inl refl)) refl) in
+    let t = has_number 16 65535 (codes "t") rows (omega arith) (given_in (built_at audit_app) words solid e _ (inr (inr (inl refl))) refl) in
+    let questions = has_number 16 65535 (codes "questions") rows (omega arith) (given_in (built_at audit_app) words solid e _ (inr (inr (inr (inl refl)))) refl) in
+    (Audit (at_some_place file.0) n.0 t.0 questions.0, (refl, file.1, n.1, t.1, questions.1))
+
 propose_demands : Demanding propose_app
 propose_demands words e =
     let solid : IsSolid (built_at propose_app) = record { each = refl; apart = refl; demands = refl } in
@@ -215,34 +233,7 @@ no_help s is q answers other e =
     plain false f = f
 
 all_items : Items (built program_app).subs
-all_items = (
-  (λ q answers other e. init_demands q.1 e),
-  (
-    (λ q answers other e. check_demands q.1 e),
-    (
-      (λ q answers other e. run_demands q.1 e),
-      (
-        (λ q answers other e. propose_demands q.1 e),
-        (
-          (λ q answers other e. ask_demands q.1 e),
-          (
-            (λ q answers other e. status_demands q.1 e),
-            (
-              (λ q answers other e. dump_demands q.1 e),
-              (
-                (λ q answers other e. simulate_demands q.1 e),
-                (
-                  (λ q answers other e. hear_demands q.1 e),
-                  (no_help _ refl, tt),
-                ),
-              ),
-            ),
-          ),
-        ),
-      ),
-    ),
-  ),
-)
+all_items = ((λ q answers other e. init_demands q.1 e), ((λ q answers other e. check_demands q.1 e), ((λ q answers other e. run_demands q.1 e), ((λ q answers other e. propose_demands q.1 e), ((λ q answers other e. ask_demands q.1 e), ((λ q answers other e. status_demands q.1 e), ((λ q answers other e. transcript_demands q.1 e), ((λ q answers other e. audit_demands q.1 e), ((λ q answers other e. dump_demands q.1 e), ((λ q answers other e. simulate_demands q.1 e), ((λ q answers other e. hear_demands q.1 e), (no_help _ refl, tt))))))))))))
 
 entered_asks : (subs : List Shape) (q : Text × List Text) (found : Option Shape) → find (λ (s : Shape). answers_to q.0 (label_of s)) subs ≡ found
     → Items subs → bytes_eq q.0 (codes "help") ≡ false

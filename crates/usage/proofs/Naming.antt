@@ -10,7 +10,7 @@ use Rattle.clap.specs.declared.parser.matches.ArgMatches.{ArgMatches}
 use Rattle.usage.specs.Tasks.{IsAskedFor, Names, SaysVerbose}
 use Rattle.usage.proofs.Reading.{not_none, some_is}
 use Rattle.usage.specs.declared.command_line.Task.{Task}
-use Rattle.usage.specs.declared.command_line.Task.TheVariants.{Hear, Init, Check, Run, Propose, Ask, Status, Simulate, Dump}
+use Rattle.usage.specs.declared.command_line.Task.TheVariants.{Hear, Init, Check, Run, Propose, Ask, Status, Transcript, Audit, Simulate, Dump}
 
 -- two texts differ where the test says so
 pub apart : (a b : Text) → bytes_eq a b ≡ false → a ≡ b → ⊥
@@ -26,6 +26,8 @@ only_hear rows none (Run settings stay log any_host) named = apart (codes "hear"
 only_hear rows none (Propose address question bit) named = apart (codes "hear") (codes "propose") refl named.0
 only_hear rows none (Ask address question) named = apart (codes "hear") (codes "ask") refl named.0
 only_hear rows none (Status address) named = apart (codes "hear") (codes "status") refl named.0
+only_hear rows none (Transcript address question) named = apart (codes "hear") (codes "transcript") refl named.0
+only_hear rows none (Audit file n t questions) named = apart (codes "hear") (codes "audit") refl named.0
 only_hear rows none (Simulate script trace chart) named = apart (codes "hear") (codes "simulate") refl named.0
 only_hear rows none (Dump journal count) named = apart (codes "hear") (codes "dump") refl named.0
 
@@ -37,6 +39,8 @@ only_init rows none (Run settings stay log any_host) named = apart (codes "init"
 only_init rows none (Propose address question bit) named = apart (codes "init") (codes "propose") refl named.0
 only_init rows none (Ask address question) named = apart (codes "init") (codes "ask") refl named.0
 only_init rows none (Status address) named = apart (codes "init") (codes "status") refl named.0
+only_init rows none (Transcript address question) named = apart (codes "init") (codes "transcript") refl named.0
+only_init rows none (Audit file n t questions) named = apart (codes "init") (codes "audit") refl named.0
 only_init rows none (Simulate script trace chart) named = apart (codes "init") (codes "simulate") refl named.0
 only_init rows none (Dump journal count) named = apart (codes "init") (codes "dump") refl named.0
 
@@ -48,6 +52,8 @@ only_check rows none (Run settings stay log any_host) named = apart (codes "chec
 only_check rows none (Propose address question bit) named = apart (codes "check") (codes "propose") refl named.0
 only_check rows none (Ask address question) named = apart (codes "check") (codes "ask") refl named.0
 only_check rows none (Status address) named = apart (codes "check") (codes "status") refl named.0
+only_check rows none (Transcript address question) named = apart (codes "check") (codes "transcript") refl named.0
+only_check rows none (Audit file n t questions) named = apart (codes "check") (codes "audit") refl named.0
 only_check rows none (Simulate script trace chart) named = apart (codes "check") (codes "simulate") refl named.0
 only_check rows none (Dump journal count) named = apart (codes "check") (codes "dump") refl named.0
 
@@ -59,6 +65,8 @@ only_run rows none (Run settings stay log any_host) named = none settings stay l
 only_run rows none (Propose address question bit) named = apart (codes "run") (codes "propose") refl named.0
 only_run rows none (Ask address question) named = apart (codes "run") (codes "ask") refl named.0
 only_run rows none (Status address) named = apart (codes "run") (codes "status") refl named.0
+only_run rows none (Transcript address question) named = apart (codes "run") (codes "transcript") refl named.0
+only_run rows none (Audit file n t questions) named = apart (codes "run") (codes "audit") refl named.0
 only_run rows none (Simulate script trace chart) named = apart (codes "run") (codes "simulate") refl named.0
 only_run rows none (Dump journal count) named = apart (codes "run") (codes "dump") refl named.0
 
@@ -70,6 +78,8 @@ only_propose rows none (Run settings stay log any_host) named = apart (codes "pr
 only_propose rows none (Propose address question bit) named = none address question bit named
 only_propose rows none (Ask address question) named = apart (codes "propose") (codes "ask") refl named.0
 only_propose rows none (Status address) named = apart (codes "propose") (codes "status") refl named.0
+only_propose rows none (Transcript address question) named = apart (codes "propose") (codes "transcript") refl named.0
+only_propose rows none (Audit file n t questions) named = apart (codes "propose") (codes "audit") refl named.0
 only_propose rows none (Simulate script trace chart) named = apart (codes "propose") (codes "simulate") refl named.0
 only_propose rows none (Dump journal count) named = apart (codes "propose") (codes "dump") refl named.0
 
@@ -81,6 +91,8 @@ only_ask rows none (Run settings stay log any_host) named = apart (codes "ask") 
 only_ask rows none (Propose address question bit) named = apart (codes "ask") (codes "propose") refl named.0
 only_ask rows none (Ask address question) named = none address question named
 only_ask rows none (Status address) named = apart (codes "ask") (codes "status") refl named.0
+only_ask rows none (Transcript address question) named = apart (codes "ask") (codes "transcript") refl named.0
+only_ask rows none (Audit file n t questions) named = apart (codes "ask") (codes "audit") refl named.0
 only_ask rows none (Simulate script trace chart) named = apart (codes "ask") (codes "simulate") refl named.0
 only_ask rows none (Dump journal count) named = apart (codes "ask") (codes "dump") refl named.0
 
@@ -92,8 +104,36 @@ only_status rows none (Run settings stay log any_host) named = apart (codes "sta
 only_status rows none (Propose address question bit) named = apart (codes "status") (codes "propose") refl named.0
 only_status rows none (Ask address question) named = apart (codes "status") (codes "ask") refl named.0
 only_status rows none (Status address) named = none address named
+only_status rows none (Transcript address question) named = apart (codes "status") (codes "transcript") refl named.0
+only_status rows none (Audit file n t questions) named = apart (codes "status") (codes "audit") refl named.0
 only_status rows none (Simulate script trace chart) named = apart (codes "status") (codes "simulate") refl named.0
 only_status rows none (Dump journal count) named = apart (codes "status") (codes "dump") refl named.0
+
+pub only_transcript : (rows : List Row) → ((address : Bor Text) (question : ℕ) → Names (codes "transcript") rows (Transcript address question) → ⊥) → (task : Task) → Names (codes "transcript") rows task → ⊥
+only_transcript rows none (Hear n t questions me) named = apart (codes "transcript") (codes "hear") refl named.0
+only_transcript rows none (Init settings) named = apart (codes "transcript") (codes "init") refl named.0
+only_transcript rows none (Check settings) named = apart (codes "transcript") (codes "check") refl named.0
+only_transcript rows none (Run settings stay log any_host) named = apart (codes "transcript") (codes "run") refl named.0
+only_transcript rows none (Propose address question bit) named = apart (codes "transcript") (codes "propose") refl named.0
+only_transcript rows none (Ask address question) named = apart (codes "transcript") (codes "ask") refl named.0
+only_transcript rows none (Status address) named = apart (codes "transcript") (codes "status") refl named.0
+only_transcript rows none (Transcript address question) named = none address question named
+only_transcript rows none (Audit file n t questions) named = apart (codes "transcript") (codes "audit") refl named.0
+only_transcript rows none (Simulate script trace chart) named = apart (codes "transcript") (codes "simulate") refl named.0
+only_transcript rows none (Dump journal count) named = apart (codes "transcript") (codes "dump") refl named.0
+
+pub only_audit : (rows : List Row) → ((file : Bor Text) (n : ℕ) (t : ℕ) (questions : ℕ) → Names (codes "audit") rows (Audit file n t questions) → ⊥) → (task : Task) → Names (codes "audit") rows task → ⊥
+only_audit rows none (Hear n t questions me) named = apart (codes "audit") (codes "hear") refl named.0
+only_audit rows none (Init settings) named = apart (codes "audit") (codes "init") refl named.0
+only_audit rows none (Check settings) named = apart (codes "audit") (codes "check") refl named.0
+only_audit rows none (Run settings stay log any_host) named = apart (codes "audit") (codes "run") refl named.0
+only_audit rows none (Propose address question bit) named = apart (codes "audit") (codes "propose") refl named.0
+only_audit rows none (Ask address question) named = apart (codes "audit") (codes "ask") refl named.0
+only_audit rows none (Status address) named = apart (codes "audit") (codes "status") refl named.0
+only_audit rows none (Transcript address question) named = apart (codes "audit") (codes "transcript") refl named.0
+only_audit rows none (Audit file n t questions) named = none file n t questions named
+only_audit rows none (Simulate script trace chart) named = apart (codes "audit") (codes "simulate") refl named.0
+only_audit rows none (Dump journal count) named = apart (codes "audit") (codes "dump") refl named.0
 
 pub only_simulate : (rows : List Row) → ((script : Bor Text) (trace : Option (Bor Text)) (chart : Option (Bor Text)) → Names (codes "simulate") rows (Simulate script trace chart) → ⊥) → (task : Task) → Names (codes "simulate") rows task → ⊥
 only_simulate rows none (Hear n t questions me) named = apart (codes "simulate") (codes "hear") refl named.0
@@ -103,6 +143,8 @@ only_simulate rows none (Run settings stay log any_host) named = apart (codes "s
 only_simulate rows none (Propose address question bit) named = apart (codes "simulate") (codes "propose") refl named.0
 only_simulate rows none (Ask address question) named = apart (codes "simulate") (codes "ask") refl named.0
 only_simulate rows none (Status address) named = apart (codes "simulate") (codes "status") refl named.0
+only_simulate rows none (Transcript address question) named = apart (codes "simulate") (codes "transcript") refl named.0
+only_simulate rows none (Audit file n t questions) named = apart (codes "simulate") (codes "audit") refl named.0
 only_simulate rows none (Simulate script trace chart) named = none script trace chart named
 only_simulate rows none (Dump journal count) named = apart (codes "simulate") (codes "dump") refl named.0
 
@@ -114,6 +156,8 @@ only_dump rows none (Run settings stay log any_host) named = apart (codes "dump"
 only_dump rows none (Propose address question bit) named = apart (codes "dump") (codes "propose") refl named.0
 only_dump rows none (Ask address question) named = apart (codes "dump") (codes "ask") refl named.0
 only_dump rows none (Status address) named = apart (codes "dump") (codes "status") refl named.0
+only_dump rows none (Transcript address question) named = apart (codes "dump") (codes "transcript") refl named.0
+only_dump rows none (Audit file n t questions) named = apart (codes "dump") (codes "audit") refl named.0
 only_dump rows none (Simulate script trace chart) named = apart (codes "dump") (codes "simulate") refl named.0
 only_dump rows none (Dump journal count) named = none journal count named
 

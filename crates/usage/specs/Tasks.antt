@@ -8,7 +8,7 @@ use Rattle.clap.specs.Simple.{matches_of, subcommand_of}
 use Rattle.clap.specs.Faults.{fault_of}
 use Rattle.usage.specs.Usage.{program_app}
 use Rattle.usage.specs.declared.command_line.Task.{Task}
-use Rattle.usage.specs.declared.command_line.Task.TheVariants.{Hear, Init, Check, Run, Propose, Ask, Status, Simulate, Dump}
+use Rattle.usage.specs.declared.command_line.Task.TheVariants.{Hear, Init, Check, Run, Propose, Ask, Status, Transcript, Audit, Simulate, Dump}
 
 -- the text writes the number in decimal digits, behind a plus or none, and it has at most that many bits
 abbrev pub WritesNumber : ℕ → Text → ℕ → Type 0
@@ -45,6 +45,11 @@ Names name rows (Propose address question bit) = (name ≡ codes "propose")
 Names name rows (Ask address question) = (name ≡ codes "ask") × HasText (codes "address") rows address.now
     × HasNumberOption 16 (codes "question") rows question
 Names name rows (Status address) = (name ≡ codes "status") × HasText (codes "address") rows address.now
+Names name rows (Transcript address question) = (name ≡ codes "transcript") × HasText (codes "address") rows address.now
+    × HasNumberOption 16 (codes "question") rows question
+Names name rows (Audit file n t questions) = (name ≡ codes "audit") × HasText (codes "file") rows file.now
+    × HasNumberOption 16 (codes "n") rows n × HasNumberOption 16 (codes "t") rows t
+    × HasNumberOption 16 (codes "questions") rows questions
 Names name rows (Simulate script trace chart) = (name ≡ codes "simulate") × HasText (codes "script") rows script.now
     × MayHaveText (codes "trace") rows (option_map (λ path. path.now) trace)
     × MayHaveText (codes "chart") rows (option_map (λ path. path.now) chart)

@@ -86,6 +86,14 @@ ask_app = taking (codes "ask") desk_rules
 abbrev pub status_app : App
 status_app = taking (codes "status") (address_rule ∷ [])
 
+-- `bracha transcript ADDRESS Q`
+abbrev pub transcript_app : App
+transcript_app = taking (codes "transcript") desk_rules
+
+-- `bracha audit FILE --n N --t T --questions Q`
+abbrev pub audit_app : App
+audit_app = taking (codes "audit") (word_rule (codes "file") ∷ size_rules)
+
 -- `bracha dump [--count] JOURNAL`
 abbrev pub dump_app : App
 dump_app = taking (codes "dump") (word_rule (codes "journal") ∷ flag_rule (codes "count") ∷ [])
@@ -111,7 +119,7 @@ bare_app = record { top = bare_shape; subs = [] }
 
 -- the commands, in the order of the help
 abbrev pub commands : List App
-commands = init_app ∷ check_app ∷ run_app ∷ propose_app ∷ ask_app ∷ status_app ∷ dump_app ∷ simulate_app ∷ hear_app ∷ []
+commands = init_app ∷ check_app ∷ run_app ∷ propose_app ∷ ask_app ∷ status_app ∷ transcript_app ∷ audit_app ∷ dump_app ∷ simulate_app ∷ hear_app ∷ []
 
 -- `bracha [--verbose] COMMAND [--verbose] ..`
 abbrev pub program_app : App

@@ -1,8 +1,8 @@
 //! The words of the command line.
 
 ghost use Rattle.usage.specs.Tasks.{AreVerbose, AskFor, HasFlag, HasNumberOption, IsAskedFor, IsVerbose, Names, SaysVerbose, rows_in};
-ghost use Rattle.usage.specs.Usage.{Builds, address_rule, as_u16, as_u8, ask_app, bare_app, check_app, dump_app, file_rule, flag_rule, hear_app, init_app, number_rule, program_app};
-ghost use Rattle.usage.specs.Usage.{propose_app, run_app, simulate_app, size_rules, status_app, desk_rules, verbose_rule, word_rule, with_rules};
+ghost use Rattle.usage.specs.Usage.{Builds, address_rule, as_u16, as_u8, ask_app, audit_app, bare_app, check_app, dump_app, file_rule, flag_rule, hear_app, init_app, number_rule, program_app};
+ghost use Rattle.usage.specs.Usage.{propose_app, run_app, simulate_app, size_rules, status_app, transcript_app, desk_rules, verbose_rule, word_rule, with_rules};
 ghost use Rattle.clap.specs.Words.{App, FailsBy, Rule, app_of, fault_of, first_of, new_app, rule_of, subcommand_rows_of, with_rule, with_subcommand};
 ghost use Rattle.std.specs.Prelude.{◌≡◌, ◌↔◌, IfOk, IfSome, IsNone, IsTrue, Some, codes, map, option_map, ℕ};
 ghost use Rattle.usage.specs.declared.command_line.Task.{Task};
@@ -52,6 +52,18 @@ pub enum Task<'a> {
     /// Asks the member whose desk is at this address whether it is up.
     Status {
         address: &'a str,
+    },
+    /// Asks the member whose desk is at this address for what it heard of a question that is decided.
+    Transcript {
+        address: &'a str,
+        question: u16,
+    },
+    /// Says whether the transcript in this file is proof of its decision, for a cluster of that size.
+    Audit {
+        file: &'a str,
+        n: u16,
+        t: u16,
+        questions: u16,
     },
     /// Runs the script in this file, and writes a trace and a chart of the run into those files.
     Simulate {
@@ -268,6 +280,27 @@ fn status<'a>(alloc: Global) -> Built<'a>
     with_arg(named(alloc, "status", about, examples), address(alloc))
 }
 
+fn transcript<'a>(alloc: Global) -> Built<'a>
+    ensures { Builds transcript_app result }
+{
+    let about = "Asks a member that runs for what it heard of a question that is decided";
+    let examples =
+        "It prints `transcript Q bit B count C` and C lines `FROM HEX`, which `bracha audit` reads, or what is wrong. THIN: it was decided in an earlier life of the member, and what was heard since is no proof.\n\nExample, where member 1 of examples/cluster runs:\n  bracha transcript 127.0.0.1:47111 0 > decision.txt";
+    with_desk(alloc, named(alloc, "transcript", about, examples))
+}
+
+fn audit<'a>(alloc: Global) -> Built<'a>
+    ensures { Builds audit_app result }
+{
+    let about = "Says whether a transcript is proof of its decision: yes or no";
+    let examples =
+        "The statements are not signed: it proves what follows from them, not that they were sent.\n\nExample, with what `bracha transcript` printed:\n  bracha audit decision.txt --n 4 --t 1 --questions 16";
+    let command = named(alloc, "audit", about, examples);
+    let help = "The file of the transcript";
+    let command = with_arg(command, word(alloc, "file", "FILE", help));
+    with_size(alloc, command)
+}
+
 fn dump<'a>(alloc: Global) -> Built<'a>
     ensures { Builds dump_app result }
 {
@@ -329,6 +362,8 @@ fn program<'a>(alloc: Global) -> Built<'a>
     let program = with_command(alloc, program, propose(alloc));
     let program = with_command(alloc, program, ask(alloc));
     let program = with_command(alloc, program, status(alloc));
+    let program = with_command(alloc, program, transcript(alloc));
+    let program = with_command(alloc, program, audit(alloc));
     let program = with_command(alloc, program, dump(alloc));
     let program = with_command(alloc, program, simulate(alloc));
     with_command(alloc, program, hear(alloc))
@@ -441,6 +476,34 @@ fn status_of<'a>(options: &ArgMatches<'a>) -> Option<Task<'a>>
     })
 }
 
+/// The values of `transcript`'s words.
+fn transcript_of<'a>(options: &ArgMatches<'a>) -> Option<Task<'a>>
+    ensures some { IfSome result (Names (codes "transcript") (rows_in options.now)) }
+    ensures none { IsNone result → (task : Task) → Names (codes "transcript") (rows_in options.now) task → ⊥ }
+{
+    Some(Task::Transcript {
+        address: text_of(options, "address")?,
+        question: u16_of(options, "question")?,
+    })
+}
+
+/// The values of `audit`'s words.
+fn audit_of<'a>(options: &ArgMatches<'a>) -> Option<Task<'a>>
+    ensures some { IfSome result (Names (codes "audit") (rows_in options.now)) }
+    ensures none { IsNone result → (task : Task) → Names (codes "audit") (rows_in options.now) task → ⊥ }
+{
+    let file = text_of(options, "file")?;
+    let n = u16_of(options, "n")?;
+    let t = u16_of(options, "t")?;
+    let questions = u16_of(options, "questions")?;
+    Some(Task::Audit {
+        file,
+        n,
+        t,
+        questions,
+    })
+}
+
 /// The values of `dump`'s words.
 fn dump_of<'a>(options: &ArgMatches<'a>) -> Option<Task<'a>>
     ensures some { IfSome result (Names (codes "dump") (rows_in options.now)) }
@@ -477,6 +540,8 @@ fn named_task<'a>(name: &str, options: &ArgMatches<'a>) -> Option<Task<'a>>
         "propose" => propose_of(options),
         "ask" => ask_of(options),
         "status" => status_of(options),
+        "transcript" => transcript_of(options),
+        "audit" => audit_of(options),
         "dump" => dump_of(options),
         "simulate" => simulate_of(options),
         _ => None,

@@ -10,4 +10,4 @@ mod spaces;
 pub use hexes::{byte, bytes};
 pub use numbers::{is, number, number8, number16};
 pub use sizes::size_from;
-pub use spaces::{first_space, split_at_space};
+pub use spaces::{behind, first_space, split_at_space};

@@ -1,8 +1,10 @@
 //! Words with a space between them.
 
-ghost use Rattle.std.specs.Prelude.{◌≡◌, ◌<◌, ◌∷◌, ◌++◌, length, IfSome, MatchOption};
+ghost use Rattle.std.specs.Prelude.{ℕ, ◌≡◌, ◌<◌, ◌∷◌, ◌++◌, List, length, IfSome, MatchOption};
 ghost use Rattle.std.specs.List.{position_from};
 ghost use Rattle.words.specs.Spaces.{is_space, NoSpace};
+
+use crate::numbers::is;
 
 /// Where the first space stands.
 pub fn first_space(line: &[u8]) -> Option<usize>
@@ -19,5 +21,21 @@ pub fn split_at_space(line: &[u8]) -> Option<(&[u8], &[u8])>
     match first_space(line) {
         Some(space) => Some((&line[..space], &line[space + 1..])),
         None => None,
+    }
+}
+
+/// What stands behind these words, if the text begins with them.
+pub fn behind<'a>(text: &'a [u8], words: &str) -> Option<&'a [u8]>
+    ensures some { IfSome result (λ rest. text.now ≡ words.now ++ rest.now) }
+    ensures exact { (rest : List ℕ) → text.now ≡ words.now ++ rest → MatchOption result ⊥ (λ found. found.now ≡ rest) }
+{
+    let length = words.len();
+    if text.len() < length {
+        return None;
+    }
+    if is(&text[..length], words) {
+        Some(&text[length..])
+    } else {
+        None
     }
 }

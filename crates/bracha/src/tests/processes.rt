@@ -30,9 +30,9 @@ fn a_process(rt: HostRuntime) -> Result<(), Fail> {
         return Ok(());
     };
     let _sockets = no_sockets();
-    let _held = hold_streams(&rt)?;
+    let held = hold_streams(&rt)?;
     let words: Vec<&str> = words.as_str().split(' ').collect(rt.alloc())?;
-    let status = match run(&rt, &rt, words.as_slice()) {
+    let status = match run(&rt, &rt, &held, words.as_slice()) {
         Ok(status) => status,
         Err(failure) => {
             print_failure(&rt, &failure)?;
@@ -377,7 +377,7 @@ fn a_second_line_names_the_thing(rt: HostRuntime) -> Result<(), Fail> {
         ),
         Names(
             "check bracha_tests_more_key.toml",
-            "bracha: settings cluster\nbracha_tests_more_key.toml:3: cluster\n",
+            "bracha: settings cluster\nbracha_tests_more_key.toml:3: cluster: must be an integer from 0 on\n",
         ),
         Names(
             "simulate bracha_tests_more.script",
@@ -446,6 +446,10 @@ fn a_second_line_shows_the_bytes_of_a_journal(rt: HostRuntime) -> Result<(), Fai
     remove(&rt, &[path, journal])
 }
 
+/// The journal's header with an echo in a batch behind it.
+const ONE: [u8; 35] =
+    *b"BRACHAJ1\0\0\0\0\0\0\0\x07\x04\x01\0\x01\x01\0\0\0\x01\0\x01\x02\0\0\0\x01\x01\x01\0";
+
 #[test]
 fn a_second_line_shows_the_front_of_a_journal(rt: HostRuntime) -> Result<(), Fail> {
     let (path, other, journal) = (
@@ -459,15 +463,150 @@ fn a_second_line_shows_the_front_of_a_journal(rt: HostRuntime) -> Result<(), Fai
         Put(journal, &EMPTY),
         Names(
             "init bracha_tests_front.toml",
-            "bracha: journal NotEmpty\nbracha_tests_front.journal: byte 0: bytes 42 52 41 43 48 41 4a 31 00 00 00 00 00 00 00 07 ..: journal NotEmpty\n",
+            "bracha: journal NotEmpty\nbracha_tests_front.journal: the journal of member 1 of cluster 7 with 0 records\n",
         ),
         Names(
             "check bracha_tests_front_other.toml",
-            "bracha: journal OtherHeader\nbracha_tests_front.journal: byte 0: bytes 42 52 41 43 48 41 4a 31 00 00 00 00 00 00 00 07 ..: journal OtherHeader\n",
+            "bracha: journal OtherHeader\nbracha_tests_front.journal: of cluster 7 n 4 t 1 questions 1 member 1, and not of cluster 8 n 4 t 1 questions 1 member 1: cluster\n",
+        ),
+        Names(
+            "run bracha_tests_front_other.toml",
+            "bracha: journal OtherHeader\nbracha_tests_front.journal: of cluster 7 n 4 t 1 questions 1 member 1, and not of cluster 8 n 4 t 1 questions 1 member 1: cluster\n",
+        ),
+        Put(journal, &ONE),
+        Names(
+            "init bracha_tests_front.toml",
+            "bracha: journal NotEmpty\nbracha_tests_front.journal: the journal of member 1 of cluster 7 with 1 record\n",
+        ),
+        Put(journal, &ALONE),
+        Names(
+            "check bracha_tests_front_other.toml",
+            "bracha: journal OtherHeader\nbracha_tests_front.journal: of cluster 7 n 1 t 0 questions 1 member 0, and not of cluster 8 n 4 t 1 questions 1 member 1: cluster n t member\n",
+        ),
+        Put(journal, b"no journal\n"),
+        Names(
+            "init bracha_tests_front.toml",
+            "bracha: journal NotEmpty\nbracha_tests_front.journal: byte 0: bytes 6e 6f 20 6a 6f 75 72 6e 61 6c 0a: journal NotEmpty\n",
         ),
     ];
     play(&rt, &steps)?;
     remove(&rt, &[path, other, journal])
+}
+
+/// What is no regular file is not read for a second line: this one has no end.
+#[test]
+fn a_second_line_reads_no_device(rt: HostRuntime) -> Result<(), Fail> {
+    let path = "bracha_tests_device.toml";
+    let lines = "bracha: journal BadHeader\n/dev/zero: journal BadHeader\n";
+    let steps = [
+        PutSettings(path, "/dev/zero", 7),
+        Names("dump /dev/zero", lines),
+        Names("check bracha_tests_device.toml", lines),
+    ];
+    play(&rt, &steps)?;
+    remove(&rt, &[path])
+}
+
+/// Settings of which a second line tells: their numbers, their peers, what stands behind them, and both lines.
+#[derive(Clone, Copy)]
+struct Wrong<'a>(&'a str, &'a str, &'a str, &'a str);
+
+/// Whether both lines are told of the settings.
+fn is_asked(rt: &HostRuntime, row: Wrong) -> Result<bool, Fail> {
+    let Wrong(numbers, peers, rest, lines) = row;
+    let text = format!(in rt.alloc();
+        "cluster = 7\n{numbers}journal = 'a'\npeers = {peers}\n{rest}"
+    )?;
+    put(rt, "bracha_tests_asked.toml", text.as_str().as_bytes())?;
+    has_second_line(rt, "check bracha_tests_asked.toml", lines)
+}
+
+#[test]
+fn a_second_line_says_what_is_asked(rt: HostRuntime) -> Result<(), Fail> {
+    let good = "n = 4\nt = 1\nquestions = 1\nme = 1\n";
+    let four = "['127.0.0.1:1', '127.0.0.1:2', '127.0.0.1:3', '127.0.0.1:4']";
+    let end =
+        "desk = '127.0.0.1:5'\nseed = '0000000000000000000000000000000000000000000000000000000000000001'\n";
+    for (at, row) in [
+        Wrong(
+            "n = 33\nt = 1\nquestions = 1\nme = 1\n",
+            four,
+            end,
+            "bracha: size TooManyMembers\nbracha_tests_asked.toml:2: n: must be an integer from 1 to 32\n",
+        ),
+        Wrong(
+            "n = 'four'\n",
+            four,
+            end,
+            "bracha: settings n\nbracha_tests_asked.toml:2: n: must be an integer from 1 to 32\n",
+        ),
+        Wrong(
+            "n = 4\nt = 2\nquestions = 1\nme = 1\n",
+            four,
+            end,
+            "bracha: size TooManyLiars\nbracha_tests_asked.toml:3: t: must be an integer from 0 on and below a third of n\n",
+        ),
+        Wrong(
+            "n = 4\nt = 1\nquestions = 0\nme = 1\n",
+            four,
+            end,
+            "bracha: size NoQuestions\nbracha_tests_asked.toml:4: questions: must be an integer from 1 to 256\n",
+        ),
+        Wrong(
+            "n = 4\nt = 1\nquestions = 1\nme = 4\n",
+            four,
+            end,
+            "bracha: settings me\nbracha_tests_asked.toml:5: me: must be an integer from 0 on and below n\n",
+        ),
+        Wrong(
+            good,
+            "['127.0.0.1:1', '127.0.0.1:2', '127.0.0.1', 'x']",
+            end,
+            "bracha: settings peers\nbracha_tests_asked.toml:7: peers: entry 2 must be a text HOST:PORT\n",
+        ),
+        Wrong(
+            good,
+            "['127.0.0.1:1', '127.0.0.1:2', '127.0.0.1:3']",
+            end,
+            "bracha: settings peers\nbracha_tests_asked.toml:7: peers: there are 3 entries, and must be 4\n",
+        ),
+        Wrong(
+            good,
+            "'127.0.0.1:1'",
+            end,
+            "bracha: settings peers\nbracha_tests_asked.toml:7: peers: must be an array of n texts HOST:PORT\n",
+        ),
+        Wrong(
+            good,
+            four,
+            "desk = 'here'\n",
+            "bracha: settings desk\nbracha_tests_asked.toml:8: desk: must be a text HOST:PORT\n",
+        ),
+        Wrong(
+            good,
+            four,
+            "desk = '127.0.0.1:5'\nseed = '5eed'\n",
+            "bracha: settings seed\nbracha_tests_asked.toml:9: seed: there are 4 hexadecimal digits, and must be 64\n",
+        ),
+        Wrong(
+            good,
+            four,
+            "desk = '127.0.0.1:5'\nseed = '5eedx00000000000000000000000000000000000000000000000000000000001'\n",
+            "bracha: settings seed\nbracha_tests_asked.toml:9: seed: there are 64 bytes, and must be 64 hexadecimal digits: byte 4 is none\n",
+        ),
+        Wrong(
+            good,
+            four,
+            "desk = '127.0.0.1:5'\n",
+            "bracha: settings seed\nbracha_tests_asked.toml: seed: must be a text of 64 hexadecimal digits\n",
+        ),
+    ]
+    .into_iter()
+    .enumerate()
+    {
+        assert!(rt; is_asked(&rt, row)?, "row {at}");
+    }
+    remove(&rt, &["bracha_tests_asked.toml"])
 }
 
 /// Starts the program with that input, and keeps what it prints and says.
@@ -494,6 +633,75 @@ fn a_desk_that_hangs_up_is_no_answer(rt: HostRuntime) -> Result<(), Fail> {
     assert!(rt; printed.as_str().contains("status 1\n"), "{printed}");
     let lines = "bracha: no answer\n127.0.0.1:47137: connected, but no whole reply came\n";
     assert!(rt; said.as_str().contains(lines), "{said}");
+    Ok(())
+}
+
+/// Connections to the desk, until no more are made before it takes one.
+fn queue_up(rt: &HostRuntime, desk: &SocketAddr) -> Result<Vec<TcpStream>, Fail> {
+    let mut queue = Vec::new(rt.alloc());
+    for _ in 0..512u32 {
+        match TcpStream::connect_timeout(rt, desk, Duration::from_millis(100)) {
+            Ok(socket) => queue.push(socket)?,
+            Err(_) => return Ok(queue),
+        }
+    }
+    Err("a queue without an end")?
+}
+
+/// The connection behind so many others.
+fn last_taken(desk: &TcpListener, others: usize) -> Result<TcpStream, Fail> {
+    for _ in 0..others {
+        let _ = desk.accept()?;
+    }
+    let (last, _) = desk.accept()?;
+    Ok(last)
+}
+
+/// A client waits longer than half a second until its connection is made, and then for the reply.
+#[test]
+fn a_slow_desk_is_waited_for(rt: HostRuntime) -> Result<(), Fail> {
+    let address = SocketAddr::new(IpAddr::V4(Ipv4Addr::new(127, 0, 0, 1)), 47135);
+    let desk = TcpListener::bind(&rt, address)?;
+    let queue = queue_up(&rt, &address)?;
+    let mut child = piped(&rt, "status 127.0.0.1:47135", Stdio::null())?;
+    thread::sleep(&rt, Duration::from_millis(500));
+    assert!(rt; child.try_wait()?.is_none(), "no connection, and no wait");
+    let mut client = last_taken(&desk, queue.len())?;
+    thread::sleep(&rt, Duration::from_millis(500));
+    client.write_all(b"UP 3 0\n")?;
+    let (printed, _) = texts(child.wait_with_output(rt.alloc())?)?;
+    assert!(rt;
+        printed.as_str().contains("UP 3 0\nstatus 0\n"),
+        "{printed}"
+    );
+    Ok(())
+}
+
+/// What holds the standard streams of a client that was started with all of them closed, and waits for a reply.
+fn held_streams(rt: &HostRuntime) -> Result<String, Fail> {
+    let script =
+        "\"$0\" tests::processes::a_process <&- >&- 2>&- & sleep 1; for n in 0 1 2; do readlink /proc/$!/fd/$n; done; kill $!";
+    let words = "bracha status 127.0.0.1:47134";
+    let (printed, _) = told_with(rt, shell(rt, script)?, WORDS, words)?;
+    Ok(printed)
+}
+
+/// A desk that takes connections and says nothing is waited for, but not for ever. None of a client's streams has the number
+/// of a standard stream.
+#[test]
+fn a_silent_desk_is_given_up(rt: HostRuntime) -> Result<(), Fail> {
+    let address = SocketAddr::new(IpAddr::V4(Ipv4Addr::new(127, 0, 0, 1)), 47134);
+    let _desk = TcpListener::bind(&rt, address)?;
+    let mut child = piped(&rt, "status 127.0.0.1:47134", Stdio::null())?;
+    let held = held_streams(&rt)?;
+    assert!(rt;
+        held.as_str() == "/dev/null\n/dev/null\n/dev/null\n",
+        "{held}"
+    );
+    let is_over = is_over(&rt, &mut child, 350)?;
+    let (_, said) = texts(child.wait_with_output(rt.alloc())?)?;
+    assert!(rt; is_over, "a client waits for ever");
+    assert!(rt; said.as_str().contains("bracha: no answer\n"), "{said}");
     Ok(())
 }
 
@@ -551,6 +759,12 @@ fn said_in_a_life(rt: &HostRuntime) -> Result<String, Fail> {
         want(prints(rt, words, said)?, "what the desk refuses")?;
     }
     thread::sleep(rt, Duration::from_millis(2500));
+    let last = "\n0 00080303000000020303\nstatus 0\n";
+    let shown = prints(rt, "transcript 127.0.0.1:47139 0", last)?;
+    want(shown, "a transcript to its last line")?;
+    let refused = "ERR 2 question\nstatus 1\n";
+    let shown = prints(rt, "transcript 127.0.0.1:47139 1", refused)?;
+    want(shown, "no transcript, and status 1")?;
     let (_, said) = texts(child.wait_with_output(rt.alloc())?)?;
     Ok(said)
 }
@@ -568,6 +782,9 @@ fn a_member_alone_tells_its_life(rt: HostRuntime) -> Result<(), Fail> {
     // In its next life the decision isn't told again.
     let (_, said) = told(&rt, "run --log bracha_tests_alone.toml")?;
     assert!(rt; said.as_str().contains("ready member 0\nend\n"), "{said}");
+    let warning = "bracha: --any-host is unsafe: any host may speak for any member\n";
+    let warned = Says("run --any-host bracha_tests_alone.toml", warning);
+    play(&rt, &[warned])?;
     remove(&rt, &[path, journal])
 }
 
@@ -624,6 +841,57 @@ fn a_member_that_stays_outlives_its_input(rt: HostRuntime) -> Result<(), Fail> {
     let (_, said) = texts(child.wait_with_output(rt.alloc())?)?;
     assert!(rt; said.as_str().contains("ready member 0\n"), "{said}");
     assert!(rt; !said.as_str().contains("end\n"), "{said}");
+    remove(&rt, &[path, journal])
+}
+
+/// The settings of member 0 of two, none of whom may lie.
+fn settings_of_two(rt: &HostRuntime, journal: &str) -> Result<String, Fail> {
+    Ok(format!(in rt.alloc();
+        "cluster = 7\nn = 2\nt = 0\nquestions = 1\nme = 0\njournal = '{journal}'\npeers = ['127.0.0.1:47132', '127.0.0.1:47133']\ndesk = '127.0.0.1:47134'\nseed = '0000000000000000000000000000000000000000000000000000000000000001'\n"
+    )?)
+}
+
+/// As a peer that has heard five statements of the member that dials it, which is stopped by that.
+fn welcome_ahead(peer: &TcpListener) -> Result<TcpStream, Fail> {
+    let (mut link, _) = peer.accept()?;
+    link.set_read_timeout(Some(Duration::from_secs(5)))?;
+    link.read_exact(&mut [0u8; 18])?;
+    link.write_all(&[0, 9, 2, 0, 0, 0, 0, 0, 0, 0, 5])?;
+    link.read_exact(&mut [0u8; 3])?;
+    Ok(link)
+}
+
+/// Whether the process ends within that many tenths of a second. One that doesn't is killed.
+fn is_over(rt: &HostRuntime, child: &mut Child, tenths: u32) -> Result<bool, Fail> {
+    for _ in 0..tenths {
+        if child.try_wait()?.is_some() {
+            return Ok(true);
+        }
+        thread::sleep(rt, Duration::from_millis(100));
+    }
+    child.kill()?;
+    Ok(false)
+}
+
+#[test]
+fn a_member_that_stays_ends_once_it_is_stopped(rt: HostRuntime) -> Result<(), Fail> {
+    let (path, journal) = ("bracha_tests_two.toml", "bracha_tests_two.journal");
+    let _ = fs::remove_file(&rt, journal);
+    put(
+        &rt,
+        path,
+        settings_of_two(&rt, journal)?.as_str().as_bytes(),
+    )?;
+    assert!(rt; prints(&rt, "init bracha_tests_two.toml", "status 0\n")?);
+    let address = SocketAddr::new(IpAddr::V4(Ipv4Addr::new(127, 0, 0, 1)), 47133);
+    let peer = TcpListener::bind(&rt, address)?;
+    let mut child = piped(&rt, "run --stay bracha_tests_two.toml", Stdio::null())?;
+    let _link = welcome_ahead(&peer)?;
+    let is_over = is_over(&rt, &mut child, 100)?;
+    let (printed, said) = texts(child.wait_with_output(rt.alloc())?)?;
+    assert!(rt; is_over, "a member that is stopped stays");
+    assert!(rt; printed.as_str().contains("status 1\n"), "{printed}");
+    assert!(rt; said.as_str().contains("bracha: forgotten\n"), "{said}");
     remove(&rt, &[path, journal])
 }
 
@@ -702,6 +970,82 @@ fn pages_go_into_their_files(rt: HostRuntime) -> Result<(), Fail> {
     ];
     play(&rt, &steps)?;
     remove(&rt, &[script, trace, chart])
+}
+
+#[test]
+fn a_long_script_is_read_to_its_end(rt: HostRuntime) -> Result<(), Fail> {
+    let path = "bracha_tests_long.script";
+    let mut script = Vec::new(rt.alloc());
+    script.extend_from_slice(b"n 1\nt 0\nquestions 1\nliars\nseed 1\n")?;
+    for _ in 0..100_000u32 {
+        script.extend_from_slice(b"#\n")?;
+    }
+    script.extend_from_slice(b"propose 0 0 1\n")?;
+    put(&rt, path, &script)?;
+    let run = Prints(
+        "simulate bracha_tests_long.script",
+        "events 1 skipped 0\nstatus 0\n",
+    );
+    play(&rt, &[run])?;
+    remove(&rt, &[path])
+}
+
+/// A transcript of a member by itself, after three statements.
+const PROOF: &str =
+    "transcript 0 bit 1 count 3\n0 00080303000000010101\n0 00080303000000010201\n0 00080303000000010303\n";
+
+/// One of the same bit, which too little backs.
+const NO_PROOF: &str =
+    "transcript 0 bit 1 count 2\n0 00080303000000010101\n0 00080303000000010303\n";
+
+#[test]
+fn an_audit_ends_by_its_answer(rt: HostRuntime) -> Result<(), Fail> {
+    let path = "bracha_tests_audit.txt";
+    let words = "audit bracha_tests_audit.txt --n 1 --t 0 --questions 1";
+    let steps = [
+        Put(path, PROOF.as_bytes()),
+        Prints(words, "yes\nstatus 0\n"),
+        Put(path, NO_PROOF.as_bytes()),
+        Prints(words, "no\nstatus 1\n"),
+        Put(path, b"transcript 0 bit 1 count 1\n0 0\n"),
+        Names(words, "bracha: line 2\nbracha_tests_audit.txt:2: 0 0\n"),
+    ];
+    play(&rt, &steps)?;
+    remove(&rt, &[path])
+}
+
+/// Whether the file comes to have this within five seconds.
+fn comes_to_have(rt: &HostRuntime, path: &str, text: &str) -> Result<bool, Fail> {
+    for _ in 0..50u32 {
+        thread::sleep(rt, Duration::from_millis(100));
+        let bytes = fs::read(rt, path)?;
+        if String::from_utf8(bytes)
+            .ok()
+            .ok_or("text")?
+            .as_str()
+            .contains(text)
+        {
+            return Ok(true);
+        }
+    }
+    Ok(false)
+}
+
+/// Each line is answered as it comes, and not at the end of the input.
+#[test]
+fn hear_answers_at_once(rt: HostRuntime) -> Result<(), Fail> {
+    let path = "bracha_tests_hear.txt";
+    let script = "exec \"$0\" tests::processes::a_process > bracha_tests_hear.txt";
+    let words = "bracha hear --n 4 --t 1 --questions 2 --me 3";
+    let mut command = shell(&rt, script)?;
+    let mut child = command.env(WORDS, words)?.stdin(Stdio::piped()).spawn(&rt)?;
+    let input = child.stdin.as_mut().ok_or("an input")?;
+    input.write_all(b"3 00080301000103010101\n")?;
+    thread::sleep(&rt, Duration::from_millis(500));
+    let is_answered = comes_to_have(&rt, path, "news\n00080302000103010101\n")?;
+    let _end = child.wait_with_output(rt.alloc())?;
+    assert!(rt; is_answered, "an answer waits for the end of the input");
+    remove(&rt, &[path])
 }
 
 #[test]

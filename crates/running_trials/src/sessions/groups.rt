@@ -87,13 +87,13 @@ fn behind_an_idle(alloc: Global, bytes: &[u8]) -> Result<MemStream, Memory> {
 
 /// Waits for the bell until the hub is shut, and counts how often it was woken.
 fn counts_wakes<J: Naming, R: Wait>(rt: &R, hub: &Hub<MemDisk, J>, seen: &Seen) {
-    let mut book = hub.lock(rt);
+    let mut watch = hub.watch(rt);
     seen.waits.store(true, Ordering::SeqCst);
     for _ in 0..100u32 {
         if hub.is_shut() {
             return;
         }
-        book = hub.wait(rt, book);
+        watch = hub.wait(rt, watch);
         seen.wakes.fetch_add(1, Ordering::SeqCst);
     }
 }

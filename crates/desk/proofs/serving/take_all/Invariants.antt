@@ -1,6 +1,6 @@
 use Rattle.std.proofs.Common.{◌≡◌, drop}
 use Rattle.links.specs.Told.{Told}
-use Rattle.desk.specs.Sessions.{Sitting, MayReply, sitting}
+use Rattle.desk.specs.Sessions.{Sitting, AnswersLine, sitting}
 use Rattle.desk.specs.Turns.{Serving}
 use Rattle.desk.proofs.serving.take_all.Given as goal
 
@@ -8,7 +8,7 @@ use Rattle.desk.proofs.serving.take_all.Given as goal
 abbrev pub invariant-loop-byte : goal.invariant-loop-byte
 invariant-loop-byte g l = (l.pass.cells ≡ g.J.Naming.names)
     × ((begun : Sitting g.row.T.Denot) (old : Told)
-    → Serving (MayReply g.row.D.Denot g.T.Tosser.may_toss l.fn.hub.size.questions) begun (sitting l.initial.pass.known l.initial.tosser)
+    → Serving (AnswersLine g.row.D.Denot g.T.Tosser.may_toss l.fn.hub.size.questions) begun (sitting l.initial.pass.known l.initial.tosser)
     old (g.S.Stream.told l.initial.stream) l.initial.held l.piece
-    → Serving (MayReply g.row.D.Denot g.T.Tosser.may_toss l.fn.hub.size.questions) begun (sitting l.pass.known l.tosser)
+    → Serving (AnswersLine g.row.D.Denot g.T.Tosser.may_toss l.fn.hub.size.questions) begun (sitting l.pass.known l.tosser)
     old (g.S.Stream.told l.stream) l.held (drop l.byte-index l.piece))

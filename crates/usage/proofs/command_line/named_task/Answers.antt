@@ -56,3 +56,15 @@ returns-in-simulate-clause-some c = subst (λ (name : Text). IfSome c.simulate_o
 
 pub returns-in-simulate-clause-none : goal.returns-in-simulate-clause-none
 returns-in-simulate-clause-none c = λ none task named. c.simulate_of.ensures.none none task (subst (λ (name : Text). Names name (rows_in c.args.options.now) task) c.in-simulate.is named)
+
+pub returns-in-transcript-clause-some : goal.returns-in-transcript-clause-some
+returns-in-transcript-clause-some c = subst (λ (name : Text). IfSome c.transcript_of.result (Names name (rows_in c.args.options.now))) (sym c.in-transcript.is) c.transcript_of.ensures.some
+
+pub returns-in-transcript-clause-none : goal.returns-in-transcript-clause-none
+returns-in-transcript-clause-none c = λ none task named. c.transcript_of.ensures.none none task (subst (λ (name : Text). Names name (rows_in c.args.options.now) task) c.in-transcript.is named)
+
+pub returns-in-audit-clause-some : goal.returns-in-audit-clause-some
+returns-in-audit-clause-some c = subst (λ (name : Text). IfSome c.audit_of.result (Names name (rows_in c.args.options.now))) (sym c.in-audit.is) c.audit_of.ensures.some
+
+pub returns-in-audit-clause-none : goal.returns-in-audit-clause-none
+returns-in-audit-clause-none c = λ none task named. c.audit_of.ensures.none none task (subst (λ (name : Text). Names name (rows_in c.args.options.now) task) c.in-audit.is named)

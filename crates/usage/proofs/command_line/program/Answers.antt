@@ -10,6 +10,8 @@ returns c =
     let propose = c.with_command-program-4.ensures _ _ run c.propose.ensures refl in
     let ask = c.with_command-program-5.ensures _ _ propose c.ask.ensures refl in
     let status = c.with_command-program-6.ensures _ _ ask c.status.ensures refl in
-    let dump = c.with_command-program-7.ensures _ _ status c.dump.ensures refl in
-    let simulate = c.with_command-program-8.ensures _ _ dump c.simulate.ensures refl in
+    let transcript = c.with_command-program-7.ensures _ _ status c.transcript.ensures refl in
+    let audit = c.with_command-program-8.ensures _ _ transcript c.audit.ensures refl in
+    let dump = c.with_command-program-9.ensures _ _ audit c.dump.ensures refl in
+    let simulate = c.with_command-program-10.ensures _ _ dump c.simulate.ensures refl in
     c.with_command.ensures _ _ simulate c.hear.ensures refl

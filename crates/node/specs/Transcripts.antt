@@ -1,0 +1,39 @@
+-- What a book gives of a question that is decided.
+use Rattle.std.specs.Prelude.{ℕ, ◌≡◌, ◌<◌, ◌≤◌, Bool, List, Some, None}
+use Rattle.vocabulary.specs.Terms.{Statement, Size, pairs_on}
+use Rattle.questions.specs.Audits.{IsProof}
+use Rattle.questions.specs.Replay.{Entry, entry_statements}
+use Rattle.member.specs.Answers.{verdict_of}
+use Rattle.member.specs.Readers.{member_header, member_saved}
+use Rattle.node.specs.Views.{BookView}
+use Rattle.node.specs.declared.transcript.Transcript.{Transcript}
+use Rattle.node.specs.declared.transcript.TranscriptFault.{TranscriptFault}
+use Rattle.node.specs.declared.transcript.TranscriptFault.TheVariants.{NoSuchQuestion, Undecided, Thin, Memory}
+
+-- what a history has of the question: each sender and its statement, in order
+abbrev pub heard_on : ℕ → List Entry → List (ℕ × Statement)
+heard_on question history = pairs_on question (entry_statements history)
+
+-- how many questions the book has
+abbrev pub questions_of : {D : Type 0} → BookView D → ℕ
+questions_of book = (member_header book.member).size.questions
+
+-- an audit of what the book heard of the question is true of the bit
+abbrev pub IsHeardProof : {D : Type 0} → BookView D → ℕ → Bool → Type 0
+IsHeardProof book question bit = IsProof (member_header book.member).size question bit (heard_on question book.history)
+
+-- the bit that the question is decided for, and what the history has of it, which is proof of the bit
+pub record IsTranscript {D : Type 0} (book : BookView D) (question : ℕ) (transcript : Transcript) : Type 0 where
+  pub decided : verdict_of (member_saved book.member) question ≡ Some transcript.bit
+  pub heard : transcript.heard.items ≡ heard_on question book.history
+  pub proof : IsProof (member_header book.member).size question transcript.bit transcript.heard.items
+
+-- why there is none: the first that holds
+abbrev pub HasNoTranscript : {D : Type 0} → BookView D → ℕ → TranscriptFault → Type 0
+HasNoTranscript book question NoSuchQuestion = questions_of book ≤ question
+HasNoTranscript book question Undecided =
+    (question < questions_of book) × (verdict_of (member_saved book.member) question ≡ None)
+HasNoTranscript book question Thin =
+    (bit : Bool) × (verdict_of (member_saved book.member) question ≡ Some bit) × (IsHeardProof book question bit → ⊥)
+    × (verdict_of book.opening question ≡ None → ⊥)
+HasNoTranscript book question Memory = (bit : Bool) × (verdict_of (member_saved book.member) question ≡ Some bit)

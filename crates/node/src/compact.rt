@@ -1,0 +1,159 @@
+//! An entry of a history in fifteen bytes.
+ghost use Rattle.std.specs.Prelude.{◌≡◌};
+ghost use Rattle.vocabulary.specs.Terms.{new_place};
+ghost use Rattle.questions.specs.Replay.Entry.{Heard, Proposed};
+ghost use Rattle.node.specs.Compact.{packed, kind_in, value_in};
+ghost use Rattle.node.specs.Entries.{noted};
+
+use crate::entry::Entry;
+use rounds::Toss;
+use spelling::{byte_of_kind, byte_of_value};
+use std::marker::Model;
+use terms::{Kind, Place, Statement, Value};
+
+/// An entry, which takes just these fifteen bytes: a tag, the sender, the question with its greater byte first, the origin,
+/// the round, the step, and the toss in eight bytes. The tag of a statement is its kind, 1 to 3, and four times its value;
+/// that of a proposal is four times its bit.
+#[derive(Drop)]
+pub(crate) struct Noted {
+    bytes: [u8; 15],
+}
+
+impl Model for Noted {
+    ghost use Rattle.questions.specs.Replay.{Entry};
+    ghost use Rattle.node.specs.Compact.{kept_in, IsKeptIn};
+
+    ghost Value = { Entry };
+
+    ghost view = { λ n. kept_in n.bytes };
+
+    ghost invariant = { λ n. IsKeptIn n.bytes };
+}
+
+impl Noted {
+    /// The entry in its bytes.
+    pub(crate) fn of(entry: Entry) -> Noted
+        ensures { result ≡ noted entry }
+    {
+        match entry {
+            Entry::Heard {
+                from,
+                statement,
+                toss,
+            } => Noted::of_heard(from, statement, toss),
+            Entry::Proposed {
+                question,
+                bit,
+                toss,
+            } => Noted::of_proposed(question, bit, toss),
+        }
+    }
+
+    /// The bytes of a statement that was heard.
+    fn of_heard(from: u8, statement: Statement, toss: Toss) -> Noted
+        ensures { result ≡ Heard from statement toss.0 }
+    {
+        statement.recall();
+        let place = statement.place();
+        let tag = byte_of_value(statement.value()) * 4 + byte_of_kind(statement.kind());
+        Noted {
+            bytes: packed(
+                tag,
+                from,
+                place.question(),
+                place.origin(),
+                place.round(),
+                place.step(),
+                toss,
+            ),
+        }
+    }
+
+    /// The bytes of a bit that was proposed.
+    fn of_proposed(question: u16, bit: bool, toss: Toss) -> Noted
+        ensures { result ≡ Proposed question bit toss.0 }
+    {
+        let tag = if bit { 4 } else { 0 };
+        Noted {
+            bytes: packed(tag, 0, question, 0, 0, 0, toss),
+        }
+    }
+
+    /// The entry of these bytes.
+    pub(crate) fn entry(&self) -> Entry
+        ensures { noted result ≡ self.now }
+    {
+        let [
+            tag,
+            from,
+            high,
+            low,
+            origin,
+            round,
+            step,
+            a,
+            b,
+            c,
+            d,
+            e,
+            f,
+            g,
+            h,
+        ] = self.bytes;
+        let question = u16::from_be_bytes([high, low]);
+        let toss = Toss(u64::from_be_bytes([a, b, c, d, e, f, g, h]));
+        if tag % 4 == 0 {
+            return Entry::Proposed {
+                question,
+                bit: tag == 4,
+                toss,
+            };
+        }
+        match Place::new(question, origin, round, step) {
+            None => unreachable!(),
+            Some(place) => match Statement::new(kind_in(tag), place, value_in(tag)) {
+                None => unreachable!(),
+                Some(statement) => Entry::Heard {
+                    from,
+                    statement,
+                    toss,
+                },
+            },
+        }
+    }
+}
+
+/// The kind that a statement's tag has.
+fn kind_in(tag: u8) -> Kind
+    ensures { result ≡ kind_in tag }
+{
+    match tag % 4 {
+        1 => Kind::Initial,
+        2 => Kind::Echo,
+        _ => Kind::Ready,
+    }
+}
+
+/// The value that a statement's tag has.
+fn value_in(tag: u8) -> Value
+    ensures { result ≡ value_in tag }
+{
+    match tag / 4 {
+        0 => Value::Zero,
+        1 => Value::One,
+        2 => Value::SureZero,
+        3 => Value::SureOne,
+        _ => Value::Unsure,
+    }
+}
+
+/// The bytes of an entry: its tag, the sender, the four numbers of the place, and the toss.
+fn packed(tag: u8, from: u8, question: u16, origin: u8, round: u8, step: u8, toss: Toss) -> [u8; 15]
+    ensures { result ≡ packed tag from (new_place question origin round step) toss.0 }
+{
+    let [high, low] = question.to_be_bytes();
+    let [a, b, c, d, e, f, g, h] = toss.0.to_be_bytes();
+    [
+        tag, from, high, low, origin, round, step, a, b, c, d, e, f, g, h,
+    ]
+}

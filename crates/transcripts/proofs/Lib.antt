@@ -1,0 +1,4 @@
+pub mod Beginnings
+pub mod Spelled
+pub mod Rests
+pub mod Texts

@@ -1,0 +1,292 @@
+#!/usr/bin/env python3
+"""tests/hostile-network.py [--seconds S] [PROGRAM]
+
+Members of a cluster of four, as processes, on a network that means them no good, and one on a disk that stalls:
+
+- 64 connections that don't greet, and one more; 32 clients, and one more; a place that is given back is given again;
+- a member that may open 24 files: its doors come back once others go;
+- a client and a peer that read nothing, and a peer that sends a byte a second: the others are served, and decide;
+- garbage at both doors of each member, as fast as it goes, for S seconds (60), while four members decide 256 questions:
+  they decide all, each as proposed, and when it is over a member has as many threads and files open as before, and no
+  more memory than what it heard takes;
+- a sync of member 0 that takes 15 seconds (tests/stall.c, which is no part of the product): no link goes down.
+
+It wants a C compiler. PROGRAM is crates/bracha/out/bracha unless another is named. The ports are 27800 to 27899. The last
+line is `N passed, M failed`.
+"""
+import argparse
+import contextlib
+import os
+import random
+import resource
+import socket
+import subprocess
+import sys
+import tempfile
+import threading
+import time
+
+TOP = os.path.dirname(os.path.dirname(os.path.realpath(__file__)))
+N, QUESTIONS, PORTS = 4, 256, 27800
+
+
+class Member:
+    """A member that runs, whatever its peers do."""
+
+    def __init__(self, program, folder, me, ports, files=None, stalls=None):
+        self.me, self.door, self.desk = me, ports + me, ports + 10 + me
+        settings = f"{folder}/member-{me}.toml"
+        peers = ", ".join(f'"127.0.0.1:{ports + it}"' for it in range(N))
+        with open(settings, "w", encoding="ascii") as file:
+            file.write(f'cluster = 7\nn = {N}\nt = 1\nquestions = {QUESTIONS}\nme = {me}\njournal = "{folder}/journal-{me}"\n'
+                       f'peers = [{peers}]\ndesk = "127.0.0.1:{self.desk}"\nseed = "{me:02x}{"5a" * 31}"\n')
+        subprocess.run([program, "init", settings], check=True)
+        limit = (lambda: resource.setrlimit(resource.RLIMIT_NOFILE, (files, files))) if files else None
+        environment = {**os.environ, **stalls} if stalls and me == 0 else None
+        self.log = open(f"{folder}/log-{me}", "w+", encoding="utf-8")
+        self.process = subprocess.Popen([program, "run", "--stay", "--log", settings], stdout=subprocess.PIPE, stderr=self.log,
+                                        env=environment, preexec_fn=limit)
+        assert self.process.stdout.readline() == b"member %d ready\n" % me
+
+    def ask(self, line):
+        """The first line of the reply; nothing where the connection is closed before one."""
+        try:
+            with connect(self.desk) as stream:
+                stream.sendall(line + b"\n")
+                return stream.makefile("rb").readline().decode("ascii").strip()
+        except OSError:
+            return ""
+
+    def told(self):
+        """Its log."""
+        with open(self.log.name, encoding="utf-8") as log:
+            return log.read().splitlines()
+
+    def state(self):
+        """How many threads and open files it has, and its bytes of memory."""
+        at = f"/proc/{self.process.pid}"
+        with open(f"{at}/statm", encoding="ascii") as sizes:
+            memory = int(sizes.read().split()[1]) * resource.getpagesize()
+        return len(os.listdir(f"{at}/task")), len(os.listdir(f"{at}/fd")), memory
+
+
+def connect(port):
+    return socket.create_connection(("127.0.0.1", port), timeout=10)
+
+
+@contextlib.contextmanager
+def cluster(program, ports, members=range(N), files=None, stalls=None):
+    """Members in a new folder, which are killed in the end."""
+    with tempfile.TemporaryDirectory(prefix="bracha-hostile.") as folder:
+        running = []
+        try:
+            for me in members:
+                running.append(Member(program, folder, me, ports, files, stalls))
+            yield running
+        finally:
+            for member in running:
+                member.process.kill()
+                member.process.wait()
+                member.log.close()
+
+
+def is_closed(stream, within=1.0):
+    """Whether the other end closes, with nothing said."""
+    stream.settimeout(within)
+    try:
+        return stream.recv(1) == b""
+    except socket.timeout:
+        return False
+    except OSError:
+        return True
+
+
+def until(holds, seconds=30):
+    end = time.monotonic() + seconds
+    while not holds():
+        if time.monotonic() > end:
+            return False
+        time.sleep(0.05)
+    return True
+
+
+def greets(me, to, cluster_number=7):
+    return bytes([0, 16, 1, 1, *cluster_number.to_bytes(8, "big"), N, 1, *QUESTIONS.to_bytes(2, "big"), me, to])
+
+
+def is_let_in(member):
+    """Whether a greeting of member 1 has its answer."""
+    try:
+        with connect(member.door) as stream:
+            stream.sendall(greets(1, member.me))
+            return stream.recv(11) != b""
+    except OSError:
+        return False
+
+
+def too_many_that_do_not_greet(program):
+    with cluster(program, PORTS, [0]) as [member]:
+        silent = [connect(member.door) for _ in range(64)]
+        time.sleep(0.3)
+        assert not any(is_closed(it, 0.01) for it in silent), "one of 64 was closed"
+        assert is_closed(connect(member.door)), "the 65th wasn't closed"
+        for stream in silent[:3]:
+            stream.close()
+        assert until(lambda: is_let_in(member)), "a place that was given back isn't given again"
+
+
+def too_many_clients(program):
+    with cluster(program, PORTS + 20, [0]) as [member]:
+        clients = [connect(member.desk) for _ in range(32)]
+        for stream in clients:
+            stream.sendall(b"STATUS\n")
+            assert stream.recv(3) == b"UP ", "a client has no reply"
+        assert is_closed(connect(member.desk)), "the 33rd wasn't closed"
+        clients[7].close()
+        assert until(lambda: member.ask(b"STATUS").startswith("UP ")), "a place that was given back isn't given again"
+
+
+def few_files(program):
+    with cluster(program, PORTS + 20, [0], files=24) as [member]:
+        streams = []
+        for it in range(40):
+            with contextlib.suppress(OSError):
+                streams.append(connect(member.desk if it % 2 else member.door))
+        time.sleep(1)
+        for stream in streams:
+            stream.close()
+        assert until(lambda: member.ask(b"STATUS").startswith("UP ")), "its desk doesn't come back"
+        assert until(lambda: is_let_in(member)), "its door for peers doesn't come back"
+
+
+def propose(member, question, bit):
+    return member.ask(b"PROPOSE %d %d" % (question, bit)) == "OK"
+
+
+def decides(members, question, bit):
+    return all(until(lambda it=it: it.ask(b"ASK %d" % question) == f"DECIDED {bit}") for it in members)
+
+
+def trickles(member, stop):
+    """A peer that greets and sends a byte a second of what is a statement at last."""
+    stream = connect(member.door)
+    stream.sendall(greets(3, member.me))
+    for byte in bytes.fromhex("00080302000100010101"):
+        if stop.wait(1):
+            break
+        with contextlib.suppress(OSError):
+            stream.sendall(bytes([byte]))
+    stream.close()
+
+
+def slow_ends(program):
+    """Member 3 is this script: it takes the links to it and reads nothing, and sends a byte a second to member 0."""
+    ports, stop = PORTS + 40, threading.Event()
+    with socket.create_server(("127.0.0.1", ports + 3), backlog=16), cluster(program, ports, range(3)) as members:
+        slow = threading.Thread(target=trickles, args=(members[0], stop))
+        slow.start()
+        deaf = connect(members[1].desk)
+        deaf.sendall(b"STATUS\n" * 400)
+        try:
+            for question in (3, 4):
+                for member in members:
+                    assert until(lambda it=member: propose(it, question, question % 2)), "no proposal is taken"
+                assert decides(members, question, question % 2), f"question {question} isn't decided"
+        finally:
+            stop.set()
+            slow.join()
+            deaf.close()
+
+
+def linked(members):
+    """Whether each member has its links to and from all others."""
+    return all(sum("link-up" in line for line in member.told()) >= 2 * (N - 1) for member in members)
+
+
+def floods(port, begins, end, sent):
+    """Sends garbage behind what it begins with, over one connection after the other."""
+    dice = random.Random(port)
+    while time.monotonic() < end:
+        with contextlib.suppress(OSError), connect(port) as stream:
+            stream.sendall(begins)
+            for _ in range(50):
+                stream.sendall(dice.randbytes(4096))
+                sent[port] = sent.get(port, 0) + 4096
+
+
+def flood(program, seconds):
+    with cluster(program, PORTS + 60) as members:
+        assert until(lambda: linked(members)), "the members aren't linked"
+        assert all(propose(it, 255, 0) for it in members)
+        assert decides(members, 255, 0)
+        before = [it.state() for it in members]
+        begun, sent, threads = time.monotonic(), {}, []
+        end = begun + seconds
+        for member in members:
+            for port, begins in ((member.door, b""), (member.door, greets(1, member.me, 8)), (member.desk, b"")):
+                threads.append(threading.Thread(target=floods, args=(port, begins, end, sent)))
+        for thread in threads:
+            thread.start()
+        for question in range(255):
+            for member in members:
+                assert until(lambda it=member: propose(it, question, question % 2)), f"no proposal is taken on {question}"
+        for question in range(255):
+            assert decides(members, question, question % 2), f"question {question} isn't decided"
+        decided = time.monotonic()
+        for thread in threads:
+            thread.join()
+        print(f"  {sum(sent.values()) // 1_000_000} MB of garbage in {seconds} s; all decided after {decided - begun:.0f} s")
+        for member, (tasks, files, memory) in zip(members, before):
+            assert until(lambda it=member: it.state()[0] <= tasks and it.state()[1] <= files), "threads or files are left over"
+            # 255 questions of a round or two at 4 members: some 200 statements each, at 25 bytes, and the tables
+            assert member.state()[2] - memory < 8_000_000, f"memory grew by {member.state()[2] - memory}"
+
+
+def stalled_disk(program, library):
+    """The fourth sync of member 0 is the first one of its second batch."""
+    with cluster(program, PORTS + 80, stalls={"LD_PRELOAD": library, "STALL_AT": "4", "STALL_SECONDS": "15"}) as members:
+        assert until(lambda: linked(members)), "the members aren't linked"
+        begun = time.monotonic()
+        asking = [threading.Thread(target=propose, args=(it, 5, 1)) for it in members]
+        for thread in asking:
+            thread.start()
+        assert decides(members, 5, 1), "it isn't decided"
+        assert time.monotonic() - begun > 14, "no sync stalled"
+        for thread in asking:
+            thread.join()
+        for member in members:
+            downs = [line for line in member.told() if "link-down" in line]
+            assert not downs, f"member {member.me}: {downs}"
+
+
+def main():
+    parser = argparse.ArgumentParser(usage=__doc__)
+    parser.add_argument("--seconds", type=int, default=60)
+    parser.add_argument("program", nargs="?", default=f"{TOP}/crates/bracha/out/bracha")
+    words = parser.parse_args()
+    program = os.path.realpath(words.program)
+    failed = 0
+    room = tempfile.TemporaryDirectory(prefix="bracha-stall.")
+    library = f"{room.name}/stall.so"
+    subprocess.run([os.environ.get("CC", "cc"), "-O2", "-shared", "-fPIC", "-o", library, f"{TOP}/tests/stall.c", "-ldl"], check=True)
+    tests = {
+        "too many that do not greet": lambda: too_many_that_do_not_greet(program),
+        "too many clients": lambda: too_many_clients(program),
+        "few files": lambda: few_files(program),
+        "slow ends": lambda: slow_ends(program),
+        "a disk that stalls": lambda: stalled_disk(program, library),
+        "flood": lambda: flood(program, words.seconds),
+    }
+    for name, test in tests.items():
+        try:
+            test()
+            print(f"{name}: as it has to be", flush=True)
+        except (AssertionError, OSError, subprocess.SubprocessError) as trouble:
+            failed += 1
+            print(f"{name}: {trouble!r}", flush=True)
+    print(f"{len(tests) - failed} passed, {failed} failed")
+    return 1 if failed else 0
+
+
+if __name__ == "__main__":
+    sys.exit(main())
