@@ -15,7 +15,7 @@ complete -c bracha -n "not __fish_seen_subcommand_from $commands" -a hear -d "Re
 complete -c bracha -n "not __fish_seen_subcommand_from $commands" -a help -d "Print help"
 complete -c bracha -n "not __fish_seen_subcommand_from $commands" -l version -d "Print the version"
 complete -c bracha -l help -d "Print help"
-complete -c bracha -l verbose -d "A second line for a fault"
+complete -c bracha -l quiet -d "One line for a fault"
 complete -c bracha -F -n "__fish_seen_subcommand_from init check run audit dump simulate"
 complete -c bracha -n "__fish_seen_subcommand_from run" -l stay -d "Run until it is killed"
 complete -c bracha -n "__fish_seen_subcommand_from run" -l any-host -d "Unsafe: take links from any host"

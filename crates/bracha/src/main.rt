@@ -10,7 +10,7 @@ use clap::error::ErrorKind;
 use edge::{
     Failure, Fault, HeldStreams, ask_at, audit_file, check_file, dump_file, hear_input,
     hold_streams, init_file, own_words, propose_at, run_file, simulate_file, status_at,
-    transcript_at, wants_more,
+    transcript_at, wants_quiet,
 };
 use running::Machine;
 use std::convert::AsStr;
@@ -76,8 +76,8 @@ fn status_of(error: &clap::Error) -> u8
 }
 
 /// Does what the words ask for, the program's name first among them, while no file can get the number of a standard stream.
-/// Help, the version and faults of the words are printed here. What can be told of a failure is told where the words or the
-/// environment ask for it.
+/// Help, the version and faults of the words are printed here. What can be told of a failure is told, but where the words or
+/// the environment ask for its first line alone.
 fn run<R: Machine, S: AsStr>(
     rt: &R,
     host: &HostRuntime,
@@ -87,7 +87,7 @@ fn run<R: Machine, S: AsStr>(
     match command(host.alloc(), words) {
         Ok(order) => match work(rt, host, order.task) {
             Ok(status) => Ok(status),
-            Err(failure) => Err(failure.told(order.verbose || wants_more(host))),
+            Err(failure) => Err(failure.told(order.quiet || wants_quiet(host))),
         },
         Err(error) if error.kind() == ErrorKind::OutOfMemory => Err(Failure::from(Fault::Memory)),
         Err(error) => {

@@ -1,6 +1,5 @@
 //! The words of the command line, files, and what is printed of faults.
 
-mod manual;
 mod processes;
 
 use super::*;
@@ -16,11 +15,11 @@ use std::rt::Env;
 use std::test::Fail;
 use terms::SizeFault;
 
-/// Whether these words, with a space between each two, ask for the task, and for more to be told or not.
-fn asks(alloc: Global, words: &str, task: Task, verbose: bool) -> Result<bool, Fail> {
+/// Whether these words, with a space between each two, ask for the task, and for faults to be told in one line or not.
+fn asks(alloc: Global, words: &str, task: Task, quiet: bool) -> Result<bool, Fail> {
     let words: Vec<&str> = words.split(' ').collect(alloc)?;
     Ok(match command(alloc, words.as_slice()) {
-        Ok(order) => order.task == task && order.verbose == verbose,
+        Ok(order) => order.task == task && order.quiet == quiet,
         Err(_) => false,
     })
 }
@@ -181,23 +180,28 @@ fn reads_the_words_of_a_member(rt: HostRuntime) -> Result<(), Fail> {
 }
 
 #[test]
-fn reads_verbose_before_a_command_and_behind(rt: HostRuntime) -> Result<(), Fail> {
-    for (words, settings, verbose) in [
-        ("bracha --verbose init a.toml", "a.toml", true),
-        ("bracha init --verbose a.toml", "a.toml", true),
-        ("bracha init a.toml --verbose", "a.toml", true),
-        ("bracha --verbose init a.toml --verbose", "a.toml", true),
+fn reads_quiet_before_a_command_and_behind(rt: HostRuntime) -> Result<(), Fail> {
+    for (words, settings, quiet) in [
+        ("bracha --quiet init a.toml", "a.toml", true),
+        ("bracha init --quiet a.toml", "a.toml", true),
+        ("bracha init a.toml --quiet", "a.toml", true),
+        ("bracha --quiet init a.toml --quiet", "a.toml", true),
         ("bracha init a.toml", "a.toml", false),
         // A word behind `--` is no option.
-        ("bracha init -- --verbose", "--verbose", false),
+        ("bracha init -- --quiet", "--quiet", false),
+        // What asked for more before more was the rule is taken still.
+        ("bracha --verbose init a.toml", "a.toml", false),
+        ("bracha --verbose init --quiet a.toml", "a.toml", true),
+        ("bracha init a.toml --verbose", "a.toml", false),
     ] {
         let task = Task::Init { settings };
-        assert!(rt; asks(rt.alloc(), words, task, verbose)?, "{words}");
+        assert!(rt; asks(rt.alloc(), words, task, quiet)?, "{words}");
     }
     for words in [
+        "bracha --quiet",
+        "bracha --quiet=yes init a.toml",
+        "bracha --quiet --quiet init a.toml",
         "bracha --verbose",
-        "bracha --verbose=yes init a.toml",
-        "bracha --verbose --verbose init a.toml",
     ] {
         assert!(rt; ends_with(rt.alloc(), words, 2)?, "{words}");
     }
@@ -230,17 +234,17 @@ fn reads_the_options_of_simulate(rt: HostRuntime) -> Result<(), Fail> {
     Ok(())
 }
 
-/// An environment in which `BRACHA_VERBOSE` has this value, and nothing else is.
+/// An environment in which `BRACHA_QUIET` has this value, and nothing else is.
 #[derive(Clone, Copy, Drop)]
-struct Verbose<'a>(&'a [u8]);
+struct Quiet<'a>(&'a [u8]);
 
-impl Env for Verbose<'_> {
+impl Env for Quiet<'_> {
     fn arg(&self, _place: usize, _buf: &mut [u8]) -> Result<usize, FillError> {
         Err(FillError::NotPresent)
     }
 
     fn var(&self, name: &str, buf: &mut [u8]) -> Result<usize, FillError> {
-        if name != "BRACHA_VERBOSE" {
+        if name != "BRACHA_QUIET" {
             return Err(FillError::NotPresent);
         }
         match buf.get_mut(..self.0.len()) {
@@ -258,10 +262,10 @@ impl Env for Verbose<'_> {
 }
 
 #[test]
-fn the_environment_asks_for_more_by_a_one(rt: HostRuntime) -> Result<(), Fail> {
-    assert!(rt; wants_more(&Verbose(b"1")));
+fn the_environment_asks_for_one_line_by_a_one(rt: HostRuntime) -> Result<(), Fail> {
+    assert!(rt; wants_quiet(&Quiet(b"1")));
     for value in [b"".as_slice(), b"0", b"2", b"10", b"11", b"1 ", b"true"] {
-        assert!(rt; !wants_more(&Verbose(value)));
+        assert!(rt; !wants_quiet(&Quiet(value)));
     }
     Ok(())
 }

@@ -49,17 +49,17 @@ pub fn own_words(env: &impl Env, alloc: Global) -> Result<Vec<String>, Fault> {
     Ok(words)
 }
 
-/// Whether this value asks for more: it is `1`.
+/// Whether this value says so: it is `1`.
 fn is_one(value: &[u8]) -> bool
     ensures { IsTrue result ↔ (value.now ≡ codes "1") }
 {
     is(value, "1")
 }
 
-/// Whether the environment asks for more to be told of faults: `BRACHA_VERBOSE` is `1`.
-pub fn wants_more(env: &impl Env) -> bool {
+/// Whether the environment asks for the first line of a fault alone: `BRACHA_QUIET` is `1`.
+pub fn wants_quiet(env: &impl Env) -> bool {
     let mut value = [0; 2];
-    match env.var("BRACHA_VERBOSE", &mut value) {
+    match env.var("BRACHA_QUIET", &mut value) {
         Ok(length) => is_one(&value[..length]),
         Err(_) => false,
     }

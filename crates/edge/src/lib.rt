@@ -12,7 +12,7 @@ mod streams;
 mod telling;
 mod trouble;
 
-pub use arguments::{own_words, wants_more};
+pub use arguments::{own_words, wants_quiet};
 pub use asking::{ask_at, propose_at, status_at, transcript_at};
 pub use fault::Fault;
 pub use files::{audit_file, check_file, dump_file, hear_input, init_file, simulate_file};

@@ -137,13 +137,13 @@ impl Failure {
         }
     }
 
-    /// The failure of which nothing more than its fault is told, but where the words ask for it.
-    pub fn told(self, verbose: bool) -> Failure
+    /// The failure as it is told: its fault, and what can be told of it, but where that isn't wanted.
+    pub fn told(self, quiet: bool) -> Failure
         ensures fault { result.fault ≡ self.fault }
-        ensures told { verbose ≡ true → result ≡ self }
-        ensures hushed { verbose ≡ false → result.trouble ≡ None }
+        ensures told { quiet ≡ false → result ≡ self }
+        ensures hushed { quiet ≡ true → result.trouble ≡ None }
     {
-        if verbose {
+        if !quiet {
             return self;
         }
         Failure::from(self.fault)

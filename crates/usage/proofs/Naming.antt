@@ -7,7 +7,7 @@ use Rattle.clap.specs.Walk.{Row, Text}
 use Rattle.clap.specs.Matches.{subcommand_name_of}
 use Rattle.clap.specs.Simple.{subcommand_rows_of}
 use Rattle.clap.specs.declared.parser.matches.ArgMatches.{ArgMatches}
-use Rattle.usage.specs.Tasks.{IsAskedFor, Names, SaysVerbose}
+use Rattle.usage.specs.Tasks.{IsAskedFor, Names, SaysQuiet}
 use Rattle.usage.proofs.Reading.{not_none, some_is}
 use Rattle.usage.specs.declared.command_line.Task.{Task}
 use Rattle.usage.specs.declared.command_line.Task.TheVariants.{Hear, Init, Check, Run, Propose, Ask, Status, Transcript, Audit, Simulate, Dump}
@@ -196,9 +196,9 @@ not_asked met name rows is none task asked =
     none task (subst (λ (p : Text × List Row). Names p.0 p.1 task) same asked.named)
 
 -- where no command was met nothing was given behind it
-pub nothing_said : (m : ArgMatches) → None ≡ subcommand_name_of m → SaysVerbose (subcommand_rows_of m) → ⊥
+pub nothing_said : (m : ArgMatches) → None ≡ subcommand_name_of m → SaysQuiet (subcommand_rows_of m) → ⊥
 nothing_said m is says = go (subcommand_rows_of m) (is ∙ sym (name_in m)) says
   where
-    go : (met : Option (Text × List Row)) → None ≡ option_map (λ (p : Text × List Row). p.0) met → SaysVerbose met → ⊥
+    go : (met : Option (Text × List Row)) → None ≡ option_map (λ (p : Text × List Row). p.0) met → SaysQuiet met → ⊥
     go None e says = says
     go (Some p) e says = not_none p.0 e

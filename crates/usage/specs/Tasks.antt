@@ -67,17 +67,17 @@ pub record IsAskedFor (met : Option (Text × List Row)) (task : Task) : Type 0 w
 abbrev pub AskFor : List Text → Task → Type 0
 AskFor words task = IsAskedFor (subcommand_of program_app words) task
 
--- `--verbose` was given behind the command that was met
-abbrev pub SaysVerbose : Option (Text × List Row) → Type 0
-SaysVerbose met = IsSomeAnd met (λ found. one_of (codes "verbose") found.1 ≡ Some (codes "true"))
+-- `--quiet` was given behind the command that was met
+abbrev pub SaysQuiet : Option (Text × List Row) → Type 0
+SaysQuiet met = IsSomeAnd met (λ found. one_of (codes "quiet") found.1 ≡ Some (codes "true"))
 
--- whether `--verbose` was given before the command, in these rows, or behind it
-abbrev pub IsVerbose : List Row → Option (Text × List Row) → Bool → Type 0
-IsVerbose rows met given = IsTrue given ↔ ((one_of (codes "verbose") rows ≡ Some (codes "true")) ⊎ SaysVerbose met)
+-- whether `--quiet` was given before the command, in these rows, or behind it
+abbrev pub IsQuiet : List Row → Option (Text × List Row) → Bool → Type 0
+IsQuiet rows met given = IsTrue given ↔ ((one_of (codes "quiet") rows ≡ Some (codes "true")) ⊎ SaysQuiet met)
 
--- whether the words have `--verbose`
-abbrev pub AreVerbose : List Text → Bool → Type 0
-AreVerbose words given = IsVerbose (matches_of program_app words) (subcommand_of program_app words) given
+-- whether the words have `--quiet`
+abbrev pub AreQuiet : List Text → Bool → Type 0
+AreQuiet words given = IsQuiet (matches_of program_app words) (subcommand_of program_app words) given
 
 -- the kit finds no fault in the words
 abbrev pub AreFaultless : List Text → Type 0

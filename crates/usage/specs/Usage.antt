@@ -22,6 +22,10 @@ file_rule id = record (new_rule id) { long = Some id; value_names = 1 }
 abbrev pub flag_rule : Text → Rule
 flag_rule id = record (new_rule id) { long = Some id; action = Some SetTrue }
 
+-- `--quiet`
+abbrev pub quiet_rule : Rule
+quiet_rule = flag_rule (codes "quiet")
+
 -- `--verbose`
 abbrev pub verbose_rule : Rule
 verbose_rule = flag_rule (codes "verbose")
@@ -117,10 +121,14 @@ bare_shape = record (new_shape (codes "bracha")) {
 abbrev pub bare_app : App
 bare_app = record { top = bare_shape; subs = [] }
 
+-- a command, or the program, that takes `--quiet` and `--verbose`
+abbrev pub with_telling : App → App
+with_telling app = with_rule (with_rule app quiet_rule) verbose_rule
+
 -- the commands, in the order of the help
 abbrev pub commands : List App
 commands = init_app ∷ check_app ∷ run_app ∷ propose_app ∷ ask_app ∷ status_app ∷ transcript_app ∷ audit_app ∷ dump_app ∷ simulate_app ∷ hear_app ∷ []
 
--- `bracha [--verbose] COMMAND [--verbose] ..`
+-- `bracha [--quiet] [--verbose] COMMAND [--quiet] [--verbose] ..`
 abbrev pub program_app : App
-program_app = record { top = record (with_rule bare_app verbose_rule).top { is_leaf = false }; subs = map (λ command. (with_rule command verbose_rule).top) commands }
+program_app = record { top = record (with_telling bare_app).top { is_leaf = false }; subs = map (λ command. (with_telling command).top) commands }

@@ -1,8 +1,8 @@
 //! The words of the command line.
 
-ghost use Rattle.usage.specs.Tasks.{AreVerbose, AskFor, HasFlag, HasNumberOption, IsAskedFor, IsVerbose, Names, SaysVerbose, rows_in};
+ghost use Rattle.usage.specs.Tasks.{AreQuiet, AskFor, HasFlag, HasNumberOption, IsAskedFor, IsQuiet, Names, SaysQuiet, rows_in};
 ghost use Rattle.usage.specs.Usage.{Builds, address_rule, as_u16, as_u8, ask_app, audit_app, bare_app, check_app, dump_app, file_rule, flag_rule, hear_app, init_app, number_rule, program_app};
-ghost use Rattle.usage.specs.Usage.{propose_app, run_app, simulate_app, size_rules, status_app, transcript_app, desk_rules, verbose_rule, word_rule, with_rules};
+ghost use Rattle.usage.specs.Usage.{propose_app, run_app, simulate_app, size_rules, status_app, transcript_app, desk_rules, quiet_rule, verbose_rule, word_rule, with_rules, with_telling};
 ghost use Rattle.clap.specs.Words.{App, FailsBy, Rule, app_of, fault_of, first_of, new_app, rule_of, subcommand_rows_of, with_rule, with_subcommand};
 ghost use Rattle.std.specs.Prelude.{◌≡◌, ◌↔◌, IfOk, IfSome, IsNone, IsTrue, Some, codes, map, option_map, ℕ};
 ghost use Rattle.usage.specs.declared.command_line.Task.{Task};
@@ -82,8 +82,8 @@ pub enum Task<'a> {
 #[derive(Clone, Copy, Debug, PartialEq, Eq)]
 pub struct Request<'a> {
     pub task: Task<'a>,
-    /// Behind the line of a fault a second one is wanted, which names the thing.
-    pub verbose: bool,
+    /// The line of a fault is wanted alone, without the second one, which names the thing.
+    pub quiet: bool,
 }
 
 /// A required word, such as `SETTINGS`.
@@ -123,12 +123,21 @@ fn flag<'a>(alloc: Global, name: &'a str, help: &'a str) -> Arg<'a>
         .help(help)
 }
 
-/// The option `--verbose`, which may stand before the command and behind it.
+/// The option `--quiet`, which may stand before the command and behind it.
+fn quiet<'a>(alloc: Global) -> Arg<'a>
+    ensures { rule_of result ≡ quiet_rule }
+{
+    let help =
+        "Of a fault prints the first line alone, without the second one, which names the thing";
+    flag(alloc, "quiet", help)
+}
+
+/// The option `--verbose`, which asked for the second line when that wasn't the rule. It is taken where it stood then, and
+/// changes nothing.
 fn verbose<'a>(alloc: Global) -> Arg<'a>
     ensures { rule_of result ≡ verbose_rule }
 {
-    let help = "Behind the line of a fault prints a second one, which names the thing";
-    flag(alloc, "verbose", help)
+    flag(alloc, "verbose", "Changes nothing").hide(true)
 }
 
 /// The argument with a number of 16 bits for its value.
@@ -165,6 +174,14 @@ fn with_arg<'a>(command: Built<'a>, arg: Arg<'a>) -> Built<'a>
     ensures { (app : App) (rule : Rule) → Builds app command.entry → rule_of arg.entry ≡ rule → IsTrue rule.is_simple → Builds (with_rule app rule) result }
 {
     command?.arg(arg)
+}
+
+/// The command with the options that say how much of a fault is told.
+fn with_telling<'a>(alloc: Global, command: Built<'a>) -> Built<'a>
+    ensures { (app : App) → Builds app command.entry → Builds (with_telling app) result }
+{
+    let command = with_arg(command, quiet(alloc));
+    with_arg(command, verbose(alloc))
 }
 
 /// The options that name a size.
@@ -344,18 +361,18 @@ fn bare<'a>(alloc: Global) -> Built<'a>
     )
 }
 
-/// The program with one command more, which takes `--verbose` as the program does.
+/// The program with one command more, which takes `--quiet` and `--verbose` as the program does.
 fn with_command<'a>(alloc: Global, program: Built<'a>, command: Built<'a>) -> Built<'a>
     ensures { (app below : App) → Builds app program.entry → Builds below command.entry → IsTrue below.top.is_plain →
-        Builds (with_subcommand app (with_rule below verbose_rule).top) result }
+        Builds (with_subcommand app (with_telling below).top) result }
 {
-    program?.subcommand(with_arg(command, verbose(alloc))?)
+    program?.subcommand(with_telling(alloc, command)?)
 }
 
 fn program<'a>(alloc: Global) -> Built<'a>
     ensures { Builds program_app result }
 {
-    let program = with_arg(bare(alloc), verbose(alloc));
+    let program = with_telling(alloc, bare(alloc));
     let program = with_command(alloc, program, init(alloc));
     let program = with_command(alloc, program, check(alloc));
     let program = with_command(alloc, program, run(alloc));
@@ -557,34 +574,34 @@ fn task_of<'a>(matches: &ArgMatches<'a>) -> Option<Task<'a>>
     named_task(name, options)
 }
 
-/// Whether `--verbose` was given behind the command.
-fn is_verbose_below(matches: &ArgMatches<'_>) -> bool
-    ensures { IsTrue result ↔ SaysVerbose (subcommand_rows_of matches.now) }
+/// Whether `--quiet` was given behind the command.
+fn is_quiet_below(matches: &ArgMatches<'_>) -> bool
+    ensures { IsTrue result ↔ SaysQuiet (subcommand_rows_of matches.now) }
 {
     match matches.subcommand() {
-        Some((_, options)) => flag_of(options, "verbose"),
+        Some((_, options)) => flag_of(options, "quiet"),
         None => false,
     }
 }
 
-/// Whether `--verbose` was given, before the command or behind it.
-fn is_verbose(matches: &ArgMatches<'_>) -> bool
-    ensures { IsVerbose (rows_in matches.now) (subcommand_rows_of matches.now) result }
+/// Whether `--quiet` was given, before the command or behind it.
+fn is_quiet(matches: &ArgMatches<'_>) -> bool
+    ensures { IsQuiet (rows_in matches.now) (subcommand_rows_of matches.now) result }
 {
-    flag_of(matches, "verbose") || is_verbose_below(matches)
+    flag_of(matches, "quiet") || is_quiet_below(matches)
 }
 
 /// What the words ask for, the program's name first among them. An `Err` is to be printed: it is a fault of the words,
 /// the help or the version.
 pub fn command<'a, S: AsStr>(alloc: Global, words: &'a [S]) -> Result<Request<'a>, Error>
     ensures asks { IfOk result (λ order. AskFor (map S.text words.entry.now) order.task) }
-    ensures verbose { IfOk result (λ order. AreVerbose (map S.text words.entry.now) order.verbose) }
+    ensures quiet { IfOk result (λ order. AreQuiet (map S.text words.entry.now) order.quiet) }
     ensures faults { FailsBy (fault_of program_app (map S.text words.entry.now)) result }
 {
     let matches = program(alloc)?.try_get_matches_from(words)?;
-    let verbose = is_verbose(&matches);
+    let quiet = is_quiet(&matches);
     match task_of(&matches) {
-        Some(task) => Ok(Request { task, verbose }),
+        Some(task) => Ok(Request { task, quiet }),
         None => unreachable!(),
     }
 }

@@ -239,7 +239,7 @@ fn told(rt: &HostRuntime, words: &str) -> Result<(String, String), Fail> {
     texts(program(rt, words)?.stdin(Stdio::null()).output(rt)?)
 }
 
-/// Whether the program ends by that fault and status: one line, on the standard error alone.
+/// Whether the program ends by that fault and status, which is said on the standard error alone.
 fn ends_by(rt: &HostRuntime, words: &str, fault: &str, status: u8) -> Result<bool, Fail> {
     let (printed, said) = told(rt, words)?;
     let line = format!(in rt.alloc(); "bracha: {fault}\n")?;
@@ -298,16 +298,16 @@ fn faults_of_words_and_files(rt: HostRuntime) -> Result<(), Fail> {
     remove(&rt, &[bytes])
 }
 
-/// What the program says on its standard error, with the option `--verbose` or with the environment's word.
-fn told_more(rt: &HostRuntime, words: &str, by_environment: bool) -> Result<String, Fail> {
+/// What the program says on its standard error, with the option `--quiet` or with the environment's word.
+fn told_less(rt: &HostRuntime, words: &str, by_environment: bool) -> Result<String, Fail> {
     let mut command = if by_environment {
         program(rt, words)?
     } else {
-        let words = format!(in rt.alloc(); "--verbose {words}")?;
+        let words = format!(in rt.alloc(); "--quiet {words}")?;
         program(rt, words.as_str())?
     };
     if by_environment {
-        command.env("BRACHA_VERBOSE", "1")?;
+        command.env("BRACHA_QUIET", "1")?;
     }
     let (_, said) = texts(command.stdin(Stdio::null()).output(rt)?)?;
     Ok(said)
@@ -330,19 +330,17 @@ const TOLD: [(&str, &[u8]); 7] = [
     ("bracha_tests_more.journal", b"BRACHAJ1"),
 ];
 
-/// Whether both lines are told, by the option and by the environment, and without them the first alone.
+/// Whether both lines are told, and the first alone by the option and by the environment.
 fn has_second_line(rt: &HostRuntime, words: &str, lines: &str) -> Result<bool, Fail> {
+    let (first, second) = lines.split_once('\n').ok_or("two lines")?;
     for by_environment in [false, true] {
-        if !told_more(rt, words, by_environment)?
-            .as_str()
-            .contains(lines)
-        {
+        let said = told_less(rt, words, by_environment)?;
+        if !said.as_str().contains(first) || said.as_str().contains(second.trim_end()) {
             return Ok(false);
         }
     }
     let (_, said) = told(rt, words)?;
-    let (first, second) = lines.split_once('\n').ok_or("two lines")?;
-    Ok(said.as_str().contains(first) && !said.as_str().contains(second.trim_end()))
+    Ok(said.as_str().contains(lines))
 }
 
 #[test]
@@ -424,21 +422,18 @@ fn a_second_line_shows_the_bytes_of_a_journal(rt: HostRuntime) -> Result<(), Fai
     let steps = [
         PutSettings(path, journal, 7),
         Put(journal, &ODD),
-        Says("--verbose dump bracha_tests_bytes_of.journal", ODD_LINE),
-        Says(
-            "--verbose dump --count bracha_tests_bytes_of.journal",
-            ODD_LINE,
-        ),
-        Says("--verbose check bracha_tests_bytes_of.toml", ODD_LINE),
-        Says("--verbose run bracha_tests_bytes_of.toml", ODD_LINE),
+        Says("dump bracha_tests_bytes_of.journal", ODD_LINE),
+        Says("dump --count bracha_tests_bytes_of.journal", ODD_LINE),
+        Says("check bracha_tests_bytes_of.toml", ODD_LINE),
+        Says("run bracha_tests_bytes_of.toml", ODD_LINE),
         Put(journal, &ODD[..24]),
         Says(
-            "--verbose run bracha_tests_bytes_of.toml",
+            "run bracha_tests_bytes_of.toml",
             "\nbracha_tests_bytes_of.journal: byte 24: end of file: journal CutShort\n",
         ),
         Put(journal, &ODD[..34]),
         Says(
-            "--verbose check bracha_tests_bytes_of.toml",
+            "check bracha_tests_bytes_of.toml",
             "\nbracha_tests_bytes_of.journal: byte 24: bytes 01 00 01 02 00 00 00 01 01 01: journal CutShort\n",
         ),
     ];
@@ -623,7 +618,7 @@ fn piped(rt: &HostRuntime, words: &str, input: Stdio) -> Result<Child, Fail> {
 fn a_desk_that_hangs_up_is_no_answer(rt: HostRuntime) -> Result<(), Fail> {
     let address = SocketAddr::new(IpAddr::V4(Ipv4Addr::new(127, 0, 0, 1)), 47137);
     let desk = TcpListener::bind(&rt, address)?;
-    let child = piped(&rt, "--verbose status 127.0.0.1:47137", Stdio::null())?;
+    let child = piped(&rt, "status 127.0.0.1:47137", Stdio::null())?;
     let (mut client, _) = desk.accept()?;
     // What isn't a whole line is no reply.
     client.write_all(b"UP 3 0")?;
@@ -816,12 +811,9 @@ fn takes_no_port_twice(rt: &HostRuntime) -> Result<(), Fail> {
     let missing =
         "bracha: file\nbracha_tests_taken.journal: open: no such file: `bracha init` makes one for a new member, and for no other\n";
     put(rt, path, settings.as_str().as_bytes())?;
-    play(
-        rt,
-        &[Says("--verbose run bracha_tests_taken.toml", missing)],
-    )?;
+    play(rt, &[Says("run bracha_tests_taken.toml", missing)])?;
     put(rt, journal, &ALONE)?;
-    play(rt, &[Says("--verbose run bracha_tests_taken.toml", line)])?;
+    play(rt, &[Says("run bracha_tests_taken.toml", line)])?;
     remove(rt, &[path, journal])
 }
 

@@ -31,9 +31,9 @@ pub(super) enum Step<'a> {
     Closes(&'a str),
     /// The program reads this, and prints that.
     Hears(&'a str, &'a str, &'a str),
-    /// The program ends by that fault and status: one line, on the standard error alone.
+    /// The program ends by that fault and status, which is said on the standard error alone.
     Ends(&'a str, &'a str, u8),
-    /// The program says both lines with `--verbose` and with the environment's word, and without them the first alone.
+    /// The program says both lines, and with `--quiet` or the environment's word the first alone.
     Names(&'a str, &'a str),
 }
 

@@ -1,7 +1,7 @@
 use Rattle.std.proofs.Common.{rules, ◌∙◌, map, refl, subst, sym}
 use Rattle.std.proofs.lemmas.Result.{err_from_is_err_and}
 use Rattle.clap.specs.Kinds.{HasKind, Kinds}
-use Rattle.usage.proofs.Parsing.{asked_by_words, asks_for_one, fault_of_words, is_free, verbose_by_words}
+use Rattle.usage.proofs.Parsing.{asked_by_words, asks_for_one, fault_of_words, is_free, quiet_by_words}
 use Rattle.usage.proofs.command_line.command.Goals as goal
 
 pub unreachable-requires : goal.unreachable-requires
@@ -13,9 +13,9 @@ pub returns-clause-asks : goal.returns-clause-asks
 returns-clause-asks g c =
     search (rules, asked_by_words _ (map g.S.AsStr.text c.args.words.now) c.in_ok-matches.matches c.in_ok-program.ensures c.in_ok-matches.ensures.matches c.in-Some.task c.in-Some.ensures.some)
 
-pub returns-clause-verbose : goal.returns-clause-verbose
-returns-clause-verbose g c =
-    search (rules, verbose_by_words _ (map g.S.AsStr.text c.args.words.now) c.in_ok-matches.matches c.is_verbose-verbose.result c.in_ok-program.ensures c.in_ok-matches.ensures.matches c.is_verbose-verbose.ensures)
+pub returns-clause-quiet : goal.returns-clause-quiet
+returns-clause-quiet g c =
+    search (rules, quiet_by_words _ (map g.S.AsStr.text c.args.words.now) c.in_ok-matches.matches c.is_quiet-quiet.result c.in_ok-program.ensures c.in_ok-matches.ensures.matches c.is_quiet-quiet.ensures)
 
 pub returns-clause-faults : goal.returns-clause-faults
 returns-clause-faults g c =

@@ -3,7 +3,7 @@ use Rattle.usage.proofs.command_line.program.Goals as goal
 
 pub returns : goal.returns
 returns c =
-    let bare = c.with_arg-program.ensures _ _ c.bare.ensures c.verbose.ensures refl in
+    let bare = c.with_telling-program.ensures _ c.bare.ensures in
     let init = c.with_command-program.ensures _ _ bare c.init.ensures refl in
     let check = c.with_command-program-2.ensures _ _ init c.check.ensures refl in
     let run = c.with_command-program-3.ensures _ _ check c.run.ensures refl in

@@ -1,12 +1,11 @@
 use Rattle.std.proofs.Common.{refl, subst}
 use Rattle.std.proofs.lemmas.Result.{IfOk-weaker}
-use Rattle.clap.specs.Simple.{with_rule}
-use Rattle.usage.specs.Usage.{Builds, verbose_rule}
+use Rattle.usage.specs.Usage.{Builds, with_telling}
 use Rattle.usage.proofs.Building.{with_command}
 use Rattle.usage.proofs.command_line.with_command.Goals as goal
 
 pub returns : goal.returns
 returns c app below program command plain =
     let before = subst (λ z. Builds app z) c.in_ok-program.was program in
-    let verbose = c.in_ok-with_arg.ensures below verbose_rule command c.verbose.ensures refl in
-    IfOk-weaker c.subcommand.result _ _ (λ new added. with_command c.in_ok-program.field-0 c.in_ok-with_arg.field-0 new app (with_rule below verbose_rule) added before verbose plain) c.subcommand.ensures
+    let telling = c.in_ok-with_telling.ensures below command in
+    IfOk-weaker c.subcommand.result _ _ (λ new added. with_command c.in_ok-program.field-0 c.in_ok-with_telling.field-0 new app (with_telling below) added before telling plain) c.subcommand.ensures
