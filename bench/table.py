@@ -95,8 +95,9 @@ def built(room, crates, tests):
 
 def libraries(room):
     decoder = built(room, DECODER, "decoder-tests.txt")
-    seconds, _, peak, _ = best([decoder, "tests::decoder"], room)
-    row("decoder, pieces of 512 bytes", seconds, 20_000_000, "statements", peak)
+    for test, frames in [("decoder", "one"), ("decoder_of_8", "8"), ("decoder_of_50", "50")]:
+        seconds, _, peak, _ = best([decoder, f"tests::{test}"], room)
+        row(f"decoder, {frames} to a frame, pieces of 512", seconds, 20_000_000, "statements", peak)
     core = built(room, CORE, "core-tests.txt")
     seconds, _, peak, _ = best([core, "tests::few_members"], room)
     row("core, 4 members, 256 questions", seconds, 884_736, "events", peak)

@@ -1,11 +1,11 @@
 -- What `hear` answers to one statement, to one piece of a stream, and to one line.
-use Rattle.std.specs.Prelude.{ℕ, ◌≡◌, ◌==◌, cond, Option, List, [], ◌∷◌, ◌++◌, codes}
+use Rattle.std.specs.Prelude.{ℕ, ◌≡◌, Option, List, [], ◌++◌, codes}
 use Rattle.std.specs.List.{flat_map}
 use Rattle.vocabulary.specs.Terms.{Echo, Ready, Value, Place, Statement, Record, Said, Decided, Size, Past, no_past, after_hearing, MaySay, IsLeast, said_if, after_records}
 use Rattle.wire.specs.declared.message.Message.{Message}
 use Rattle.wire.specs.declared.message.Message.TheVariants as message
 use Rattle.wire.specs.declared.message.WireFault.{WireFault}
-use Rattle.wire.specs.declared.message.WireFault.TheVariants.{BadLength, BadType, BadKind, BadPlace, BadValue, BadHello}
+use Rattle.wire.specs.declared.message.WireFault.TheVariants.{BadLength, BadType, BadKind, BadPlace, BadValue, BadHello, BadCount}
 use Rattle.wire.specs.Texts.{frame_bytes}
 use Rattle.wire.specs.Reading.{End, Rest, Broken}
 use Rattle.wire.specs.Feeding.{Feeds}
@@ -31,6 +31,7 @@ fault_name BadKind = codes "BadKind"
 fault_name BadPlace = codes "BadPlace"
 fault_name BadValue = codes "BadValue"
 fault_name BadHello = codes "BadHello"
+fault_name BadCount = codes "BadCount"
 
 -- what is said after news: the Echo and the Ready that are then due, each where one is
 pub record SaysDue (past : Past) (place : Place) (after : Past) (text : List ℕ) : Type 0 where
@@ -67,15 +68,20 @@ with_end h from end = record { ends = put h.ends from end; pasts = h.pasts }
 abbrev pub with_past : Hearing → ℕ → Past → Hearing
 with_past h question past = record { ends = h.ends; pasts = put h.pasts question past }
 
--- the sender's message is answered by the text: a statement, from the past of its question. The others change nothing
--- and are answered by none
-abbrev pub AnswersMessage : ℕ → Hearing → Message → Hearing → List ℕ → Type 0
-AnswersMessage from before message.Idle after text = (after ≡ before) × (text ≡ [])
-AnswersMessage from before (message.Hello cluster size dialler dialled) after text = (after ≡ before) × (text ≡ [])
-AnswersMessage from before (message.Welcome next) after text = (after ≡ before) × (text ≡ [])
-AnswersMessage from before (message.Statement s) after text =
+-- the sender's statement is answered by the text, from the past of its question
+abbrev pub AnswersOne : ℕ → Hearing → Statement → Hearing → List ℕ → Type 0
+AnswersOne from before s after text =
     (past : Past) × AnswersStatement from (before.pasts s.place.question) s past text
     × (after ≡ with_past before s.place.question past)
+
+-- the sender's message is answered by the text: a statement, and several in turn. The others change nothing and are
+-- answered by none
+abbrev pub AnswersMessage : ℕ → Hearing → Message → Hearing → List ℕ → Type 0
+AnswersMessage from before message.Idle after text = (after ≡ before) × (text ≡ [])
+AnswersMessage from before (message.Hello version cluster size dialler dialled) after text = (after ≡ before) × (text ≡ [])
+AnswersMessage from before (message.Welcome next) after text = (after ≡ before) × (text ≡ [])
+AnswersMessage from before (message.Statement s) after text = AnswersOne from before s after text
+AnswersMessage from before (message.Statements many) after text = InTurn (AnswersOne from) before many after text
 
 -- a stream that is broken is named so, once for each piece
 abbrev pub broken_line : End → List ℕ

@@ -4,7 +4,7 @@ ghost use Rattle.std.specs.Prelude.{ℕ, ◌≡◌, ◌<◌, ◌++◌, OnOk, IfO
 ghost use Rattle.std.specs.Io.KnownBytes.{Appends};
 ghost use Rattle.std.specs.List.{flat_map, AllByRecursion};
 ghost use Rattle.terms.specs.declared.Size.{Size as SizeOf};
-ghost use Rattle.vocabulary.specs.Terms.{IsSize, FitsStep, Past, no_past, said_if, after_records, AllFit, FitsIf};
+ghost use Rattle.vocabulary.specs.Terms.{IsSize, IsWellFormed, FitsStep, Past, no_past, said_if, after_records, AllFit, FitsIf};
 ghost use Rattle.wire.specs.Texts.{frame_bytes as text_of, Fits};
 ghost use Rattle.wire.specs.Reading.{End};
 ghost use Rattle.hex.specs.Hex.{encode_lower};
@@ -12,7 +12,7 @@ ghost use Rattle.rbc.specs.Readers.{broadcasts_size};
 ghost use Rattle.rbc.specs.Stands.{BroadcastsStandFor};
 ghost use Rattle.hearing.specs.InTurn.{InTurn};
 ghost use Rattle.words.specs.Lines.{line};
-ghost use Rattle.hearing.specs.Replies.{frame_line, fault_name, broken_line, AnswersStatement, AnswersMessage, AnswersPiece, AnswersLine, Hearing, no_hearing};
+ghost use Rattle.hearing.specs.Replies.{frame_line, fault_name, broken_line, AnswersStatement, AnswersOne, AnswersMessage, AnswersPiece, AnswersLine, Hearing, no_hearing};
 ghost use Rattle.hearing.specs.Pieces.{IsNoPiece};
 ghost use Rattle.hearing.specs.Faults.{IsOfStream};
 ghost use Rattle.hearing.specs.Sessions.{HasFeeders, HasBroadcasts, AreFed, EachStandsFor};
@@ -94,7 +94,52 @@ fn hear(
     Ok(())
 }
 
-/// Hears the sender's message, and adds the answer. One that is no statement has none.
+/// Hears the sender's statement, and adds the answer.
+fn hear_one(
+    alloc: Global,
+    size: Size,
+    broadcasts: &mut Vec<Broadcasts>,
+    from: u8,
+    statement: &Statement,
+    text: &mut Vec<u8>,
+) -> Result<(), Memory>
+    requires has { HasBroadcasts size broadcasts.old.items }
+    requires from { from < size.n }
+    requires well { IsWellFormed size statement.now }
+    ensures answers { OnOk result ((h : Hearing) → EachStandsFor size broadcasts.old.items h →
+        (after : Hearing) × (others : List ℕ) × AnswersOne from h statement.now after others
+        × EachStandsFor size broadcasts.new.items after × (text.new.items ≡ text.old.items ++ others)) }
+    ensures has { OnOk result (HasBroadcasts size broadcasts.new.items) }
+{
+    let question = usize::from(statement.place().question());
+    hear(alloc, &mut broadcasts[question], from, statement, text)?;
+    Ok(())
+}
+
+/// Hears the sender's statements in turn, and adds the answers.
+fn hear_each(
+    alloc: Global,
+    size: Size,
+    broadcasts: &mut Vec<Broadcasts>,
+    from: u8,
+    statements: &[Statement],
+    text: &mut Vec<u8>,
+) -> Result<(), Memory>
+    requires has { HasBroadcasts size broadcasts.old.items }
+    requires from { from < size.n }
+    requires well { AllByRecursion (IsWellFormed size) statements.now }
+    ensures answers { OnOk result ((h : Hearing) → EachStandsFor size broadcasts.old.items h →
+        (after : Hearing) × (others : List ℕ) × InTurn (AnswersOne from) h statements.now after others
+        × EachStandsFor size broadcasts.new.items after × (text.new.items ≡ text.old.items ++ others)) }
+    ensures has { OnOk result (HasBroadcasts size broadcasts.new.items) }
+{
+    for statement in statements {
+        hear_one(alloc, size, broadcasts, from, statement, text)?;
+    }
+    Ok(())
+}
+
+/// Hears the sender's message, and adds the answer. One without a statement has none.
 fn hear_message(
     alloc: Global,
     size: Size,
@@ -111,10 +156,13 @@ fn hear_message(
         × EachStandsFor size broadcasts.new.items after × (text.new.items ≡ text.old.items ++ others)) }
     ensures has { OnOk result (HasBroadcasts size broadcasts.new.items) }
 {
-    match *message {
+    match message {
         Message::Statement(statement) => {
-            let question = usize::from(statement.place().question());
-            hear(alloc, &mut broadcasts[question], from, &statement, text)?;
+            hear_one(alloc, size, broadcasts, from, statement, text)?;
+            Ok(())
+        }
+        Message::Statements(many) => {
+            hear_each(alloc, size, broadcasts, from, many.as_slice(), text)?;
             Ok(())
         }
         Message::Idle | Message::Hello { .. } | Message::Welcome { .. } => Ok(()),
@@ -155,6 +203,7 @@ fn show_fault(fault: WireFault, text: &mut Vec<u8>) -> Result<(), Memory>
         WireFault::BadPlace => "BadPlace",
         WireFault::BadValue => "BadValue",
         WireFault::BadHello => "BadHello",
+        WireFault::BadCount => "BadCount",
     };
     text.extend_from_slice(b"broken ")?;
     text.extend_from_slice(name.as_bytes())?;

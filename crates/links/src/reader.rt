@@ -18,7 +18,7 @@ use rounds::{Toss, Tosser};
 use std::alloc::Global;
 use std::sync::Wait;
 use terms::{Memory, Statement};
-use wire::{Fed, Feeder, Message};
+use wire::{Fed, Feeder, Message, Version};
 
 /// The most bytes of a read.
 const PIECE: usize = 512;
@@ -163,13 +163,30 @@ fn push_tossed<T: Tosser>(
     }
 }
 
+/// Adds each of these statements with the toss that is drawn for it, in order.
+fn push_each<T: Tosser>(
+    events: &mut Vec<(Statement, Toss)>,
+    statements: &[Statement],
+    tosser: &mut T,
+) -> Result<(), Memory>
+    ensures said { OnOk result (said_in events.new.items ≡ said_in events.old.items ++ statements.now) }
+    ensures toss { OnOk result ((begun : T) → Draws T.may_toss begun (tosses_in events.old.items) tosser.old →
+        Draws T.may_toss begun (tosses_in events.new.items) tosser.new) }
+{
+    for statement in statements {
+        push_tossed(events, *statement, tosser)?;
+    }
+    Ok(())
+}
+
 /// The statements of these messages up to one that is out of place, each with a toss, which are drawn in order.
 fn gather<T: Tosser>(
     alloc: Global,
+    version: Version,
     messages: &[Message],
     tosser: &mut T,
 ) -> Result<Vec<(Statement, Toss)>, Memory>
-    ensures said { IfOk result (λ events. said_in events.items ≡ in_order messages.now) }
+    ensures said { IfOk result (λ events. said_in events.items ≡ in_order version messages.now) }
     ensures tosses { IfOk result (λ events. Draws T.may_toss tosser.old (tosses_in events.items) tosser.new) }
 {
     let mut events = Vec::new(alloc);
@@ -178,32 +195,42 @@ fn gather<T: Tosser>(
             Message::Statement(statement) => push_tossed(&mut events, *statement, tosser)?,
             Message::Idle => {}
             Message::Hello {
+                version: _,
                 cluster: _,
                 size: _,
                 from: _,
                 to: _,
             } => return Ok(events),
             Message::Welcome { next: _ } => return Ok(events),
+            Message::Statements(many) => match version {
+                Version::One => return Ok(events),
+                Version::Two => push_each(&mut events, many.as_slice(), tosser)?,
+            },
         }
     }
     Ok(events)
 }
 
-/// Whether no message is out of place: a Hello or a Welcome.
-fn all_in_place(messages: &[Message]) -> bool
-    ensures { result ≡ all_in_place messages.now }
+/// Whether no message is out of place: a Hello or a Welcome, and in version 1 several statements of one frame.
+fn all_in_place(version: Version, messages: &[Message]) -> bool
+    ensures { result ≡ all_in_place version messages.now }
 {
     for message in messages {
         match message {
             Message::Statement(_) => {}
             Message::Idle => {}
             Message::Hello {
+                version: _,
                 cluster: _,
                 size: _,
                 from: _,
                 to: _,
             } => return false,
             Message::Welcome { next: _ } => return false,
+            Message::Statements(_) => match version {
+                Version::One => return false,
+                Version::Two => {}
+            },
         }
     }
     true
@@ -215,28 +242,29 @@ fn hand_in<D: Disk, J: Naming, G: Gate, T: Tosser, R: Wait>(
     alloc: Global,
     hub: &Hub<D, J>,
     seat: &mut Seat,
+    version: Version,
     messages: &[Message],
     gate: &G,
     tosser: &mut T,
 ) -> Result<(), LinkEnd>
-    ensures ok { OnOk result (HandsInAll seat.old seat.new (in_order messages.now)) }
-    ensures in_place { OnOk result (all_in_place messages.now ≡ true) }
-    ensures some { OnErr result (HandsInSome seat.old seat.new (in_order messages.now)) }
-    ensures refused { IsErrOf result LinkEnd.Stopped → HandsInFewer seat.old seat.new (in_order messages.now) }
-    ensures order { IsErrOf result LinkEnd.OutOfOrder → HandsInAll seat.old seat.new (in_order messages.now) }
-    ensures out_of_order { IsErrOf result LinkEnd.OutOfOrder → all_in_place messages.now ≡ false }
+    ensures ok { OnOk result (HandsInAll seat.old seat.new (in_order version messages.now)) }
+    ensures in_place { OnOk result (all_in_place version messages.now ≡ true) }
+    ensures some { OnErr result (HandsInSome seat.old seat.new (in_order version messages.now)) }
+    ensures refused { IsErrOf result LinkEnd.Stopped → HandsInFewer seat.old seat.new (in_order version messages.now) }
+    ensures order { IsErrOf result LinkEnd.OutOfOrder → HandsInAll seat.old seat.new (in_order version messages.now) }
+    ensures out_of_order { IsErrOf result LinkEnd.OutOfOrder → all_in_place version messages.now ≡ false }
     ensures only { IfErr result (λ why.
         (why ≡ LinkEnd.OutOfOrder) ⊎ ((why ≡ LinkEnd.Stopped) ⊎ (why ≡ LinkEnd.Memory))) }
 {
     seat.recall();
-    let Ok(events) = gather(alloc, messages, tosser) else {
+    let Ok(events) = gather(alloc, version, messages, tosser) else {
         return Err(LinkEnd::Memory);
     };
     match hand_in_groups(rt, hub, seat, &events, gate) {
         Ok(()) => {}
         Err(why) => return Err(why),
     }
-    if !all_in_place(messages) {
+    if !all_in_place(version, messages) {
         return Err(LinkEnd::OutOfOrder);
     }
     Ok(())
@@ -253,15 +281,16 @@ fn turn<D: Disk, J: Naming, S: Stream, G: Gate, T: Tosser, R: Wait>(
     hub: &Hub<D, J>,
     seat: &mut Seat,
     stream: &mut S,
+    version: Version,
     feeder: &mut Feeder,
     messages: &mut Vec<Message>,
     gate: &G,
     tosser: &mut T,
 ) -> Result<(), LinkEnd>
     ensures on { (rest : List ℕ) → Waits feeder.old rest →
-        OnOk result (ReadsOn (S.told stream.old) (S.told stream.new) feeder.old.size rest feeder.new seat.old seat.new) }
+        OnOk result (ReadsOn version (S.told stream.old) (S.told stream.new) feeder.old.size rest feeder.new seat.old seat.new) }
     ensures off { (rest : List ℕ) → Waits feeder.old rest →
-        IfErr result (λ why. ReadsOff (S.told stream.old) (S.told stream.new) feeder.old.size rest seat.old seat.new why) }
+        IfErr result (λ why. ReadsOff version (S.told stream.old) (S.told stream.new) feeder.old.size rest seat.old seat.new why) }
 {
     seat.recall();
     let mut piece = [0u8; PIECE];
@@ -277,7 +306,7 @@ fn turn<D: Disk, J: Naming, S: Stream, G: Gate, T: Tosser, R: Wait>(
         Err(_) => return Err(LinkEnd::Memory),
     };
     let alloc = *messages.allocator();
-    match hand_in(rt, alloc, hub, seat, messages, gate, tosser) {
+    match hand_in(rt, alloc, hub, seat, version, messages, gate, tosser) {
         Ok(()) => match fed {
             Fed::More => Ok(()),
             Fed::Broken(fault) => Err(LinkEnd::Broken(fault)),
@@ -293,10 +322,11 @@ fn read_session<D: Disk, J: Naming, S: Stream, G: Gate, T: Tosser, R: Wait>(
     hub: &Hub<D, J>,
     mut seat: Seat,
     stream: &mut S,
+    version: Version,
     gate: &G,
     tosser: &mut T,
 ) -> (Seat, LinkEnd)
-    ensures { ReadsLink hub.now.size (S.told stream.old) (S.told stream.new) seat result.0 result.1 }
+    ensures { ReadsLink version hub.now.size (S.told stream.old) (S.told stream.new) seat result.0 result.1 }
 {
     seat.recall();
     let size = hub.header().size();
@@ -314,6 +344,7 @@ fn read_session<D: Disk, J: Naming, S: Stream, G: Gate, T: Tosser, R: Wait>(
             hub,
             &mut seat,
             stream,
+            version,
             &mut feeder,
             &mut messages,
             gate,
@@ -336,7 +367,8 @@ fn read_session<D: Disk, J: Naming, S: Stream, G: Gate, T: Tosser, R: Wait>(
 /// It ends:
 ///
 /// - `Ended`, `Lost`: the input ended, also within a frame; a read or a write failed.
-/// - `Broken`, `OutOfOrder`: behind what was handed in come bytes that begin no frame; a Hello or a Welcome.
+/// - `Broken`, `OutOfOrder`: behind what was handed in come bytes that begin no frame; a Hello or a Welcome, and in a
+///   session of version 1 several statements of one frame.
 /// - `Stopped`: the member, which is stopped, refused a group of what was read. The group and what was read behind it
 ///   weren't handed in.
 /// - `Memory`: there was no memory, and a beginning of what was read was handed in, perhaps none of it.
@@ -346,14 +378,15 @@ pub fn read_link<D: Disk, J: Naming, S: Stream, G: Gate, T: Tosser, R: Wait>(
     hub: &Hub<D, J>,
     seat: Seat,
     stream: &mut S,
+    version: Version,
     gate: &G,
     tosser: &mut T,
 ) -> (Seat, LinkEnd)
     // It hands in what it read.
-    ensures reads { ReadsLink hub.now.size (S.told stream.old) (S.told stream.new) seat result.0 result.1 }
+    ensures reads { ReadsLink version hub.now.size (S.told stream.old) (S.told stream.new) seat result.0 result.1 }
     ensures closed { S.is_closed stream.new ≡ true }
 {
-    let (seat, why) = read_session(rt, alloc, hub, seat, stream, gate, tosser);
+    let (seat, why) = read_session(rt, alloc, hub, seat, stream, version, gate, tosser);
     stream.close();
     (seat, why)
 }

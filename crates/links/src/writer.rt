@@ -1,11 +1,11 @@
 //! The writer of a link.
-ghost use Rattle.std.specs.Prelude.{◌≡◌, ◌+◌, ◌<◌, ◌^◌, true, length, vec_len, IfOk, IfErr};
+ghost use Rattle.std.specs.Prelude.{◌≡◌, ◌+◌, ◌<◌, ◌≤◌, ◌^◌, true, length, vec_len, IfOk, IfErr};
 ghost use Rattle.wire.specs.Texts.{frame_bytes};
 ghost use Rattle.wire.specs.declared.message.Message.TheVariants as message;
 ghost use Rattle.node.specs.Books.{is_numbered};
 ghost use Rattle.links.specs.Told.{has_read};
 ghost use Rattle.links.specs.Pulls.{IsEndOrMemory};
-ghost use Rattle.links.specs.Writing.{WritesTokens, WritesOn, Unwelcomed, WritesLink, hello_to};
+ghost use Rattle.links.specs.Writing.{WritesGroups, WritesOn, Unwelcomed, WritesLink, hello_to};
 
 use crate::ends::LinkEnd;
 use crate::first::read_first;
@@ -18,9 +18,9 @@ use node::{Book, Hub, Naming, Watch};
 use std::alloc::Global;
 use std::sync::Wait;
 use terms::{Header, Size};
-use wire::Message;
+use wire::{MOST_STATEMENTS, Message, Version};
 
-/// The most statements that are written at a time.
+/// The most statements that are written at a time in a session of version 1.
 const PULL: usize = 64;
 
 /// The length of a Welcome.
@@ -36,6 +36,7 @@ fn read_welcome<S: Stream>(alloc: Global, stream: &mut S, size: Size) -> Result<
         Ok(Message::Idle) => Err(LinkEnd::OutOfOrder),
         Ok(
             Message::Hello {
+                version: _,
                 cluster: _,
                 size: _,
                 from: _,
@@ -43,15 +44,17 @@ fn read_welcome<S: Stream>(alloc: Global, stream: &mut S, size: Size) -> Result<
             },
         ) => Err(LinkEnd::OutOfOrder),
         Ok(Message::Statement(_)) => Err(LinkEnd::OutOfOrder),
+        Ok(Message::Statements(_)) => Err(LinkEnd::OutOfOrder),
         Err(why) => Err(why),
     }
 }
 
-/// The Hello of the header's member to another.
-fn hello(header: &Header, peer: u8) -> Message
-    ensures { result ≡ hello_to header.now peer }
+/// The Hello of the header's member to another, for a session of that version.
+fn hello(header: &Header, version: Version, peer: u8) -> Message
+    ensures { result ≡ hello_to header.now version peer }
 {
     Message::Hello {
+        version,
         cluster: header.cluster(),
         size: header.size(),
         from: header.me(),
@@ -60,12 +63,21 @@ fn hello(header: &Header, peer: u8) -> Message
 }
 
 /// The statements of the outbox from a number on, none where there are none yet.
-fn pull<D: Disk, J: Naming>(book: &Book<D, J>, from: u64) -> Result<Vec<Sealed>, LinkEnd>
+fn pull<D: Disk, J: Naming>(
+    book: &Book<D, J>,
+    version: Version,
+    from: u64,
+) -> Result<Vec<Sealed>, LinkEnd>
+    ensures few { IfOk result (λ v. vec_len v ≤ 99) }
     ensures numbered { IfOk result (λ v. is_numbered from v.items ≡ true) }
     ensures fits { IfOk result (λ v. 0 < vec_len v → from + vec_len v < 2 ^ 64) }
     ensures only { IfErr result IsEndOrMemory }
 {
-    match book.pull(from, PULL) {
+    let most = match version {
+        Version::One => PULL,
+        Version::Two => MOST_STATEMENTS,
+    };
+    match book.pull(from, most) {
         Ok(items) => Ok(items),
         Err(_) => Err(LinkEnd::Memory),
     }
@@ -75,13 +87,15 @@ fn pull<D: Disk, J: Naming>(book: &Book<D, J>, from: u64) -> Result<Vec<Sealed>,
 fn look<D: Disk, J: Naming>(
     hub: &Hub<D, J>,
     book: &Book<D, J>,
+    version: Version,
     from: u64,
 ) -> Result<Vec<Sealed>, LinkEnd>
+    ensures few { IfOk result (λ v. vec_len v ≤ 99) }
     ensures numbered { IfOk result (λ v. is_numbered from v.items ≡ true) }
     ensures fits { IfOk result (λ v. 0 < vec_len v → from + vec_len v < 2 ^ 64) }
     ensures only { IfErr result IsEndOrMemory }
 {
-    match pull(book, from) {
+    match pull(book, version, from) {
         Err(why) => Err(why),
         Ok(items) => {
             if items.is_empty() && hub.is_shut() {
@@ -97,14 +111,16 @@ fn try_look<'a, D: Disk, J: Naming>(
     alloc: Global,
     hub: &'a Hub<D, J>,
     watch: Watch<'a>,
+    version: Version,
     from: u64,
 ) -> (Watch<'a>, Result<Vec<Sealed>, LinkEnd>)
+    ensures few { IfOk result.1 (λ v. vec_len v ≤ 99) }
     ensures numbered { IfOk result.1 (λ v. is_numbered from v.items ≡ true) }
     ensures fits { IfOk result.1 (λ v. 0 < vec_len v → from + vec_len v < 2 ^ 64) }
     ensures only { IfErr result.1 IsEndOrMemory }
 {
     match hub.try_lock() {
-        Some(book) => (watch, look(hub, &book, from)),
+        Some(book) => (watch, look(hub, &book, version, from)),
         None => (hub.want(watch), Ok(Vec::new(alloc))),
     }
 }
@@ -115,14 +131,16 @@ fn next_items<D: Disk, J: Naming, R: Wait>(
     rt: &R,
     alloc: Global,
     hub: &Hub<D, J>,
+    version: Version,
     from: u64,
 ) -> Result<Vec<Sealed>, LinkEnd>
+    ensures few { IfOk result (λ v. vec_len v ≤ 99) }
     ensures numbered { IfOk result (λ v. is_numbered from v.items ≡ true) }
     ensures fits { IfOk result (λ v. 0 < vec_len v → from + vec_len v < 2 ^ 64) }
     ensures only { IfErr result IsEndOrMemory }
 {
     let watch = hub.watch(rt);
-    let (watch, found) = try_look(alloc, hub, watch, from);
+    let (watch, found) = try_look(alloc, hub, watch, version, from);
     match found {
         Err(why) => return Err(why),
         Ok(items) => {
@@ -134,18 +152,23 @@ fn next_items<D: Disk, J: Naming, R: Wait>(
     if hub.is_shut() {
         // Nobody rings any more, and no peer is to be told Idle.
         hub.leave(watch);
-        return look(hub, &hub.lock(rt), from);
+        return look(hub, &hub.lock(rt), version, from);
     }
     let watch = hub.wait(rt, watch);
-    let (watch, found) = try_look(alloc, hub, watch, from);
+    let (watch, found) = try_look(alloc, hub, watch, version, from);
     hub.leave(watch);
     found
 }
 
 /// Writes an Idle frame.
-fn write_idle<S: Stream>(alloc: Global, stream: &mut S, from: u64) -> Result<(), LinkEnd>
-    ensures ok { IfOk result (λ _. WritesTokens (S.told stream.old) (S.told stream.new) from from) }
-    ensures err { IfErr result (λ why. WritesOn (S.told stream.old) (S.told stream.new) from why) }
+fn write_idle<S: Stream>(
+    alloc: Global,
+    stream: &mut S,
+    version: Version,
+    from: u64,
+) -> Result<(), LinkEnd>
+    ensures ok { IfOk result (λ _. WritesGroups version (S.told stream.old) (S.told stream.new) from from) }
+    ensures err { IfErr result (λ why. WritesOn version (S.told stream.old) (S.told stream.new) from why) }
 {
     match write_message(alloc, stream, &Message::Idle) {
         Ok(()) => Ok(()),
@@ -157,15 +180,18 @@ fn write_idle<S: Stream>(alloc: Global, stream: &mut S, from: u64) -> Result<(),
 fn write_items<S: Stream>(
     alloc: Global,
     stream: &mut S,
+    version: Version,
     from: u64,
     items: &[Sealed],
 ) -> Result<u64, LinkEnd>
+    requires few { length items.now ≤ 99 }
+    requires some { 0 < length items.now }
     requires numbered { is_numbered from items.now ≡ true }
     requires fits { from + length items.now < 2 ^ 64 }
-    ensures ok { IfOk result (λ next. WritesTokens (S.told stream.old) (S.told stream.new) from next) }
-    ensures err { IfErr result (λ why. WritesOn (S.told stream.old) (S.told stream.new) from why) }
+    ensures ok { IfOk result (λ next. WritesGroups version (S.told stream.old) (S.told stream.new) from next) }
+    ensures err { IfErr result (λ why. WritesOn version (S.told stream.old) (S.told stream.new) from why) }
 {
-    match send(alloc, stream, items) {
+    match send(alloc, stream, version, items) {
         Ok(()) => Ok(from + items.len() as u64),
         Err(why) => Err(why),
     }
@@ -177,21 +203,22 @@ fn write_some<D: Disk, J: Naming, S: Stream, R: Wait>(
     alloc: Global,
     hub: &Hub<D, J>,
     stream: &mut S,
+    version: Version,
     from: u64,
 ) -> Result<u64, LinkEnd>
-    ensures ok { IfOk result (λ next. WritesTokens (S.told stream.old) (S.told stream.new) from next) }
-    ensures err { IfErr result (λ why. WritesOn (S.told stream.old) (S.told stream.new) from why) }
+    ensures ok { IfOk result (λ next. WritesGroups version (S.told stream.old) (S.told stream.new) from next) }
+    ensures err { IfErr result (λ why. WritesOn version (S.told stream.old) (S.told stream.new) from why) }
 {
-    match next_items(rt, alloc, hub, from) {
+    match next_items(rt, alloc, hub, version, from) {
         Err(why) => Err(why),
         Ok(items) => {
             if items.is_empty() {
-                return match write_idle(alloc, stream, from) {
+                return match write_idle(alloc, stream, version, from) {
                     Ok(()) => Ok(from),
                     Err(why) => Err(why),
                 };
             }
-            write_items(alloc, stream, from, items.as_slice())
+            write_items(alloc, stream, version, from, items.as_slice())
         }
     }
 }
@@ -202,13 +229,14 @@ fn write_on<D: Disk, J: Naming, S: Stream, R: Wait>(
     alloc: Global,
     hub: &Hub<D, J>,
     stream: &mut S,
+    version: Version,
     first: u64,
 ) -> LinkEnd
-    ensures { WritesOn (S.told stream.old) (S.told stream.new) first result }
+    ensures { WritesOn version (S.told stream.old) (S.told stream.new) first result }
 {
     let mut number = first;
     for _ in rt.forever() {
-        match write_some(rt, alloc, hub, stream, number) {
+        match write_some(rt, alloc, hub, stream, version, number) {
             Ok(next) => number = next,
             Err(why) => return why,
         }
@@ -223,24 +251,29 @@ fn write_session<D: Disk, J: Naming, S: Stream, R: Wait>(
     hub: &Hub<D, J>,
     peer: u8,
     stream: &mut S,
-) -> LinkEnd
-    ensures { WritesLink hub.now peer (S.told stream.old) (S.told stream.new) result }
+    version: Version,
+) -> (LinkEnd, bool)
+    ensures { WritesLink hub.now version peer (S.told stream.old) (S.told stream.new) result.0 result.1 }
 {
     let header = hub.header();
-    let greeting = hello(&header, peer);
+    let greeting = hello(&header, version, peer);
     match write_message(alloc, stream, &greeting) {
         Ok(()) => {}
-        Err(why) => return why,
+        Err(why) => return (why, false),
     }
     match read_welcome(alloc, stream, header.size()) {
-        Ok(next) => return write_on(rt, alloc, hub, stream, next),
-        Err(why) => return why,
+        Ok(next) => {
+            let why = write_on(rt, alloc, hub, stream, version, next);
+            return (why, true);
+        }
+        Err(why) => return (why, false),
     }
 }
 
 /// A session of the link to a peer, a number below n: writes the Hello, reads the Welcome, at most 11 bytes in all, and
-/// then writes the statements of the outbox from its next on, in order and at most 64 at a time, until the session ends.
-/// Woken by the bell with nothing new, or while another thread has the book, it writes an Idle. The stream is closed.
+/// then writes the statements of the outbox from its next on, in order, until the session ends: in version 1 at most 64 at a
+/// time, in version 2 at most 99, which are one frame. Woken by the bell with nothing new, or while another thread has the
+/// book, it writes an Idle. The stream is closed. Beside the end it answers whether it read its Welcome.
 ///
 /// It ends:
 ///
@@ -256,13 +289,14 @@ pub fn write_link<D: Disk, J: Naming, S: Stream, G: Gate, R: Wait>(
     hub: &Hub<D, J>,
     peer: u8,
     stream: &mut S,
+    version: Version,
     _gate: &G,
-) -> LinkEnd
-    // What it wrote begins its Hello and then the numbered frames.
-    ensures writes { WritesLink hub.now peer (S.told stream.old) (S.told stream.new) result }
+) -> (LinkEnd, bool)
+    // What it wrote begins its Hello and then the numbered frames; past the Hello it went where it was welcomed.
+    ensures writes { WritesLink hub.now version peer (S.told stream.old) (S.told stream.new) result.0 result.1 }
     ensures closed { S.is_closed stream.new ≡ true }
 {
-    let why = write_session(rt, alloc, hub, peer, stream);
+    let ended = write_session(rt, alloc, hub, peer, stream, version);
     stream.close();
-    why
+    ended
 }

@@ -16,6 +16,11 @@ use wire::{Fed, Feeder, Message, encode};
 /// An Idle frame, and behind it that of the subject's Initial.
 const FRAMES: [u8; 13] = [0, 1, 0, 0, 8, 3, 1, 0, 0, 0, 1, 1, 1];
 
+/// The frame of the subject's Initial, and behind it that of the same twice in one frame.
+const THREE: [u8; 28] = [
+    0, 8, 3, 1, 0, 0, 0, 1, 1, 1, 0, 16, 4, 2, 1, 0, 0, 0, 1, 1, 1, 1, 0, 0, 0, 1, 1, 1,
+];
+
 /// A frame is appended to another.
 pub(crate) fn encodes(alloc: Global, of: &Subject) -> Ending {
     let mut out = Vec::new(alloc);
@@ -34,25 +39,26 @@ pub(crate) fn encodes(alloc: Global, of: &Subject) -> Ending {
     ending.if_so(out.as_slice() == FRAMES.as_slice(), "other bytes")
 }
 
-/// Whether these are an Idle and then ten times that statement.
-fn are_ten(out: &[Message], statement: Statement) -> bool {
+/// Whether these are an Idle and then five times that statement alone and twice in one frame.
+fn are_fifteen(out: &[Message], statement: Statement) -> bool {
     out.len() == 11
-        && out
-            .iter()
-            .skip(1)
-            .all(|it| *it == Message::Statement(statement))
+        && out.iter().enumerate().skip(1).all(|(at, it)| match it {
+            Message::Statement(said) => at % 2 == 1 && *said == statement,
+            Message::Statements(said) => at % 2 == 0
+                && said.as_slice() == [statement; 2].as_slice(),
+            _ => false,
+        })
 }
 
 /// A feeder that holds four bytes of a frame gets its rest, nine frames more and a part of another.
 pub(crate) fn feeds(alloc: Global, of: &Subject) -> Ending {
-    let frame = &FRAMES[3..];
-    let mut piece = [0u8; 103];
+    let mut piece = [0u8; 145];
     for (at, byte) in piece.iter_mut().enumerate() {
-        *byte = frame[(at + 4) % 10];
+        *byte = THREE[(at + 4) % 28];
     }
     let mut feeder = Feeder::new(of.header.size());
     let mut out: Vec<Message> = Vec::new(alloc);
-    if feeder.feed(&frame[..4], &mut out).is_err() || out.push(Message::Idle).is_err() {
+    if feeder.feed(&THREE[..4], &mut out).is_err() || out.push(Message::Idle).is_err() {
         return Ending::Before;
     }
     let ending = match feeder.feed(&piece, &mut out) {
@@ -64,7 +70,7 @@ pub(crate) fn feeds(alloc: Global, of: &Subject) -> Ending {
             _ => return Ending::Wrong("another answer again"),
         },
     };
-    ending.if_so(are_ten(&out, of.initial), "other messages")
+    ending.if_so(are_fifteen(&out, of.initial), "other messages")
 }
 
 /// Members 0, 2 and 3 say their Ready; false where memory is refused.

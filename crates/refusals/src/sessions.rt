@@ -7,6 +7,7 @@ use node::{Hub, Naming, Seat, close};
 use rounds::{Toss, Tosser};
 use std::alloc::Global;
 use std::sync::Wait;
+use wire::Version;
 
 /// A tosser that counts on from its last toss.
 #[derive(Drop)]
@@ -21,15 +22,15 @@ impl Tosser for Counting {
     }
 }
 
-/// Member 0's Initial and its Echo of it, as frames.
-const SAID: [u8; 20] = [0, 8, 3, 1, 0, 0, 0, 1, 1, 1, 0, 8, 3, 2, 0, 0, 0, 1, 1, 1];
+/// Member 0's Initial and its Echo of it, in one frame.
+const SAID: [u8; 18] = [0, 16, 4, 2, 1, 0, 0, 0, 1, 1, 1, 2, 0, 0, 0, 1, 1, 1];
 
 /// A Welcome that asks for the statements from number 0 on.
 const WELCOME: [u8; 11] = [0, 9, 2, 0, 0, 0, 0, 0, 0, 0, 0];
 
-/// The Hello of member 1 of the cluster 7 to member 2, and its Initial of One.
+/// The Hello of version 2 of member 1 of the cluster 7 to member 2, and its Initial of One.
 const WRITTEN: [u8; 28] = [
-    0, 16, 1, 1, 0, 0, 0, 0, 0, 0, 0, 7, 4, 1, 0, 1, 1, 2, 0, 8, 3, 1, 0, 0, 1, 1, 1, 1,
+    0, 16, 1, 2, 0, 0, 0, 0, 0, 0, 0, 7, 4, 1, 0, 1, 1, 2, 0, 8, 3, 1, 0, 0, 1, 1, 1, 1,
 ];
 
 /// A stream with that input; none where memory is refused.
@@ -52,7 +53,7 @@ fn ending_of(why: LinkEnd) -> Ending {
     }
 }
 
-/// A link is read that gives two statements in one piece: both were handed in, or none.
+/// A link is read that gives two statements in one frame: both were handed in, or none.
 pub(crate) fn reads<D: Disk + Drop, J: Naming, R: Wait>(
     rt: &R,
     alloc: Global,
@@ -67,7 +68,16 @@ pub(crate) fn reads<D: Disk + Drop, J: Naming, R: Wait>(
     }
     let seat = seats.remove(0);
     let mut tosser = Counting { last: 0 };
-    let (seat, why) = read_link(rt, alloc, &hub, seat, &mut stream, &Open, &mut tosser);
+    let (seat, why) = read_link(
+        rt,
+        alloc,
+        &hub,
+        seat,
+        &mut stream,
+        Version::Two,
+        &Open,
+        &mut tosser,
+    );
     let handed = seat.next();
     let events = hub.lock(rt).events();
     let is_welcome = WELCOME.starts_with(stream.output());
@@ -96,7 +106,8 @@ pub(crate) fn writes<D: Disk + Drop, J: Naming, R: Wait>(
         return Ending::Before;
     }
     hub.shut(rt);
-    let ending = ending_of(write_link(rt, alloc, hub, 2, &mut stream, &Open));
+    let (why, _) = write_link(rt, alloc, hub, 2, &mut stream, Version::Two, &Open);
+    let ending = ending_of(why);
     let written = stream.output();
     let is_so = match ending {
         Ending::Ample => written == WRITTEN.as_slice(),

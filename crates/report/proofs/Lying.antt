@@ -1,22 +1,25 @@
 -- Bytes that are the frame of a statement.
-use Rattle.std.proofs.Common.{ℕ, ◌≡◌, ◌+◌, Some, List, [], ◌∷◌, ◌++◌, length, slice_get, refl, sym, ap, subst, ◌∙◌, arith, length-append}
+use Rattle.std.proofs.Common.{ℕ, suc, ◌≡◌, ◌+◌, Some, List, [], ◌∷◌, ◌++◌, length, slice_get, refl, sym, ap, subst, ◌∙◌, arith, length-append}
 use Rattle.std.specs.List.{flat_map}
 use Rattle.vocabulary.specs.Terms.{Statement, Size, IsSize}
 use Rattle.wire.specs.declared.message.Message.{Message}
 use Rattle.wire.specs.declared.message.Message.TheVariants as message
-use Rattle.wire.specs.Words.{frame_bytes, Fits, ReadsMessages, End, Rest, Broken, Ends, IsPartial, Took, Feeds}
+use Rattle.wire.specs.Words.{frame_body, frame_bytes, Fits, ReadsMessages, End, Rest, Broken, Ends, IsPartial, Took, Feeds}
 use Rattle.wire.proofs.Unique.{reads_once}
-use Rattle.wire.proofs.Frames.{begins_with}
 use Rattle.report.specs.Charts.{IsFrameOf}
 
 empty_of : (l : List ℕ) → length l ≡ 0 → l ≡ []
 empty_of [] h = refl
 empty_of (x ∷ l) h = absurd (omega (arith, h))
 
+-- a frame is the two bytes of its length, and the body
+sized : (m : Message) → length (frame_bytes m) ≡ suc (suc (length (frame_body m)))
+sized m = refl
+
 -- no message has no bytes
 alone : (ms : List Message) → flat_map frame_bytes ms ≡ [] → ms ≡ []
 alone [] h = refl
-alone (m ∷ ms) h = absurd (omega (arith, ap length h, length-append (frame_bytes m) (flat_map frame_bytes ms), ap length (begins_with m).0))
+alone (m ∷ ms) h = absurd (omega (arith, ap length h, length-append (frame_bytes m) (flat_map frame_bytes ms), sized m))
 
 long : (s : Statement) → length (frame_bytes (message.Statement s)) ≡ 10
 long s = refl

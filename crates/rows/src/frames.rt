@@ -2,13 +2,14 @@
 //!
 //! `size N T QUESTIONS` says for which cluster. A row of hexadecimal digits answers the messages in words, each before a
 //! comma, and how the stream ends: `More`, or the fault. It is fed whole, cut in two at every byte, and byte by byte; and the
-//! messages, encoded again, are to be the bytes that they were read from. `encode KIND QUESTION ORIGIN ROUND STEP VALUE` answers a
-//! statement's frame.
+//! messages, encoded again, are to be the bytes that they were read from. Several statements of one frame stand in brackets,
+//! with semicolons between them, and a hello of version 2 is a `Hello-2`. `encode KIND QUESTION ORIGIN ROUND STEP VALUE` answers
+//! a statement's frame, and `several` with six words for each statement the frame of several, or `back`.
 
 use crate::phrases::{bytes_of, kind_of, size_of, value_of, words_of};
 use std::alloc::Global;
 use terms::{Memory, Place, Size, Statement};
-use wire::{Fed, Feeder, Message, encode};
+use wire::{Fed, Feeder, Many, Message, Version, encode};
 
 /// A cluster's streams.
 #[derive(Drop)]
@@ -17,33 +18,60 @@ pub struct Stream {
     size: Option<Size>,
 }
 
+/// A statement in words.
+fn statement_text(alloc: Global, said: Statement) -> Result<String, Memory> {
+    let place = said.place();
+    let (kind, value) = (said.kind(), said.value());
+    let (question, origin, round) = (place.question(), place.origin(), place.round());
+    let text = format!(in alloc;
+        "{kind:?} {question} {origin} {round} {} {value:?}",
+        place.step()
+    )?;
+    Ok(text)
+}
+
+/// Several statements in words, in brackets and with a semicolon between them.
+fn several_text(alloc: Global, several: &[Statement]) -> Result<String, Memory> {
+    let mut text = "(".to_string(alloc)?;
+    for said in several {
+        if text.len() > 1 {
+            text.push_str("; ")?;
+        }
+        text.push_str(statement_text(alloc, *said)?.as_str())?;
+    }
+    text.push_str(")")?;
+    Ok(text)
+}
+
+/// A hello's name, by its version.
+fn hello_name(version: Version) -> &'static str {
+    match version {
+        Version::One => "Hello",
+        Version::Two => "Hello-2",
+    }
+}
+
 /// A message in words.
 fn message_text(alloc: Global, message: &Message) -> Result<String, Memory> {
-    let text = match *message {
-        Message::Idle => format!(in alloc; "Idle, ")?,
-        Message::Welcome { next } => format!(in alloc; "Welcome {next}, ")?,
+    match message {
+        Message::Idle => Ok("Idle".to_string(alloc)?),
+        Message::Welcome { next } => Ok(format!(in alloc; "Welcome {next}")?),
         Message::Hello {
+            version,
             cluster,
             size,
             from,
             to,
-        } => format!(in alloc;
-            "Hello {cluster} {} {} {} {from} {to}, ",
+        } => Ok(format!(in alloc;
+            "{} {cluster} {} {} {} {from} {to}",
+            hello_name(*version),
             size.n(),
             size.t(),
             size.questions()
-        )?,
-        Message::Statement(said) => {
-            let place = said.place();
-            let (kind, value) = (said.kind(), said.value());
-            let (question, origin, round) = (place.question(), place.origin(), place.round());
-            format!(in alloc;
-                "{kind:?} {question} {origin} {round} {} {value:?}, ",
-                place.step()
-            )?
-        }
-    };
-    Ok(text)
+        )?),
+        Message::Statement(said) => statement_text(alloc, *said),
+        Message::Statements(several) => several_text(alloc, several.as_slice()),
+    }
 }
 
 /// The messages in words, and how the stream ends.
@@ -51,6 +79,7 @@ fn shown(alloc: Global, messages: &[Message], fed: Fed) -> Result<String, Memory
     let mut text = String::new(alloc);
     for message in messages {
         text.push_str(message_text(alloc, message)?.as_str())?;
+        text.push_str(", ")?;
     }
     let end = match fed {
         Fed::More => format!(in alloc; "More")?,
@@ -110,12 +139,40 @@ fn however_cut(alloc: Global, size: Size, bytes: &[u8]) -> Result<String, Memory
     Ok(whole)
 }
 
-/// The frame of a statement.
-fn frame_of(alloc: Global, kind: &str, place: Place, value: &str) -> Option<String> {
-    let statement = Statement::new(kind_of(kind)?, place, value_of(value)?)?;
+/// The statement that six words say.
+fn statement_of(words: &[&str]) -> Option<Statement> {
+    match words {
+        [kind, question, origin, round, step, value] => {
+            let (question, origin) = (question.parse().ok()?, origin.parse().ok()?);
+            let place = Place::new(question, origin, round.parse().ok()?, step.parse().ok()?)?;
+            Statement::new(kind_of(kind)?, place, value_of(value)?)
+        }
+        _ => None,
+    }
+}
+
+/// The statements that the words say, six words each.
+fn statements_of(alloc: Global, words: &[&str]) -> Option<Vec<Statement>> {
+    let mut items = Vec::new(alloc);
+    for six in words.chunks(6) {
+        items.push(statement_of(six)?).ok()?;
+    }
+    Some(items)
+}
+
+/// The frame of a message.
+fn frame_of(alloc: Global, message: &Message) -> Option<String> {
     let mut bytes = Vec::new(alloc);
-    encode(&Message::Statement(statement), &mut bytes).ok()?;
+    encode(message, &mut bytes).ok()?;
     hex::encode(alloc, &bytes).ok()
+}
+
+/// The frame of these statements, or `back` where they are too few or too many for one.
+fn frame_of_several(alloc: Global, items: Vec<Statement>) -> Option<String> {
+    match Many::new(items) {
+        Ok(many) => frame_of(alloc, &Message::Statements(many)),
+        Err(_) => "back".to_string(alloc).ok(),
+    }
 }
 
 impl Stream {
@@ -132,10 +189,13 @@ impl Stream {
                 self.size = Some(size_of(n, t, questions)?);
                 Some(String::new(self.alloc))
             }
-            ["encode", kind, question, origin, round, step, value] => {
-                let (question, origin) = (question.parse().ok()?, origin.parse().ok()?);
-                let place = Place::new(question, origin, round.parse().ok()?, step.parse().ok()?)?;
-                frame_of(self.alloc, kind, place, value)
+            ["encode", statement @ ..] => {
+                let statement = statement_of(statement)?;
+                frame_of(self.alloc, &Message::Statement(statement))
+            }
+            ["several", statements @ ..] => {
+                let items = statements_of(self.alloc, statements)?;
+                frame_of_several(self.alloc, items)
             }
             [digits] => {
                 let bytes = bytes_of(self.alloc, digits)?;

@@ -2,8 +2,10 @@
 use Rattle.std.specs.Prelude.{ℕ, Bool, false, true, List, ◌++◌, codes}
 use Rattle.std.specs.Fmt.{decimal}
 use Rattle.std.specs.Net.Text.{ip_text}
+use Rattle.wire.specs.declared.message.Version.{Version}
+use Rattle.wire.specs.declared.message.Version.TheVariants as version
 use Rattle.wire.specs.declared.message.WireFault.{WireFault}
-use Rattle.wire.specs.declared.message.WireFault.TheVariants.{BadLength, BadType, BadKind, BadPlace, BadValue, BadHello}
+use Rattle.wire.specs.declared.message.WireFault.TheVariants.{BadLength, BadType, BadKind, BadPlace, BadValue, BadHello, BadCount}
 use Rattle.links.specs.declared.ends.LinkEnd.{LinkEnd}
 use Rattle.links.specs.declared.ends.LinkEnd.TheVariants as cause
 use Rattle.running.specs.declared.events.LogEvent.{LogEvent}
@@ -17,6 +19,12 @@ fault_text BadKind = codes "broken BadKind"
 fault_text BadPlace = codes "broken BadPlace"
 fault_text BadValue = codes "broken BadValue"
 fault_text BadHello = codes "broken BadHello"
+fault_text BadCount = codes "broken BadCount"
+
+-- what the line of a link that comes up says of its version
+abbrev pub version_text : Version → List ℕ
+version_text version.One = codes " version 1"
+version_text version.Two = codes ""
 
 -- what ended a link
 abbrev pub cause_text : LinkEnd → List ℕ
@@ -37,10 +45,10 @@ bit_number true = 1
 -- an event's line, without its end
 abbrev pub log_text : LogEvent → List ℕ
 log_text (Ready me) = codes "ready member " ++ decimal me
-log_text (LinkUp peer) = codes "link-up from " ++ decimal peer
+log_text (LinkUp peer version) = codes "link-up from " ++ (decimal peer ++ version_text version)
 log_text (LinkDown peer end) = codes "link-down from " ++ (decimal peer ++ (codes " " ++ cause_text end))
-log_text (LinkUpTo peer) = codes "link-up to " ++ decimal peer
-log_text (LinkUpAhead peer count) = codes "link-up to " ++ (decimal peer ++ (codes " ahead " ++ decimal count))
+log_text (LinkUpTo peer version) = codes "link-up to " ++ (decimal peer ++ version_text version)
+log_text (LinkUpAhead peer count version) = codes "link-up to " ++ (decimal peer ++ (codes " ahead " ++ (decimal count ++ version_text version)))
 log_text (LinkDownTo peer end) = codes "link-down to " ++ (decimal peer ++ (codes " " ++ cause_text end))
 log_text (Refused host end) = codes "refused from " ++ (ip_text host ++ (codes " " ++ cause_text end))
 log_text (Decided question bit) = codes "decided " ++ (decimal question ++ (codes " " ++ decimal (bit_number bit)))

@@ -1,27 +1,27 @@
 //! What happens to a member that runs.
 
 ghost use Rattle.std.specs.Prelude.{◌≡◌};
-ghost use Rattle.running.specs.Events.{cause_text, fault_text};
+ghost use Rattle.running.specs.Events.{cause_text, fault_text, version_text};
 
 use links::LinkEnd;
 use std::fmt;
 use std::net::IpAddr;
-use wire::WireFault;
+use wire::{Version, WireFault};
 
 /// What happens to a member that runs. The text of each is its line in a log, without the line's end.
 #[derive(Clone, Copy, Debug, PartialEq, Eq)]
 pub enum LogEvent {
     /// This member listens.
     Ready(u8),
-    /// A link from this member has greeted, and is read from now on.
-    LinkUp(u8),
+    /// A link from this member has greeted, with a session of that version, and is read from now on.
+    LinkUp(u8, Version),
     /// It isn't read any more, for this cause.
     LinkDown(u8, LinkEnd),
-    /// A link to this member was welcomed, and what this one says is written to it from now on.
-    LinkUpTo(u8),
+    /// A link to this member was welcomed, in a session of that version, and what this one says is written to it from now on.
+    LinkUpTo(u8, Version),
     /// The same, and that member has heard so many statements more of this one than its journal holds: this is another
     /// journal than it was, or an old copy.
-    LinkUpAhead(u8, u64),
+    LinkUpAhead(u8, u64, Version),
     /// A link to this member isn't written any more, for this cause.
     LinkDownTo(u8, LinkEnd),
     /// A connection from this host to the links' address was closed for this cause, before it became a link.
@@ -47,6 +47,17 @@ fn fault_text(fault: WireFault) -> &'static str
         WireFault::BadPlace => "broken BadPlace",
         WireFault::BadValue => "broken BadValue",
         WireFault::BadHello => "broken BadHello",
+        WireFault::BadCount => "broken BadCount",
+    }
+}
+
+/// What the line of a link that comes up says of its version. Of the newer one it says nothing.
+fn version_text(version: Version) -> &'static str
+    ensures { result.now ≡ version_text version }
+{
+    match version {
+        Version::One => " version 1",
+        Version::Two => "",
     }
 }
 
@@ -75,10 +86,20 @@ impl fmt::Display for LogEvent {
     fn fmt<W: fmt::Write>(&self, f: &mut fmt::Formatter<W>) -> fmt::Result {
         match *self {
             LogEvent::Ready(me) => write!(f, "ready member {me}"),
-            LogEvent::LinkUp(peer) => write!(f, "link-up from {peer}"),
+            LogEvent::LinkUp(peer, version) => {
+                write!(f, "link-up from {peer}{}", version_text(version))
+            }
             LogEvent::LinkDown(peer, end) => write!(f, "link-down from {peer} {}", cause_text(end)),
-            LogEvent::LinkUpTo(peer) => write!(f, "link-up to {peer}"),
-            LogEvent::LinkUpAhead(peer, count) => write!(f, "link-up to {peer} ahead {count}"),
+            LogEvent::LinkUpTo(peer, version) => {
+                write!(f, "link-up to {peer}{}", version_text(version))
+            }
+            LogEvent::LinkUpAhead(peer, count, version) => {
+                write!(
+                    f,
+                    "link-up to {peer} ahead {count}{}",
+                    version_text(version)
+                )
+            }
             LogEvent::LinkDownTo(peer, end) => write!(f, "link-down to {peer} {}", cause_text(end)),
             LogEvent::Refused(host, end) => write!(f, "refused from {host} {}", cause_text(end)),
             LogEvent::Decided(question, bit) => write!(f, "decided {question} {}", u8::from(bit)),

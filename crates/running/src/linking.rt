@@ -1,5 +1,8 @@
 //! The threads of links.
 
+ghost use Rattle.std.specs.Prelude.{◌≡◌};
+ghost use Rattle.running.specs.Versions.{next_version};
+
 use crate::events::LogEvent;
 use crate::hosts::Sender;
 use crate::machine::Machine;
@@ -12,6 +15,7 @@ use std::net::{IpAddr, SocketAddr, TcpListener, TcpStream};
 use std::sync::Wait;
 use std::thread;
 use std::time::Duration;
+use wire::Version;
 
 /// How many seconds a link waits for its peer, which says something once a second.
 const PATIENCE: u64 = 10;
@@ -29,72 +33,94 @@ fn stream_at<D: Disk, J: Naming, R: Machine>(
     }
 }
 
-/// Writes the link to another member over the stream. That it comes up, and that it goes down again, is to be told.
+/// Writes the link to another member over the stream, and answers whether it was welcomed. That it comes up, and that it
+/// goes down again, is to be told.
 fn write_told<D: Disk, J: Naming, R: Machine>(
     rt: &R,
     it: &Shared<D, J>,
     peer: u8,
     stream: NetStream,
-) -> LinkEnd {
+    version: Version,
+) -> bool {
     let said = it.hub.lock(rt).outbox().len() as u64;
     it.hub.ring_if_wanted(rt);
     let to = Peer {
         number: peer,
         said,
         size: it.hub.header().size(),
+        version,
     };
     let mut outgoing = Outgoing::new(rt, it.alloc, stream, &it.telling, &it.ahead, to);
-    let end = write_link(rt, it.alloc, &it.hub, peer, &mut outgoing, &Open);
+    let (end, welcomed) = write_link(rt, it.alloc, &it.hub, peer, &mut outgoing, version, &Open);
     if outgoing.is_up() {
         it.note_link(rt, LogEvent::LinkDownTo(peer, end));
     }
-    end
+    welcomed
 }
 
-/// Writes the link to a peer over the socket at a place. The link from the member to itself is none of the log's.
+/// Writes the link to a peer over the socket at a place, and answers whether it was welcomed; none where the socket is gone.
+/// The link from the member to itself is none of the log's.
 fn write_at<D: Disk, J: Naming, R: Machine>(
     rt: &R,
     it: &Shared<D, J>,
     peer: u8,
     place: usize,
-) -> LinkEnd {
-    let Some(mut stream) = stream_at(rt, it, place) else {
-        return LinkEnd::Lost;
-    };
+    version: Version,
+) -> Option<bool> {
+    let mut stream = stream_at(rt, it, place)?;
     if peer == it.hub.header().me() {
-        return write_link(rt, it.alloc, &it.hub, peer, &mut stream, &Open);
+        let (_end, welcomed) = write_link(rt, it.alloc, &it.hub, peer, &mut stream, version, &Open);
+        return Some(welcomed);
     }
-    write_told(rt, it, peer, stream)
+    Some(write_told(rt, it, peer, stream, version))
 }
 
-/// One session of the link to a peer; none where nobody listens there.
+/// One session of that version of the link to a peer, and whether it was welcomed; none where nobody listens there.
 fn dial_once<D: Disk, J: Naming, R: Machine>(
     rt: &R,
     it: &Shared<D, J>,
     peer: u8,
     address: SocketAddr,
-) -> Option<LinkEnd> {
+    version: Version,
+) -> Option<bool> {
     let Ok(socket) = TcpStream::connect_timeout(rt, &address, Duration::from_secs(1)) else {
         return None;
     };
     let place = it.sockets.lock(rt).enter_to(socket, peer)?;
-    let end = write_at(rt, it, peer, place);
+    let welcomed = write_at(rt, it, peer, place, version);
     it.sockets.lock(rt).leave(place);
-    Some(end)
+    welcomed
 }
 
-/// The link to a peer: a session, and at the next tick another, until the end.
+/// The version of the session behind one: the same where that was welcomed, else the other, since its peer may know that
+/// alone.
+fn next_version(version: Version, welcomed: bool) -> Version
+    ensures { result ≡ next_version version welcomed }
+{
+    if welcomed {
+        return version;
+    }
+    match version {
+        Version::One => Version::Two,
+        Version::Two => Version::One,
+    }
+}
+
+/// The link to a peer: a session, of version 2 at first, and at the next tick another, until the end.
 fn dial_on<D: Disk, J: Naming, R: Machine>(
     rt: &R,
     it: &Shared<D, J>,
     peer: u8,
     address: SocketAddr,
 ) {
+    let mut version = Version::Two;
     for _ in rt.forever() {
         if it.is_closing() {
             return;
         }
-        let _end = dial_once(rt, it, peer, address);
+        if let Some(welcomed) = dial_once(rt, it, peer, address, version) {
+            version = next_version(version, welcomed);
+        }
         it.wait_tick(rt);
     }
     unreachable!()
@@ -145,6 +171,7 @@ fn read_from<D: Disk, J: Naming, R: Machine>(
     it: &Shared<D, J>,
     sender: Sender,
     host: IpAddr,
+    version: Version,
     stream: &mut NetStream,
 ) -> LinkEnd {
     let peer = sender.peer();
@@ -160,9 +187,18 @@ fn read_from<D: Disk, J: Naming, R: Machine>(
         it.note_link(rt, LogEvent::Refused(host, LinkEnd::Busy));
         return LinkEnd::Busy;
     };
-    note_peer(rt, it, peer, LogEvent::LinkUp(peer));
+    note_peer(rt, it, peer, LogEvent::LinkUp(peer, version));
     let mut tosser = tosser.lock(rt);
-    let (seat, end) = read_link(rt, it.alloc, &it.hub, seat, stream, &Open, &mut *tosser);
+    let (seat, end) = read_link(
+        rt,
+        it.alloc,
+        &it.hub,
+        seat,
+        stream,
+        version,
+        &Open,
+        &mut *tosser,
+    );
     it.rack.put(rt, seat);
     note_peer(rt, it, peer, LogEvent::LinkDown(peer, end));
     if end == LinkEnd::Lost && peer != it.hub.header().me() {
@@ -171,13 +207,13 @@ fn read_from<D: Disk, J: Naming, R: Machine>(
     end
 }
 
-/// Reads the Hello of the peer at a place. It has greeted then, or is gone.
+/// Reads the Hello of the peer at a place: whose it is, and of which version. It has greeted then, or is gone.
 fn greet_at<D: Disk, J: Naming, R: Machine>(
     rt: &R,
     it: &Shared<D, J>,
     place: usize,
     stream: &mut Option<NetStream>,
-) -> Result<u8, LinkEnd> {
+) -> Result<(u8, Version), LinkEnd> {
     let greeted = match stream {
         Some(stream) => greet(it.alloc, stream, &it.hub.header()),
         None => Err(LinkEnd::Lost),
@@ -187,16 +223,17 @@ fn greet_at<D: Disk, J: Naming, R: Machine>(
     greeted
 }
 
-/// Who greets at a place, from a host that may speak for that member; else a stranger, to whom nothing is written.
+/// Who greets at a place, from a host that may speak for that member, and with which version; else a stranger, to whom
+/// nothing is written.
 fn sender_at<D: Disk, J: Naming, R: Machine>(
     rt: &R,
     it: &Shared<D, J>,
     guest: Guest,
     stream: &mut Option<NetStream>,
-) -> Result<Sender, LinkEnd> {
+) -> Result<(Sender, Version), LinkEnd> {
     match greet_at(rt, it, guest.place, stream) {
-        Ok(peer) => match Sender::of(&it.peers, peer, guest.host) {
-            Some(sender) => Ok(sender),
+        Ok((peer, version)) => match Sender::of(&it.peers, peer, guest.host) {
+            Some(sender) => Ok((sender, version)),
             None => Err(LinkEnd::Stranger),
         },
         Err(end) => Err(end),
@@ -207,8 +244,8 @@ fn sender_at<D: Disk, J: Naming, R: Machine>(
 fn read_at<D: Disk, J: Naming, R: Machine>(rt: &R, it: &Shared<D, J>, guest: Guest) -> LinkEnd {
     let mut stream = stream_at(rt, it, guest.place);
     match sender_at(rt, it, guest, &mut stream) {
-        Ok(sender) => match &mut stream {
-            Some(stream) => read_from(rt, it, sender, guest.host, stream),
+        Ok((sender, version)) => match &mut stream {
+            Some(stream) => read_from(rt, it, sender, guest.host, version, stream),
             None => LinkEnd::Lost,
         },
         Err(end) => {

@@ -12,7 +12,7 @@ use member::Sealed;
 use std::alloc::Global;
 use std::sync::{Mutex, Wait};
 use terms::Size;
-use wire::{Feeder, Message};
+use wire::{Feeder, Message, Version};
 
 /// How far a link that is written has come. Its writer says nothing behind the Hello before the Welcome was read, so the
 /// first write behind a read is one to a peer that has welcomed it.
@@ -55,12 +55,14 @@ impl Standing {
     }
 }
 
-/// The peer of a link that is written: its number, and how many statements this member had said before it was dialled.
+/// The peer of a link that is written: its number, how many statements this member had said before it was dialled, and the
+/// version of the session.
 #[derive(Clone, Copy, Drop)]
 pub(crate) struct Peer {
     pub(crate) number: u8,
     pub(crate) said: u64,
     pub(crate) size: Size,
+    pub(crate) version: Version,
 }
 
 /// The stream of a link that is written. Once the link is up its event is to be told, if the member has a log; and where the
@@ -117,9 +119,9 @@ impl<'a, R: Wait> Outgoing<'a, R> {
     /// The link is up: its event is to be told, and a peer that is ahead is noted.
     fn note_up(&self) {
         let excess = self.excess();
-        let mut event = LogEvent::LinkUpTo(self.peer.number);
+        let mut event = LogEvent::LinkUpTo(self.peer.number, self.peer.version);
         if excess > 0 {
-            event = LogEvent::LinkUpAhead(self.peer.number, excess);
+            event = LogEvent::LinkUpAhead(self.peer.number, excess, self.peer.version);
             self.ahead
                 .lock(self.rt)
                 .note(self.peer.size, self.peer.number);

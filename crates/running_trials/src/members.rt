@@ -7,6 +7,7 @@ ghost use Rattle.member.specs.Readers.{member_saved, member_is_stopped, MemberSt
 mod forgotten;
 mod shares;
 mod silent;
+mod versions;
 
 use disk::MemDisk;
 use links::LinkEnd;
@@ -27,7 +28,7 @@ use std::test::Fail;
 use std::time::{Clock, Duration, Instant};
 use std::{io, thread};
 use terms::{Header, Memory, Size};
-use wire::WireFault;
+use wire::{Version, WireFault};
 
 /// The host on which these tests run.
 fn here() -> IpAddr {
@@ -367,7 +368,7 @@ fn a_member_that_starts_late_learns_the_decision(rt: HostRuntime) -> Result<(), 
 fn links_up(events: &[LogEvent]) -> usize {
     events
         .iter()
-        .filter(|event| matches!(event, LogEvent::LinkUp(_)))
+        .filter(|event| matches!(event, LogEvent::LinkUp(..)))
         .count()
 }
 
@@ -571,6 +572,10 @@ enum Visitor {
     Crowd,
     /// A peer that is dialled and dials, and then says nothing more.
     Silent(TcpListener),
+    /// A peer that is dialled and knows version 1 alone.
+    Older(TcpListener),
+    /// A peer that dials in both versions.
+    Renewed,
 }
 
 impl Visitor {
@@ -587,6 +592,8 @@ impl Visitor {
             Visitor::Impostor => dials_for_another(rt, cluster, log),
             Visitor::Crowd => crowd_of_strangers(rt, cluster, log),
             Visitor::Silent(listener) => silent::falls_silent(rt, cluster, listener, log),
+            Visitor::Older(listener) => versions::is_dialled_as_older(rt, cluster, listener, log),
+            Visitor::Renewed => versions::dials_in_both(rt, cluster, log),
         }
     }
 }
@@ -673,12 +680,13 @@ fn wait_for<R: Machine>(rt: &R, log: &Mutex<Kept>, count: usize) {
     }
 }
 
-/// As a peer welcomes the link that is dialled to it: it reads the Hello, writes the Welcome, and reads an Idle.
-fn welcome<R: Abort>(rt: &R, link: &mut TcpStream) -> Result<(), Fail> {
+/// As a peer welcomes the link that is dialled to it: it reads the Hello of that version, writes the Welcome, and reads an
+/// Idle.
+fn welcome<R: Abort>(rt: &R, link: &mut TcpStream, version: u8) -> Result<(), Fail> {
     link.set_read_timeout(Some(Duration::from_secs(5)))?;
     let mut hello = [0u8; 18];
     link.read_exact(&mut hello)?;
-    assert!(rt; hello == [0, 16, 1, 1, 0, 0, 0, 0, 0, 0, 0, 7, 4, 1, 0, 1, 0, 1]);
+    assert!(rt; hello == [0, 16, 1, version, 0, 0, 0, 0, 0, 0, 0, 7, 4, 1, 0, 1, 0, 1]);
     link.write_all(&[0, 9, 2, 0, 0, 0, 0, 0, 0, 0, 0])?;
     let mut idle = [0u8; 3];
     link.read_exact(&mut idle)?;
@@ -694,7 +702,7 @@ fn is_dialled<R: Machine + Abort>(
     log: &Mutex<Kept>,
 ) -> Result<(), Fail> {
     let (mut link, _) = listener.accept()?;
-    welcome(rt, &mut link)?;
+    welcome(rt, &mut link, 2)?;
     wait_for(rt, log, 2);
     drop(link);
     wait_for(rt, log, 3);
@@ -714,7 +722,7 @@ fn peer_leaves<R: Machine + Abort>(rt: &R, alloc: Global) -> Result<(), Fail> {
     };
     let want = [
         LogEvent::Ready(0),
-        LogEvent::LinkUpTo(1),
+        LogEvent::LinkUpTo(1, Version::Two),
         LogEvent::LinkDownTo(1, LinkEnd::Lost),
         LogEvent::End,
     ];
@@ -728,8 +736,8 @@ fn a_log_tells_of_links_to_peers(rt: HostRuntime) -> Result<(), Fail> {
     peer_leaves(&rt, rt.alloc())
 }
 
-/// The Hello of member 1 to member 0, of a cluster of four.
-const HELLO: [u8; 18] = [0, 16, 1, 1, 0, 0, 0, 0, 0, 0, 0, 7, 4, 1, 0, 1, 1, 0];
+/// The Hello of member 1 to member 0, of a cluster of four, for a session of version 2.
+const HELLO: [u8; 18] = [0, 16, 1, 2, 0, 0, 0, 0, 0, 0, 0, 7, 4, 1, 0, 1, 1, 0];
 
 /// The Idle frame.
 const IDLE: [u8; 3] = [0, 1, 0];
@@ -778,7 +786,7 @@ fn peer_comes<R: Machine + Abort>(rt: &R, alloc: Global) -> Result<(), Fail> {
     };
     let want = [
         LogEvent::Ready(0),
-        LogEvent::LinkUp(1),
+        LogEvent::LinkUp(1, Version::Two),
         LogEvent::Refused(here(), LinkEnd::Busy),
         LogEvent::LinkDown(1, LinkEnd::Ended),
         LogEvent::End,
@@ -816,8 +824,19 @@ fn is_line(alloc: Global, event: &LogEvent, want: &str) -> bool {
 fn events_are_lines(rt: HostRuntime) {
     for (event, want) in [
         (LogEvent::Ready(1), "ready member 1"),
-        (LogEvent::LinkUp(2), "link-up from 2"),
-        (LogEvent::LinkUpAhead(2, 5), "link-up to 2 ahead 5"),
+        (LogEvent::LinkUp(2, Version::Two), "link-up from 2"),
+        (
+            LogEvent::LinkUp(2, Version::One),
+            "link-up from 2 version 1",
+        ),
+        (
+            LogEvent::LinkUpAhead(2, 5, Version::Two),
+            "link-up to 2 ahead 5",
+        ),
+        (
+            LogEvent::LinkUpAhead(2, 5, Version::One),
+            "link-up to 2 ahead 5 version 1",
+        ),
         (
             LogEvent::LinkDown(31, LinkEnd::Lost),
             "link-down from 31 lost",
@@ -838,7 +857,15 @@ fn events_are_lines(rt: HostRuntime) {
             LogEvent::LinkDown(3, LinkEnd::Memory),
             "link-down from 3 memory",
         ),
-        (LogEvent::LinkUpTo(2), "link-up to 2"),
+        (LogEvent::LinkUpTo(2, Version::Two), "link-up to 2"),
+        (
+            LogEvent::LinkUpTo(2, Version::One),
+            "link-up to 2 version 1",
+        ),
+        (
+            LogEvent::LinkDown(2, LinkEnd::Broken(WireFault::BadCount)),
+            "link-down from 2 broken BadCount",
+        ),
         (
             LogEvent::LinkDownTo(31, LinkEnd::Lost),
             "link-down to 31 lost",
@@ -1285,16 +1312,18 @@ fn coin_of(link: &mut TcpStream) -> Result<(u32, u8), Fail> {
     Err("an Initial of round 2")?
 }
 
-/// Member 0 proposes 0, which a peer hears at once, and not with the next Idle, a second later. Then it comes to a coin: the
-/// toss with which it heard its last Ready is that of its seed, of the stream of the link to itself.
+/// Member 0 proposes 0, which a peer of version 1, to whom each statement comes alone, hears at once, and not with the next
+/// Idle, a second later. Then it comes to a coin: the toss with which it heard its last Ready is that of its seed, of the
+/// stream of the link to itself.
 fn tosses_by<R: Machine + Abort>(
     rt: &R,
     cluster: Cluster,
     listener: &TcpListener,
     seed: u8,
 ) -> Result<(), Fail> {
+    drop(listener.accept()?);
     let (mut link, _) = listener.accept()?;
-    welcome(rt, &mut link)?;
+    welcome(rt, &mut link, 1)?;
     let start = Instant::now(rt)?;
     assert!(rt; comes_to(rt, cluster.desk(0), b"PROPOSE 0 0\n", b"OK\n"));
     assert!(rt; next_said(&mut link)? == [1, 0, 1, 1, 0]);
@@ -1403,7 +1432,7 @@ fn a_link_comes_from_its_members_host(rt: HostRuntime) -> Result<(), Fail> {
     impostor_comes(&rt, rt.alloc(), Hosts::OfMembers, 7310, &refused)?;
     let taken = [
         LogEvent::Ready(0),
-        LogEvent::LinkUp(1),
+        LogEvent::LinkUp(1, Version::Two),
         LogEvent::LinkDown(1, LinkEnd::Ended),
         LogEvent::End,
     ];

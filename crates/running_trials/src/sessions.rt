@@ -6,6 +6,7 @@ ghost use Rattle.links.specs.Mem.{told_by, is_closed_mem};
 
 mod groups;
 mod stalls;
+mod versions;
 
 use crate::beginnings::{Counting, at, board, entry, goes_on_with, header, open, take};
 use crate::books::closes;
@@ -31,7 +32,7 @@ use std::time::{Clock, Duration};
 use terms::Kind::{Echo, Initial, Ready};
 use terms::Value::One;
 use terms::{Kind, Size, Statement};
-use wire::{Message, WireFault, encode};
+use wire::{Message, Version, WireFault, encode};
 
 /// A statement with the value One at question 0, origin 0, round 1 and step 1.
 fn of(kind: Kind) -> Result<Statement, Fail> {
@@ -70,9 +71,10 @@ fn in_single_bytes(alloc: Global, bytes: &[u8]) -> Result<MemStream, Fail> {
     Ok(stream)
 }
 
-/// The Hello of a member to another.
+/// The Hello of a member to another, for a session of version 1.
 fn hello(cluster: u64, n: u8, from: u8, to: u8) -> Result<Message, Fail> {
     Ok(Message::Hello {
+        version: Version::One,
         cluster,
         size: Size::new(n, 1, 1)?,
         from,
@@ -84,7 +86,7 @@ fn hello(cluster: u64, n: u8, from: u8, to: u8) -> Result<Message, Fail> {
 fn ends_so(
     alloc: Global,
     stream: &mut MemStream,
-    wanted: Result<u8, LinkEnd>,
+    wanted: Result<(u8, Version), LinkEnd>,
 ) -> Result<bool, Fail> {
     let header = header(4, 1, 1, 1)?;
     let end = greet(alloc, stream, &header);
@@ -92,7 +94,11 @@ fn ends_so(
 }
 
 /// Whether a greeting with these bytes ends so, all at once and byte by byte.
-fn greets(alloc: Global, bytes: &[u8], wanted: Result<u8, LinkEnd>) -> Result<bool, Fail> {
+fn greets(
+    alloc: Global,
+    bytes: &[u8],
+    wanted: Result<(u8, Version), LinkEnd>,
+) -> Result<bool, Fail> {
     let at_once = ends_so(alloc, &mut of_bytes(alloc, bytes)?, wanted)?;
     Ok(at_once && ends_so(alloc, &mut in_single_bytes(alloc, bytes)?, wanted)?)
 }
@@ -106,7 +112,7 @@ fn is_frame_of(alloc: Global, message: &Message, bytes: &[u8]) -> Result<bool, F
 fn greets_with(
     alloc: Global,
     message: &Message,
-    wanted: Result<u8, LinkEnd>,
+    wanted: Result<(u8, Version), LinkEnd>,
 ) -> Result<bool, Fail> {
     let bytes = frame(alloc, message)?;
     greets(alloc, &bytes, wanted)
@@ -126,7 +132,7 @@ fn greet_with_bytes(rt: &(impl Abort + AllocGlobal)) -> Result<(), Fail> {
 #[test]
 fn greetings(rt: HostRuntime) -> Result<(), Fail> {
     let rows = [
-        (hello(7, 4, 0, 1)?, Ok(0)),
+        (hello(7, 4, 0, 1)?, Ok((0, Version::One))),
         (Message::Idle, Err(LinkEnd::OutOfOrder)),
         (Message::Welcome { next: 3 }, Err(LinkEnd::OutOfOrder)),
         (Message::Statement(of(Echo)?), Err(LinkEnd::OutOfOrder)),
@@ -151,7 +157,7 @@ fn a_greeting_reads_eighteen_bytes(rt: HostRuntime) -> Result<(), Fail> {
     let hello = hello(7, 4, 2, 1)?;
     let mut stream = of_bytes(alloc, &frames(alloc, &[hello, Message::Idle])?)?;
     let greeted = greet(alloc, &mut stream, &header);
-    assert!(&rt; (greeted, stream.left().len()) == (Ok(2), 3));
+    assert!(&rt; (greeted, stream.left().len()) == (Ok((2, Version::One)), 3));
     Ok(())
 }
 
@@ -160,7 +166,7 @@ fn greets_until(
     alloc: Global,
     bytes: &[u8],
     call: u64,
-    wanted: Result<u8, LinkEnd>,
+    wanted: Result<(u8, Version), LinkEnd>,
 ) -> Result<bool, Fail> {
     let header = header(4, 1, 1, 1)?;
     let once = greet(alloc, &mut failing(alloc, bytes, call, true)?, &header);
@@ -174,7 +180,11 @@ fn a_greeting_is_lost_where_the_stream_fails(rt: HostRuntime) -> Result<(), Fail
     let alloc = rt.alloc();
     let bytes = frame(alloc, &hello(7, 4, 2, 1)?)?;
     for call in 0..19u64 {
-        let wanted = if call < 18 { Err(LinkEnd::Lost) } else { Ok(2) };
+        let wanted = if call < 18 {
+            Err(LinkEnd::Lost)
+        } else {
+            Ok((2, Version::One))
+        };
         assert!(&rt; greets_until(alloc, &bytes, call, wanted)?, "call {call}");
     }
     Ok(())
@@ -187,6 +197,7 @@ fn session<J: Naming, R: Wait + AllocGlobal>(
     hub: &Hub<MemDisk, J>,
     rack: &Rack,
     peer: u8,
+    version: Version,
     bytes: &[u8],
     ends: (LinkEnd, u64),
 ) -> Result<bool, Fail> {
@@ -195,14 +206,23 @@ fn session<J: Naming, R: Wait + AllocGlobal>(
     let mut tosser = Counting {
         last: u64::from(peer) * 100,
     };
-    let (seat, end) = read_link(rt, rt.alloc(), hub, seat, &mut stream, &Open, &mut tosser);
+    let (seat, end) = read_link(
+        rt,
+        rt.alloc(),
+        hub,
+        seat,
+        &mut stream,
+        version,
+        &Open,
+        &mut tosser,
+    );
     let next = seat.next();
     rack.put(rt, seat);
     let welcome = [0, 9, 2, 0, 0, 0, 0, 0, 0, 0, 0];
     Ok((end, next) == ends && stream.is_closed() && stream.output() == welcome.as_slice())
 }
 
-/// Whether a session of the link from a peer, which gives the frames of these messages, ends so.
+/// Whether a session of version 1 of the link from a peer, which gives the frames of these messages, ends so.
 fn session_of<J: Naming, R: Wait + AllocGlobal>(
     rt: &R,
     hub: &Hub<MemDisk, J>,
@@ -212,7 +232,7 @@ fn session_of<J: Naming, R: Wait + AllocGlobal>(
     ends: (LinkEnd, u64),
 ) -> Result<bool, Fail> {
     let bytes = frames(rt.alloc(), messages)?;
-    session(rt, hub, rack, peer, &bytes, ends)
+    session(rt, hub, rack, peer, Version::One, &bytes, ends)
 }
 
 /// Links of member 1 hand in what makes it say an Echo and a Ready.
@@ -221,16 +241,19 @@ fn hears_of_an_origin<J: Naming, R: Wait + Abort + AllocGlobal>(
     hub: &Hub<MemDisk, J>,
     rack: &Rack,
 ) -> Result<(), Fail> {
-    let initial = Message::Statement(of(Initial)?);
-    let ready = Message::Statement(of(Ready)?);
-    let echo = Message::Statement(of(Echo)?);
-    let heard = [Message::Idle, initial];
+    let ready = of(Ready)?;
+    let heard = [Message::Idle, Message::Statement(of(Initial)?)];
     assert!(rt; session_of(rt, hub, rack, 0, &heard, (LinkEnd::Ended, 1))?);
-    assert!(rt; session_of(rt, hub, rack, 2, &[ready], (LinkEnd::Ended, 1))?);
+    let heard = [Message::Statement(ready)];
+    assert!(rt; session_of(rt, hub, rack, 2, &heard, (LinkEnd::Ended, 1))?);
     // A frame that is cut short is lost, and a message out of place ends the session.
     let cut = [0, 8, 3, 3, 0, 0, 0, 1, 1];
-    assert!(rt; session(rt, hub, rack, 3, &cut, (LinkEnd::Ended, 0))?);
-    let astray = [ready, Message::Welcome { next: 0 }, echo];
+    assert!(rt; session(rt, hub, rack, 3, Version::One, &cut, (LinkEnd::Ended, 0))?);
+    let astray = [
+        Message::Statement(ready),
+        Message::Welcome { next: 0 },
+        Message::Statement(of(Echo)?),
+    ];
     assert!(rt; session_of(rt, hub, rack, 3, &astray, (LinkEnd::OutOfOrder, 1))?);
     assert!(rt; hub.lock(rt).status() == Some((2, 0)));
     let noted = [
@@ -255,7 +278,7 @@ fn writer_ends<J: Naming, R: Wait + AllocGlobal>(
     wanted: LinkEnd,
     written: &[u8],
 ) -> bool {
-    let end = write_link(rt, rt.alloc(), hub, 2, stream, &Open);
+    let (end, _) = write_link(rt, rt.alloc(), hub, 2, stream, Version::One, &Open);
     end == wanted && stream.is_closed() && stream.output() == written
 }
 
@@ -357,7 +380,7 @@ fn greets_over_tcp(rt: HostRuntime) -> Result<(), Fail> {
     )?;
     let bytes = frame(alloc, &hello(7, 4, 3, 1)?)?;
     assert!(&rt; write_all(&mut dialler, &bytes).is_ok());
-    assert!(&rt; greet(alloc, &mut listens, &header(4, 1, 1, 1)?) == Ok(3));
+    assert!(&rt; greet(alloc, &mut listens, &header(4, 1, 1, 1)?) == Ok((3, Version::One)));
     // The next greeting doesn't come in time.
     assert!(&rt; greet(alloc, &mut listens, &header(4, 1, 1, 1)?) == Err(LinkEnd::Lost));
     let mut buf = [0u8; 4];
@@ -482,7 +505,16 @@ fn reads<J: Naming, R: Wait + Clock + AllocGlobal>(
     let mut tosser = Counting {
         last: u64::from(seat.peer()) * 100,
     };
-    read_link(rt, rt.alloc(), hub, seat, &mut stream, gate, &mut tosser)
+    read_link(
+        rt,
+        rt.alloc(),
+        hub,
+        seat,
+        &mut stream,
+        Version::One,
+        gate,
+        &mut tosser,
+    )
 }
 
 /// Two links and an asker run at once, each of the links with an Echo.
@@ -562,7 +594,16 @@ fn reads_until_it_fails<J: Naming, R: Wait + Abort + AllocGlobal>(
 ) -> Seat {
     let before = seat.next();
     let mut tosser = Counting { last: call };
-    let (seat, end) = read_link(rt, rt.alloc(), hub, seat, stream, &Open, &mut tosser);
+    let (seat, end) = read_link(
+        rt,
+        rt.alloc(),
+        hub,
+        seat,
+        stream,
+        Version::One,
+        &Open,
+        &mut tosser,
+    );
     // Eleven calls write the Welcome, twenty read the frames, and the next meets the end.
     let wanted = if call < 32 {
         LinkEnd::Lost
@@ -687,7 +728,8 @@ fn is_flooded<J: Naming, R: Wait + Abort + AllocGlobal>(
     rack: &Rack,
 ) -> Result<(), Fail> {
     let bytes = flood(rt.alloc())?;
-    assert!(rt; session(rt, hub, rack, 0, &bytes, (LinkEnd::Ended, 10_000))?);
+    let ends = (LinkEnd::Ended, 10_000);
+    assert!(rt; session(rt, hub, rack, 0, Version::One, &bytes, ends)?);
     assert!(rt; goes_on_with(&*hub.lock(rt), 0, &[entry(0, of(Initial)?, 1)]));
     assert!(rt; hub.lock(rt).records().len() == 1);
     Ok(())
@@ -767,7 +809,7 @@ fn writes_on<J: Naming, R: Wait + AllocGlobal>(
         inner: stream,
         writes,
     };
-    let end = write_link(rt, alloc, hub, 0, &mut watched, &Open);
+    let (end, _) = write_link(rt, alloc, hub, 0, &mut watched, Version::One, &Open);
     (Vec::from_slice(alloc, watched.inner.output()).ok(), end)
 }
 

@@ -143,7 +143,8 @@ pub all_come : (size : Size) (c : Scene) (from toss : ℕ) (statements : List St
 all_come size c from toss [] h = tt
 all_come size c from toss (s ∷ statements) h = (h.0.0, all_come size c from toss statements h.1)
 
--- the first so many of these were carried
-pub record CarriedSoFar (from : ℕ) (toss : Toss) (statements : List Statement) (i : ℕ) (all : List (ℕ × Statement × Toss)) (end : End) : Type 0 where
-  pub all_are : all ≡ map (λ s. (from, s, toss)) (take i statements)
+-- some of these were carried, and the rest is left
+pub record CarriedSoFar (size : Size) (from : ℕ) (toss : Toss) (statements rest : List Statement) (all : List (ℕ × Statement × Toss)) (end : End) : Type 0 where
+  pub formed : AllByRecursion (IsWellFormed size) rest
+  pub all_are : all ++ map (λ s. (from, s, toss)) rest ≡ map (λ s. (from, s, toss)) statements
   pub end_is : end ≡ Rest []

@@ -14,7 +14,7 @@ pub use Rattle.sim.specs.declared.posts.Post.{Post}
 pub use Rattle.sim.specs.declared.seats.Presence.{Presence}
 pub use Rattle.sim.specs.declared.seats.Presence.TheVariants.{Down, Here, Liar}
 pub use Rattle.sim.specs.declared.tasks.Instruction.{Instruction}
-pub use Rattle.sim.specs.Links.{Takes, is_broken_at, statements_in}
+pub use Rattle.sim.specs.Links.{Takes, is_broken_at, message_of, statements_in, statements_of}
 pub use Rattle.sim.specs.Outcomes.{AllProposedOnly, AreDisks, AreLiars, AreUnanimous, HasFuse, HaveOneBit, IsSimulation, ProposedOnly, ProposesOnly, Verdict, among, fused_in, verdict_in, verdicts_below, verdicts_of, verdicts_of_below}
 unfoldable pub use Rattle.sim.specs.Plays.{last_saved}
 pub use Rattle.sim.specs.Plays.{ClusterFields, ClusterStandsFor, Played, and_then, played, saved_among, saved_behind, unplayed}

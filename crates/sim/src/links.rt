@@ -1,18 +1,19 @@
 //! A link from one member to another: how far it has come in the sender's outbox, and what it reads.
 
-ghost use Rattle.std.specs.Prelude.{◌≡◌, ◌≤◌, ◌++◌, [], ◌∷◌, Some, IfOk, OnErr, length, map};
+ghost use Rattle.std.specs.Prelude.{◌≡◌, ◌≤◌, ◌+◌, ◌++◌, List, [], ◌∷◌, Some, IfOk, OnOk, OnErr, length, map};
 ghost use Rattle.std.specs.List.{AllByRecursion};
 ghost use Rattle.vocabulary.specs.Terms.{Statement, IsSize, IsWellFormed};
 ghost use Rattle.wire.specs.declared.message.Message.TheVariants as variants;
 ghost use Rattle.wire.specs.Feeding.{Feeds};
 ghost use Rattle.wire.specs.Reading.{End, Rest};
-ghost use Rattle.sim.specs.Links.{statements_in, is_broken_at, Takes};
+ghost use Rattle.sim.specs.Links.{statements_in, statements_of, message_of, is_broken_at, Takes};
 
 use rounds::Toss;
 use std::alloc::Global;
 use std::marker::Model;
+use std::slice::from_ref;
 use terms::{Memory, Size, Statement};
-use wire::{Fed, Feeder, Message, encode};
+use wire::{Fed, Feeder, MOST_STATEMENTS, Many, Message, encode};
 
 /// A link, as its receiver has it. In contracts it is its place, its size, and how the bytes ended that it was fed.
 #[derive(Drop)]
@@ -113,7 +114,39 @@ impl Link {
         Ok(statement_alone(&self.messages))
     }
 
-    /// Carries statements as frames, and gives what comes out at the other end, each with its sender and a toss.
+    /// Carries these statements as one frame, and adds what comes out at the other end, each with its sender and a toss.
+    fn carry_part(
+        &mut self,
+        alloc: Global,
+        from: u8,
+        part: &[Statement],
+        toss: Toss,
+        all: &mut Vec<(u8, Statement, Toss)>,
+    ) -> Result<(), Memory>
+        requires some { 1 ≤ length part.now }
+        requires most { length part.now ≤ 99 }
+        ensures arrive { IsSize self.old.size → AllByRecursion (IsWellFormed self.old.size) part.now → self.old.end ≡ Rest [] →
+            OnOk result (all.new.items ≡ all.old.items ++ map (λ s. (from, s, toss)) part.now) }
+        ensures end { IsSize self.old.size → AllByRecursion (IsWellFormed self.old.size) part.now → self.old.end ≡ Rest [] →
+            OnOk result (self.new.end ≡ Rest []) }
+        ensures few { OnOk result (length all.new.items ≤ length all.old.items + length part.now) }
+        ensures place { self.new.place ≡ self.old.place }
+        ensures size { self.new.size ≡ self.old.size }
+    {
+        let message = message_of(alloc, part)?;
+        self.frame.clear();
+        encode(&message, &mut self.frame)?;
+        self.broken = read(&mut self.feeder, &self.frame, &mut self.messages)?;
+        add_tossed(
+            all,
+            from,
+            at_most(part.len(), statements_alone(&self.messages)),
+            toss,
+        )?;
+        Ok(())
+    }
+
+    /// Carries statements as frames of version 2, and gives what comes out at the other end, each with its sender and a toss.
     pub(crate) fn carry_all(
         &mut self,
         alloc: Global,
@@ -130,13 +163,53 @@ impl Link {
         ensures size { self.new.size ≡ self.old.size }
     {
         let mut all = Vec::new(alloc);
-        for statement in statements {
-            if let Some(arrived) = self.carry(statement)? {
-                all.push((from, arrived, toss))?;
-            }
+        let mut rest = statements;
+        while !rest.is_empty() {
+            let (part, behind) = rest.split_at(rest.len().min(MOST_STATEMENTS));
+            self.carry_part(alloc, from, part, toss, &mut all)?;
+            rest = behind;
         }
         Ok(all)
     }
+}
+
+/// The message of these statements: one alone goes as a statement.
+fn message_of(alloc: Global, part: &[Statement]) -> Result<Message, Memory>
+    requires some { 1 ≤ length part.now }
+    requires most { length part.now ≤ 99 }
+    ensures { IfOk result (λ message. message ≡ message_of part.now) }
+{
+    if part.len() == 1 {
+        return Ok(Message::Statement(part[0]));
+    }
+    let items = Vec::from_slice(alloc, part)?;
+    match Many::new(items) {
+        Ok(many) => Ok(Message::Statements(many)),
+        Err(_) => unreachable!(),
+    }
+}
+
+/// The first of the statements, at most so many.
+fn at_most(count: usize, statements: &[Statement]) -> &[Statement]
+    ensures all { length statements.now ≤ count → result.now ≡ statements.now }
+    ensures few { length result.now ≤ count }
+{
+    &statements[..statements.len().min(count)]
+}
+
+/// Adds the statements, each with its sender and a toss.
+fn add_tossed(
+    all: &mut Vec<(u8, Statement, Toss)>,
+    from: u8,
+    statements: &[Statement],
+    toss: Toss,
+) -> Result<(), Memory>
+    ensures { OnOk result (all.new.items ≡ all.old.items ++ map (λ s. (from, s, toss)) statements.now) }
+{
+    for statement in statements {
+        all.push((from, *statement, toss))?;
+    }
+    Ok(())
 }
 
 /// Reads the next bytes: the messages are then those that they complete. Whether a byte came that no frame has there.
@@ -162,15 +235,42 @@ fn statement_alone(messages: &[Message]) -> Option<Statement>
     }
 }
 
+/// The statements of the message, where it is one alone.
+fn statements_alone(messages: &[Message]) -> &[Statement]
+    ensures one { (s : Statement) → messages.now ≡ variants.Statement s ∷ [] → result.now ≡ s ∷ [] }
+    ensures several { (many : List Statement) → messages.now ≡ variants.Statements many ∷ [] → result.now ≡ many }
+{
+    match messages {
+        [Message::Statement(statement)] => from_ref(statement),
+        [Message::Statements(many)] => many.as_slice(),
+        _ => &[],
+    }
+}
+
+/// Adds the statements of the message, in order.
+fn add_statements(message: &Message, statements: &mut Vec<Statement>) -> Result<(), Memory>
+    ensures { OnOk result (statements.new.items ≡ statements.old.items ++ statements_of message.now) }
+{
+    match message {
+        Message::Statement(statement) => {
+            statements.push(*statement)?;
+            Ok(())
+        }
+        Message::Statements(many) => {
+            statements.extend_from_slice(many.as_slice())?;
+            Ok(())
+        }
+        Message::Idle | Message::Hello { .. } | Message::Welcome { .. } => Ok(()),
+    }
+}
+
 /// The statements among the messages, in order.
 fn statements_among(alloc: Global, messages: &[Message]) -> Result<Vec<Statement>, Memory>
     ensures { IfOk result (λ statements. statements.items ≡ statements_in messages.now) }
 {
     let mut statements = Vec::new(alloc);
     for message in messages {
-        if let Message::Statement(statement) = *message {
-            statements.push(statement)?;
-        }
+        add_statements(message, &mut statements)?;
     }
     Ok(statements)
 }

@@ -1,13 +1,12 @@
--- The frame of a statement.
-use Rattle.std.proofs.Common.{ℕ, zero, suc, ◌≡◌, ◌+◌, ◌-◌, ◌*◌, ◌/◌, ◌%◌, ◌<◌, ◌≤◌, true, false, cond, eqb, List, [], ◌∷◌, ◌++◌, get_or, take, drop, refl, sym, ap, subst, ◌∙◌, arith, take-append-drop, eqb-true}
+-- The seven bytes of a statement, behind any front of a text that a statement may follow.
+use Rattle.std.proofs.Common.{ℕ, zero, suc, ◌≡◌, ◌+◌, ◌-◌, ◌*◌, ◌/◌, ◌%◌, ◌<◌, ◌≤◌, true, false, cond, eqb, List, [], ◌∷◌, ◌++◌, length, get_or, take, drop, Result, refl, sym, ap, subst, ◌∙◌, append_assoc, arith, take-append-drop, eqb-true}
 use Rattle.std.proofs.Math.Seq.{drop-cons}
 use Rattle.std.proofs.lemmas.Bool.{cond_both, eqb-false}
 use Rattle.vocabulary.specs.Terms.{Kind, Initial, Echo, Ready, Value, Zero, One, SureZero, SureOne, Unsure, Size, Statement, IsSize, FitsStep, value_code, new_place, new_statement, IsWellFormed}
-use Rattle.wire.specs.Words.{Message, BadType, BadKind, BadPlace, BadValue, frame_bytes, Fits, AreBytes, BeginsFrame, IsPartial, most_low, least_value, most_value, statement_at}
-use Rattle.wire.specs.declared.message.Message.TheVariants as message
+use Rattle.wire.specs.Words.{Stop, WireFault, BadKind, BadPlace, BadValue, AreBytes, BeginsFrame, IsPartial, PrecedesStatement, statement_fault, ◌>>=◌, byte_at, most_low, least_value, most_value, spelled_at}
 use Rattle.spelling.specs.Statements.{kind_byte, statement_bytes, kind_from, value_from}
 use Rattle.wire.proofs.Values.{value_fits}
-use Rattle.wire.proofs.Telling.{Tells, In, step, step_one}
+use Rattle.wire.proofs.Telling.{TellsOf, In, step}
 
 -- the bytes of a statement, each in its range
 pub record Cells (size : Size) (k h l o r s v : ℕ) : Type 0 where
@@ -19,9 +18,9 @@ pub record Cells (size : Size) (k h l o r s v : ℕ) : Type 0 where
   pub step : In 1 s 3
   pub value : In (least_value s) v (most_value s)
 
--- the message of these bytes
-abbrev pub made : (k h l o r s v : ℕ) → Message
-made k h l o r s v = message.Statement (new_statement (kind_from k) (new_place (256 * h + l) o r s) (value_from v))
+-- the statement of these bytes
+abbrev pub made : (k h l o r s v : ℕ) → Statement
+made k h l o r s v = new_statement (kind_from k) (new_place (256 * h + l) o r s) (value_from v)
 
 -- the byte of the kind of a byte
 kind_back : (k : ℕ) → In 1 k 3 → kind_byte (kind_from k) ≡ k
@@ -59,9 +58,9 @@ below q h l one high low =
     cond_both (eqb h ((q - 1) / 256)) ((q - 1) % 256) 255 (λ x. l ≤ x → 256 * h + l < q)
     (λ e le. omega (arith, eqb-true h ((q - 1) / 256) e)) (λ e le. omega (arith, eqb-false h ((q - 1) / 256) e)) low
 
--- the message fits
+-- it is one of the cluster
 pub made_fits : (size : Size) (k h l o r s v : ℕ) → IsSize size → Cells size k h l o r s v
-    → Fits size (made k h l o r s v)
+    → IsWellFormed size (made k h l o r s v)
 made_fits size k h l o r s v lawful cells = record {
   question = below size.questions h l lawful.asks cells.high.1 cells.low.1;
   origin = omega (arith, cells.origin, lawful.some);
@@ -70,9 +69,9 @@ made_fits size k h l o r s v lawful cells = record {
   value = value_fits s v cells.step.0 cells.step.1 cells.value.0 cells.value.1;
 }
 
--- its text is these bytes
+-- its bytes are these
 pub made_text : (size : Size) (k h l o r s v : ℕ) → IsSize size → Cells size k h l o r s v
-    → frame_bytes (made k h l o r s v) ≡ 0 ∷ 8 ∷ 3 ∷ k ∷ h ∷ l ∷ o ∷ r ∷ s ∷ v ∷ []
+    → statement_bytes (made k h l o r s v) ≡ k ∷ h ∷ l ∷ o ∷ r ∷ s ∷ v ∷ []
 made_text size k h l o r s v lawful cells =
     let few : size.questions ≤ 256 = lawful.few in
     let one : 1 ≤ size.questions = lawful.asks in
@@ -83,19 +82,26 @@ made_text size k h l o r s v lawful cells =
     let four : v ≤ 4 = omega (arith, cells.value, most_four s) in
     rw (kind_back k cells.kind, h_is, l_is, value_back v four) refl
 
--- each front of these bytes begins a text
-partial_at : {k h l o r s v : ℕ} (size : Size) → IsSize size → Cells size k h l o r s v → (i : ℕ) → i < 7
-    → IsPartial size (0 ∷ 8 ∷ 3 ∷ take i (k ∷ h ∷ l ∷ o ∷ r ∷ s ∷ v ∷ []))
-partial_at {k} {h} {l} {o} {r} {s} {v} size lawful cells i lt =
+-- bytes behind others, in another order of joining
+regroup : (f a d more : List ℕ) (x : ℕ) → (f ++ (a ++ x ∷ d)) ++ more ≡ (f ++ a) ++ x ∷ (d ++ more)
+regroup f a d more x =
+    ap (λ (t : List ℕ). t ++ more) (sym (append_assoc f a (x ∷ d))) ∙ append_assoc (f ++ a) (x ∷ d) more
+
+-- behind a front that a statement may follow, each front of these bytes begins a text
+partial_at : {k h l o r s v : ℕ} (size : Size) (front : List ℕ) → PrecedesStatement size front → IsSize size → Cells size k h l o r s v → (i : ℕ) → i < 7
+    → IsPartial size (front ++ take i (k ∷ h ∷ l ∷ o ∷ r ∷ s ∷ v ∷ []))
+partial_at {k} {h} {l} {o} {r} {s} {v} size front precedes lawful cells i lt =
     let t : List ℕ = k ∷ h ∷ l ∷ o ∷ r ∷ s ∷ v ∷ [] in
     let cut : t ≡ take i t ++ get_or t i 0 ∷ drop (suc i) t =
     sym (take-append-drop i t) ∙ ap (λ (d : List ℕ). take i t ++ d) (drop-cons t i 0 lt) in
+    let b = precedes.begins (made k h l o r s v) (made_fits size k h l o r s v lawful cells) in
     record {
-      message = made k h l o r s v;
-      fits = made_fits size k h l o r s v lawful cells;
+      message = b.message;
+      fits = b.fits;
       next = get_or t i 0;
-      more = drop (suc i) t;
-      whole = made_text size k h l o r s v lawful cells ∙ ap (λ (d : List ℕ). 0 ∷ 8 ∷ 3 ∷ d) cut;
+      more = drop (suc i) t ++ b.more;
+      whole = b.whole ∙ ap (λ (d : List ℕ). (front ++ d) ++ b.more) (made_text size k h l o r s v lawful cells ∙ cut)
+          ∙ regroup front (take i t) (drop (suc i) t) b.more (get_or t i 0);
     }
 
 -- the byte of a kind is in its range
@@ -152,31 +158,11 @@ cells_of size s lawful well =
       value = v.1;
     }
 
--- the second bytes of equal lists
-second : (a b : ℕ) (c : List ℕ) (x y : ℕ) (z : List ℕ) → a ∷ b ∷ c ≡ x ∷ y ∷ z → b ≡ y
-second a b c x y z e = ap (λ (t : List ℕ). get_or t 1 0) e
-
--- the statement of a text of that length
-is_statement : (size : Size) (m : Message) (c : List ℕ) → Fits size m → frame_bytes m ≡ 0 ∷ 8 ∷ c
-    → (s : Statement) × IsWellFormed size s × (3 ∷ statement_bytes s ≡ c)
-is_statement size message.Idle c fits e = let n = second _ _ _ _ _ _ e in absurd (omega arith)
-is_statement size (message.Hello cluster its from to) c fits e =
-    let n = second _ _ _ _ _ _ e in absurd (omega arith)
-is_statement size (message.Welcome next) c fits e = let n = second _ _ _ _ _ _ e in absurd (omega arith)
-is_statement size (message.Statement s) c fits e = (s, fits, ap (λ (t : List ℕ). drop 2 t) e)
-
--- what begins a text of that length has the type of a statement
-type_begun : (size : Size) (b : ℕ) → BeginsFrame size (0 ∷ 8 ∷ b ∷ []) → b ≡ 3
-type_begun size b begun =
-    let i = is_statement size begun.message (b ∷ begun.more) begun.fits begun.whole in
-    sym (ap (λ (t : List ℕ). get_or t 0 0) i.2)
-
--- what begins a statement's text is each in range, with the bytes that follow
-begun : (size : Size) (c : List ℕ) → IsSize size → (b : BeginsFrame size (0 ∷ 8 ∷ 3 ∷ c))
+-- what begins a statement's bytes behind such a front is each in range, with the bytes that follow
+begun : (size : Size) (front c : List ℕ) → PrecedesStatement size front → IsSize size → (b : BeginsFrame size (front ++ c))
     → CellsOf size (c ++ b.more)
-begun size c lawful b =
-    let i = is_statement size b.message (3 ∷ (c ++ b.more)) b.fits b.whole in
-    subst (CellsOf size) (ap (λ (t : List ℕ). drop 1 t) i.2) (cells_of size i.0 lawful i.1)
+begun size front c precedes lawful b =
+    let i = precedes.only c b in subst (CellsOf size) (sym i.3) (cells_of size i.0 lawful i.2)
 
 -- the bytes, each in its range
 filled : (size : Size) (k h l o r s v : ℕ) → In 1 k 3 → In 0 h ((size.questions - 1) / 256)
@@ -195,51 +181,63 @@ least_cells size =
     filled size 1 0 0 0 1 1 0 (omega arith, omega arith) (none _) (none _) (none _) (omega arith, omega arith)
     (omega arith, omega arith) (omega arith, omega arith)
 
--- a front of the least statement's text begins a text
-pub first_partial : (size : Size) → IsSize size → (front : List ℕ) (next : ℕ) (more : List ℕ)
-    → 0 ∷ 8 ∷ 3 ∷ 1 ∷ 0 ∷ 0 ∷ 0 ∷ 1 ∷ 1 ∷ 0 ∷ [] ≡ front ++ next ∷ more → IsPartial size front
-first_partial size lawful front next more e = record {
-  message = made 1 0 0 0 1 1 0;
-  fits = made_fits size 1 0 0 0 1 1 0 lawful (least_cells size);
-  next = next;
-  more = more;
-  whole = made_text size 1 0 0 0 1 1 0 lawful (least_cells size) ∙ e;
-}
+-- the least statement
+abbrev pub least : Statement
+least = made 1 0 0 0 1 1 0
 
--- the body of a statement, behind the length: each byte is in its range, or it is the fault of its position
-pub statement_tells : (size : Size) (bytes : List ℕ) → IsSize size → AreBytes bytes
-    → Tells size (0 ∷ 8 ∷ bytes) (statement_at size bytes)
-unfolding statement_at
-statement_tells size bytes lawful fits =
+-- it is one of each cluster
+pub least_fits : (size : Size) → IsSize size → IsWellFormed size least
+least_fits size lawful = made_fits size 1 0 0 0 1 1 0 lawful (least_cells size)
+
+-- a statement of the cluster was read behind the front, and these bytes are behind it
+abbrev pub IsStatementBehind : Size → List ℕ → List ℕ → Statement × List ℕ → Type 0
+IsStatementBehind size front bytes x = IsWellFormed size x.0 × (bytes ≡ front ++ (statement_bytes x.0 ++ x.1))
+
+-- one byte of a statement further
+step_cell : (size : Size) (front cells : List ℕ) (least most : ℕ) (f : WireFault) (k : ℕ × List ℕ → Result (Statement × List ℕ) Stop) (bytes : List ℕ)
+    → PrecedesStatement size front → length cells < 7 → f ≡ statement_fault (length cells)
+    → IsPartial size (front ++ cells) → ((b : ℕ) → BeginsFrame size (front ++ (cells ++ b ∷ [])) → In least b most) → AreBytes bytes
+    → ((b : ℕ) (rest : List ℕ) → In least b most → AreBytes rest → TellsOf size (IsStatementBehind size front) (front ++ ((cells ++ b ∷ []) ++ rest)) (k (b, rest)))
+    → TellsOf size (IsStatementBehind size front) (front ++ (cells ++ bytes)) (byte_at least most f bytes >>= k)
+step_cell size front cells least most f k bytes precedes few is partial range fits next =
+    let W : List ℕ → Type 0 = λ t. TellsOf size (IsStatementBehind size front) t (byte_at least most f bytes >>= k) in
+    let B : List ℕ → Type 0 = λ t. BeginsFrame size t in
+    subst W (append_assoc front cells bytes) (step size (IsStatementBehind size front) (front ++ cells) least most f k bytes partial
+    (λ b h. range b (subst B (append_assoc front cells (b ∷ [])) h)) (is ∙ sym (precedes.fault cells few)) fits
+    (λ b rest i are. let N : List ℕ → Type 0 = λ t. TellsOf size (IsStatementBehind size front) t (k (b, rest)) in
+    subst N (sym (append_assoc front (cells ++ b ∷ []) rest) ∙ ap (λ (t : List ℕ). t ++ rest) (sym (append_assoc front cells (b ∷ [])))) (next b rest i are)))
+
+-- a statement behind such a front: each byte is in its range, or it is the fault of its position
+pub spelled_tells : (size : Size) (front bytes : List ℕ) → PrecedesStatement size front → IsSize size → AreBytes bytes
+    → TellsOf size (IsStatementBehind size front) (front ++ bytes) (spelled_at size bytes)
+unfolding spelled_at
+spelled_tells size front bytes precedes lawful fits =
     let one3 : In 1 1 3 = (omega arith, omega arith) in
     let one32 : In 1 1 32 = (omega arith, omega arith) in
     let v0 : In (least_value 1) 0 (most_value 1) = (omega arith, omega arith) in
     let bound = (size.questions - 1) / 256 in
     let last = size.n - 1 in
-    step_one size (0 ∷ 8 ∷ []) 3 BadType _ bytes
-    (first_partial size lawful (0 ∷ 8 ∷ []) 3 (1 ∷ 0 ∷ 0 ∷ 0 ∷ 1 ∷ 1 ∷ 0 ∷ []) refl)
-    (λ b i. type_begun size b i) refl fits (λ rest fits1.
-    step size (0 ∷ 8 ∷ 3 ∷ []) 1 3 BadKind _ rest
-    (partial_at size lawful (least_cells size) 0 (omega arith))
-    (λ b i. (begun size (b ∷ []) lawful i).kind) refl fits1 (λ k rest k_in fits2.
-    step size (0 ∷ 8 ∷ 3 ∷ k ∷ []) 0 bound BadPlace _ rest
-    (partial_at size lawful (filled size k 0 0 0 1 1 0 k_in (none _) (none _) (none _) one32 one3 v0) 1 (omega arith))
-    (λ b i. (begun size (k ∷ b ∷ []) lawful i).high) refl fits2 (λ h rest h_in fits3.
-    step size (0 ∷ 8 ∷ 3 ∷ k ∷ h ∷ []) 0 (most_low (size.questions - 1) h) BadPlace _ rest
-    (partial_at size lawful (filled size k h 0 0 1 1 0 k_in h_in (none _) (none _) one32 one3 v0) 2 (omega arith))
-    (λ b i. (begun size (k ∷ h ∷ b ∷ []) lawful i).low) refl fits3 (λ l rest l_in fits4.
-    step size (0 ∷ 8 ∷ 3 ∷ k ∷ h ∷ l ∷ []) 0 last BadPlace _ rest
-    (partial_at size lawful (filled size k h l 0 1 1 0 k_in h_in l_in (none _) one32 one3 v0) 3 (omega arith))
-    (λ b i. (begun size (k ∷ h ∷ l ∷ b ∷ []) lawful i).origin) refl fits4 (λ o rest o_in fits5.
-    step size (0 ∷ 8 ∷ 3 ∷ k ∷ h ∷ l ∷ o ∷ []) 1 32 BadPlace _ rest
-    (partial_at size lawful (filled size k h l o 1 1 0 k_in h_in l_in o_in one32 one3 v0) 4 (omega arith))
-    (λ b i. (begun size (k ∷ h ∷ l ∷ o ∷ b ∷ []) lawful i).round) refl fits5 (λ r rest r_in fits6.
-    step size (0 ∷ 8 ∷ 3 ∷ k ∷ h ∷ l ∷ o ∷ r ∷ []) 1 3 BadPlace _ rest
-    (partial_at size lawful (filled size k h l o r 1 0 k_in h_in l_in o_in r_in one3 v0) 5 (omega arith))
-    (λ b i. (begun size (k ∷ h ∷ l ∷ o ∷ r ∷ b ∷ []) lawful i).step) refl fits6 (λ s rest s_in fits7.
+    step_cell size front [] 1 3 BadKind _ bytes precedes (omega arith) refl
+    (partial_at size front precedes lawful (least_cells size) 0 (omega arith))
+    (λ b i. (begun size front (b ∷ []) precedes lawful i).kind) fits (λ k rest k_in fits2.
+    step_cell size front (k ∷ []) 0 bound BadPlace _ rest precedes (omega arith) refl
+    (partial_at size front precedes lawful (filled size k 0 0 0 1 1 0 k_in (none _) (none _) (none _) one32 one3 v0) 1 (omega arith))
+    (λ b i. (begun size front (k ∷ b ∷ []) precedes lawful i).high) fits2 (λ h rest h_in fits3.
+    step_cell size front (k ∷ h ∷ []) 0 (most_low (size.questions - 1) h) BadPlace _ rest precedes (omega arith) refl
+    (partial_at size front precedes lawful (filled size k h 0 0 1 1 0 k_in h_in (none _) (none _) one32 one3 v0) 2 (omega arith))
+    (λ b i. (begun size front (k ∷ h ∷ b ∷ []) precedes lawful i).low) fits3 (λ l rest l_in fits4.
+    step_cell size front (k ∷ h ∷ l ∷ []) 0 last BadPlace _ rest precedes (omega arith) refl
+    (partial_at size front precedes lawful (filled size k h l 0 1 1 0 k_in h_in l_in (none _) one32 one3 v0) 3 (omega arith))
+    (λ b i. (begun size front (k ∷ h ∷ l ∷ b ∷ []) precedes lawful i).origin) fits4 (λ o rest o_in fits5.
+    step_cell size front (k ∷ h ∷ l ∷ o ∷ []) 1 32 BadPlace _ rest precedes (omega arith) refl
+    (partial_at size front precedes lawful (filled size k h l o 1 1 0 k_in h_in l_in o_in one32 one3 v0) 4 (omega arith))
+    (λ b i. (begun size front (k ∷ h ∷ l ∷ o ∷ b ∷ []) precedes lawful i).round) fits5 (λ r rest r_in fits6.
+    step_cell size front (k ∷ h ∷ l ∷ o ∷ r ∷ []) 1 3 BadPlace _ rest precedes (omega arith) refl
+    (partial_at size front precedes lawful (filled size k h l o r 1 0 k_in h_in l_in o_in r_in one3 v0) 5 (omega arith))
+    (λ b i. (begun size front (k ∷ h ∷ l ∷ o ∷ r ∷ b ∷ []) precedes lawful i).step) fits6 (λ s rest s_in fits7.
     let v_least : In (least_value s) (least_value s) (most_value s) = (omega arith, least_most s) in
-    step size (0 ∷ 8 ∷ 3 ∷ k ∷ h ∷ l ∷ o ∷ r ∷ s ∷ []) (least_value s) (most_value s) BadValue _ rest
-    (partial_at size lawful (filled size k h l o r s (least_value s) k_in h_in l_in o_in r_in s_in v_least) 6 (omega arith))
-    (λ b i. (begun size (k ∷ h ∷ l ∷ o ∷ r ∷ s ∷ b ∷ []) lawful i).value) refl fits7 (λ v rest v_in fits8.
+    step_cell size front (k ∷ h ∷ l ∷ o ∷ r ∷ s ∷ []) (least_value s) (most_value s) BadValue _ rest precedes (omega arith) refl
+    (partial_at size front precedes lawful (filled size k h l o r s (least_value s) k_in h_in l_in o_in r_in s_in v_least) 6 (omega arith))
+    (λ b i. (begun size front (k ∷ h ∷ l ∷ o ∷ r ∷ s ∷ b ∷ []) precedes lawful i).value) fits7 (λ v rest v_in fits8.
     let cells = filled size k h l o r s v k_in h_in l_in o_in r_in s_in v_in in
-    (made_fits size k h l o r s v lawful cells, ap (λ (t : List ℕ). t ++ rest) (sym (made_text size k h l o r s v lawful cells)))))))))))
+    (made_fits size k h l o r s v lawful cells, ap (λ (t : List ℕ). front ++ (t ++ rest)) (sym (made_text size k h l o r s v lawful cells))))))))))

@@ -10,6 +10,7 @@ use std::sync::Mutex;
 use std::test::Fail;
 use std::thread;
 use std::time::Duration;
+use wire::Version;
 
 /// As a peer that has heard five statements of the member that dials it.
 fn welcomes<R: Machine + Abort>(rt: &R, listener: &TcpListener) -> Result<TcpStream, Fail> {
@@ -84,8 +85,8 @@ fn forgets<R: Machine + Abort>(rt: &R, alloc: Global) -> Result<(), Fail> {
     let told = kept.into_inner().events;
     let want = [
         LogEvent::Ready(0),
-        LogEvent::LinkUpAhead(1, 5),
-        LogEvent::LinkUpAhead(2, 5),
+        LogEvent::LinkUpAhead(1, 5, Version::Two),
+        LogEvent::LinkUpAhead(2, 5, Version::Two),
         LogEvent::Stopped,
         LogEvent::End,
     ];

@@ -13,6 +13,7 @@ use std::process::Abort;
 use std::sync::Mutex;
 use std::test::Fail;
 use std::time::Duration;
+use wire::Version;
 
 /// Whether the other side closes the connection, on which it says something once a second, within four reads.
 fn ends_soon(stream: &mut TcpStream) -> io::Result<bool> {
@@ -36,7 +37,7 @@ pub(super) fn falls_silent<R: Machine + Abort>(
     log: &Mutex<Kept>,
 ) -> Result<(), Fail> {
     let (mut dialled, _) = listener.accept()?;
-    welcome(rt, &mut dialled)?;
+    welcome(rt, &mut dialled, 2)?;
     wait_for(rt, log, 2);
     let mut dials = connect(rt, cluster.address(0))?;
     is_welcomed(rt, &mut dials)?;
@@ -59,8 +60,8 @@ fn peer_falls_silent<R: Machine + Abort>(rt: &R, alloc: Global) -> Result<(), Fa
     };
     let want = [
         LogEvent::Ready(0),
-        LogEvent::LinkUpTo(1),
-        LogEvent::LinkUp(1),
+        LogEvent::LinkUpTo(1, Version::Two),
+        LogEvent::LinkUp(1, Version::Two),
         LogEvent::LinkDown(1, LinkEnd::Lost),
         LogEvent::LinkDownTo(1, LinkEnd::Lost),
         LogEvent::End,

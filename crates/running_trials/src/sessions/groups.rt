@@ -20,7 +20,7 @@ use std::time::{Clock, Duration};
 use terms::Kind::{Initial, Ready};
 use terms::Value::{One, Zero};
 use terms::{Kind, Memory, Statement};
-use wire::{Message, encode};
+use wire::{Message, Version, encode};
 
 /// What two threads see of a row.
 #[derive(Drop)]
@@ -121,7 +121,16 @@ fn reads<J: Naming, R: Wait + AllocGlobal>(
         return (seat, LinkEnd::Memory);
     };
     let mut tosser = Counting { last: 40 };
-    read_link(rt, rt.alloc(), hub, seat, &mut stream, seen, &mut tosser)
+    read_link(
+        rt,
+        rt.alloc(),
+        hub,
+        seat,
+        &mut stream,
+        Version::One,
+        seen,
+        &mut tosser,
+    )
 }
 
 /// A session while another thread waits for the bell: how it ended, and how often that thread was woken by then.

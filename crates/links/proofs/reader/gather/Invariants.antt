@@ -7,5 +7,5 @@ use Rattle.links.proofs.reader.gather.Given as goal
 -- the statements so far, and the tosses that were drawn for them
 abbrev pub invariant-loop-message : goal.invariant-loop-message
 invariant-loop-message g l =
-    (said_in l.events.items ++ in_order (drop l.message-index l.messages) ≡ in_order l.messages)
+    (said_in l.events.items ++ in_order l.version (drop l.message-index l.messages) ≡ in_order l.version l.messages)
     × Draws g.T.Tosser.may_toss l.initial.tosser (tosses_in l.events.items) l.tosser

@@ -11,19 +11,19 @@ use Rattle.links.proofs.reader.read_session.Goals as goal
 pub loop-init : goal.loop-init
 loop-init g c =
     let same : c.size-size.result ≡ c.args.hub.now.size = c.size-size.ensures ∙ ap (λ (h : Header). h.size) c.header.ensures.hub in
-    nothing_read c.args.hub.now.size (g.S.Stream.told c.write_message.new.stream) c.new-feeder.result c.args.seat (partial0 c.args.hub.now.size)
+    nothing_read c.args.version c.args.hub.now.size (g.S.Stream.told c.write_message.new.stream) c.new-feeder.result c.args.seat (partial0 c.args.hub.now.size)
     (subst IsSize same c.recall-2.ensures) c.recall.ensures (c.new-feeder.ensures.size ∙ same) c.new-feeder.ensures.end
 
 pub returns-in-Err-turn : goal.returns-in-Err-turn
 returns-in-Err-turn g c =
     let wrote : g.S.Stream.told c.write_message.new.stream ≡ has_written (g.S.Stream.told c.args.stream.now) (frame_bytes (message.Welcome c.args.seat.next)) = search (rules, c.in-Ok.ensures.ok, c.next.ensures) in
-    let w = waits c.args.hub.now.size (g.S.Stream.told c.write_message.new.stream) (g.S.Stream.told c.loop.stream) c.loop.feeder c.args.seat c.loop.seat c.loop.invariant in
-    inr (subst (λ (t : Told). ReadsUntil c.args.hub.now.size t (g.S.Stream.told c.turn.new.stream) c.args.seat c.turn.new.seat c.in-Err-turn.why) wrote
-    (so_far_off c.args.hub.now.size (g.S.Stream.told c.write_message.new.stream) (g.S.Stream.told c.loop.stream) (g.S.Stream.told c.turn.new.stream) c.loop.feeder c.args.seat c.loop.seat c.turn.new.seat c.in-Err-turn.why
+    let w = waits c.args.version c.args.hub.now.size (g.S.Stream.told c.write_message.new.stream) (g.S.Stream.told c.loop.stream) c.loop.feeder c.args.seat c.loop.seat c.loop.invariant in
+    inr (subst (λ (t : Told). ReadsUntil c.args.version c.args.hub.now.size t (g.S.Stream.told c.turn.new.stream) c.args.seat c.turn.new.seat c.in-Err-turn.why) wrote
+    (so_far_off c.args.version c.args.hub.now.size (g.S.Stream.told c.write_message.new.stream) (g.S.Stream.told c.loop.stream) (g.S.Stream.told c.turn.new.stream) c.loop.feeder c.args.seat c.loop.seat c.turn.new.seat c.in-Err-turn.why
     c.loop.invariant (c.in-Err-turn.ensures.off c.loop.invariant.rest w)))
 
 pub loop-preserved : goal.loop-preserved
 loop-preserved g c =
-    let w = waits c.args.hub.now.size (g.S.Stream.told c.write_message.new.stream) (g.S.Stream.told c.loop.stream) c.loop.feeder c.args.seat c.loop.seat c.loop.invariant in
-    so_far_on c.args.hub.now.size (g.S.Stream.told c.write_message.new.stream) (g.S.Stream.told c.loop.stream) (g.S.Stream.told c.turn.new.stream) c.loop.feeder c.turn.new.feeder c.args.seat c.loop.seat c.turn.new.seat
+    let w = waits c.args.version c.args.hub.now.size (g.S.Stream.told c.write_message.new.stream) (g.S.Stream.told c.loop.stream) c.loop.feeder c.args.seat c.loop.seat c.loop.invariant in
+    so_far_on c.args.version c.args.hub.now.size (g.S.Stream.told c.write_message.new.stream) (g.S.Stream.told c.loop.stream) (g.S.Stream.told c.turn.new.stream) c.loop.feeder c.turn.new.feeder c.args.seat c.loop.seat c.turn.new.seat
     c.loop.invariant (c.in_default.ensures.on c.loop.invariant.rest w)

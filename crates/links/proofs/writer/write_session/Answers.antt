@@ -6,16 +6,16 @@ use Rattle.links.proofs.writer.write_session.Goals as goal
 
 pub returns-in-Err : goal.returns-in-Err
 returns-in-Err g c =
-    ungreeted c.args.hub.now c.args.peer _ _ c.hello-greeting.result c.in-Err.why
-    (c.hello-greeting.ensures ∙ ap (λ (h : Header). hello_to h c.args.peer) c.header-header.ensures.hub) c.in-Err.ensures.err
+    ungreeted c.args.hub.now c.args.version c.args.peer _ _ c.hello-greeting.result c.in-Err.why
+    (c.hello-greeting.ensures ∙ ap (λ (h : Header). hello_to h c.args.version c.args.peer) c.header-header.ensures.hub) c.in-Err.ensures.err
 
 pub returns-in-Ok-read_welcome : goal.returns-in-Ok-read_welcome
 returns-in-Ok-read_welcome g c =
-    welcomed c.args.hub.now c.args.peer _ _ _ _ c.hello-greeting.result c.in-Ok-read_welcome.next c.write_on.result
-    (c.hello-greeting.ensures ∙ ap (λ (h : Header). hello_to h c.args.peer) c.header-header.ensures.hub) c.in-Ok.ensures.ok c.in-Ok-read_welcome.ensures.ok c.write_on.ensures
+    welcomed c.args.hub.now c.args.version c.args.peer _ _ _ _ c.hello-greeting.result c.in-Ok-read_welcome.next c.write_on-why.result
+    (c.hello-greeting.ensures ∙ ap (λ (h : Header). hello_to h c.args.version c.args.peer) c.header-header.ensures.hub) c.in-Ok.ensures.ok c.in-Ok-read_welcome.ensures.ok c.write_on-why.ensures
 
 pub returns-in-Err-read_welcome : goal.returns-in-Err-read_welcome
 returns-in-Err-read_welcome g c =
-    unwelcomed c.args.hub.now c.size.result c.args.peer _ _ _ c.hello-greeting.result c.in-Err-read_welcome.why
-    (c.hello-greeting.ensures ∙ ap (λ (h : Header). hello_to h c.args.peer) c.header-header.ensures.hub)
+    unwelcomed c.args.hub.now c.args.version c.size.result c.args.peer _ _ _ c.hello-greeting.result c.in-Err-read_welcome.why
+    (c.hello-greeting.ensures ∙ ap (λ (h : Header). hello_to h c.args.version c.args.peer) c.header-header.ensures.hub)
     (c.size.ensures ∙ ap (λ (h : Header). h.size) c.header-header.ensures.hub) c.in-Ok.ensures.ok c.in-Err-read_welcome.ensures.err

@@ -1,4 +1,4 @@
-use Rattle.std.proofs.Common.{rules, ℕ, refl, ◌≡◌, subst, Option, Some, None, IsSome, List}
+use Rattle.std.proofs.Common.{refl, ◌≡◌, subst, Option, Some, None, IsSome}
 use Rattle.words.specs.Numbers.{IsHexOf}
 use Rattle.hearing.specs.Pieces.{IsMemberBelow}
 use Rattle.words.proofs.Cuts.{no_cut}
