@@ -5,7 +5,8 @@ Members of a cluster of four, as processes, on a network that means them no good
 
 - 64 connections that don't greet, and one more; 32 clients, and one more; a place that is given back is given again;
 - a member that may open 24 files: its doors come back once others go;
-- a client and a peer that read nothing, and a peer that sends a byte a second: the others are served, and decide;
+- a client and a peer that read nothing, a peer that sends a byte a second, and a client that reads a transcript a byte a
+  second: the others are served, and decide;
 - garbage at both doors of each member, as fast as it goes, for S seconds (60), while four members decide 256 questions:
   they decide all, each as proposed, and when it is over a member has as many threads and files open as before, and no
   more memory than what it heard takes;
@@ -126,6 +127,8 @@ def is_let_in(member):
 
 def too_many_that_do_not_greet(program):
     with cluster(program, PORTS, [0]) as [member]:
+        # the link from the member to itself takes a place until it has greeted
+        time.sleep(1)
         silent = [connect(member.door) for _ in range(64)]
         time.sleep(0.3)
         assert not any(is_closed(it, 0.01) for it in silent), "one of 64 was closed"
@@ -179,22 +182,39 @@ def trickles(member, stop):
     stream.close()
 
 
+def sips(member, question, stop, got):
+    """A client that asks for a transcript a hundred times, and reads a byte a second."""
+    with connect(member.desk) as stream:
+        stream.sendall(b"TRANSCRIPT %d\n" % question * 100)
+        while not stop.wait(1):
+            got.append(stream.recv(1))
+
+
 def slow_ends(program):
-    """Member 3 is this script: it takes the links to it and reads nothing, and sends a byte a second to member 0."""
+    """Member 3 is this script: it takes the links to it and reads nothing, and sends a byte a second to member 0. A client
+    of member 2 reads the transcript of the first question a byte a second while the second one is decided."""
     ports, stop = PORTS + 40, threading.Event()
     with socket.create_server(("127.0.0.1", ports + 3), backlog=16), cluster(program, ports, range(3)) as members:
         slow = threading.Thread(target=trickles, args=(members[0], stop))
         slow.start()
         deaf = connect(members[1].desk)
         deaf.sendall(b"STATUS\n" * 400)
+        got, sipping = [], threading.Thread(target=lambda: sips(members[2], 3, stop, got))
         try:
-            for question in (3, 4):
+            for question in (3, 4, 5, 6):
+                if question == 4:
+                    sipping.start()
+                    assert until(lambda: got), "the transcript doesn't begin"
                 for member in members:
                     assert until(lambda it=member: propose(it, question, question % 2)), "no proposal is taken"
                 assert decides(members, question, question % 2), f"question {question} isn't decided"
+            assert until(lambda: len(got) >= 4), "the transcript doesn't go on"
+            assert b"".join(got[:4]) == b"tran", got
         finally:
             stop.set()
             slow.join()
+            if sipping.is_alive():
+                sipping.join()
             deaf.close()
 
 
