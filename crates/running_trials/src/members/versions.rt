@@ -18,11 +18,13 @@ const SAID: [[u8; 10]; 2] = [
     [0, 8, 3, 2, 0, 0, 0, 1, 1, 1],
 ];
 
-/// A statement of question 0 and origin 1, alone in its frame.
-const ALONE: [u8; 10] = [0, 8, 3, 1, 0, 0, 1, 1, 1, 1];
-
-/// Two statements of that origin in one frame.
+/// Two statements of question 0 and origin 1 in one frame.
 const TOGETHER: [u8; 18] = [0, 16, 4, 2, 2, 0, 0, 1, 1, 1, 1, 3, 0, 0, 1, 1, 1, 1];
+
+/// Another statement of that origin alone in its frame, and these two behind it.
+const BOTH: [u8; 28] = [
+    0, 8, 3, 1, 0, 0, 1, 1, 1, 1, 0, 16, 4, 2, 2, 0, 0, 1, 1, 1, 1, 3, 0, 0, 1, 1, 1, 1,
+];
 
 /// Takes the next link that member 0 dials to member 1, if its Hello is of this version.
 fn is_dialled_with(listener: &TcpListener, version: u8) -> io::Result<Option<TcpStream>> {
@@ -119,14 +121,14 @@ fn is_welcomed_at<R: Machine>(
     Ok(welcome == [0, 9, 2, 0, 0, 0, 0, 0, 0, 0, next])
 }
 
-/// A peer dials with version 1 and says one statement, dials with version 2 and says two in one frame, and dials once more:
-/// the member has heard three.
+/// A peer dials with version 1 and says one statement, and two in one frame, which have no place there: the member has heard
+/// one. The peer dials with version 2 and says the two, and dials once more: the member has heard three.
 pub(super) fn dials_in_both<R: Machine + Abort>(
     rt: &R,
     cluster: Cluster,
     log: &Mutex<Kept>,
 ) -> Result<(), Fail> {
-    assert!(rt; is_welcomed_at(rt, cluster, 1, 0, &ALONE)?);
+    assert!(rt; is_welcomed_at(rt, cluster, 1, 0, &BOTH)?);
     wait_for(rt, log, 3);
     assert!(rt; is_welcomed_at(rt, cluster, 2, 1, &TOGETHER)?);
     wait_for(rt, log, 5);
@@ -146,7 +148,7 @@ fn peer_is_renewed<R: Machine + Abort>(rt: &R, alloc: Global) -> Result<(), Fail
     let want = [
         LogEvent::Ready(0),
         LogEvent::LinkUp(1, Version::One),
-        LogEvent::LinkDown(1, LinkEnd::Ended),
+        LogEvent::LinkDown(1, LinkEnd::OutOfOrder),
         LogEvent::LinkUp(1, Version::Two),
         LogEvent::LinkDown(1, LinkEnd::Ended),
         LogEvent::LinkUp(1, Version::Two),
