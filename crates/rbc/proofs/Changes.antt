@@ -1,9 +1,8 @@
 -- What changes of its lists do to the words of a `Broadcasts`.
-use Rattle.std.proofs.Common.{ℕ, ◌≡◌, ◌+◌, ◌*◌, ◌<◌, ◌≤◌, Bool, true, false, cond, ◌&&◌, eqb, leb, refl, sym, ap, ◌∙◌, Option, Some, None, is_some, List, length, get_or}
-use Rattle.std.proofs.Math.ListN.{get_or-eq_default}
+use Rattle.std.proofs.Common.{ℕ, ◌≡◌, ◌+◌, ◌*◌, ◌<◌, Bool, true, false, cond, ◌&&◌, eqb, leb, refl, sym, ap, ◌∙◌, Option, Some, None, is_some}
 use Rattle.vocabulary.specs.Terms.{Kind, Initial, Echo, Ready, Place, Size, Value, Statement, count_below, keep_or, given, FitsStep, value_is, kind_eq, new_place}
 use Rattle.terms.proofs.Same.{kind_eq-true}
-use Rattle.rbc.specs.Words.{Known, Broadcasts, same_spot, is_at, is_third, no_known, value_known, voted_known, is_reached, heard_known, said_known, say_known, accepted_known, has_spot, spot_of, known_in, broadcasts_size, broadcasts_me, broadcasts_got, broadcasts_accepted, broadcasts_said}
+use Rattle.rbc.specs.Words.{Known, Broadcasts, same_spot, is_at, is_third, no_known, value_known, voted_known, is_reached, heard_known, said_known, say_known, accepted_known, has_spot, spot_of, known_in, touched_known, broadcasts_size, broadcasts_me, broadcasts_got, broadcasts_accepted, broadcasts_said}
 use Rattle.rbc.proofs.Cells.{step_same, known_in-spot}
 use Rattle.votes.specs.Votes.{fits}
 use Rattle.votes.proofs.Sent.{keep_None}
@@ -68,7 +67,7 @@ heard_spot p q h known size a kind m =
     ap (λ n. heard_known (new_place q.question q.origin q.round n) known size a kind m) (step_same p q h)
 
 -- what is known at a place after one more vote at that or another
-module _ (q : Place) (old new : Known) (size : Size) (from : ℕ) (kind : Kind) (m : Value) (within : from < 32) where
+module _ (q : Place) (old new : Known) (size : Size) (from : ℕ) (kind : Kind) (m : Value) (within : from < 64) where
   got_at : (t : Bool) → (t ≡ true → fits (is_third q) m ≡ true) → (t ≡ true → value_known q old from kind ≡ None)
       → new ≡ cond t (heard_known q old size from kind m) old → (a : ℕ) (k : Kind)
       → value_known q new a k ≡ keep_or (value_known q old a k) (given (eqb from a && (kind_eq kind k && t)) m)
@@ -103,21 +102,21 @@ module _ (q : Place) (old new : Known) (size : Size) (from : ℕ) (kind : Kind) 
 module _ (b b' : Broadcasts) (same_size : b'.size ≡ b.size) (same_me : b'.me ≡ b.me) where
   -- what is known of a place
   abbrev old : Place → Known
-  old q = known_in b.cells.items b.size.n q
+  old q = known_in (touched_known b.cells) b.size.n q
 
   -- and after a change, in the old size
   abbrev new : Place → Known
-  new q = known_in b'.cells.items b.size.n q
+  new q = known_in (touched_known b'.cells) b.size.n q
 
-  in_new : (q : Place) → known_in b'.cells.items b'.size.n q ≡ new q
-  in_new q = ap (λ (z : Size). known_in b'.cells.items z.n q) same_size
+  in_new : (q : Place) → known_in (touched_known b'.cells) b'.size.n q ≡ new q
+  in_new q = ap (λ (z : Size). known_in (touched_known b'.cells) z.n q) same_size
 
   -- the tables are the same
-  pub nothing_more : b'.cells.items ≡ b.cells.items → IsSame b b'
+  pub nothing_more : ((spot : ℕ) → touched_known b'.cells spot ≡ touched_known b.cells spot) → IsSame b b'
   unfolding broadcasts_size broadcasts_me broadcasts_got broadcasts_accepted broadcasts_said
   nothing_more h =
-      let e : (q : Place) → known_in b'.cells.items b'.size.n q ≡ old q =
-      λ q. in_new q ∙ ap (λ (x : List Known). known_in x b.size.n q) h in
+      let e : (q : Place) → known_in (touched_known b'.cells) b'.size.n q ≡ old q =
+      λ q. in_new q ∙ ap (λ (x : Known). cond (has_spot b.size.n q) x no_known) (h (spot_of b.size.n q)) in
       record {
         size = same_size;
         me = same_me;
@@ -127,7 +126,7 @@ module _ (b b' : Broadcasts) (same_size : b'.size ≡ b.size) (same_me : b'.me �
       }
 
   -- one more statement heard
-  pub one_heard : (from : ℕ) (s : Statement) → from < 32 → FitsStep s.place.step s.value
+  pub one_heard : (from : ℕ) (s : Statement) → from < 64 → FitsStep s.place.step s.value
       → is_some (broadcasts_got b from s.kind s.place) ≡ false
       → ((q : Place) → new q ≡ cond (same_spot s.place q) (heard_known s.place (old s.place) b.size from s.kind s.value) (old q))
       → HearsOne b b' from s
@@ -143,7 +142,7 @@ module _ (b b' : Broadcasts) (same_size : b'.size ≡ b.size) (same_me : b'.me �
             ∙ ap (λ (x : Known). keep_or (accepted_known place (old place))
             (given (is_at s Ready place && is_reached place x b.size s.value) s.value)) (sym (in_new place))
             ∙ ap (λ (z : Size). keep_or (accepted_known place (old place))
-            (given (is_at s Ready place && is_reached place (known_in b'.cells.items b'.size.n place) z s.value) s.value)) (sym same_size);
+            (given (is_at s Ready place && is_reached place (known_in (touched_known b'.cells) b'.size.n place) z s.value) s.value)) (sym same_size);
         said = λ kind place. ap (λ (x : Known). said_known x kind) (in_new place)
             ∙ said_at place (old place) (new place) b.size from s.kind s.value within (same_spot s.place place) (at place) kind;
       }
@@ -153,7 +152,7 @@ module _ (b b' : Broadcasts) (same_size : b'.size ≡ b.size) (same_me : b'.me �
 
       none : (q : Place) → same_spot s.place q ≡ true → value_known q (old q) from s.kind ≡ None
       none q t = sym (value_spot s.place q t (old q) from s.kind)
-          ∙ ap (λ (x : Known). value_known s.place x from s.kind) (sym (known_in-spot b.cells.items b.size.n s.place q t)) ∙ is_None _ fresh
+          ∙ ap (λ (x : Known). value_known s.place x from s.kind) (sym (known_in-spot (touched_known b.cells) b.size.n s.place q t)) ∙ is_None _ fresh
 
       at : (q : Place) → new q ≡ cond (same_spot s.place q) (heard_known q (old q) b.size from s.kind s.value) (old q)
       at q = h q ∙ step (same_spot s.place q) refl
@@ -162,7 +161,7 @@ module _ (b b' : Broadcasts) (same_size : b'.size ≡ b.size) (same_me : b'.me �
               → cond t (heard_known s.place (old s.place) b.size from s.kind s.value) (old q)
               ≡ cond t (heard_known q (old q) b.size from s.kind s.value) (old q)
           step true e = heard_spot s.place q e (old s.place) b.size from s.kind s.value
-              ∙ ap (λ (x : Known). heard_known q x b.size from s.kind s.value) (known_in-spot b.cells.items b.size.n s.place q e)
+              ∙ ap (λ (x : Known). heard_known q x b.size from s.kind s.value) (known_in-spot (touched_known b.cells) b.size.n s.place q e)
           step false e = refl
 
   -- one more statement said
@@ -189,7 +188,7 @@ module _ (b b' : Broadcasts) (same_size : b'.size ≡ b.size) (same_me : b'.me �
         where
           step : (t : Bool) → same_spot s.place q ≡ t
               → cond t (say_known (old s.place) s.kind s.value) (old q) ≡ cond t (say_known (old q) s.kind s.value) (old q)
-          step true e = ap (λ (x : Known). say_known x s.kind s.value) (known_in-spot b.cells.items b.size.n s.place q e)
+          step true e = ap (λ (x : Known). say_known x s.kind s.value) (known_in-spot (touched_known b.cells) b.size.n s.place q e)
           step false e = refl
 
       got_same : (place : Place) (t : Bool) (known : Known) (a : ℕ) (k : Kind)
@@ -231,13 +230,13 @@ initial_said b s h =
           ∙ keep_None (broadcasts_said b Ready place));
     }
 
--- beyond the table nothing is known
-module _ (b : Broadcasts) (place : Place) (past : length b.cells.items ≤ spot_of b.size.n place) where
-  nothing_there : known_in b.cells.items b.size.n place ≡ no_known
+-- of a place of which nothing is known nothing was heard or said
+module _ (b : Broadcasts) (place : Place) (nothing : touched_known b.cells (spot_of b.size.n place) ≡ no_known) where
+  nothing_there : known_in (touched_known b.cells) b.size.n place ≡ no_known
   nothing_there = step (has_spot b.size.n place)
     where
-      step : (t : Bool) → cond t (get_or b.cells.items (spot_of b.size.n place) no_known) no_known ≡ no_known
-      step true = get_or-eq_default b.cells.items no_known past
+      step : (t : Bool) → cond t (touched_known b.cells (spot_of b.size.n place)) no_known ≡ no_known
+      step true = nothing
       step false = refl
 
   pub none_got : (a : ℕ) (kind : Kind) → broadcasts_got b a kind place ≡ None

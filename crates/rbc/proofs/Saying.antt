@@ -1,10 +1,11 @@
 -- What a statement of its own does to what a `Broadcasts` stands for, and what changes nothing.
-use Rattle.std.proofs.Common.{ℕ, zero, suc, ◌≡◌, ◌<◌, ◌≤◌, ◌⊎◌, inl, inr, false, sym, ap, ◌∙◌, arith, Option, None, IsSome, [], ◌∷◌, ◌++◌, length}
-use Rattle.std.proofs.lemmas.Bool.{cases_lt, false≢true}
+use Rattle.std.proofs.Common.{ℕ, zero, suc, ◌≡◌, ◌≤◌, inl, inr, Bool, true, false, refl, sym, ap, ◌∙◌, arith, Option, None, IsSome, [], ◌∷◌, ◌++◌}
+use Rattle.std.proofs.lemmas.Bool.{false≢true}
 use Rattle.vocabulary.specs.Terms.{Value, Kind, Initial, Echo, Ready, kind_eq, Place, Size, Statement, Said, count_below, said, keep_or, given, Past, no_past, after_record}
 use Rattle.terms.proofs.Journal.{said-append_one}
-use Rattle.rbc.specs.Words.{Broadcasts, spot_of, IsTouched, is_at, BroadcastsStandFor, broadcasts_size, broadcasts_me, broadcasts_accepted, broadcasts_said}
+use Rattle.rbc.specs.Words.{Broadcasts, no_known, touched_known, touched_made, spot_of, IsTouched, is_at, BroadcastsStandFor, broadcasts_size, broadcasts_me, broadcasts_accepted, broadcasts_said}
 use Rattle.rbc.proofs.Changes.{IsSame, SaysOne, said_with, none_got, none_said, none_accepted}
+use Rattle.rbc.proofs.Touching.{nothing_at}
 use Rattle.rbc.proofs.Spots.{about-at}
 
 -- the same words stand for the same pasts
@@ -55,7 +56,7 @@ none_counted (suc n) h = none_counted n (omega (arith, h))
 
 -- an empty table stands for nothing heard and nothing said
 pub empty_stands : (b : Broadcasts) (size : Size) (me question : ℕ) → b.size ≡ size → b.me ≡ me
-    → b.cells.items ≡ [] → BroadcastsStandFor b (no_past size me question)
+    → ((spot : ℕ) → touched_known b.cells spot ≡ no_known) → BroadcastsStandFor b (no_past size me question)
 unfolding broadcasts_size broadcasts_me broadcasts_accepted
 empty_stands b size me question same_size same_me h =
     record {
@@ -70,40 +71,38 @@ empty_stands b size me question same_size same_me h =
       };
     }
   where
-    past : (place : Place) → length b.cells.items ≤ spot_of b.size.n place
-    past place = let e : length b.cells.items ≡ 0 = rw h in omega arith
+    past : (place : Place) → touched_known b.cells (spot_of b.size.n place) ≡ no_known
+    past place = h (spot_of b.size.n place)
 
--- at a place of which something is known the table has a spot
+-- a place of which something is known has a cell
 pub touched : (b : Broadcasts) (past : Past) (place : Place) → BroadcastsStandFor b past → place.question ≡ past.question
-    → IsTouched past place → spot_of (broadcasts_size b).n place < length b.cells.items
+    → IsTouched past place → touched_made b.cells (spot_of (broadcasts_size b).n place) ≡ true
 unfolding broadcasts_size
-touched b past place stands asked h = step (cases_lt (spot_of b.size.n place) (length b.cells.items)) h
+touched b past place stands asked h = step (touched_made b.cells (spot_of b.size.n place)) refl h
   where
     differ : (x y : Option Value) → x ≡ y → x ≡ None → IsSome y → ⊥
     differ x y e n t = false≢true (rw (sym e ∙ n) at t)
 
-    step : (spot_of b.size.n place < length b.cells.items) ⊎ (length b.cells.items ≤ spot_of b.size.n place)
-        → IsTouched past place → spot_of b.size.n place < length b.cells.items
-    step (inl l) h = l
-    step (inr l) (inl (a, kind, h)) =
-        absurd (differ _ _ (stands.facts.heard a kind place asked) (none_got b place l a kind) h)
-    step (inr l) (inr (inl h)) = absurd (differ _ _ (stands.facts.echoed place asked) (none_said b place l Echo) h)
-    step (inr l) (inr (inr h)) = absurd (differ _ _ (stands.facts.readied place asked) (none_said b place l Ready) h)
+    step : (t : Bool) → touched_made b.cells (spot_of b.size.n place) ≡ t → IsTouched past place → t ≡ true
+    step true e h = refl
+    step false e (inl (a, kind, h)) =
+        absurd (differ _ _ (stands.facts.heard a kind place asked) (none_got b place (nothing_at b.cells (spot_of b.size.n place) e) a kind) h)
+    step false e (inr (inl h)) = absurd (differ _ _ (stands.facts.echoed place asked) (none_said b place (nothing_at b.cells (spot_of b.size.n place) e) Echo) h)
+    step false e (inr (inr h)) = absurd (differ _ _ (stands.facts.readied place asked) (none_said b place (nothing_at b.cells (spot_of b.size.n place) e) Ready) h)
 
--- where the table has no spot nothing was said
+-- where it has no cell nothing was said
 pub not_said : (b : Broadcasts) (past : Past) (s : Statement) → BroadcastsStandFor b past → s.place.question ≡ past.question
-    → kind_eq s.kind Initial ≡ false → (spot_of (broadcasts_size b).n s.place < length b.cells.items → ⊥)
+    → kind_eq s.kind Initial ≡ false → (touched_made b.cells (spot_of (broadcasts_size b).n s.place) ≡ true → ⊥)
     → said past.records s.kind s.place ≡ None
 unfolding broadcasts_size
 not_said b past s stands asked other short = step s.kind other
   where
-    beyond : length b.cells.items ≤ spot_of b.size.n s.place
-    beyond = which (cases_lt (spot_of b.size.n s.place) (length b.cells.items))
-      where
-        which : (spot_of b.size.n s.place < length b.cells.items) ⊎ (length b.cells.items ≤ spot_of b.size.n s.place)
-            → length b.cells.items ≤ spot_of b.size.n s.place
-        which (inl l) = absurd (short l)
-        which (inr l) = l
+    which : (t : Bool) → touched_made b.cells (spot_of b.size.n s.place) ≡ t → touched_made b.cells (spot_of b.size.n s.place) ≡ false
+    which true e = absurd (short e)
+    which false e = e
+
+    beyond : touched_known b.cells (spot_of b.size.n s.place) ≡ no_known
+    beyond = nothing_at b.cells (spot_of b.size.n s.place) (which (touched_made b.cells (spot_of b.size.n s.place)) refl)
 
     step : (kind : Kind) → kind_eq kind Initial ≡ false → said past.records kind s.place ≡ None
     step Initial h = cc

@@ -11,7 +11,7 @@ has_bit mask member = bit_at mask member == 1
 
 -- the mask with the member's bit
 abbrev pub with_bit : ℕ → ℕ → ℕ
-with_bit mask member = bit_or mask (1 * 2 ^ member % 2 ^ 32)
+with_bit mask member = bit_or mask (1 * 2 ^ member % 2 ^ 64)
 
 -- the value that speaks for 0, and that for 1, in step 3 or in another
 abbrev pub zero_value : Bool → Value
@@ -33,19 +33,18 @@ fits true SureZero = true
 fits true SureOne = true
 fits true Unsure = true
 
--- the value that these three bits stand for
-abbrev pub value_at : Bool → Bool → Bool → Bool → Option Value
-value_at third z o u =
-    cond z (Some (zero_value third)) (cond o (Some (one_value third)) (cond (third && u) (Some Unsure) None))
+-- the value that these two bits stand for
+abbrev pub value_at : Bool → Bool → Bool → Option Value
+value_at third z o =
+    cond z (cond (third && o) (Some Unsure) (Some (zero_value third))) (cond o (Some (one_value third)) None)
 
 -- the value that the member sent
 unfoldable pub value_of : Bool → Votes → ℕ → Option Value
-value_of third votes member =
-    value_at third (has_bit votes.zero member) (has_bit votes.one member) (has_bit votes.unsure member)
+value_of third votes member = value_at third (has_bit votes.zero member) (has_bit votes.one member)
 
 -- nobody sent anything
 unfoldable pub no_votes : Votes
-no_votes = record { zero = 0; one = 0; unsure = 0 }
+no_votes = record { zero = 0; one = 0 }
 
 -- the votes with the member's more
 unfoldable pub with_vote : Votes → ℕ → Value → Votes
@@ -53,4 +52,4 @@ with_vote votes member Zero = record votes { zero = with_bit votes.zero member }
 with_vote votes member One = record votes { one = with_bit votes.one member }
 with_vote votes member SureZero = record votes { zero = with_bit votes.zero member }
 with_vote votes member SureOne = record votes { one = with_bit votes.one member }
-with_vote votes member Unsure = record votes { unsure = with_bit votes.unsure member }
+with_vote votes member Unsure = record { zero = with_bit votes.zero member; one = with_bit votes.one member }

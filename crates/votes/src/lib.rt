@@ -2,8 +2,8 @@
 //! however many there are.
 //!
 //! Steps 1 and 2 of a round have the values Zero and One, and step 3 has SureZero, SureOne and Unsure. One mask serves
-//! Zero and SureZero, and another One and SureOne, so who asks says whether the step is a third one. Callers give a
-//! member one vote at most; of several one counts all the same: Zero before One, and One before Unsure.
+//! Zero and SureZero, another One and SureOne, and who sent Unsure stands in both, so who asks says whether the step is a
+//! third one. Callers give a member one vote at most.
 #![tactic(auto)]
 
 ghost use Rattle.std.specs.Prelude.{◌≡◌, ◌<◌, ◌==◌, ◌^◌, ◌-◌, ℕ, Bool, true, None};
@@ -15,12 +15,10 @@ use terms::{Size, Value};
 /// Who sent which value.
 #[derive(Clone, Copy, Debug, PartialEq, Eq)]
 pub struct Votes {
-    /// Who sent Zero, or in step 3 SureZero: bit a is member a's.
-    zero: u32,
-    /// Who sent One, or in step 3 SureOne.
-    one: u32,
-    /// Who sent Unsure: only in step 3.
-    unsure: u32,
+    /// Who sent Zero, or in step 3 SureZero or Unsure: bit a is member a's.
+    zero: u64,
+    /// Who sent One, or in step 3 SureOne or Unsure.
+    one: u64,
 }
 
 /// The value that speaks for 0, in step 3 or in another.
@@ -54,38 +52,31 @@ impl Votes {
         ensures votes { result ≡ no_votes }
         ensures nobody { (third : Bool) → (member : ℕ) → value_of third result member ≡ None }
     {
-        Votes {
-            zero: 0,
-            one: 0,
-            unsure: 0,
-        }
+        Votes { zero: 0, one: 0 }
     }
 
     /// The value that the member sent.
     #[tactic(auto, unfolding(crate::specs::Votes::value_of))]
     pub fn value(self, third: bool, member: u8) -> Option<Value>
-        requires { member < 32 }
+        requires { member < 64 }
         ensures { result ≡ value_of third self member }
     {
-        if has_bit(self.zero, member) {
-            Some(zero_value(third))
-        } else if has_bit(self.one, member) {
-            Some(one_value(third))
-        } else if third && has_bit(self.unsure, member) {
-            Some(Value::Unsure)
-        } else {
-            None
+        match (has_bit(self.zero, member), has_bit(self.one, member)) {
+            (true, true) if third => Some(Value::Unsure),
+            (true, _) => Some(zero_value(third)),
+            (false, true) => Some(one_value(third)),
+            (false, false) => None,
         }
     }
 
     /// The votes with one more, the member's.
     pub fn with(self, member: u8, value: Value) -> Votes
-        requires { member < 32 }
+        requires { member < 64 }
         ensures votes { result ≡ with_vote self member value }
         ensures first { (third : Bool) → fits third value ≡ true → value_of third self member ≡ None → (other : ℕ) →
             value_of third result other ≡ keep_or (value_of third self other) (given (member == other) value) }
     {
-        let bit = 1u32 << u32::from(member);
+        let bit = 1u64 << u32::from(member);
         match value {
             Value::Zero | Value::SureZero => Votes {
                 zero: self.zero | bit,
@@ -96,8 +87,8 @@ impl Votes {
                 ..self
             },
             Value::Unsure => Votes {
-                unsure: self.unsure | bit,
-                ..self
+                zero: self.zero | bit,
+                one: self.one | bit,
             },
         }
     }
@@ -106,11 +97,11 @@ impl Votes {
     pub fn count(self, size: Size, third: bool, value: Value) -> u8
         ensures { result ≡ count_below size.n (λ member. value_is (value_of third self member) value) }
     {
-        (u64::from(self.senders(third, value)) & everyone(size)).count_ones() as u8
+        (self.senders(third, value) & everyone(size)).count_ones() as u8
     }
 
     /// Who sent the value, as a mask.
-    fn senders(self, third: bool, value: Value) -> u32
+    fn senders(self, third: bool, value: Value) -> u64
         ensures { (member : ℕ) → has_bit result member ≡ value_is (value_of third self member) value }
     {
         let senders = self.senders_in_its_step(value);
@@ -118,22 +109,23 @@ impl Votes {
     }
 
     /// Who sent the value, as a mask, where it fits the step.
-    fn senders_in_its_step(self, value: Value) -> u32
+    fn senders_in_its_step(self, value: Value) -> u64
         ensures { (third : Bool) → fits third value ≡ true → (member : ℕ) →
             has_bit result member ≡ value_is (value_of third self member) value }
     {
-        let sure = self.one | self.zero;
+        let any = self.zero | self.one;
         match value {
-            Value::Zero | Value::SureZero => self.zero,
-            Value::One | Value::SureOne => sure ^ self.zero,
-            Value::Unsure => (self.unsure | sure) ^ sure,
+            Value::Zero => self.zero,
+            Value::SureZero => any ^ self.one,
+            Value::One | Value::SureOne => any ^ self.zero,
+            Value::Unsure => self.zero & self.one,
         }
     }
 }
 
 /// Whether the member's bit is set.
-fn has_bit(mask: u32, member: u8) -> bool
-    requires { member < 32 }
+fn has_bit(mask: u64, member: u8) -> bool
+    requires { member < 64 }
     ensures { result ≡ has_bit mask member }
 {
     (mask >> u32::from(member)) & 1 == 1
@@ -144,5 +136,5 @@ fn everyone(size: Size) -> u64
     ensures { result ≡ 2 ^ size.n - 1 }
 {
     let n = size.n();
-    (1u64 << u32::from(n)) - 1
+    u64::MAX >> (64 - u32::from(n))
 }

@@ -45,7 +45,7 @@ made size v c from to = message.Hello (version_from v) (from_be_bytes w64 c) siz
 made_text : (size : Size) (v : ℕ) (c : List ℕ) (from to : ℕ) → IsSize size → In 1 v 2 → length c ≡ 8 → AreBytes c
     → frame_bytes (made size v c from to) ≡ 0 ∷ 16 ∷ 1 ∷ v ∷ (c ++ tail_of size from to)
 made_text size v c from to lawful v_in len are =
-    let few : size.questions ≤ 256 = lawful.few in
+    let few : size.questions ≤ 4096 = lawful.few in
     let high : size.questions / 256 % 256 ≡ size.questions / 256 = omega arith in
     ap (λ (w : ℕ). 0 ∷ 16 ∷ 1 ∷ w ∷ (to_be_bytes w64 (from_be_bytes w64 c) ++ size.n ∷ size.t ∷ size.questions / 256 % 256 ∷ size.questions % 256 ∷ from ∷ to ∷ [])) (version_back v v_in)
     ∙ ap (λ (t : List ℕ). 0 ∷ 16 ∷ 1 ∷ v ∷ (t ++ size.n ∷ size.t ∷ size.questions / 256 % 256 ∷ size.questions % 256 ∷ from ∷ to ∷ [])) (number_back c len are)
@@ -78,7 +78,7 @@ is_hello : (size : Size) (m : Message) (h l : ℕ) (c : List ℕ) → IsSize siz
 is_hello size message.Idle h l c lawful fits e =
     let b = first _ _ _ _ (says size message.Idle h l (1 ∷ c) fits e).body_is in absurd (omega arith)
 is_hello size (message.Hello version cluster its from to) h l c lawful fits e =
-    let few : size.questions ≤ 256 = lawful.few in
+    let few : size.questions ≤ 4096 = lawful.few in
     let high : size.questions / 256 % 256 ≡ size.questions / 256 = omega arith in
     let all : version_byte version ∷ (to_be_bytes w64 cluster ++ its.n ∷ its.t ∷ its.questions / 256 % 256 ∷ its.questions % 256 ∷ from ∷ to ∷ []) ≡ c = ap (λ (t : List ℕ). drop 3 t) e in
     let same = ap (λ (s : Size). version_byte version ∷ (to_be_bytes w64 cluster ++ s.n ∷ s.t ∷ s.questions / 256 % 256 ∷ s.questions % 256 ∷ from ∷ to ∷ [])) fits.1 in

@@ -73,7 +73,7 @@ made_fits size k h l o r s v lawful cells = record {
 pub made_text : (size : Size) (k h l o r s v : ℕ) → IsSize size → Cells size k h l o r s v
     → statement_bytes (made k h l o r s v) ≡ k ∷ h ∷ l ∷ o ∷ r ∷ s ∷ v ∷ []
 made_text size k h l o r s v lawful cells =
-    let few : size.questions ≤ 256 = lawful.few in
+    let few : size.questions ≤ 4096 = lawful.few in
     let one : 1 ≤ size.questions = lawful.asks in
     let high : h ≤ (size.questions - 1) / 256 = cells.high.1 in
     let small : l ≤ 255 = omega (arith, cells.low, low_most (size.questions - 1) h) in
@@ -131,7 +131,7 @@ value_in (suc (suc (suc zero))) Unsure h = ((omega arith, omega arith), (omega a
 value_in (suc (suc (suc (suc s)))) v h = absurd h
 
 -- the low byte of a question is in the range behind its high byte
-low_in : (bound q : ℕ) → q < bound → bound ≤ 256 → q % 256 ≤ most_low (bound - 1) (q / 256 % 256)
+low_in : (bound q : ℕ) → q < bound → bound ≤ 4096 → q % 256 ≤ most_low (bound - 1) (q / 256 % 256)
 low_in bound q lt few =
     cond_both (eqb (q / 256 % 256) ((bound - 1) / 256)) ((bound - 1) % 256) 255 (λ x. q % 256 ≤ x)
     (λ e. omega (arith, eqb-true (q / 256 % 256) ((bound - 1) / 256) e)) (λ e. omega arith)
@@ -144,7 +144,7 @@ CellsOf size t =
 -- the bytes of a well formed statement are each in range
 cells_of : (size : Size) (s : Statement) → IsSize size → IsWellFormed size s → CellsOf size (statement_bytes s)
 cells_of size s lawful well =
-    let few : size.questions ≤ 256 = lawful.few in
+    let few : size.questions ≤ 4096 = lawful.few in
     let lt : s.place.question < size.questions = well.question in
     let origin : s.place.origin < size.n = well.origin in
     let v = value_in s.place.step s.value well.value in

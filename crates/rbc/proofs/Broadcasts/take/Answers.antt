@@ -2,7 +2,7 @@ use Rattle.std.proofs.Common.{◌≡◌, ◌<◌, true, false, cond, is_some, No
 use Rattle.std.proofs.lemmas.Bool.{false≢true}
 use Rattle.std.proofs.lemmas.Result.{err_from_is_err_and}
 use Rattle.vocabulary.specs.Terms.{is_foreign, Past}
-use Rattle.rbc.specs.Words.{heard_known, BroadcastsStandFor, known_in, broadcasts_size, broadcasts_got}
+use Rattle.rbc.specs.Words.{heard_known, BroadcastsStandFor, known_in, touched_known, broadcasts_size, broadcasts_got}
 use Rattle.rbc.proofs.Changes.{is_None}
 use Rattle.rbc.proofs.Changes.{nothing_more, one_heard}
 use Rattle.rbc.proofs.Hearing.{news_heard, repeat_heard}
@@ -14,8 +14,8 @@ use Rattle.rbc.proofs.Broadcasts.take.Goals.{After-brought}
 pub returns-then-is_some-clause-ok : goal.returns-then-is_some-clause-ok
 unfolding broadcasts_size broadcasts_got
 returns-then-is_some-clause-ok c = λ past stands asked.
-    let before : c.known_at-before.result ≡ known_in c.args.self.now.cells.items c.args.self.now.size.n c.args.s.now.place =
-    cc (c.deref.ensures.value, c.known_at-before.ensures, c.place-place.ensures) in
+    let before : c.known_at-before.result ≡ known_in (touched_known c.args.self.now.cells) c.args.self.now.size.n c.args.s.now.place =
+    cc (c.known_at-before.ensures, c.place-place.ensures) in
     let there : is_some (broadcasts_got c.args.self.now c.args.from c.args.s.now.kind c.args.s.now.place) ≡ true = cc in
     repeat_heard c.args.self.now past c.args.from c.args.s.now stands asked there
 
@@ -35,9 +35,9 @@ unfolding broadcasts_size broadcasts_got
 returns-clause-ok c = λ past stands asked.
     let own : is_foreign c.args.from c.args.s.now ≡ false = cc in
     let fresh : is_some (broadcasts_got c.args.self.now c.args.from c.args.s.now.kind c.args.s.now.place) ≡ false = cc in
-    let within : c.args.from < 32 = omega (arith, c.requires.from, c.recall.ensures.most) in
-    let before : c.known_at-before.result ≡ known_in c.args.self.now.cells.items c.args.self.now.size.n c.args.s.now.place =
-    cc (c.deref.ensures.value, c.known_at-before.ensures, c.place-place.ensures) in
+    let within : c.args.from < 64 = omega (arith, c.requires.from, c.recall.ensures.most) in
+    let before : c.known_at-before.result ≡ known_in (touched_known c.args.self.now.cells) c.args.self.now.size.n c.args.s.now.place =
+    cc (c.known_at-before.ensures, c.place-place.ensures) in
     news_heard c.args.self.now _ past c.args.from c.args.s.now stands
     (one_heard c.args.self.now _ refl refl c.args.from c.args.s.now within c.recall-2.ensures.fits fresh c.in_ok-after.ensures.ok)
     asked own fresh
@@ -53,15 +53,15 @@ is_first c past stands asked =
     }
 
 -- what was known of the place, and what is known of it now
-known_before : (c : After-brought) → known_in c.args.self.now.cells.items c.args.self.now.size.n c.args.s.now.place ≡ c.known_at-before.result
-known_before c = cc (c.deref.ensures.value, c.known_at-before.ensures, c.place-place.ensures)
+known_before : (c : After-brought) → known_in (touched_known c.args.self.now.cells) c.args.self.now.size.n c.args.s.now.place ≡ c.known_at-before.result
+known_before c = cc (c.known_at-before.ensures, c.place-place.ensures)
 
-known_now : (c : After-brought) → known_in c.hear.new.cells.items c.args.self.now.size.n c.args.s.now.place ≡ c.in_ok-after.after
+known_now : (c : After-brought) → known_in (touched_known c.hear.new.cells) c.args.self.now.size.n c.args.s.now.place ≡ c.in_ok-after.after
 unfolding broadcasts_size
 known_now c =
     c.in_ok-after.ensures.ok c.args.s.now.place
-    ∙ ap (λ b. cond b (heard_known c.args.s.now.place (known_in c.args.self.now.cells.items c.args.self.now.size.n c.args.s.now.place) c.args.self.now.size c.args.from c.args.s.now.kind c.args.s.now.value)
-    (known_in c.args.self.now.cells.items c.args.self.now.size.n c.args.s.now.place)) (same_spot-itself c.args.s.now.place)
+    ∙ ap (λ b. cond b (heard_known c.args.s.now.place (known_in (touched_known c.args.self.now.cells) c.args.self.now.size.n c.args.s.now.place) c.args.self.now.size c.args.from c.args.s.now.kind c.args.s.now.value)
+    (known_in (touched_known c.args.self.now.cells) c.args.self.now.size.n c.args.s.now.place)) (same_spot-itself c.args.s.now.place)
     ∙ sym c.in_ok-after.ensures.known
 
 pub returns-clause-brings : goal.returns-clause-brings

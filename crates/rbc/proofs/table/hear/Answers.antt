@@ -1,8 +1,7 @@
-use Rattle.std.proofs.Common.{◌≡◌, ◌<◌, get_or, sym, ap, subst, ◌∙◌, arith, length, slice_set}
-use Rattle.std.proofs.lemmas.List.{get_or_default}
+use Rattle.std.proofs.Common.{◌≡◌, ℕ, cond, eqb, sym, ap, subst, ◌∙◌}
 use Rattle.vocabulary.specs.Terms.{Place, IsPlace}
-use Rattle.rbc.specs.Words.{Known, no_known, heard_known, spot_of, known_in}
-use Rattle.rbc.proofs.Cells.{IsHere, written, known_here}
+use Rattle.rbc.specs.Words.{Known, heard_known, known_in, spot_of, touched_known}
+use Rattle.rbc.proofs.Cells.{IsHere, known_here, written}
 use Rattle.rbc.proofs.table.hear.Goals as goal
 
 pub returns-clause-ok : goal.returns-clause-ok
@@ -12,15 +11,11 @@ returns-clause-ok c = λ q.
     record { origin = c.requires.origin; round = p.from_one; first = p.first; third = p.third } in
     let spot : c.spot-spot.result ≡ spot_of c.args.size.n c.args.s.place =
     c.spot-spot.ensures.value ∙ ap (λ (x : Place). spot_of c.args.size.n x) c.place.ensures in
-    let within : spot_of c.args.size.n c.args.s.place < length c.reach.new.cells.items =
-    omega (arith, c.in_ok-reach.ensures.within, spot) in
-    let old : c.index_mut.result.now ≡ known_in c.args.cells.now.items c.args.size.n c.args.s.place =
-    c.index_mut.ensures.value
-    ∙ get_or_default c.reach.new.cells.items c.spot-spot.result _ no_known c.in_ok-reach.ensures.within
-    ∙ c.in_ok-reach.ensures.same c.spot-spot.result
-    ∙ ap (λ i. get_or c.args.cells.now.items i no_known) spot
-    ∙ sym (known_here c.args.cells.now.items c.args.size.n c.args.s.place here) in
-    let new : c.hear.new.known ≡ heard_known c.args.s.place (known_in c.args.cells.now.items c.args.size.n c.args.s.place) c.args.size c.args.from c.args.s.kind c.args.s.value =
-    c.hear.ensures ∙ ap (λ (x : Known). heard_known c.args.s.place x c.args.size c.args.from c.args.s.kind c.args.s.value) old in
-    (λ i. known_in (slice_set c.reach.new.cells.items (spot i) (new i)) c.args.size.n q)
-    ∙ written c.args.cells.now.items c.reach.new.cells.items c.args.size.n c.args.s.place _ here within c.in_ok-reach.ensures.same q
+    let was : touched_known c.reach.new.self c.spot-spot.result ≡ known_in (touched_known c.args.cells.now) c.args.size.n c.args.s.place =
+    c.reach.ensures.same c.spot-spot.result ∙ ap (touched_known c.args.cells.now) spot ∙ sym (known_here (touched_known c.args.cells.now) c.args.size.n c.args.s.place here) in
+    let new : c.hear.result ≡ heard_known c.args.s.place (known_in (touched_known c.args.cells.now) c.args.size.n c.args.s.place) c.args.size c.args.from c.args.s.kind c.args.s.value =
+    c.hear.ensures.known c.spot-spot.result c.in_ok-number.ensures.made
+    ∙ ap (λ (k : Known). heard_known c.args.s.place k c.args.size c.args.from c.args.s.kind c.args.s.value) was in
+    let same : (i : ℕ) → touched_known c.hear.new.self i ≡ cond (eqb i (spot_of c.args.size.n c.args.s.place)) (heard_known c.args.s.place (known_in (touched_known c.args.cells.now) c.args.size.n c.args.s.place) c.args.size c.args.from c.args.s.kind c.args.s.value) (touched_known c.args.cells.now i) =
+    λ i. c.hear.ensures.heard c.spot-spot.result c.in_ok-number.ensures.made i ∙ (λ j. cond (eqb i (spot j)) (new j) (c.reach.ensures.same i j)) in
+    written (touched_known c.args.cells.now) (touched_known c.hear.new.self) c.args.size.n c.args.s.place _ here same q

@@ -1,0 +1,212 @@
+//! What is known of the spots of one question, with memory for those alone that were touched: cells in the order in which
+//! their spots were touched, each of which says for which spot it is. So what a liar makes a member keep is in proportion
+//! to what it says, wherever it says it.
+//!
+//! Numbers of cells find that of a spot at once. They are for the first spots alone, in a run that is no longer than the
+//! cells allow: of a spot past it all cells are looked at. As a question's places are touched round by round, that is
+//! seldom, and a liar that keeps far away has made no more than 768 cells before all spots have their numbers.
+ghost use Rattle.std.specs.Prelude.{◌≡◌, ◌==◌, ◌↔◌, ◌<◌, ℕ, false, IsTrue, set, vec_len, vec_capacity, IfSome, IfNone, IfOk, OnOk};
+ghost use Rattle.std.specs.List.{position_from};
+ghost use Rattle.rbc.specs.Touching.{touched_known, touched_made, AreApart, IsTable, IsAt};
+
+use crate::known::{self, Known, nothing};
+use std::alloc::{AllocError, Global};
+use std::marker::Model;
+use terms::{Size, Statement};
+
+/// The spots that have numbers before there is a cell.
+const FIRST: usize = 16;
+
+/// The spots more that have numbers for each cell.
+const FOR_EACH: usize = 8;
+
+/// What is known of one spot, and which spot that is.
+#[derive(Clone, Copy)]
+struct Cell {
+    spot: u16,
+    known: Known,
+}
+
+/// What is known of the spots that were touched. Of the others nothing is known.
+#[derive(Drop)]
+pub struct Touched {
+    /// Which cell to look at for each of the first spots. It is the spot's only if it says so.
+    numbers: Vec<u16>,
+    /// The cells, in the order in which their spots were touched.
+    cells: Vec<Cell>,
+}
+
+impl Model for Touched {
+    ghost use Rattle.std.specs.Prelude.{List};
+    ghost use Rattle.rbc.specs.declared.touched.Cell.{Cell};
+    ghost use Rattle.rbc.specs.Touching.{IsTable};
+
+    ghost Value = { List Cell };
+
+    ghost view = { λ t. t.cells.items };
+
+    ghost invariant = { λ t. IsTable t.numbers.items t.cells.items };
+}
+
+impl Touched {
+    ghost use Rattle.std.specs.Prelude.{◌≡◌, ◌<◌, ◌==◌, ℕ, [], length, true, cond, IfOk, IsOk};
+    ghost use Rattle.rbc.specs.Known.{heard_known};
+    ghost use Rattle.std.specs.List.{position_from};
+    ghost use Rattle.rbc.specs.Touching.{touched_known, touched_made, IsAt};
+
+    /// Nothing is known of any spot. It takes no memory.
+    pub fn new(alloc: Global) -> Touched
+        ensures { result ≡ [] }
+    {
+        Touched {
+            numbers: Vec::new(alloc),
+            cells: Vec::new(alloc),
+        }
+    }
+
+    /// What is known of the spot.
+    pub fn at(&self, spot: u16) -> Known
+        ensures { result ≡ touched_known self.now spot }
+    {
+        match number_of(&self.numbers, &self.cells, spot) {
+            Some(number) => self.cells[number].known,
+            None => nothing(),
+        }
+    }
+
+    /// The number of the spot's cell, which is made where it has none. Nothing is asked of memory where it has one.
+    pub fn reach(&mut self, spot: u16) -> Result<usize, AllocError>
+        requires { spot < 8000 }
+        ensures same { (other : ℕ) → touched_known self.new other ≡ touched_known self.old other }
+        ensures made { IfOk result (λ number. IsAt self.new number spot) }
+        ensures reached { touched_made self.old spot ≡ true → IsOk result }
+    {
+        match number_of(&self.numbers, &self.cells, spot) {
+            Some(number) => Ok(number),
+            None => add(&mut self.numbers, &mut self.cells, spot),
+        }
+    }
+
+    /// Hears a statement in the cell of that number, and gives what is known of its spot then.
+    pub fn hear(&mut self, number: usize, size: Size, from: u8, s: Statement) -> Known
+        requires number { number < length self.old }
+        requires from { from < 64 }
+        ensures known { (spot : ℕ) → IsAt self.old number spot →
+            result ≡ heard_known s.place (touched_known self.old spot) size from s.kind s.value }
+        ensures heard { (spot : ℕ) → IsAt self.old number spot → (other : ℕ) →
+            touched_known self.new other ≡ cond (other == spot) result (touched_known self.old other) }
+    {
+        known::hear(&mut self.cells[number].known, size, from, s);
+        self.cells[number].known
+    }
+
+    /// Keeps what is known of the spot in its cell.
+    pub fn set(&mut self, number: usize, spot: u16, known: Known)
+        requires { IsAt self.old number spot }
+        ensures { (other : ℕ) → touched_known self.new other ≡ cond (other == spot) known (touched_known self.old other) }
+    {
+        self.cells[number] = Cell { spot, known };
+    }
+}
+
+/// The number of the spot's cell.
+fn number_of(numbers: &[u16], cells: &[Cell], spot: u16) -> Option<usize>
+    requires { IsTable numbers.now cells.now }
+    ensures some { IfSome result (λ number. IsAt cells.now number spot) }
+    ensures none { IfNone result (touched_made cells.now spot ≡ false) }
+{
+    let place = usize::from(spot);
+    if place < numbers.len() {
+        let number = usize::from(numbers[place]);
+        if is_at(cells, number, spot) {
+            Some(number)
+        } else {
+            None
+        }
+    } else {
+        search(cells, spot)
+    }
+}
+
+/// The number of the first cell of the spot, by a look at each.
+fn search(cells: &[Cell], spot: u16) -> Option<usize>
+    ensures { result ≡ position_from (λ c. c.spot == spot) 0 cells.now }
+{
+    cells.iter().position(|cell| cell.spot == spot)
+}
+
+/// Whether the cell of that number is the spot's.
+fn is_at(cells: &[Cell], number: usize, spot: u16) -> bool
+    ensures { IsTrue result ↔ IsAt cells.now number spot }
+{
+    number < cells.len() && cells[number].spot == spot
+}
+
+/// Makes a cell for a spot that has none, and gives its number. It is called once a spot, where the rest is called for each
+/// statement.
+#[cold]
+fn add(numbers: &mut Vec<u16>, cells: &mut Vec<Cell>, spot: u16) -> Result<usize, AllocError>
+    requires table { IsTable numbers.old.items cells.old.items }
+    requires few { spot < 8000 }
+    requires unmade { touched_made cells.old.items spot ≡ false }
+    ensures table { IsTable numbers.new.items cells.new.items }
+    ensures same { (other : ℕ) → touched_known cells.new.items other ≡ touched_known cells.old.items other }
+    ensures made { IfOk result (λ number. IsAt cells.new.items number spot) }
+{
+    make_room(cells)?;
+    lengthen(numbers, cells.as_slice(), spot)?;
+    let number = cells.len();
+    cells.push_reserved(Cell {
+        spot,
+        known: nothing(),
+    });
+    name(numbers, number, spot);
+    Ok(number)
+}
+
+/// Makes room for a cell more, and where there is none for a quarter more.
+fn make_room(cells: &mut Vec<Cell>) -> Result<(), AllocError>
+    ensures same { cells.new.items ≡ cells.old.items }
+    ensures room { OnOk result (vec_len cells.new < vec_capacity cells.new) }
+{
+    if cells.len() < cells.capacity() {
+        return Ok(());
+    }
+    cells.reserve_exact(cells.len() / 4 + 1)
+}
+
+/// Makes the numbers reach a spot, if the cells allow so many: then all spots have theirs that the cells allow.
+fn lengthen(numbers: &mut Vec<u16>, cells: &[Cell], spot: u16) -> Result<(), AllocError>
+    requires { IsTable numbers.old.items cells.now }
+    ensures { IsTable numbers.new.items cells.now }
+{
+    let most = FIRST + FOR_EACH * cells.len();
+    let place = usize::from(spot);
+    if place < numbers.len() || most <= place {
+        return Ok(());
+    }
+    numbers.resize(most, 0)?;
+    name_all(numbers, cells);
+    Ok(())
+}
+
+/// Gives each of the cells its number.
+fn name_all(numbers: &mut Vec<u16>, cells: &[Cell])
+    requires { AreApart cells.now }
+    ensures { IsTable numbers.new.items cells.now }
+{
+    for number in 0..cells.len() {
+        name(numbers, number, cells[number].spot);
+    }
+}
+
+/// Gives the spot its number, if it is among the first.
+fn name(numbers: &mut Vec<u16>, number: usize, spot: u16)
+    requires { number < 8000 }
+    ensures { numbers.new.items ≡ set numbers.old.items spot number }
+{
+    let place = usize::from(spot);
+    if place < numbers.len() {
+        numbers[place] = number as u16;
+    }
+}
