@@ -1,10 +1,10 @@
 -- What an append leaves.
 use Rattle.std.proofs.Common.{◌≡◌, ◌≢◌, ◌⊎◌, ◌↔◌, inl, ℕ, ◌+◌, ◌*◌, ◌≤◌, false, refl, append-nil, List, [], ◌∷◌, ◌++◌, length, take, sym, ◌∙◌, ap, subst, arith}
 use Rattle.vocabulary.specs.Terms.{Record, Header}
-use Rattle.disk.specs.Model.{State, MayLeave, LeavesOnly, at_rest, overwritten}
+use Rattle.disk.specs.Model.{State, MayLeave, LeavesOnly, at_rest}
 use Rattle.disk.specs.declared.device.Disk.{Ghosts as DiskGhosts}
 use Rattle.disk.proofs.Moments.{leaves_more}
-use Rattle.journal.specs.Words.{Journal, HasAdded, AddsAllOrNothing, journal_disk, journal_header, journal_gate, journal_is_stopped, IsAtRest, header_text, batch_body, batches_bytes, AreWellFormedFor, Holds, IsHeld, IsCommit}
+use Rattle.journal.specs.Words.{Journal, HasAdded, AddsAllOrNothing, journal_disk, journal_header, journal_gate, journal_is_stopped, IsAtRest, header_text, batch_body, batches_bytes, AreWellFormedFor, Holds, IsHeld, IsCommit, with_batch}
 use Rattle.journal.proofs.Crash.{committed}
 use Rattle.journal.proofs.Held.{left_holds, held_front, held_shut, held_more, holds_commit}
 
@@ -17,23 +17,25 @@ module _ (s : State) (header : Header) (place : ℕ) (all : List Record) (held :
     before = λ t file le left. inl left;
   }
 
-  module _ (records : List Record) (bytes : List ℕ) (some : 1 ≤ length records) (few : length records ≤ 65535) (good : AreWellFormedFor header records) (encoded : bytes ≡ batch_body records ++ 0 ∷ []) where
+  module _ (records : List Record) (some : 1 ≤ length records) (few : length records ≤ 65535) (good : AreWellFormedFor header records) where
     abbrev text : List ℕ
     text = header_text header ++ batches_bytes held.batches
 
-    pub commit_leaves : {D : Type 0} (moment : D → ℕ) (since : D → ℕ → List ℕ → Type 0) (old new : D) → LeavesOnly moment since old new (IsCommit (take place s.seen) bytes) → LeavesOnly moment since old new (λ file. Holds header all file ⊎ Holds header (all ++ records) file)
+    abbrev body : List ℕ
+    body = batch_body records ++ 0 ∷ []
+
+    pub commit_leaves : {D : Type 0} (moment : D → ℕ) (since : D → ℕ → List ℕ → Type 0) (old new : D) → LeavesOnly moment since old new (IsCommit (take place s.seen) body) → LeavesOnly moment since old new (λ file. Holds header all file ⊎ Holds header (all ++ records) file)
     commit_leaves moment since old new leaves =
         leaves_more (λ file. Holds header all file ⊎ Holds header (all ++ records) file) (λ file is.
         holds_commit s header place all held records some few good file
-        (subst (λ (l : List ℕ). IsCommit text l file) encoded (subst (λ (l : List ℕ). IsCommit l bytes file) (held_front s header place all held) is))) leaves
+        (subst (λ (l : List ℕ). IsCommit l body file) (held_front s header place all held) is)) leaves
 
-    pub now_held : (new : State) (place' : ℕ) → new ≡ at_rest (overwritten (overwritten s.seen (place + 1) bytes) place (1 ∷ [])) → place' ≡ place + 3 + 7 * length records → IsHeld new header place' (all ++ records)
+    pub now_held : (new : State) (place' : ℕ) → new ≡ at_rest (with_batch place records s.seen) → place' ≡ place + 3 + 6 * length records → IsHeld new header place' (all ++ records)
     now_held new place' done gate =
         let shut = held_shut s header place all held in
-        let stands = committed s.seen place bytes shut.within shut.closed in
-        let front = held_front s header place all held in
-        let seen_is : new.seen ≡ (text ++ 1 ∷ (batch_body records ++ 0 ∷ [])) ++ stands.0 =
-        ap (λ (t : State). t.seen) done ∙ stands.1 ∙ (λ i. (front i ++ 1 ∷ encoded i) ++ stands.0) in
+        let stands = committed s.seen place body shut.within shut.closed in
+        let seen_is : new.seen ≡ (text ++ 1 ∷ body) ++ stands.0 =
+        ap (λ (t : State). t.seen) done ∙ stands.1 ∙ ap (λ (l : List ℕ). (l ++ 1 ∷ body) ++ stands.0) (held_front s header place all held) in
         let open_1 : 1 ≢ 0 = λ e. cc e in
         held_more s header place all held records some few good new place' 1 stands.0 open_1 (done ∙ ap (λ (t : State). at_rest t.seen) (sym done)) seen_is gate
 
@@ -68,15 +70,14 @@ module _ {D : Type 0} (disk : DiskGhosts D) (old : Journal D) (batch : List Reco
       }
 
   -- where the batch's bytes were put behind the gate, however that ended
-  pub all_or_nothing : (bytes : List ℕ) → 1 ≤ length batch → length batch ≤ 65535 → AreWellFormedFor (journal_header old) batch → bytes ≡ batch_body batch ++ 0 ∷ []
-      → (new : Journal D) → journal_header new ≡ journal_header old
-      → (disk.keeps (journal_disk old) → LeavesOnly disk.moment disk.since (journal_disk old) (journal_disk new) (IsCommit (take (journal_gate old) (disk.state (journal_disk old)).seen) bytes))
+  pub all_or_nothing : 1 ≤ length batch → length batch ≤ 65535 → AreWellFormedFor (journal_header old) batch → (new : Journal D) → journal_header new ≡ journal_header old
+      → (disk.keeps (journal_disk old) → LeavesOnly disk.moment disk.since (journal_disk old) (journal_disk new) (IsCommit (take (journal_gate old) (disk.state (journal_disk old)).seen) (batch_body batch ++ 0 ∷ [])))
       → disk.failures (journal_disk old) ≤ disk.failures (journal_disk new) → disk.keeps (journal_disk old) ↔ disk.keeps (journal_disk new)
       → AddsAllOrNothing disk old batch new
-  all_or_nothing bytes some few good encoded new header_is leaves later kept = record {
+  all_or_nothing some few good new header_is leaves later kept = record {
     any_moment = λ keeps header all settled.
-        commit_leaves (disk.state (journal_disk old)) header (journal_gate old) all settled.held batch bytes some few
-        (subst (λ (h : Header). AreWellFormedFor h batch) settled.header_is good) encoded disk.moment disk.since (journal_disk old) (journal_disk new) (leaves keeps);
+        commit_leaves (disk.state (journal_disk old)) header (journal_gate old) all settled.held batch some few
+        (subst (λ (h : Header). AreWellFormedFor h batch) settled.header_is good) disk.moment disk.since (journal_disk old) (journal_disk new) (leaves keeps);
     empty_is_no_call = λ empty. absurd (omega (arith, some, empty));
     header = header_is;
     later = later;

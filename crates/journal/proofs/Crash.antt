@@ -1,9 +1,9 @@
 -- What a crash leaves in each of the two steps of a commit.
-use Rattle.std.proofs.Common.{◌≡◌, ◌⊎◌, inl, inr, ℕ, ◌+◌, ◌<◌, ◌≤◌, false, List, [], ◌∷◌, ◌++◌, length, get_or, take, drop, refl, sym, ◌∙◌, ap, arith, append_assoc, length-append, length-drop, take-append-drop, length-take-le, take_at, drop_at, take-take, get_or-take, get_or-drop}
+use Rattle.std.proofs.Common.{◌≡◌, ◌⊎◌, inl, inr, ℕ, ◌+◌, ◌<◌, ◌≤◌, false, List, [], ◌∷◌, ◌++◌, length, get_or, take, drop, refl, sym, ◌∙◌, ap, subst, arith, append_assoc, length-append, length-drop, take-append-drop, length-take-le, take_at, drop_at, take-take, get_or-take, get_or-drop}
 use Rattle.std.proofs.lemmas.Bool.Decides.{nat_tests}
 use Rattle.std.proofs.lemmas.List.{drop_more, take_more, take-append-le, same_lists, get_or_default}
-use Rattle.disk.specs.Model.{MayLeave, after_write, at_rest, overwritten, is_touched}
-use Rattle.journal.specs.Words.{IsFrontOf, IsCommit}
+use Rattle.disk.specs.Model.{State, MayLeave, after_write, at_rest, overwritten, is_touched}
+use Rattle.journal.specs.Words.{IsFrontOf, IsShut, IsCommit}
 
 -- a part that agrees place by place
 same_part : (file c : List ℕ) (from n : ℕ) → from + n ≤ length file → length file ≤ length c → ((k : ℕ) → from ≤ k → k < from + n → get_or c k 0 ≡ get_or file k 0) → take n (drop from c) ≡ take n (drop from file)
@@ -17,7 +17,7 @@ same_part file c from n within longer same =
     ∙ sym (get_or-drop from file i 0) ∙ sym (get_or-take n (drop from file) i 0 here) ∙ get_or_default (take n (drop from file)) i 0 d (omega (arith, of_file, here)))
 
 -- a place before or behind the one range is untouched
-outside_one : (k at n : ℕ) → (k < at) ⊎ (at + n ≤ k) → is_touched k ((at, n) ∷ []) ≡ false
+pub outside_one : (k at n : ℕ) → (k < at) ⊎ (at + n ≤ k) → is_touched k ((at, n) ∷ []) ≡ false
 outside_one k at n (inl before) = grind (arith, nat_tests)
 outside_one k at n (inr past) = grind (arith, nat_tests)
 
@@ -86,3 +86,13 @@ begins_kept front file c begins may =
       sym (take-append-drop (length front) c)
           ∙ ap (λ (l : List ℕ). l ++ drop (length front) c) (same ∙ ap (λ (l : List ℕ). take (length front) l) begins.1 ∙ take_at front begins.0 (length front) refl),
     )
+
+-- where nothing is written the gate stays closed
+pub stays_shut : (s : State) (gate : ℕ) (body file : List ℕ) → IsShut gate s → MayLeave s file → IsCommit (take gate s.seen) body file
+stays_shut s gate body file shut may =
+    let begins : IsFrontOf (take gate s.seen ++ 0 ∷ []) s.seen = (
+      drop (gate + 1) s.seen,
+      sym (take-append-drop (gate + 1) s.seen)
+          ∙ ap (λ (l : List ℕ). l ++ drop (gate + 1) s.seen) (take_more s.seen gate 0 shut.within ∙ ap (λ (b : ℕ). take gate s.seen ++ b ∷ []) shut.closed),
+    ) in
+    inl (begins_kept (take gate s.seen ++ 0 ∷ []) s.seen file begins (subst (λ (t : State). MayLeave t file) shut.on_disk may))

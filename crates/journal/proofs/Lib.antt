@@ -1,13 +1,18 @@
 mod Append
 pub mod Crash
+pub mod Drafts
+pub mod Endings
 pub mod Headers
 pub mod Held
 pub mod One
-mod Opened
+pub mod Opened
 mod Outcomes
 pub mod Parsed
+pub mod Parsing
 pub mod Records
 pub mod Refused
-mod Steps
-mod Telling
+pub mod Six
+pub mod Spelled
+pub mod Steps
+pub mod Telling
 pub mod Texts

@@ -1,9 +1,10 @@
 -- A file that is read, and one that is made.
-use Rattle.std.proofs.Common.{◌≡◌, ℕ, ◌+◌, ◌≤◌, List, [], ◌∷◌, ◌++◌, length, take, drop, refl, sym, ◌∙◌, ap, arith, append_assoc, length-append, take-append-drop, append-nil, length-take-le, take_at}
+use Rattle.std.proofs.Common.{◌≡◌, ℕ, ◌+◌, ◌≤◌, List, [], ◌∷◌, ◌++◌, length, take, drop, refl, sym, ◌∙◌, ap, arith, append_assoc, length-append, take-append-drop, append-nil, length-take-le, take_at, take-take, get_or, codes}
 use Rattle.std.proofs.lemmas.List.{drop_all}
 use Rattle.vocabulary.specs.Terms.{Record, Header}
-use Rattle.disk.specs.Model.{State, at_rest}
-use Rattle.journal.specs.Words.{JournalFault, NotEmpty, BadHeader, OtherHeader, BadRecord, CutShort, Device, Memory, Stopped, Full, header_text, batches_bytes, IsHeader, HasHeader, GoesWrong, RefusesFile, IsHeld, IsOfFile, ReadsBatches, Stumbles, BreaksBatches}
+use Rattle.disk.specs.Model.{State, at_rest, overwritten}
+use Rattle.journal.specs.Words.{JournalFault, NotEmpty, BadHeader, OtherHeader, BadRecord, CutShort, Device, Memory, Stopped, Full, OldVersion, header_text, batches_bytes, IsHeader, HasHeader, GoesWrong, RefusesFile, IsHeld, IsOfFile, IsOldVersion, ReadsBatches, Stumbles, BreaksBatches}
+use Rattle.journal.proofs.Headers.{mark_again}
 use Rattle.journal.proofs.Texts.{length-header_text}
 
 -- a file that begins with a header has its bytes in front
@@ -15,6 +16,23 @@ front_of h file has =
 pub header_long : (h : Header) (file : List ℕ) → HasHeader h file → 24 ≤ length file
 header_long h file has =
     omega (arith, ap (λ (l : List ℕ). length l) has.begins.1, length-append (header_text h) has.begins.0, length-header_text h)
+
+-- a file with a header isn't of version 1
+pub header_is_new : (h : Header) (file : List ℕ) → HasHeader h file → IsOldVersion file → ⊥
+header_is_new h file has old =
+    let mark : codes "BRACHAJ2" ≡ codes "BRACHAJ1" = sym (mark_again (take 24 file) h (front_of h file has)) ∙ take-take 8 24 file (omega arith) ∙ old.mark in
+    let last : 50 ≡ 49 = ap (λ (l : List ℕ). get_or l 7 0) mark in
+    omega (arith, last)
+
+-- bytes in front that are of version 1
+pub begins_old : (front file : List ℕ) → 24 ≤ length file → front ≡ take 24 file → take 8 front ≡ codes "BRACHAJ1" → IsOldVersion file
+begins_old front file long is mark = record {
+  long = long;
+  mark = sym (take-take 8 24 file (omega arith)) ∙ ap (λ (l : List ℕ). take 8 l) (sym is) ∙ mark;
+}
+
+pub old_front : (front file : List ℕ) → front ≡ take 24 file → IsOldVersion file → take 8 front ≡ codes "BRACHAJ1"
+old_front front file is old = ap (λ (l : List ℕ). take 8 l) is ∙ take-take 8 24 file (omega arith) ∙ old.mark
 
 -- bytes in front that are a header's
 pub begins_with : (h : Header) (front file : List ℕ) → IsHeader h → front ≡ header_text h → front ≡ take 24 file → HasHeader h file
@@ -57,6 +75,11 @@ refused_from file behind header Device has is breaks of_file = absurd breaks
 refused_from file behind header Memory has is breaks of_file = absurd of_file
 refused_from file behind header Stopped has is breaks of_file = absurd breaks
 refused_from file behind header Full has is breaks of_file = absurd breaks
+refused_from file behind header OldVersion has is breaks of_file = absurd breaks
+
+-- bytes that are written into an empty file
+pub over_nothing : (bytes : List ℕ) → overwritten [] 0 bytes ≡ bytes
+over_nothing bytes = ap (λ (l : List ℕ). bytes ++ l) (drop_all (0 + length bytes) [] (omega arith)) ∙ append-nil bytes
 
 -- a file of a header and a closed gate holds no record
 pub made : (new : State) (header : Header) → IsHeader header → new ≡ at_rest (header_text header ++ 0 ∷ []) → IsHeld new header (length (header_text header)) []

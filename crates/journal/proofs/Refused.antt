@@ -1,8 +1,11 @@
 -- A file is refused for one fault at most, and for none where it holds records.
 use Rattle.std.proofs.Common.{◌≡◌, ◌≢◌, ℕ, List, ◌∷◌, ◌++◌, refl, sym, ◌∙◌, ap, append_assoc}
 use Rattle.vocabulary.specs.Terms.{Record, Header}
-use Rattle.journal.specs.Words.{JournalFault, NotEmpty, BadHeader, OtherHeader, BadRecord, CutShort, Device, Memory, Stopped, Full, header_text, batches_bytes, HasHeader, Holds, GoesWrong, RefusesFile}
-use Rattle.journal.proofs.One.{Ending, Closed, Cut, Bad, EndsSo, one_end, one_header, behind_header}
+use Rattle.journal.specs.Words.{JournalFault, NotEmpty, BadHeader, OtherHeader, BadRecord, CutShort, Device, Memory, Stopped, Full, OldVersion, header_text, batches_bytes, HasHeader, Holds, GoesWrong, IsOldVersion, RefusesFile, version_2}
+use Rattle.journal.proofs.Opened.{header_is_new}
+use Rattle.journal.proofs.Endings.{Ending, Closed, Cut, Bad, EndsIn, one_end}
+use Rattle.journal.proofs.One.{one_header, behind_header}
+use Rattle.journal.proofs.Six.{six}
 
 -- the fault of an ending that isn't closed
 abbrev fault_of : Ending → JournalFault
@@ -12,7 +15,7 @@ fault_of Bad = BadRecord
 
 -- the file ends so behind its batches
 abbrev pub FileEnds : Header → Ending → List ℕ → Type 0
-FileEnds h e = GoesWrong h (EndsSo h e)
+FileEnds h e = GoesWrong h (EndsIn version_2 h e)
 
 header_gone : (h : Header) (e : Ending) (file : List ℕ) → FileEnds h e file → HasHeader h file
 header_gone h e file ends = record {
@@ -23,7 +26,7 @@ header_gone h e file ends = record {
 -- in one way
 one_ending : (h : Header) (e f : Ending) (file : List ℕ) → FileEnds h e file → FileEnds h f file → e ≡ f
 one_ending h e f file a b =
-    one_end h a.batches b.batches a.rest b.rest e f a.lawful.size a.good b.good a.wrong b.wrong
+    one_end version_2 six h a.batches b.batches a.rest b.rest e f a.lawful.size a.good b.good a.wrong b.wrong
     (behind_header h (batches_bytes a.batches ++ a.rest) (batches_bytes b.batches ++ b.rest)
     (sym (append_assoc (header_text h) (batches_bytes a.batches) a.rest) ∙ sym a.is ∙ b.is ∙ append_assoc (header_text h) (batches_bytes b.batches) b.rest))
 
@@ -33,13 +36,14 @@ closed h records file holds =
 
 -- why a file is refused
 data Why (h : Header) (file : List ℕ) (fault : JournalFault) : Type 0 where
-  NoHeader : fault ≡ BadHeader → ((k : Header) → HasHeader k file → ⊥) → Why h file fault
+  NoHeader : fault ≡ BadHeader → ((k : Header) → HasHeader k file → ⊥) → (IsOldVersion file → ⊥) → Why h file fault
+  OldHeader : fault ≡ OldVersion → IsOldVersion file → Why h file fault
   ForeignHeader : fault ≡ OtherHeader → (k : Header) → HasHeader k file → k ≢ h → Why h file fault
   WrongEnd : (e : Ending) → fault ≡ fault_of e → e ≢ Closed → FileEnds h e file → Why h file fault
 
 why : (h : Header) (fault : JournalFault) (file : List ℕ) → RefusesFile h fault file → Why h file fault
 why h NotEmpty file refuses = absurd refuses
-why h BadHeader file refuses = NoHeader refl refuses
+why h BadHeader file refuses = NoHeader refl refuses.0 refuses.1
 why h OtherHeader file refuses = ForeignHeader refl refuses.0 refuses.1 refuses.2
 why h BadRecord file refuses = WrongEnd Bad refl (λ e. cc e) refuses
 why h CutShort file refuses = WrongEnd Cut refl (λ e. cc e) refuses
@@ -47,24 +51,33 @@ why h Device file refuses = absurd refuses
 why h Memory file refuses = absurd refuses
 why h Stopped file refuses = absurd refuses
 why h Full file refuses = absurd refuses
+why h OldVersion file refuses = OldHeader refl refuses
 
 pub not_refused : (h : Header) (records : List Record) (fault : JournalFault) (file : List ℕ) → Holds h records file → RefusesFile h fault file → ⊥
 not_refused h records fault file holds refuses =
     let ends = closed h records file holds in
     elim (why h fault file refuses) [
-      | NoHeader is none ↦ none h (header_gone h Closed file ends)
+      | NoHeader is none not_old ↦ none h (header_gone h Closed file ends)
+      | OldHeader is old ↦ header_is_new h file (header_gone h Closed file ends) old
       | ForeignHeader is k has other ↦ other (one_header k h file has (header_gone h Closed file ends))
       | WrongEnd e is open_end wrong ↦ open_end (one_ending h e Closed file wrong ends)
     ]
 
 same_why : (h : Header) (a b : JournalFault) (file : List ℕ) → Why h file a → Why h file b → a ≡ b
-same_why h a b file (NoHeader is none) (NoHeader is' none') = is ∙ sym is'
-same_why h a b file (NoHeader is none) (ForeignHeader is' k has other) = absurd (none k has)
-same_why h a b file (NoHeader is none) (WrongEnd e is' open_end wrong) = absurd (none h (header_gone h e file wrong))
-same_why h a b file (ForeignHeader is k has other) (NoHeader is' none) = absurd (none k has)
+same_why h a b file (NoHeader is none not_old) (NoHeader is' none' not_old') = is ∙ sym is'
+same_why h a b file (NoHeader is none not_old) (OldHeader is' old) = absurd (not_old old)
+same_why h a b file (NoHeader is none not_old) (ForeignHeader is' k has other) = absurd (none k has)
+same_why h a b file (NoHeader is none not_old) (WrongEnd e is' open_end wrong) = absurd (none h (header_gone h e file wrong))
+same_why h a b file (OldHeader is old) (NoHeader is' none not_old) = absurd (not_old old)
+same_why h a b file (OldHeader is old) (OldHeader is' old') = is ∙ sym is'
+same_why h a b file (OldHeader is old) (ForeignHeader is' k has other) = absurd (header_is_new k file has old)
+same_why h a b file (OldHeader is old) (WrongEnd e is' open_end wrong) = absurd (header_is_new h file (header_gone h e file wrong) old)
+same_why h a b file (ForeignHeader is k has other) (NoHeader is' none not_old) = absurd (none k has)
+same_why h a b file (ForeignHeader is k has other) (OldHeader is' old) = absurd (header_is_new k file has old)
 same_why h a b file (ForeignHeader is k has other) (ForeignHeader is' k' has' other') = is ∙ sym is'
 same_why h a b file (ForeignHeader is k has other) (WrongEnd e is' open_end wrong) = absurd (other (one_header k h file has (header_gone h e file wrong)))
-same_why h a b file (WrongEnd e is open_end wrong) (NoHeader is' none) = absurd (none h (header_gone h e file wrong))
+same_why h a b file (WrongEnd e is open_end wrong) (NoHeader is' none not_old) = absurd (none h (header_gone h e file wrong))
+same_why h a b file (WrongEnd e is open_end wrong) (OldHeader is' old) = absurd (header_is_new h file (header_gone h e file wrong) old)
 same_why h a b file (WrongEnd e is open_end wrong) (ForeignHeader is' k has other) = absurd (other (one_header k h file has (header_gone h e file wrong)))
 same_why h a b file (WrongEnd e is open_end wrong) (WrongEnd f is' open_end' wrong') =
     is ∙ ap (λ (end : Ending). fault_of end) (one_ending h e f file wrong wrong') ∙ sym is'

@@ -1,10 +1,10 @@
 -- What can be told of bytes, and records and headers: each test says yes or no.
-use Rattle.std.proofs.Common.{◌≡◌, ◌≢◌, ◌⊎◌, inl, inr, ℕ, zero, suc, ◌*◌, ◌<◌, ◌≤◌, ◌^◌, List, [], ◌∷◌, take, refl, sym, ◌∙◌, ap, subst, arith}
+use Rattle.std.proofs.Common.{◌≡◌, ◌≢◌, ◌⊎◌, inl, inr, ℕ, zero, suc, ◌*◌, ◌<◌, ◌≤◌, ◌^◌, List, [], ◌∷◌, length, take, codes, refl, sym, ◌∙◌, ap, subst, arith}
 use Rattle.std.proofs.lemmas.Bool.{cases_eq, cases_lt}
 use Rattle.vocabulary.specs.Terms.{Kind, Initial, Echo, Ready, Value, Zero, One, SureZero, SureOne, Unsure, Size, Record, Said, Decided, Header, IsSize, IsPlain, IsOfThird, FitsStep}
-use Rattle.journal.specs.Words.{record_bytes, header_text, IsHeader, IsStatementFor, IsDecisionFor, IsWellFormedFor, HasHeader}
+use Rattle.journal.specs.Words.{record_bytes, header_text, IsHeader, IsStatementFor, IsDecisionFor, IsWellFormedFor, HasHeader, IsOldVersion}
 use Rattle.journal.proofs.Headers.{read_off, read_back}
-use Rattle.journal.proofs.One.{record_at, record_back}
+use Rattle.journal.proofs.Six.{record_at, record_back}
 use Rattle.journal.proofs.Opened.{front_of, begins_with}
 
 -- it holds, or it doesn't
@@ -81,10 +81,10 @@ well_formed h (Decided question round bit) =
 -- a size is lawful
 size_is : (s : Size) → YesOrNo (IsSize s)
 size_is s =
-    same_as (((1 ≤ s.n) × (s.n ≤ 32)) × ((3 * s.t < s.n) × ((1 ≤ s.questions) × (s.questions ≤ 256)))) (IsSize s)
+    same_as (((1 ≤ s.n) × (s.n ≤ 64)) × ((3 * s.t < s.n) × ((1 ≤ s.questions) × (s.questions ≤ 4096)))) (IsSize s)
     (λ p. record { some = p.0.0; most = p.0.1; liars = p.1.0; asks = p.1.1.0; few = p.1.1.1 })
     (λ is. ((is.some, is.most), (is.liars, (is.asks, is.few))))
-    (both _ _ (both _ _ (up_to 1 s.n) (up_to s.n 32)) (both _ _ (below (3 * s.t) s.n) (both _ _ (up_to 1 s.questions) (up_to s.questions 256))))
+    (both _ _ (both _ _ (up_to 1 s.n) (up_to s.n 64)) (both _ _ (below (3 * s.t) s.n) (both _ _ (up_to 1 s.questions) (up_to s.questions 4096))))
 
 -- a header is lawful
 header_is : (h : Header) → YesOrNo (IsHeader h)
@@ -104,6 +104,14 @@ is_record h b size =
           let back : it ≡ r = record_back b h r size well same in
           never (subst (λ (x : Record). IsWellFormedFor h x) (sym back) well, same ∙ ap (λ (x : Record). record_bytes x) (sym back)))
     ]
+
+-- a file is of version 1
+pub is_old : (file : List ℕ) → YesOrNo (IsOldVersion file)
+is_old file =
+    same_as ((24 ≤ length file) × (take 8 file ≡ codes "BRACHAJ1")) (IsOldVersion file)
+    (λ p. record { long = p.0; mark = p.1 })
+    (λ is. (is.long, is.mark))
+    (both _ _ (up_to 24 (length file)) (same_bytes (take 8 file) (codes "BRACHAJ1")))
 
 -- a file begins with a header
 pub has_header : (file : List ℕ) → ((h : Header) × HasHeader h file) ⊎ ((h : Header) → HasHeader h file → ⊥)

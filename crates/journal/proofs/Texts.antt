@@ -1,37 +1,46 @@
 -- The bytes of batches, and of one batch more.
 use Rattle.std.proofs.Common.{◌≡◌, ℕ, ◌+◌, ◌*◌, List, [], ◌∷◌, ◌++◌, length, take, drop, refl, sym, ◌∙◌, ap, arith, length-append, append-nil, take_at, drop_at}
+use Rattle.std.proofs.Math.Nat.{mul-suc, mul-zero}
 use Rattle.std.proofs.lemmas.List.Concat.{flat_map-append}
 use Rattle.std.specs.List.{flat_map, AllByRecursion}
 use Rattle.vocabulary.specs.Terms.{Record, Said, Decided, Header}
-use Rattle.journal.specs.Words.{record_bytes, header_text, Batch, batch_bytes, batch_body, batches_bytes, batch_records, AreBatches, IsBatch}
+use Rattle.journal.specs.Words.{Spelling, version_2, record_bytes, header_text, Batch, batch_in, batches_in, batch_bytes, batch_body, batches_bytes, batch_records, AreBatches, IsBatch}
 
 -- a header has 24 bytes
 pub length-header_text : (h : Header) → length (header_text h) ≡ 24
 unfolding header_text
 length-header_text h = refl
 
--- a record has seven
-pub length-record_text : (r : Record) → length (record_bytes r) ≡ 7
+-- a record has six
+pub length-record_text : (r : Record) → length (record_bytes r) ≡ 6
 unfolding record_bytes
 length-record_text (Said s) = refl
 length-record_text (Decided question round bit) = refl
 
--- and so many records have seven times as many
-pub length-records : (records : List Record) → length (flat_map record_bytes records) ≡ 7 * length records
-length-records [] = refl
-length-records (r ∷ rs) =
-    omega (arith, length-append (record_bytes r) (flat_map record_bytes rs), length-record_text r, length-records rs)
+-- so many records have so many times as many bytes as one
+pub length-spelled : (spelling : Spelling) → ((r : Record) → length (spelling.bytes r) ≡ spelling.width) → (records : List Record) → length (flat_map spelling.bytes records) ≡ spelling.width * length records
+length-spelled spelling long [] = sym (mul-zero spelling.width)
+length-spelled spelling long (r ∷ rs) =
+    length-append (spelling.bytes r) (flat_map spelling.bytes rs)
+    ∙ omega (arith, long r, length-spelled spelling long rs, mul-suc spelling.width (length rs))
+
+pub length-records : (records : List Record) → length (flat_map record_bytes records) ≡ 6 * length records
+length-records records = length-spelled version_2 length-record_text records
 
 -- with the count
-pub length-body : (records : List Record) → length (batch_body records) ≡ 2 + 7 * length records
+pub length-body : (records : List Record) → length (batch_body records) ≡ 2 + 6 * length records
 length-body records = omega (arith, length-records records)
 
 abbrev pub batch_of : ℕ → List Record → Batch
 batch_of gate records = record { gate = gate; records = records }
 
 -- one batch more
+pub spelled-push : (spelling : Spelling) (bs : List Batch) (b : Batch) → batches_in spelling (bs ++ b ∷ []) ≡ batches_in spelling bs ++ batch_in spelling b
+spelled-push spelling bs b =
+    flat_map-append (batch_in spelling) bs (b ∷ []) ∙ ap (λ (l : List ℕ). batches_in spelling bs ++ l) (append-nil (batch_in spelling b))
+
 pub texts-push : (bs : List Batch) (b : Batch) → batches_bytes (bs ++ b ∷ []) ≡ batches_bytes bs ++ batch_bytes b
-texts-push bs b = flat_map-append batch_bytes bs (b ∷ []) ∙ ap (λ (l : List ℕ). batches_bytes bs ++ l) (append-nil (batch_bytes b))
+texts-push bs b = spelled-push version_2 bs b
 
 pub records-push : (bs : List Batch) (b : Batch) → batch_records (bs ++ b ∷ []) ≡ batch_records bs ++ b.records
 records-push bs b =

@@ -1,8 +1,8 @@
 -- Which call answers which faults.
 use Rattle.journal.specs.declared.fault.JournalFault.{JournalFault}
-use Rattle.journal.specs.declared.fault.JournalFault.TheVariants.{NotEmpty, BadHeader, OtherHeader, BadRecord, CutShort, Device, Memory, Stopped, Full}
+use Rattle.journal.specs.declared.fault.JournalFault.TheVariants.{NotEmpty, BadHeader, OtherHeader, BadRecord, CutShort, Device, Memory, Stopped, Full, OldVersion}
 
--- what `create` answers
+-- what making a file answers, a journal's or a draft's
 abbrev pub IsFaultOfCreate : JournalFault → Type 0
 IsFaultOfCreate NotEmpty = Unit {0}
 IsFaultOfCreate BadHeader = ⊥
@@ -13,6 +13,7 @@ IsFaultOfCreate Device = Unit {0}
 IsFaultOfCreate Memory = ⊥
 IsFaultOfCreate Stopped = ⊥
 IsFaultOfCreate Full = ⊥
+IsFaultOfCreate OldVersion = ⊥
 
 -- what `peek` answers
 abbrev pub IsFaultOfPeek : JournalFault → Type 0
@@ -25,6 +26,7 @@ IsFaultOfPeek Device = Unit {0}
 IsFaultOfPeek Memory = ⊥
 IsFaultOfPeek Stopped = ⊥
 IsFaultOfPeek Full = ⊥
+IsFaultOfPeek OldVersion = Unit {0}
 
 -- what an opening answers
 abbrev pub IsFaultOfOpening : JournalFault → Type 0
@@ -37,6 +39,20 @@ IsFaultOfOpening Device = Unit {0}
 IsFaultOfOpening Memory = Unit {0}
 IsFaultOfOpening Stopped = ⊥
 IsFaultOfOpening Full = ⊥
+IsFaultOfOpening OldVersion = Unit {0}
+
+-- what adding a batch to a file answers
+abbrev pub IsFaultOfAdding : JournalFault → Type 0
+IsFaultOfAdding NotEmpty = ⊥
+IsFaultOfAdding BadHeader = ⊥
+IsFaultOfAdding OtherHeader = ⊥
+IsFaultOfAdding BadRecord = ⊥
+IsFaultOfAdding CutShort = ⊥
+IsFaultOfAdding Device = Unit {0}
+IsFaultOfAdding Memory = Unit {0}
+IsFaultOfAdding Stopped = ⊥
+IsFaultOfAdding Full = Unit {0}
+IsFaultOfAdding OldVersion = ⊥
 
 -- what `append` answers
 abbrev pub IsFaultOfAppend : JournalFault → Type 0
@@ -49,6 +65,7 @@ IsFaultOfAppend Device = Unit {0}
 IsFaultOfAppend Memory = Unit {0}
 IsFaultOfAppend Stopped = Unit {0}
 IsFaultOfAppend Full = Unit {0}
+IsFaultOfAppend OldVersion = ⊥
 
 -- a fault of what the file holds, and not of the device or of memory
 abbrev pub IsOfFile : JournalFault → Type 0
@@ -61,3 +78,4 @@ IsOfFile Device = ⊥
 IsOfFile Memory = ⊥
 IsOfFile Stopped = ⊥
 IsOfFile Full = ⊥
+IsOfFile OldVersion = Unit {0}

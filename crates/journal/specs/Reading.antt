@@ -3,39 +3,52 @@ use Rattle.std.specs.Prelude.{ℕ, ◌≡◌, ◌≢◌, ◌*◌, ◌<◌, List,
 use Rattle.std.specs.List.{flat_map}
 use Rattle.vocabulary.specs.Terms.{Statement, Record, Header, new_place, value_code}
 use Rattle.journal.specs.declared.fault.JournalFault.{JournalFault}
-use Rattle.journal.specs.declared.fault.JournalFault.TheVariants.{NotEmpty, BadHeader, OtherHeader, BadRecord, CutShort, Device, Memory, Stopped, Full}
-use Rattle.journal.specs.Texts.{record_bytes, Batch, batches_bytes, batch_records}
+use Rattle.journal.specs.declared.fault.JournalFault.TheVariants.{NotEmpty, BadHeader, OtherHeader, BadRecord, CutShort, Device, Memory, Stopped, Full, OldVersion}
+use Rattle.journal.specs.Texts.{Spelling, version_2, Batch, batches_in, batch_records}
 use Rattle.spelling.specs.Statements.{kind_byte}
 use Rattle.journal.specs.WellFormed.{IsWellFormedFor, AreWellFormedFor, AreBatches}
 use Rattle.journal.specs.File.{IsCut, IsBad}
 
 -- These bytes are the texts of batches whose records in order are these, a closed gate at this place, and anything.
-pub record ReadsBatches (header : Header) (bytes : List ℕ) (gate : ℕ) (records : List Record) : Type 0 where
+pub record ReadsIn (spelling : Spelling) (header : Header) (bytes : List ℕ) (gate : ℕ) (records : List Record) : Type 0 where
   pub batches : List Batch
   pub rest : List ℕ
   pub good : AreBatches header batches
-  pub is : bytes ≡ batches_bytes batches ++ 0 ∷ rest
-  pub gate_is : gate ≡ length (batches_bytes batches)
+  pub is : bytes ≡ batches_in spelling batches ++ 0 ∷ rest
+  pub gate_is : gate ≡ length (batches_in spelling batches)
   pub records_are : records ≡ batch_records batches
 
 -- these bytes are the texts of batches, and then this
-pub record Stumbles (header : Header) (IsWrong : List ℕ → Type 0) (bytes : List ℕ) : Type 0 where
+pub record StumblesIn (spelling : Spelling) (header : Header) (IsWrong : List ℕ → Type 0) (bytes : List ℕ) : Type 0 where
   pub batches : List Batch
   pub rest : List ℕ
   pub good : AreBatches header batches
-  pub is : bytes ≡ batches_bytes batches ++ rest
+  pub is : bytes ≡ batches_in spelling batches ++ rest
   pub wrong : IsWrong rest
 
 -- these bytes are these records
-pub record AreText (header : Header) (bytes : List ℕ) (records : List Record) : Type 0 where
+pub record AreTextIn (spelling : Spelling) (header : Header) (bytes : List ℕ) (records : List Record) : Type 0 where
   pub good : AreWellFormedFor header records
-  pub is : bytes ≡ flat_map record_bytes records
+  pub is : bytes ≡ flat_map spelling.bytes records
 
--- seven of these bytes are no record
-pub record HasOddRecord (header : Header) (count : ℕ) (bytes : List ℕ) : Type 0 where
+-- of so many records that these bytes should be one is none
+pub record HasOddIn (spelling : Spelling) (header : Header) (count : ℕ) (bytes : List ℕ) : Type 0 where
   pub place : ℕ
   pub below : place < count
-  pub odd : (r : Record) → IsWellFormedFor header r → take 7 (drop (7 * place) bytes) ≢ record_bytes r
+  pub odd : (r : Record) → IsWellFormedFor header r → take spelling.width (drop (spelling.width * place) bytes) ≢ spelling.bytes r
+
+-- the same in the spelling of version 2
+abbrev pub ReadsBatches : Header → List ℕ → ℕ → List Record → Type 0
+ReadsBatches header bytes gate records = ReadsIn version_2 header bytes gate records
+
+abbrev pub Stumbles : Header → (List ℕ → Type 0) → List ℕ → Type 0
+Stumbles header IsWrong bytes = StumblesIn version_2 header IsWrong bytes
+
+abbrev pub AreText : Header → List ℕ → List Record → Type 0
+AreText header bytes records = AreTextIn version_2 header bytes records
+
+abbrev pub HasOddRecord : Header → ℕ → List ℕ → Type 0
+HasOddRecord header count bytes = HasOddIn version_2 header count bytes
 
 -- these are the parts of a statement in bytes
 pub record HasBytes (s : Statement) (kind question origin round step value : ℕ) : Type 0 where
@@ -54,3 +67,4 @@ BreaksBatches header Device bytes = ⊥
 BreaksBatches header Memory bytes = Unit {0}
 BreaksBatches header Stopped bytes = ⊥
 BreaksBatches header Full bytes = ⊥
+BreaksBatches header OldVersion bytes = ⊥

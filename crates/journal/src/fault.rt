@@ -13,7 +13,7 @@ pub enum JournalFault {
     /// 1: the file has bytes already. Nothing was written.
     #[error("NotEmpty")]
     NotEmpty,
-    /// 2: the file has fewer than 24 bytes, or those are no header.
+    /// 2: the file has fewer than 24 bytes, or those are no header. One of version 1 is `OldVersion`.
     #[error("BadHeader")]
     BadHeader,
     /// 3: the file has the header of another cluster, size or member.
@@ -37,6 +37,9 @@ pub enum JournalFault {
     /// 9: the closed gate behind the batch would stand past byte 2^31. Nothing was written.
     #[error("Full")]
     Full,
+    /// 10: the file is of version 1: it has 24 bytes or more, and begins with `BRACHAJ1`. Nothing was written.
+    #[error("OldVersion")]
+    OldVersion,
 }
 
 impl From<AllocError> for JournalFault {

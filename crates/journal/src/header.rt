@@ -11,7 +11,10 @@ use terms::{Header, Size};
 pub(crate) const HEADER: usize = 24;
 
 /// What each header begins with.
-const MARK: [u8; 8] = *b"BRACHAJ1";
+const MARK: [u8; 8] = *b"BRACHAJ2";
+
+/// What each header of version 1 begins with.
+const OLD_MARK: [u8; 8] = *b"BRACHAJ1";
 
 /// What each header ends with.
 const ZEROS: [u8; 3] = [0; 3];
@@ -27,13 +30,13 @@ pub(crate) fn new_file(header: &Header) -> [u8; 25]
     let [high, low] = size.questions().to_be_bytes();
     let (n, t, me) = (size.n(), size.t(), header.me());
     [
-        b'B', b'R', b'A', b'C', b'H', b'A', b'J', b'1', c0, c1, c2, c3, c4, c5, c6, c7, n, t, high,
+        b'B', b'R', b'A', b'C', b'H', b'A', b'J', b'2', c0, c1, c2, c3, c4, c5, c6, c7, n, t, high,
         low, me, 0, 0, 0, 0,
     ]
 }
 
 /// The header of these bytes, if they are one.
-pub(crate) fn header_of(bytes: &[u8; 24]) -> Option<Header>
+pub fn header_of(bytes: &[u8; 24]) -> Option<Header>
     ensures some { IfSome result (λ header. IsHeader header × (bytes.now ≡ header_text header)) }
     ensures none { IsNone result → (header : Header) → IsHeader header → bytes.now ≡ header_text header → ⊥ }
 {
@@ -52,9 +55,16 @@ pub(crate) fn header_of(bytes: &[u8; 24]) -> Option<Header>
 
 /// Whether they begin and end as each header does.
 fn is_marked(bytes: &[u8; 24]) -> bool
-    ensures { IsTrue result ↔ (take 8 bytes.now ≡ codes "BRACHAJ1") × (take 3 (drop 21 bytes.now) ≡ 0 ∷ 0 ∷ 0 ∷ []) }
+    ensures { IsTrue result ↔ (take 8 bytes.now ≡ codes "BRACHAJ2") × (take 3 (drop 21 bytes.now) ≡ 0 ∷ 0 ∷ 0 ∷ []) }
 {
     bytes[..8] == MARK[..] && bytes[21..] == ZEROS[..]
+}
+
+/// Whether they begin as each header of version 1 does.
+pub(crate) fn is_old(bytes: &[u8; 24]) -> bool
+    ensures { IsTrue result ↔ (take 8 bytes.now ≡ codes "BRACHAJ1") }
+{
+    bytes[..8] == OLD_MARK[..]
 }
 
 /// The cluster's number.

@@ -2,32 +2,23 @@
 ghost use Rattle.std.specs.Prelude.{◌≡◌, ◌≤◌, ℕ, List, [], ◌∷◌, ◌++◌, length, false, IfOk, IfErr, OnOk};
 ghost use Rattle.vocabulary.specs.Terms.{Record, Header};
 ghost use Rattle.disk.specs.Memory.{memory_state, with_fuse};
-ghost use Rattle.journal.specs.Texts.{batch_body};
 ghost use Rattle.journal.specs.WellFormed.{AreWellFormedFor};
 ghost use Rattle.journal.specs.Outcomes.{HasAdded, HasNotAdded, AddsAllOrNothing, HasOpened, HandsBack};
 ghost use Rattle.journal.specs.Readers.{journal_disk, journal_header, journal_gate, journal_is_stopped, IsAtRest};
 
 use crate::JournalFault;
-use crate::commit::commit;
 use crate::open::load;
-use crate::record::{RECORD, record_bytes};
-use crate::spare::Spare;
+use crate::tail::Tail;
 use disk::{Disk, MemDisk};
-use std::alloc::{AllocError, Global};
+use std::alloc::Global;
 use terms::{Header, Record};
-
-/// The last place at which a closed gate may stand.
-const LAST_GATE: usize = 1 << 31;
 
 /// An open journal: its records are those that opening it gave, and all that were appended since.
 #[derive(Drop)]
 pub struct Journal<D: Disk> {
-    alloc: Global,
-    disk: D,
-    header: Header,
-    gate: usize,
-    stopped: bool,
-    spare: Spare,
+    pub(crate) header: Header,
+    pub(crate) tail: Tail<D>,
+    pub(crate) stopped: bool,
 }
 
 impl<D: Disk> Journal<D> {
@@ -59,18 +50,13 @@ impl<D: Disk> Journal<D> {
         if records.is_empty() {
             return Ok(());
         }
-        let len = 3 + RECORD * records.len();
-        if self.gate > LAST_GATE - len {
-            return Err(JournalFault::Full);
+        match self.tail.add(records) {
+            Ok(()) => Ok(()),
+            Err(fault) => {
+                self.stopped = matches!(fault, JournalFault::Device);
+                Err(fault)
+            }
         }
-        let bytes = encode(self.spare.take(self.alloc), records)?;
-        if commit(&mut self.disk, self.gate, &bytes).is_err() {
-            self.stopped = true;
-            return Err(JournalFault::Device);
-        }
-        self.spare.keep(bytes);
-        self.gate += len;
-        Ok(())
     }
 
     /// Opens a journal's file, which a crash may have left, and gives the records that it holds: [`adopt`](Journal::adopt)
@@ -96,7 +82,7 @@ impl<D: Disk> Journal<D> {
     /// device: `sync`, `len` and one read of all bytes. From then on each file that a crash can leave holds these.
     ///
     /// A fault hands the disk back; no byte of its file was changed:
-    /// - `BadHeader`, `OtherHeader`, `CutShort` or `BadRecord`: the first thing that is wrong with the file.
+    /// - `BadHeader`, `OldVersion`, `OtherHeader`, `CutShort` or `BadRecord`: the first thing that is wrong with the file.
     /// - `Memory`: there was none for the bytes or the records.
     /// - `Device`: the disk failed.
     #[tactic(auto, unfolding(crate::specs::Readers::journal_disk, crate::specs::Readers::journal_header, crate::specs::Readers::journal_gate, crate::specs::Readers::journal_is_stopped))]
@@ -111,12 +97,9 @@ impl<D: Disk> Journal<D> {
         match load(alloc, &mut disk, header) {
             Ok((gate, records)) => Ok((
                 Journal {
-                    alloc,
-                    disk,
                     header: *header,
-                    gate,
+                    tail: Tail::new(alloc, disk, gate),
                     stopped: false,
-                    spare: Spare::none(alloc),
                 },
                 records,
             )),
@@ -146,31 +129,12 @@ impl<D: Disk> Journal<D> {
         ensures { result ≡ journal_disk self }
     {
         let Journal {
-            alloc: _,
-            disk,
             header: _,
-            gate: _,
+            tail,
             stopped: _,
-            spare: _,
         } = self;
-        disk
+        tail.into_disk()
     }
-}
-
-/// The bytes behind a batch's gate, and the closed gate behind them, in a buffer that is empty.
-fn encode(buffer: Vec<u8>, records: &[Record]) -> Result<Vec<u8>, AllocError>
-    requires empty { buffer.items ≡ [] }
-    requires few { length records.now ≤ 65535 }
-    ensures { IfOk result (λ bytes. bytes.items ≡ batch_body records.now ++ 0 ∷ []) }
-{
-    let count = records.len() as u16;
-    let mut bytes = buffer;
-    bytes.extend_from_slice(&count.to_be_bytes())?;
-    for entry in records {
-        bytes.extend_from_slice(&record_bytes(entry))?;
-    }
-    bytes.push(0)?;
-    Ok(bytes)
 }
 
 impl Journal<MemDisk> {
@@ -185,6 +149,6 @@ impl Journal<MemDisk> {
         ensures gate { journal_gate self.new ≡ journal_gate self.old }
         ensures stopped { journal_is_stopped self.new ≡ journal_is_stopped self.old }
     {
-        self.disk.fuse(calls);
+        self.tail.disk.fuse(calls);
     }
 }

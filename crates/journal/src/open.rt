@@ -3,13 +3,13 @@ ghost use Rattle.std.specs.Prelude.{◌≡◌, ◌≢◌, ◌↔◌, ◌⊎◌, 
 ghost use Rattle.vocabulary.specs.Terms.{Header};
 ghost use Rattle.disk.specs.Model.{State, MayLeave, LeavesOnly, at_rest, after_write};
 ghost use Rattle.journal.specs.Texts.{header_text};
-ghost use Rattle.journal.specs.File.{HasHeader, Holds, RefusesFile, IsHeld};
+ghost use Rattle.journal.specs.File.{HasHeader, Holds, IsOldVersion, RefusesFile, IsHeld};
 ghost use Rattle.journal.specs.Faults.{IsFaultOfCreate, IsFaultOfPeek, IsOfFile};
 ghost use Rattle.journal.specs.Outcomes.{WasRead, HandsBack};
 ghost use Rattle.journal.specs.declared.fault.JournalFault.TheVariants.{Device, Memory};
 
 use crate::JournalFault;
-use crate::header::{HEADER, header_of, new_file};
+use crate::header::{HEADER, header_of, is_old, new_file};
 use crate::read::read;
 use disk::Disk;
 use std::alloc::Global;
@@ -40,22 +40,46 @@ pub fn create<D: Disk>(disk: &mut D, header: &Header) -> Result<(), JournalFault
     ensures later { D.failures disk.old ≤ D.failures disk.new }
     ensures kept { D.keeps disk.old ↔ D.keeps disk.new }
 {
+    write_new(disk, &new_file(header))?;
+    Ok(())
+}
+
+/// Writes these bytes into an empty file, by three calls of the device: `len`, one write, and `sync`.
+pub(crate) fn write_new<D: Disk>(disk: &mut D, bytes: &[u8]) -> Result<(), JournalFault>
+    ensures file { D.keeps disk.old → OnOk result (D.state disk.new ≡ at_rest bytes.now) }
+    ensures any_moment { D.keeps disk.old → LeavesOnly D.moment D.since disk.old disk.new
+        (MayLeave (after_write (D.state disk.old) 0 bytes.now)) }
+    ensures three_calls { D.keeps disk.old → OnOk result (D.moment disk.new ≡ D.moment disk.old + 3) }
+    ensures quiet { OnOk result (D.failures disk.new ≡ D.failures disk.old) }
+
+    ensures was_empty { D.keeps disk.old → OnOk result (length (D.state disk.old).seen ≡ 0) }
+    ensures not_empty { D.keeps disk.old → IsErrOf result JournalFault.NotEmpty → 0 < length (D.state disk.old).seen }
+    ensures not_empty_same { D.keeps disk.old → IsErrOf result JournalFault.NotEmpty →
+        D.state disk.new ≡ D.state disk.old }
+    ensures device { IsErrOf result JournalFault.Device → D.failures disk.old < D.failures disk.new }
+    ensures only { IfErr result IsFaultOfCreate }
+    ensures later { D.failures disk.old ≤ D.failures disk.new }
+    ensures kept { D.keeps disk.old ↔ D.keeps disk.new }
+{
     if disk.len()? != 0 {
         return Err(JournalFault::NotEmpty);
     }
-    disk.write_at(0, &new_file(header))?;
+    disk.write_at(0, bytes)?;
     Ok(disk.sync()?)
 }
 
 /// The header that a file begins with, by two calls of the device: `len`, and one read of the first 24 bytes, or of all
 /// where there are fewer. It takes no memory, and changes no byte.
 ///
-/// - `BadHeader`: the file begins with no header.
+/// - `BadHeader`: the file begins with no header, and isn't of version 1.
+/// - `OldVersion`: the file is of version 1.
 /// - `Device`: the disk failed.
 pub fn peek<D: Disk>(disk: &mut D) -> Result<Header, JournalFault>
     ensures header { D.keeps disk.old → IfOk result (λ header. HasHeader header (D.state disk.old).seen) }
     ensures bad_header { D.keeps disk.old → IsErrOf result JournalFault.BadHeader →
         (header : Header) → HasHeader header (D.state disk.old).seen → ⊥ }
+    ensures not_old { D.keeps disk.old → IsErrOf result JournalFault.BadHeader → IsOldVersion (D.state disk.old).seen → ⊥ }
+    ensures old_version { D.keeps disk.old → IsErrOf result JournalFault.OldVersion → IsOldVersion (D.state disk.old).seen }
     ensures same { D.keeps disk.old → D.state disk.new ≡ D.state disk.old }
     ensures any_moment { D.keeps disk.old → LeavesOnly D.moment D.since disk.old disk.new (MayLeave (D.state disk.old)) }
     ensures two_calls { D.keeps disk.old → IsErrOf result JournalFault.Device ⊎ (D.moment disk.new ≡ D.moment disk.old + 2) }
@@ -73,6 +97,7 @@ pub fn peek<D: Disk>(disk: &mut D) -> Result<Header, JournalFault>
     }
     match header_of(&bytes) {
         Some(header) => Ok(header),
+        None if is_old(&bytes) => Err(JournalFault::OldVersion),
         None => Err(JournalFault::BadHeader),
     }
 }
@@ -123,6 +148,7 @@ fn read_file(
             Ok((HEADER + gate, records))
         }
         Some(_) => Err(JournalFault::OtherHeader),
+        None if is_old(front) => Err(JournalFault::OldVersion),
         None => Err(JournalFault::BadHeader),
     }
 }

@@ -1,55 +1,73 @@
 //! A record in bytes.
 ghost use Rattle.std.specs.Prelude.{◌≡◌, ◌≢◌, ◌↔◌, Bool, IsTrue, IfSome, IsNone, MatchOption};
 ghost use Rattle.vocabulary.specs.Terms.{Statement, Record, Said, Decided};
-ghost use Rattle.journal.specs.Texts.{bit_byte, record_bytes};
+ghost use Rattle.journal.specs.Texts.{bit_byte, said_bytes, record_bytes};
 ghost use Rattle.journal.specs.WellFormed.{IsStatementFor, IsDecisionFor, IsWellFormedFor};
 ghost use Rattle.journal.specs.Reading.{HasBytes};
 
-use spelling::{kind_of, statement_bytes, value_of};
+use spelling::{byte_of_kind, byte_of_value, kind_of, value_of};
 use terms::{Header, Kind, LAST_ROUND, Place, Record, Statement};
 
 /// How many bytes a record has.
-pub(crate) const RECORD: usize = 7;
+pub(crate) const RECORD: usize = 6;
 
 /// What a decision begins with.
 const DECIDED: u8 = 4;
 
 /// The bytes of a record.
 #[tactic(auto, unfolding(crate::specs::Texts::record_bytes))]
-pub(crate) fn record_bytes(entry: &Record) -> [u8; 7]
+pub(crate) fn record_bytes(entry: &Record) -> [u8; 6]
     ensures { result ≡ record_bytes entry.now }
 {
     match *entry {
-        Record::Said(s) => statement_bytes(&s),
+        Record::Said(s) => said_bytes(s),
         Record::Decided {
             question,
             round,
             bit,
         } => {
             let [high, low] = question.to_be_bytes();
-            [DECIDED, high, low, 0, round, 0, u8::from(bit)]
+            [DECIDED, high, low, 0, round, u8::from(bit)]
         }
     }
 }
 
+/// The bytes of a statement: its step and its value share the last one.
+fn said_bytes(s: Statement) -> [u8; 6]
+    ensures { result ≡ said_bytes s }
+{
+    s.recall();
+    let place = s.place();
+    let [high, low] = place.question().to_be_bytes();
+    let last = 16 * place.step() + byte_of_value(s.value());
+    [
+        byte_of_kind(s.kind()),
+        high,
+        low,
+        place.origin(),
+        place.round(),
+        last,
+    ]
+}
+
 /// The record of these bytes, if they are one that is well formed for the header.
-pub(crate) fn record_of(header: &Header, bytes: &[u8; 7]) -> Option<Record>
+pub fn record_of(header: &Header, bytes: &[u8; 6]) -> Option<Record>
     ensures some { IfSome result (λ r. IsWellFormedFor header.now r × (bytes.now ≡ record_bytes r)) }
     ensures none { IsNone result → (r : Record) → IsWellFormedFor header.now r → bytes.now ≢ record_bytes r }
 {
     header.size().recall();
-    let [kind, high, low, origin, round, step, value] = *bytes;
+    let [kind, high, low, origin, round, last] = *bytes;
     let question = u16::from_be_bytes([high, low]);
     if kind != DECIDED {
-        return said_of(header, kind, question, origin, round, step, value);
+        return said_of(header, kind, question, origin, round, last / 16, last % 16);
     }
-    if origin != 0 || step != 0 {
+    if origin != 0 {
         return None;
     }
-    decided_of(header, question, round, value)
+    decided_of(header, question, round, last)
 }
 
-/// The statement of these bytes.
+/// The statement of these numbers.
 fn said_of(
     header: &Header,
     kind: u8,
@@ -79,7 +97,7 @@ fn said_of(
     }
 }
 
-/// The decision of these bytes.
+/// The decision of these numbers.
 fn decided_of(header: &Header, question: u16, round: u8, bit: u8) -> Option<Record>
     ensures some { IfSome result (λ r. (b : Bool) × (r ≡ Decided question round b) × IsDecisionFor header.now question round
         × (bit ≡ bit_byte b)) }

@@ -60,7 +60,8 @@ impl<D: Disk> Member<D> {
     /// records and hands out their statements; it heard nothing yet.
     ///
     /// A fault hands the disk back; no byte of its file was changed. The faults are those of the journal's opening:
-    /// `BadHeader`, `OtherHeader`, `CutShort` and `BadRecord` for what is wrong with the file, `Memory` and `Device`.
+    /// `BadHeader`, `OldVersion`, `OtherHeader`, `CutShort` and `BadRecord` for what is wrong with the file, `Memory` and
+    /// `Device`.
     pub fn adopt(alloc: Global, disk: D, header: &Header) -> Result<Member<D>, (JournalFault, D)>
         ensures opened { IfOk result (λ m. IsOpened D.Disk disk header.now m) }
         ensures restart { IfOk result (λ m. IsARestart D.Disk disk header.now m) }

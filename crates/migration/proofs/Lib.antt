@@ -1,0 +1,10 @@
+mod Carrying
+mod Growing
+mod OldHeaders
+pub mod OldOne
+mod OldOpened
+mod OldOutcomes
+mod OldParsed
+mod OldRecords
+mod OldRefused
+mod OldTexts

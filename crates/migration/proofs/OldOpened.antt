@@ -1,0 +1,90 @@
+-- A file of version 1 that is read.
+use Rattle.std.proofs.Common.{◌≡◌, ◌⊎◌, inl, inr, ℕ, ◌≤◌, List, [], ◌∷◌, ◌++◌, length, take, drop, refl, sym, ◌∙◌, ap, subst, arith, append_assoc, length-append, take-append-drop, take_at, take-take}
+use Rattle.std.specs.List.{AllByRecursion}
+use Rattle.vocabulary.specs.Terms.{Record, Header}
+use Rattle.migration.specs.Words.{MigrateFault, NotEmpty, NotOld, OtherHeader, BadRecord, CutShort, OldDevice, NewDevice, Memory, Full, Batch, batch_records, batches_in, version_1, AreBatches, IsWellFormedFor, AreWellFormedFor, HoldsOld, old_header_text, IsOldHeader, HasOldHeader, GoesOldWrong, RefusesOld, IsOfOldFile, ReadsIn, StumblesIn, BreaksOld}
+use Rattle.journal.specs.File.{IsOldVersion}
+use Rattle.migration.proofs.OldHeaders.{mark_of}
+use Rattle.migration.proofs.OldTexts.{length-header_text}
+
+-- a file that begins with a header has its bytes in front
+pub front_of : (h : Header) (file : List ℕ) → HasOldHeader h file → take 24 file ≡ old_header_text h
+front_of h file has =
+    ap (λ (l : List ℕ). take 24 l) has.begins.1 ∙ take_at (old_header_text h) has.begins.0 24 (length-header_text h)
+
+-- and 24 of them at least
+pub header_long : (h : Header) (file : List ℕ) → HasOldHeader h file → 24 ≤ length file
+header_long h file has =
+    omega (arith, ap (λ (l : List ℕ). length l) has.begins.1, length-append (old_header_text h) has.begins.0, length-header_text h)
+
+-- bytes in front that are a header's
+pub begins_with : (h : Header) (front file : List ℕ) → IsOldHeader h → front ≡ old_header_text h → front ≡ take 24 file → HasOldHeader h file
+begins_with h front file lawful text is = record {
+  lawful = lawful;
+  begins = (drop 24 file, sym (take-append-drop 24 file) ∙ ap (λ (l : List ℕ). l ++ drop 24 file) (sym is ∙ text));
+}
+
+-- what was read behind the header is held
+pub held_from : (file behind : List ℕ) (header : Header) (gate : ℕ) (records : List Record) → HasOldHeader header file → behind ≡ drop 24 file → ReadsIn version_1 header behind gate records → HoldsOld header records file
+held_from file behind header gate records has is reads = record {
+  lawful = has.lawful;
+  batches = reads.batches;
+  rest = reads.rest;
+  good = reads.good;
+  is = sym (take-append-drop 24 file) ∙ (λ i. front_of header file has i ++ (sym is ∙ reads.is) i) ∙ sym (append_assoc (old_header_text header) (batches_in version_1 reads.batches) (0 ∷ reads.rest));
+  records_are = reads.records_are;
+}
+
+-- the records of batches are well formed
+all-append : {X : Type 0} (P : X → Type 0) (xs ys : List X) → AllByRecursion P xs → AllByRecursion P ys → AllByRecursion P (xs ++ ys)
+all-append P [] ys all more = more
+all-append P (x ∷ xs) ys all more = (all.0, all-append P xs ys all.1 more)
+
+records_good : (header : Header) (batches : List Batch) → AreBatches header batches → AreWellFormedFor header (batch_records batches)
+records_good header [] good = tt
+records_good header (b ∷ bs) good = all-append (IsWellFormedFor header) b.records (batch_records bs) good.0.good (records_good header bs good.1)
+
+pub read_good : (header : Header) (bytes : List ℕ) (gate : ℕ) (records : List Record) → ReadsIn version_1 header bytes gate records → AreWellFormedFor header records
+read_good header bytes gate records reads =
+    subst (λ (l : List Record). AreWellFormedFor header l) (sym reads.records_are) (records_good header reads.batches reads.good)
+
+-- what went wrong behind the header goes wrong in the file
+wrong_from : (file behind : List ℕ) (header : Header) (IsWrong : List ℕ → Type 0) → HasOldHeader header file → behind ≡ drop 24 file → StumblesIn version_1 header IsWrong behind → GoesOldWrong header IsWrong file
+wrong_from file behind header IsWrong has is stumbles = record {
+  lawful = has.lawful;
+  batches = stumbles.batches;
+  rest = stumbles.rest;
+  good = stumbles.good;
+  is = sym (take-append-drop 24 file) ∙ (λ i. front_of header file has i ++ (sym is ∙ stumbles.is) i) ∙ sym (append_assoc (old_header_text header) (batches_in version_1 stumbles.batches) stumbles.rest);
+  wrong = stumbles.wrong;
+}
+
+pub refused_from : (file behind : List ℕ) (header : Header) (fault : MigrateFault) → HasOldHeader header file → behind ≡ drop 24 file → BreaksOld header fault behind → IsOfOldFile fault → RefusesOld header fault file
+refused_from file behind header NotEmpty has is breaks of_file = absurd breaks
+refused_from file behind header NotOld has is breaks of_file = absurd breaks
+refused_from file behind header OtherHeader has is breaks of_file = absurd breaks
+refused_from file behind header BadRecord has is breaks of_file = wrong_from file behind header _ has is breaks
+refused_from file behind header CutShort has is breaks of_file = wrong_from file behind header _ has is breaks
+refused_from file behind header OldDevice has is breaks of_file = absurd breaks
+refused_from file behind header NewDevice has is breaks of_file = absurd breaks
+refused_from file behind header Memory has is breaks of_file = absurd of_file
+refused_from file behind header Full has is breaks of_file = absurd breaks
+
+-- and it is a fault of the file, or want of memory
+pub broken_so : (header : Header) (behind : List ℕ) (fault : MigrateFault) → BreaksOld header fault behind → IsOfOldFile fault ⊎ (fault ≡ Memory)
+broken_so header behind NotEmpty breaks = absurd breaks
+broken_so header behind NotOld breaks = absurd breaks
+broken_so header behind OtherHeader breaks = absurd breaks
+broken_so header behind BadRecord breaks = inl tt
+broken_so header behind CutShort breaks = inl tt
+broken_so header behind OldDevice breaks = absurd breaks
+broken_so header behind NewDevice breaks = absurd breaks
+broken_so header behind Memory breaks = inr refl
+broken_so header behind Full breaks = absurd breaks
+
+-- a file that begins with a header is of version 1
+pub is_named : (h : Header) (file : List ℕ) → HasOldHeader h file → IsOldVersion file
+is_named h file has = record {
+  long = header_long h file has;
+  mark = sym (take-take 8 24 file (omega arith)) ∙ ap (λ (l : List ℕ). take 8 l) (front_of h file has) ∙ mark_of h;
+}
