@@ -11,4 +11,3 @@ pub mod Grouping
 pub mod Numbers
 pub mod Linking
 pub mod Living
-pub mod Marking

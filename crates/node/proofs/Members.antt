@@ -1,5 +1,5 @@
 -- A history names members alone: what a member refuses for its numbers is never noted.
-use Rattle.std.proofs.Common.{ℕ, zero, suc, ◌≡◌, ◌+◌, ◌<◌, Bool, true, false, ◌||◌, nat_le, if◌then◌else◌, refl, sym, subst, arith, Option, Some, None, List, [], ◌∷◌, ◌++◌, length}
+use Rattle.std.proofs.Common.{ℕ, zero, suc, ◌≡◌, ◌<◌, Bool, true, false, ◌||◌, nat_le, if◌then◌else◌, refl, sym, subst, arith, Option, Some, None, List, [], ◌∷◌, ◌++◌}
 use Rattle.std.proofs.lemmas.List.Elements.{All-append}
 use Rattle.std.specs.List.{list_any}
 use Rattle.vocabulary.specs.Terms.{Statement, Size, Reply, Foreign, Repeat, Have, Taken, Hearing, keep_or, without_tosses}

@@ -1,5 +1,5 @@
 //! The book: a member, what happened since its opening, and what it published.
-ghost use Rattle.std.specs.Prelude.{◌≡◌, ◌⊎◌, ◌↔◌, ◌+◌, ◌<◌, ◌≤◌, ◌^◌, ℕ, List, [], ◌∷◌, ◌++◌, length, take, drop, Bool, true, false, IfOk, IfErr, IfSome, OnOk, OnErr, Some, None, IsErrOf, IsSome, IfNone, slice_get, vec_len, vec_capacity};
+ghost use Rattle.std.specs.Prelude.{◌≡◌, ◌⊎◌, ◌↔◌, ◌+◌, ◌<◌, ◌≤◌, ◌^◌, ℕ, List, [], ◌∷◌, ◌++◌, length, take, drop, Bool, true, false, IfOk, IfErr, IfSome, OnOk, OnErr, Some, None, IsErrOf, IsSome, IfNone, slice_get, vec_len};
 ghost use Rattle.std.specs.Arc.{arc_value};
 ghost use Rattle.vocabulary.specs.Terms.{Hearing, Proposal, records_of, records_of_all, Header};
 ghost use Rattle.questions.specs.Replay.Entry.{Heard, Proposed};
@@ -27,8 +27,9 @@ use crate::board::{Board, Pass};
 use crate::entry::Entry;
 use crate::group::{note_all, prepare};
 use crate::history::History;
+use crate::marks::{Firsts, keep_all};
 use crate::notes::Notes;
-use crate::seat::{Seat, keep_first, keep_firsts};
+use crate::seat::Seat;
 use crate::settle::is_settled;
 use crate::transcript::{Transcript, TranscriptFault, heard_on};
 use disk::Disk;
@@ -157,7 +158,7 @@ impl<D: Disk, J: Naming> Book<D, J> {
         }
         match self.member.hear(seat.peer, statement, toss) {
             Ok(answer) => {
-                keep_first(seat.peer, &mut seat.firsts, &mut seat.marks, statement);
+                seat.firsts.keep(seat.peer, statement);
                 seat.next = seat.next.saturating_add(1);
                 note(
                     &mut self.history,
@@ -230,7 +231,7 @@ impl<D: Disk, J: Naming> Book<D, J> {
         };
         match self.member.hear_all(&group) {
             Ok(answers) => {
-                keep_firsts(seat.peer, &mut seat.firsts, &mut seat.marks, events);
+                keep_all(&mut seat.firsts, seat.peer, events);
                 seat.next = seat.next.saturating_add(events.len() as u64);
                 note_all(&mut self.history, &group, &answers);
                 publish_all(&self.member, &mut self.notes, &answers);
@@ -433,12 +434,12 @@ impl<D: Disk, J: Naming> Book<D, J> {
 }
 
 /// Makes room for one more entry and one more statement, if there is memory. Both lists stay.
-fn make_room_for_both(history: &mut History, firsts: &mut Vec<Statement>) -> bool
+fn make_room_for_both(history: &mut History, firsts: &mut Firsts) -> bool
     ensures history { history.new.entries ≡ history.old.entries }
-    ensures firsts { firsts.new.items ≡ firsts.old.items }
-    ensures room { result ≡ true → (0 < history.new.room) × (vec_len firsts.new < vec_capacity firsts.new) }
+    ensures firsts { firsts.new.said ≡ firsts.old.said }
+    ensures room { result ≡ true → (0 < history.new.room) × (0 < firsts.new.room) }
 {
-    history.make_room(1) && firsts.reserve(1).is_ok()
+    history.make_room(1) && firsts.make_room(1)
 }
 
 /// Notes the entry where the answer takes it.
