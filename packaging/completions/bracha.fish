@@ -1,5 +1,5 @@
 # Completions of fish for bracha. Put it into ~/.config/fish/completions or /usr/share/fish/vendor_completions.d.
-set -l commands init check run propose ask status transcript audit dump simulate hear help
+set -l commands init check run propose ask status transcript audit dump migrate simulate hear help
 complete -c bracha -f
 complete -c bracha -n "not __fish_seen_subcommand_from $commands" -a init -d "Make the journal of a member"
 complete -c bracha -n "not __fish_seen_subcommand_from $commands" -a check -d "Say whether a member would start"
@@ -10,13 +10,14 @@ complete -c bracha -n "not __fish_seen_subcommand_from $commands" -a status -d "
 complete -c bracha -n "not __fish_seen_subcommand_from $commands" -a transcript -d "Ask a member for what it heard of a decision"
 complete -c bracha -n "not __fish_seen_subcommand_from $commands" -a audit -d "Say whether a transcript is proof"
 complete -c bracha -n "not __fish_seen_subcommand_from $commands" -a dump -d "Print a journal"
+complete -c bracha -n "not __fish_seen_subcommand_from $commands" -a migrate -d "Bring a journal of version 1 over"
 complete -c bracha -n "not __fish_seen_subcommand_from $commands" -a simulate -d "Run a script of a whole cluster"
 complete -c bracha -n "not __fish_seen_subcommand_from $commands" -a hear -d "Read pieces of streams"
 complete -c bracha -n "not __fish_seen_subcommand_from $commands" -a help -d "Print help"
 complete -c bracha -n "not __fish_seen_subcommand_from $commands" -l version -d "Print the version"
 complete -c bracha -l help -d "Print help"
 complete -c bracha -l quiet -d "One line for a fault"
-complete -c bracha -F -n "__fish_seen_subcommand_from init check run audit dump simulate"
+complete -c bracha -F -n "__fish_seen_subcommand_from init check run audit dump migrate simulate"
 complete -c bracha -n "__fish_seen_subcommand_from run" -l stay -d "Run until it is killed"
 complete -c bracha -n "__fish_seen_subcommand_from run" -l any-host -d "Unsafe: take links from any host"
 complete -c bracha -n "__fish_seen_subcommand_from run" -l log -d "Tell events on standard error"

@@ -9,8 +9,8 @@ ghost use Rattle.std.specs.Prelude.{◌≡◌, ◌≢◌, ◌⊎◌, IfOk};
 use clap::error::ErrorKind;
 use edge::{
     Failure, Fault, HeldStreams, ask_at, audit_file, check_file, dump_file, hear_input,
-    hold_streams, init_file, own_words, propose_at, run_file, simulate_file, status_at,
-    transcript_at, wants_quiet,
+    hold_streams, init_file, migrate_file, own_words, propose_at, run_file, simulate_file,
+    status_at, transcript_at, wants_quiet,
 };
 use running::Machine;
 use std::convert::AsStr;
@@ -58,6 +58,7 @@ fn work<R: Machine>(rt: &R, host: &HostRuntime, task: Task) -> Result<u8, Failur
             audit_file(host, file, size)
         }
         Task::Dump { journal, count } => dump_file(host, journal, count),
+        Task::Migrate { old, new } => migrate_file(host, old, new),
         Task::Simulate {
             script,
             trace,

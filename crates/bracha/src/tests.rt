@@ -49,6 +49,10 @@ fn reads_the_words(rt: HostRuntime) -> Result<(), Fail> {
         ("bracha run a.toml", run_of("a.toml", false, false, false)),
         ("bracha dump x.journal", dump_of("x.journal", false)),
         (
+            "bracha migrate x.journal y.journal",
+            migrate_of("x.journal", "y.journal"),
+        ),
+        (
             "bracha simulate a.script",
             simulate_of("a.script", None, None),
         ),
@@ -61,6 +65,10 @@ fn reads_the_words(rt: HostRuntime) -> Result<(), Fail> {
         ("bracha dump --help", 0),
         ("bracha init", 2),
         ("bracha dump", 2),
+        ("bracha migrate", 2),
+        ("bracha migrate x", 2),
+        ("bracha migrate x y z", 2),
+        ("bracha migrate --help", 0),
         ("bracha init a.toml b.toml", 2),
         ("bracha dump --journal x", 2),
         ("bracha --version", 0),
@@ -88,6 +96,10 @@ fn run_of(settings: &str, stay: bool, log: bool, any_host: bool) -> Task<'_> {
 
 fn dump_of(journal: &str, count: bool) -> Task<'_> {
     Task::Dump { journal, count }
+}
+
+fn migrate_of<'a>(old: &'a str, new: &'a str) -> Task<'a> {
+    Task::Migrate { old, new }
 }
 
 fn propose_of(address: &str, question: u16, bit: u8) -> Task<'_> {

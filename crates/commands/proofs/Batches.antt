@@ -23,7 +23,7 @@ same_chunk h bytes x y b c is same =
 
 -- bytes that are fewer than the count says have no batch with a gate behind it
 pub too_short : (h : Header) (bytes : List ℕ) (b : Batch) (gate : ℕ) (behind : List ℕ) → IsBatch h b → bytes ≡ batch_bytes b ++ gate ∷ behind
-    → length bytes ≤ 3 + 7 * (get_or bytes 1 0 * 256 + get_or bytes 2 0) → ⊥
+    → length bytes ≤ 3 + 6 * (get_or bytes 1 0 * 256 + get_or bytes 2 0) → ⊥
 too_short h bytes b gate behind is same short =
     let high : get_or bytes 1 0 ≡ length b.records / 256 % 256 = ap (λ (l : List ℕ). get_or l 1 0) same in
     let low : get_or bytes 2 0 ≡ length b.records % 256 = ap (λ (l : List ℕ). get_or l 2 0) same in

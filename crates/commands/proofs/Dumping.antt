@@ -5,7 +5,8 @@ use Rattle.std.proofs.Math.Seq.{take-suc}
 use Rattle.vocabulary.specs.Terms.{Record, Header}
 use Rattle.journal.specs.declared.fault.JournalFault.{JournalFault}
 use Rattle.journal.specs.declared.fault.JournalFault.TheVariants as unheld
-use Rattle.journal.specs.Words.{IsOfFile, IsFaultOfOpening, HasHeader, RefusesFile}
+use Rattle.journal.specs.Words.{IsOfFile, IsFaultOfOpening, HasHeader, IsOldVersion, RefusesFile}
+use Rattle.journal.specs.Faults.{IsFaultOfPeek}
 use Rattle.journal.proofs.One.{one_header}
 use Rattle.commands.specs.declared.fault.DumpFault.TheVariants as dump
 use Rattle.commands.specs.Faults.{of_opening}
@@ -41,6 +42,7 @@ unread header unheld.Device file has found of other = tt
 unread header unheld.Memory file has found of other = other refl
 unread header unheld.Stopped file has found of other = of
 unread header unheld.Full file has found of other = of
+unread header unheld.OldVersion file has found of other = found tt
 
 -- the fault of a command that is one of the journal is that one
 same_fault : (why named : JournalFault) → of_opening why ≡ dump.Journal named → (why ≡ unheld.Memory → ⊥) × (why ≡ named)
@@ -53,9 +55,29 @@ same_fault unheld.Device named e = ((λ h. cc), cc)
 same_fault unheld.Memory named e = cc
 same_fault unheld.Stopped named e = ((λ h. cc), cc)
 same_fault unheld.Full named e = ((λ h. cc), cc)
+same_fault unheld.OldVersion named e = ((λ h. cc), cc)
 
 pub unreadable : (header : Header) (why named : JournalFault) (file : List ℕ) → HasHeader header file → (IsOfFile why → RefusesFile header why file) → IsFaultOfOpening why
     → of_opening why ≡ dump.Journal named → IsUnreadable named file
 unreadable header why named file has found of e =
     let s = same_fault why named e in
     subst (λ (w : JournalFault). IsUnreadable w file) s.1 (unread header why file has found of s.0)
+
+-- what reading the header alone answers
+peeked : (why : JournalFault) (file : List ℕ) → IsFaultOfPeek why → (why ≡ unheld.BadHeader → (header : Header) → HasHeader header file → ⊥)
+    → (why ≡ unheld.BadHeader → IsOldVersion file → ⊥) → (why ≡ unheld.OldVersion → IsOldVersion file) → IsUnreadable why file
+peeked unheld.NotEmpty file of none new old = of
+peeked unheld.BadHeader file of none new old = (none refl, new refl)
+peeked unheld.OtherHeader file of none new old = of
+peeked unheld.BadRecord file of none new old = absurd of
+peeked unheld.CutShort file of none new old = absurd of
+peeked unheld.Device file of none new old = tt
+peeked unheld.Memory file of none new old = of
+peeked unheld.Stopped file of none new old = of
+peeked unheld.Full file of none new old = of
+peeked unheld.OldVersion file of none new old = old refl
+
+pub headless : (why named : JournalFault) (file : List ℕ) → IsFaultOfPeek why → (why ≡ unheld.BadHeader → (header : Header) → HasHeader header file → ⊥)
+    → (why ≡ unheld.BadHeader → IsOldVersion file → ⊥) → (why ≡ unheld.OldVersion → IsOldVersion file) → of_opening why ≡ dump.Journal named → IsUnreadable named file
+headless why named file of none new old e =
+    subst (λ (w : JournalFault). IsUnreadable w file) (same_fault why named e).1 (peeked why file of none new old)

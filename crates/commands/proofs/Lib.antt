@@ -8,5 +8,6 @@ pub mod Checking
 pub mod Finding
 pub mod Batches
 pub mod Lines
+pub mod Migrating
 pub mod Owning
 pub mod Asking

@@ -16,9 +16,9 @@ use Rattle.settings.specs.Settings.{HasSmall, HasValue, IsAddressText}
 -- what a value has to be
 abbrev pub asked_text : Key → List ℕ
 asked_text Cluster = codes "an integer from 0 on"
-asked_text N = codes "an integer from 1 to 32"
+asked_text N = codes "an integer from 1 to 64"
 asked_text T = codes "an integer from 0 on and below a third of n"
-asked_text Questions = codes "an integer from 1 to 256"
+asked_text Questions = codes "an integer from 1 to 4096"
 asked_text Me = codes "an integer from 0 on and below n"
 asked_text Journal = codes "a path"
 asked_text Peers = codes "an array of n texts HOST:PORT"

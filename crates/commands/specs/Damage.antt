@@ -4,7 +4,7 @@ use Rattle.std.specs.List.{flat_map}
 use Rattle.sim.specs.Texts.{byte_text}
 use Rattle.vocabulary.specs.Terms.{Header}
 use Rattle.journal.specs.declared.fault.JournalFault.{JournalFault}
-use Rattle.journal.specs.declared.fault.JournalFault.TheVariants.{NotEmpty, BadHeader, OtherHeader, BadRecord, CutShort, Device, Memory, Stopped, Full}
+use Rattle.journal.specs.declared.fault.JournalFault.TheVariants.{NotEmpty, BadHeader, OtherHeader, BadRecord, CutShort, Device, Memory, Stopped, Full, OldVersion}
 use Rattle.journal.specs.File.{HasHeader}
 use Rattle.journal.specs.Texts.{Batch, batch_bytes, header_text, batches_bytes}
 use Rattle.journal.specs.WellFormed.{AreBatches, IsBatch}
@@ -40,6 +40,7 @@ IsPlaceOf Device file place = place ≡ None
 IsPlaceOf Memory file place = place ≡ None
 IsPlaceOf Stopped file place = place ≡ None
 IsPlaceOf Full file place = place ≡ None
+IsPlaceOf OldVersion file place = place ≡ Some 0
 
 -- the bytes are a batch of the header, and these behind it, a gate first
 pub record BeginsWithBatch (header : Header) (bytes behind : List ℕ) : Type 0 where
@@ -64,7 +65,7 @@ pub record IsChunk (bytes : List ℕ) : Type 0 where
   pub records : List ℕ
   pub is : bytes ≡ gate ∷ high ∷ low ∷ records
   pub opened : gate ≢ 0
-  pub whole : length records ≡ 7 * (256 * high + low)
+  pub whole : length records ≡ 6 * (256 * high + low)
 
 -- whatever is read as a header, no batch with a gate behind it stands at the start of these bytes
 abbrev pub NoChunk : List ℕ → Type 0

@@ -4,8 +4,8 @@ use Rattle.std.specs.List.{flat_map}
 use Rattle.std.specs.Fmt.{decimal}
 use Rattle.vocabulary.specs.Terms.{Record, Header}
 use Rattle.journal.specs.declared.fault.JournalFault.{JournalFault}
-use Rattle.journal.specs.declared.fault.JournalFault.TheVariants.{NotEmpty, BadHeader, OtherHeader, BadRecord, CutShort, Device, Memory, Stopped, Full}
-use Rattle.journal.specs.File.{HasHeader, RefusesFile}
+use Rattle.journal.specs.declared.fault.JournalFault.TheVariants.{NotEmpty, BadHeader, OtherHeader, BadRecord, CutShort, Device, Memory, Stopped, Full, OldVersion}
+use Rattle.journal.specs.File.{HasHeader, IsOldVersion, RefusesFile}
 use Rattle.words.specs.Sentences.{sentence}
 use Rattle.report.specs.Records.{record_text}
 use Rattle.words.specs.Lines.{line}
@@ -37,11 +37,11 @@ abbrev pub dump_page : Bool → Header → List Record → List ℕ
 dump_page true header records = number_text records
 dump_page false header records = dump_text header records
 
--- what is wrong with a file of no journal: it begins with no header, or it begins with one and goes wrong behind that. The
--- other faults are none of a file that is only read
+-- what is wrong with a file of no journal: it begins with no header, or is of the version before, or it begins with a
+-- header and goes wrong behind that. The other faults are none of a file that is only read
 abbrev pub IsUnreadable : JournalFault → List ℕ → Type 0
 IsUnreadable NotEmpty file = ⊥
-IsUnreadable BadHeader file = (header : Header) → HasHeader header file → ⊥
+IsUnreadable BadHeader file = ((header : Header) → HasHeader header file → ⊥) × (IsOldVersion file → ⊥)
 IsUnreadable OtherHeader file = ⊥
 IsUnreadable BadRecord file = (header : Header) × RefusesFile header BadRecord file
 IsUnreadable CutShort file = (header : Header) × RefusesFile header CutShort file
@@ -49,3 +49,4 @@ IsUnreadable Device file = Unit {0}
 IsUnreadable Memory file = ⊥
 IsUnreadable Stopped file = ⊥
 IsUnreadable Full file = ⊥
+IsUnreadable OldVersion file = IsOldVersion file

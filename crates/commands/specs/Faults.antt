@@ -34,6 +34,7 @@ of_create unheld.Device = made.Device
 of_create unheld.Memory = made.Device
 of_create unheld.Stopped = made.Device
 of_create unheld.Full = made.Device
+of_create unheld.OldVersion = made.Device
 
 -- one that couldn't be opened or read
 abbrev pub of_opening : JournalFault → DumpFault
@@ -46,6 +47,7 @@ of_opening unheld.CutShort = dump.Journal unheld.CutShort
 of_opening unheld.Device = dump.Journal unheld.Device
 of_opening unheld.Stopped = dump.Journal unheld.Stopped
 of_opening unheld.Full = dump.Journal unheld.Full
+of_opening unheld.OldVersion = dump.Journal unheld.OldVersion
 
 -- memory, the output, or what is wrong with a journal that is only read
 abbrev pub IsOfDump : DumpFault → Type 0

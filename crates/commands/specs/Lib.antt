@@ -11,3 +11,4 @@ pub mod Damage
 pub mod Shows
 pub mod Owners
 pub mod Asked
+pub mod Migrations

@@ -20,9 +20,9 @@ fn asked(key: Key) -> &'static str
 {
     match key {
         Key::Cluster => "an integer from 0 on",
-        Key::N => "an integer from 1 to 32",
+        Key::N => "an integer from 1 to 64",
         Key::T => "an integer from 0 on and below a third of n",
-        Key::Questions => "an integer from 1 to 256",
+        Key::Questions => "an integer from 1 to 4096",
         Key::Me => "an integer from 0 on and below n",
         Key::Journal => "a path",
         Key::Peers => "an array of n texts HOST:PORT",
@@ -31,7 +31,7 @@ fn asked(key: Key) -> &'static str
     }
 }
 
-/// The key, and what its value has to be: `n: must be an integer from 1 to 32`.
+/// The key, and what its value has to be: `n: must be an integer from 1 to 64`.
 pub fn asked_words(alloc: Global, key: Key) -> Result<String, AllocError>
     ensures { IfOk result (λ text. string_bytes text ≡ asked_words key) }
 {

@@ -21,7 +21,7 @@ const HEADER: usize = 24;
 const HEAD: usize = 3;
 
 /// The length of a record.
-const RECORD: usize = 7;
+const RECORD: usize = 6;
 
 /// How many bytes are shown.
 const SHOWN: usize = 16;
@@ -46,6 +46,7 @@ pub(crate) fn header_of(alloc: Global, file: &[u8]) -> Result<Option<Header>, Me
     match journal::peek(&mut disk) {
         Ok(header) => Ok(Some(header)),
         Err(JournalFault::BadHeader) => Ok(None),
+        Err(JournalFault::OldVersion) => Ok(None),
         Err(_) => Err(Memory),
     }
 }
@@ -157,7 +158,10 @@ pub fn fault_place(alloc: Global, fault: JournalFault, file: &[u8]) -> Result<Op
     ensures { IfOk result (IsPlaceOf fault file.now) }
 {
     match fault {
-        JournalFault::NotEmpty | JournalFault::BadHeader | JournalFault::OtherHeader => Ok(Some(0)),
+        JournalFault::NotEmpty
+        | JournalFault::BadHeader
+        | JournalFault::OtherHeader
+        | JournalFault::OldVersion => Ok(Some(0)),
         JournalFault::BadRecord | JournalFault::CutShort => Ok(Some(good_length(alloc, file)?)),
         JournalFault::Device | JournalFault::Memory | JournalFault::Stopped | JournalFault::Full =>
             Ok(None),

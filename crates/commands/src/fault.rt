@@ -2,10 +2,13 @@
 
 ghost use Rattle.std.specs.Prelude.{◌≡◌};
 ghost use Rattle.commands.specs.declared.fault.DumpFault.TheVariants as dump;
+ghost use Rattle.commands.specs.declared.fault.MigrationFault.TheVariants as migrate;
 ghost use Rattle.commands.specs.declared.fault.SimulateFault.TheVariants as simulate;
 ghost use Rattle.commands.specs.declared.fault.TalkFault.TheVariants as talk;
+ghost use Rattle.migration.specs.declared.fault.MigrateFault.TheVariants as unmoved;
 
 use journal::JournalFault;
+use migration::MigrateFault;
 use script::ScriptFault;
 use sim::SimFault;
 use std::alloc::{AllocError, AllocFailed};
@@ -83,6 +86,41 @@ impl From<io::Error> for DumpFault {
         } else {
             DumpFault::Stream
         }
+    }
+}
+
+/// Why `migrate` brought no journal over.
+#[derive(Debug, Drop, Error)]
+pub enum MigrationFault {
+    /// The journal wasn't brought over, and the new file is to be thrown away.
+    #[error("migrate {0}")]
+    Migrate(MigrateFault),
+    /// The new file is whole, but a write of the output failed.
+    #[error("stream")]
+    Stream,
+}
+
+impl From<MigrateFault> for MigrationFault {
+    ghost from_gives = { λ fault ends. ends ≡ migrate.Migrate fault };
+
+    fn from(fault: MigrateFault) -> MigrationFault {
+        MigrationFault::Migrate(fault)
+    }
+}
+
+impl From<AllocError> for MigrationFault {
+    ghost from_gives = { λ _ ends. ends ≡ migrate.Migrate unmoved.Memory };
+
+    fn from(_refused: AllocError) -> MigrationFault {
+        MigrationFault::Migrate(MigrateFault::Memory)
+    }
+}
+
+impl From<io::Error> for MigrationFault {
+    ghost from_gives = { λ _ ends. ends ≡ migrate.Stream };
+
+    fn from(_failed: io::Error) -> MigrationFault {
+        MigrationFault::Stream
     }
 }
 

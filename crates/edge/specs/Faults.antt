@@ -28,6 +28,7 @@ of_journal unheld.CutShort = ends.Journal unheld.CutShort
 of_journal unheld.Device = ends.Journal unheld.Device
 of_journal unheld.Stopped = ends.Journal unheld.Stopped
 of_journal unheld.Full = ends.Journal unheld.Full
+of_journal unheld.OldVersion = ends.Journal unheld.OldVersion
 
 -- the status after a fault: 2 for those of the words, and 1 for all others
 abbrev pub fault_status : Fault → ℕ

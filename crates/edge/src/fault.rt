@@ -4,7 +4,7 @@ ghost use Rattle.edge.specs.declared.fault.Fault.TheVariants as ends;
 ghost use Rattle.edge.specs.Faults.{IsMeant, IsFileFault, fault_status, of_journal};
 ghost use Rattle.std.specs.Prelude.{◌≡◌};
 
-use commands::{DumpFault, InitFault, SimulateFault, TalkFault};
+use commands::{DumpFault, InitFault, MigrationFault, SimulateFault, TalkFault};
 use hearing::HearFault;
 use journal::JournalFault;
 use running::RunFault;
@@ -44,6 +44,9 @@ pub enum Fault {
     /// What ended `dump` or `check`.
     #[error(transparent)]
     Dump(#[from] DumpFault),
+    /// What ended `migrate`.
+    #[error(transparent)]
+    Migrate(#[from] MigrationFault),
     /// The journal of a member that is to run couldn't be opened.
     #[error("journal {0}")]
     Journal(JournalFault),

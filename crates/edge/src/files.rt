@@ -6,18 +6,19 @@ ghost use Rattle.edge.specs.declared.fault.Fault.TheVariants as ends;
 ghost use Rattle.std.specs.Prelude.{◌≡◌, IfErr};
 
 use crate::fault::Fault;
-use crate::pages::{fault_at, keep_apart, write_page};
+use crate::pages::{fault_at, keep_apart, keep_two_apart, write_page};
 use crate::telling::{
     journal_failure, not_text, script_failure, settings_failure, transcript_failure,
 };
 use crate::trouble::{Failure, Whereabouts};
 use commands::{
-    DumpFault, InitFault, Shelf, SimulationEnd, check_journal, dump_count, dump_lines, init_disk,
-    print_settings, show_simulation,
+    DumpFault, InitFault, MigrationFault, Shelf, SimulationEnd, check_journal, dump_count,
+    dump_lines, init_disk, migrate_disks, print_settings, show_simulation,
 };
 use disk::{Disk, FileDisk, MemDisk};
 use hearing::hear_lines;
 use journal::JournalFault;
+use migration::MigrateFault;
 use settings::Settings;
 use std::fs::{self, OpenOptions};
 use std::io::{self, BufReader, LineWriter, Read};
@@ -131,14 +132,14 @@ pub fn init_file(rt: &HostRuntime, path: &str) -> Result<u8, Failure> {
     }
 }
 
-/// The most bytes of a file that are read for a second line. A journal of 256 questions has fewer.
+/// The most bytes of a file that are read for a second line: those of more than 2,700,000 records.
 const MOST: u64 = 1 << 24;
 
 /// How many bytes of a journal's file the second line of that fault is told from: where the header is wrong, it and one more;
 /// none where the fault isn't the file's.
 fn needed(found: JournalFault) -> u64 {
     match found {
-        JournalFault::BadHeader | JournalFault::OtherHeader => 25,
+        JournalFault::BadHeader | JournalFault::OtherHeader | JournalFault::OldVersion => 25,
         JournalFault::NotEmpty | JournalFault::BadRecord | JournalFault::CutShort => MOST,
         JournalFault::Device | JournalFault::Memory | JournalFault::Stopped | JournalFault::Full =>
             0,
@@ -262,6 +263,69 @@ pub fn dump_file(rt: &HostRuntime, path: &str, count: bool) -> Result<u8, Failur
     match dump_disk(rt, disk, count) {
         Ok(status) => Ok(status),
         Err(fault) => Err(dump_failure(rt, path, fault, None)),
+    }
+}
+
+/// The failure of a journal that wasn't brought over from the file at `old` to that at `new`.
+fn migration_failure(rt: &HostRuntime, old: &str, new: &str, fault: MigrationFault) -> Failure {
+    let alloc = rt.alloc();
+    let MigrationFault::Migrate(why) = fault else {
+        return Failure::from(Fault::Migrate(fault));
+    };
+    match why {
+        MigrateFault::NotEmpty => {
+            failure_of_journal(rt, new, Fault::Migrate(fault), JournalFault::NotEmpty)
+        }
+        MigrateFault::NotOld => {
+            let words = "no journal of version 1";
+            Failure::at(
+                alloc,
+                Fault::Migrate(fault),
+                old,
+                Whereabouts::Whole,
+                &words,
+            )
+        }
+        MigrateFault::OtherHeader
+        | MigrateFault::BadRecord
+        | MigrateFault::CutShort
+        | MigrateFault::OldDevice => Failure::about(alloc, Fault::Migrate(fault), old),
+        MigrateFault::NewDevice | MigrateFault::Full => {
+            Failure::about(alloc, Fault::Migrate(fault), new)
+        }
+        MigrateFault::Memory => Failure::from(Fault::Migrate(fault)),
+    }
+}
+
+/// What is told of a new file that was made in vain and couldn't be removed.
+const LEFT: &str = "is no journal: remove it";
+
+/// The failure of a journal that wasn't brought over, once the file at `new` is gone, if it was made for it. Where it can't be
+/// removed that is told in place of the cause.
+fn unmade(rt: &HostRuntime, new: &str, made: bool, failure: Failure) -> Failure {
+    if !made || fs::remove_file(rt, new).is_ok() {
+        return failure;
+    }
+    Failure::at(rt.alloc(), failure.fault, new, Whereabouts::Whole, &LEFT)
+}
+
+/// Brings the journal of version 1 in the file at `old` over into the one at `new`, which is made, or is there and empty, and
+/// prints how many records it has. The old file is never written. After a fault of the migration a new file that was made for
+/// it is gone, and one that was there is left; after one of the printing it is whole.
+///
+/// [`Fault::SameFile`]: the two paths name one file.
+pub fn migrate_file(rt: &HostRuntime, old: &str, new: &str) -> Result<u8, Failure> {
+    keep_two_apart(rt, new, old)?;
+    let mut from = open_disk(rt, old, Purpose::Look)?;
+    let made = fs::metadata(rt, new).is_err();
+    let to = open_disk(rt, new, Purpose::Make)?;
+    match migrate_disks(rt.alloc(), &mut from, to, &mut io::writer(rt)) {
+        Ok(status) => Ok(status),
+        Err(MigrationFault::Stream) => Err(Failure::from(Fault::Migrate(MigrationFault::Stream))),
+        Err(fault) => {
+            let failure = migration_failure(rt, old, new, fault);
+            Err(unmade(rt, new, made, failure))
+        }
     }
 }
 

@@ -95,15 +95,23 @@ fn is_one_file(rt: &HostRuntime, one: &str, other: &str) -> bool
     }
 }
 
+/// Refuses a path that names the file. [`Fault::SameFile`]: it does.
+pub fn keep_two_apart(rt: &HostRuntime, path: &str, file: &str) -> Result<(), Fault>
+    ensures { IsOk result → path.now ≢ file.now }
+{
+    if is_one_file(rt, path, file) {
+        return Err(Fault::SameFile(String::from_str(rt.alloc(), path)?));
+    }
+    Ok(())
+}
+
 /// Refuses a page that would be written over the file. [`Fault::SameFile`]: its path names that file.
 fn keep_off(rt: &HostRuntime, page: Option<&str>, file: &str) -> Result<(), Fault>
     ensures { IsOk result → option_map (λ path. path.now) page.entry ≢ Some file.now }
 {
     match page {
-        Some(path) if is_one_file(rt, path, file) => {
-            Err(Fault::SameFile(String::from_str(rt.alloc(), path)?))
-        }
-        _ => Ok(()),
+        Some(path) => keep_two_apart(rt, path, file),
+        None => Ok(()),
     }
 }
 

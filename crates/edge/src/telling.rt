@@ -198,7 +198,8 @@ pub fn journal_failure(
         | JournalFault::Device
         | JournalFault::Memory
         | JournalFault::Stopped
-        | JournalFault::Full => bytes_failure(alloc, path, fault, found, file),
+        | JournalFault::Full
+        | JournalFault::OldVersion => bytes_failure(alloc, path, fault, found, file),
     }
 }
 

@@ -14,7 +14,7 @@ use terms::{Header, Record, Statement};
 
 /// The journal of member 1 of the cluster 7, of four members and one question, with no record.
 pub(crate) const JOURNAL: [u8; 25] = [
-    0x42, 0x52, 0x41, 0x43, 0x48, 0x41, 0x4a, 0x31, 0, 0, 0, 0, 0, 0, 0, 7, 4, 1, 0, 1, 1, 0, 0, 0,
+    0x42, 0x52, 0x41, 0x43, 0x48, 0x41, 0x4a, 0x32, 0, 0, 0, 0, 0, 0, 0, 7, 4, 1, 0, 1, 1, 0, 0, 0,
     0,
 ];
 

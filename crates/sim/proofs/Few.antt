@@ -9,9 +9,9 @@ use Rattle.terms.proofs.Same.{is_about-same}
 use Rattle.world.specs.Laws.{IsWellFormedRecord, AreWellFormedRecords}
 
 -- a number for each question, for its decision, and one for each kind at each place; rounds and steps count from 1 and so do
--- their digits, and the least number of a place is 12, so 244 more sets all of them behind the 256 questions
+-- their digits, and the least number of a place is 12, so 4,084 more sets all of them behind the 4,096 questions
 abbrev code : Record → ℕ
-code (Said s) = 244 + ((((s.place.question * 32 + s.place.origin) * 32 + s.place.round) * 3 + s.place.step) * 3 + kind_code s.kind)
+code (Said s) = 4084 + ((((s.place.question * 64 + s.place.origin) * 32 + s.place.round) * 3 + s.place.step) * 3 + kind_code s.kind)
 code (Decided question round bit) = question
 
 kind_below : (kind : Kind) → kind_code kind < 3
@@ -34,7 +34,7 @@ same_about s t size ok is be e =
     let a = step_within s.place.step s.value is.value in
     let b = step_within t.place.step t.value be.value in
     let kind : kind_code t.kind ≡ kind_code s.kind = omega arith in
-    let rest : ((s.place.question * 32 + s.place.origin) * 32 + s.place.round) * 3 + s.place.step ≡ ((t.place.question * 32 + t.place.origin) * 32 + t.place.round) * 3 + t.place.step = omega arith in
+    let rest : ((s.place.question * 64 + s.place.origin) * 32 + s.place.round) * 3 + s.place.step ≡ ((t.place.question * 64 + t.place.origin) * 32 + t.place.round) * 3 + t.place.step = omega arith in
     let step : t.place.step ≡ s.place.step = omega arith in
     let round : t.place.round ≡ s.place.round = omega arith in
     let origin : t.place.origin ≡ s.place.origin = omega arith in
@@ -104,25 +104,25 @@ module _ (size : Size) (ok : IsSize size) where
         apart xs all.1 says (λ q. at_most (eqb question q) (decisions xs q) (decides q)),
       )
 
-  code_below : (x : Record) → IsWellFormedRecord size x → code x < 2359552
+  code_below : (x : Record) → IsWellFormedRecord size x → code x < 75501568
   code_below (Said s) is =
       let k = kind_below s.kind in
       let a = step_within s.place.step s.value is.value in
       omega arith
   code_below (Decided question round bit) is = let few = ok.few in let asked = is.0 in omega arith
 
-  codes_below : (xs : List Record) → AreWellFormedRecords size xs → (c : ℕ) → list_any (eqb c) (map code xs) ≡ true → c < 2359552
+  codes_below : (xs : List Record) → AreWellFormedRecords size xs → (c : ℕ) → list_any (eqb c) (map code xs) ≡ true → c < 75501568
   codes_below [] all c h = cc
   codes_below (x ∷ xs) all c h = step (or_cases (eqb c (code x)) (list_any (eqb c) (map code xs)) h) (codes_below xs all.1 c)
     where
-      step : (eqb c (code x) ≡ true) ⊎ (list_any (eqb c) (map code xs) ≡ true) → (list_any (eqb c) (map code xs) ≡ true → c < 2359552) → c < 2359552
+      step : (eqb c (code x) ≡ true) ⊎ (list_any (eqb c) (map code xs) ≡ true) → (list_any (eqb c) (map code xs) ≡ true → c < 75501568) → c < 75501568
       step (inl e) ih = let same = eqb-true c (code x) e in let l = code_below x all.0 in omega arith
       step (inr e) ih = ih e
 
   -- it has no more records than there are such numbers
   pub few_records : (xs : List Record) → AreWellFormedRecords size xs → ((kind : Kind) (place : Place) → sayings xs kind place ≤ 1) → ((question : ℕ) → decisions xs question ≤ 1)
-      → length xs ≤ 2359552
+      → length xs ≤ 75501568
   few_records xs all says decides =
-      let few = length-le_from_distinct_below (map code xs) 2359552 (apart xs all says decides) (codes_below xs all) in
+      let few = length-le_from_distinct_below (map code xs) 75501568 (apart xs all says decides) (codes_below xs all) in
       let same = length-map xs code in
       omega arith

@@ -50,13 +50,13 @@ comes_after size liars w steps may run = record {
 }
 
 -- what a correct member comes to save isn't much
-few_saved : (size : Size) (liars : ℕ → Bool) (w : World) (p : ℕ) → MayCome size liars w → IsCorrect size liars p → length (w.journal p) ≤ 2359552
+few_saved : (size : Size) (liars : ℕ → Bool) (w : World) (p : ℕ) → MayCome size liars w → IsCorrect size liars p → length (w.journal p) ≤ 75501568
 few_saved size liars w p may correct =
     let r = may.reached in
     let last = after_all start may.steps in
     let formed : AreWellFormedRecords size (last.journal p) =
     AreWellFormed-front size (last.journal p) (in_doubt (last.doubt p)) (saved_formed size liars last (reached_order size liars r.lawful r.few may.steps r.is_run) p correct) in
-    subst (λ (v : World). length (v.journal p) ≤ 2359552) (sym may.world_is)
+    subst (λ (v : World). length (v.journal p) ≤ 75501568) (sym may.world_is)
     (few_records size r.lawful (last.journal p) formed
     (λ kind place. says_once size liars may.steps r.is_run p kind place correct)
     (λ question. decides_once size liars may.steps r.is_run p question correct))

@@ -19,10 +19,10 @@ use Rattle.clap.specs.Kinds.{or_else}
 use Rattle.clap.proofs.ValueTestLemmas.{accepts-Accepts}
 use Rattle.clap.specs.declared.error.kind.ErrorKind.TheVariants.{DisplayHelp, InvalidSubcommand}
 use Rattle.clap.specs.declared.builder.value_parser.ValueParser.TheVariants as parser
-use Rattle.usage.specs.Usage.{program_app, init_app, check_app, run_app, propose_app, ask_app, status_app, transcript_app, audit_app, dump_app, simulate_app, hear_app}
+use Rattle.usage.specs.Usage.{program_app, init_app, check_app, run_app, propose_app, ask_app, status_app, transcript_app, audit_app, dump_app, migrate_app, simulate_app, hear_app}
 use Rattle.usage.specs.Tasks.{AreFaultless, AskFor, HasFlag, HasNumberOption, IsAskedFor, MayHaveText, Names as NamesTask, WritesNumber}
 use Rattle.usage.specs.declared.command_line.Task.{Task}
-use Rattle.usage.specs.declared.command_line.Task.TheVariants.{Hear, Init, Check, Run, Propose, Ask, Status, Transcript, Audit, Simulate, Dump}
+use Rattle.usage.specs.declared.command_line.Task.TheVariants.{Hear, Init, Check, Run, Propose, Ask, Status, Transcript, Audit, Simulate, Dump, Migrate}
 use Rattle.usage.proofs.Walking.{StopOk, left_of, not_some, right_of, same_under, walk_ok}
 use Rattle.usage.proofs.Given.{IsSolid, given_in, second_none}
 
@@ -127,6 +127,13 @@ dump_demands words e =
     let journal = given_in (built_at dump_app) words solid e _ (inl refl) refl in
     let count = flag_in (codes "count") (rows_after (built_at dump_app).rules [] words) in
     (Dump (at_some_place journal.0) count.0, (refl, journal.1, count.1))
+
+migrate_demands : Demanding migrate_app
+migrate_demands words e =
+    let solid : IsSolid (built_at migrate_app) = record { each = refl; apart = refl; demands = refl } in
+    let old = given_in (built_at migrate_app) words solid e _ (inl refl) refl in
+    let new = given_in (built_at migrate_app) words solid e _ (inr (inl refl)) refl in
+    (Migrate (at_some_place old.0) (at_some_place new.0), (refl, old.1, new.1))
 
 status_demands : Demanding status_app
 status_demands words e =
@@ -233,7 +240,7 @@ no_help s is q answers other e =
     plain false f = f
 
 all_items : Items (built program_app).subs
-all_items = ((λ q answers other e. init_demands q.1 e), ((λ q answers other e. check_demands q.1 e), ((λ q answers other e. run_demands q.1 e), ((λ q answers other e. propose_demands q.1 e), ((λ q answers other e. ask_demands q.1 e), ((λ q answers other e. status_demands q.1 e), ((λ q answers other e. transcript_demands q.1 e), ((λ q answers other e. audit_demands q.1 e), ((λ q answers other e. dump_demands q.1 e), ((λ q answers other e. simulate_demands q.1 e), ((λ q answers other e. hear_demands q.1 e), (no_help _ refl, tt))))))))))))
+all_items = ((λ q answers other e. init_demands q.1 e), ((λ q answers other e. check_demands q.1 e), ((λ q answers other e. run_demands q.1 e), ((λ q answers other e. propose_demands q.1 e), ((λ q answers other e. ask_demands q.1 e), ((λ q answers other e. status_demands q.1 e), ((λ q answers other e. transcript_demands q.1 e), ((λ q answers other e. audit_demands q.1 e), ((λ q answers other e. dump_demands q.1 e), ((λ q answers other e. migrate_demands q.1 e), ((λ q answers other e. simulate_demands q.1 e), ((λ q answers other e. hear_demands q.1 e), (no_help _ refl, tt)))))))))))))
 
 entered_asks : (subs : List Shape) (q : Text × List Text) (found : Option Shape) → find (λ (s : Shape). answers_to q.0 (label_of s)) subs ≡ found
     → Items subs → bytes_eq q.0 (codes "help") ≡ false

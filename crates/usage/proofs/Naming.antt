@@ -10,7 +10,7 @@ use Rattle.clap.specs.declared.parser.matches.ArgMatches.{ArgMatches}
 use Rattle.usage.specs.Tasks.{IsAskedFor, Names, SaysQuiet}
 use Rattle.usage.proofs.Reading.{not_none, some_is}
 use Rattle.usage.specs.declared.command_line.Task.{Task}
-use Rattle.usage.specs.declared.command_line.Task.TheVariants.{Hear, Init, Check, Run, Propose, Ask, Status, Transcript, Audit, Simulate, Dump}
+use Rattle.usage.specs.declared.command_line.Task.TheVariants.{Hear, Init, Check, Run, Propose, Ask, Status, Transcript, Audit, Simulate, Dump, Migrate}
 
 -- two texts differ where the test says so
 pub apart : (a b : Text) → bytes_eq a b ≡ false → a ≡ b → ⊥
@@ -30,6 +30,7 @@ only_hear rows none (Transcript address question) named = apart (codes "hear") (
 only_hear rows none (Audit file n t questions) named = apart (codes "hear") (codes "audit") refl named.0
 only_hear rows none (Simulate script trace chart) named = apart (codes "hear") (codes "simulate") refl named.0
 only_hear rows none (Dump journal count) named = apart (codes "hear") (codes "dump") refl named.0
+only_hear rows none (Migrate old new) named = apart (codes "hear") (codes "migrate") refl named.0
 
 pub only_init : (rows : List Row) → ((settings : Bor Text) → Names (codes "init") rows (Init settings) → ⊥) → (task : Task) → Names (codes "init") rows task → ⊥
 only_init rows none (Hear n t questions me) named = apart (codes "init") (codes "hear") refl named.0
@@ -43,6 +44,7 @@ only_init rows none (Transcript address question) named = apart (codes "init") (
 only_init rows none (Audit file n t questions) named = apart (codes "init") (codes "audit") refl named.0
 only_init rows none (Simulate script trace chart) named = apart (codes "init") (codes "simulate") refl named.0
 only_init rows none (Dump journal count) named = apart (codes "init") (codes "dump") refl named.0
+only_init rows none (Migrate old new) named = apart (codes "init") (codes "migrate") refl named.0
 
 pub only_check : (rows : List Row) → ((settings : Bor Text) → Names (codes "check") rows (Check settings) → ⊥) → (task : Task) → Names (codes "check") rows task → ⊥
 only_check rows none (Hear n t questions me) named = apart (codes "check") (codes "hear") refl named.0
@@ -56,6 +58,7 @@ only_check rows none (Transcript address question) named = apart (codes "check")
 only_check rows none (Audit file n t questions) named = apart (codes "check") (codes "audit") refl named.0
 only_check rows none (Simulate script trace chart) named = apart (codes "check") (codes "simulate") refl named.0
 only_check rows none (Dump journal count) named = apart (codes "check") (codes "dump") refl named.0
+only_check rows none (Migrate old new) named = apart (codes "check") (codes "migrate") refl named.0
 
 pub only_run : (rows : List Row) → ((settings : Bor Text) (stay log any_host : Bool) → Names (codes "run") rows (Run settings stay log any_host) → ⊥) → (task : Task) → Names (codes "run") rows task → ⊥
 only_run rows none (Hear n t questions me) named = apart (codes "run") (codes "hear") refl named.0
@@ -69,6 +72,7 @@ only_run rows none (Transcript address question) named = apart (codes "run") (co
 only_run rows none (Audit file n t questions) named = apart (codes "run") (codes "audit") refl named.0
 only_run rows none (Simulate script trace chart) named = apart (codes "run") (codes "simulate") refl named.0
 only_run rows none (Dump journal count) named = apart (codes "run") (codes "dump") refl named.0
+only_run rows none (Migrate old new) named = apart (codes "run") (codes "migrate") refl named.0
 
 pub only_propose : (rows : List Row) → ((address : Bor Text) (question : ℕ) (bit : ℕ) → Names (codes "propose") rows (Propose address question bit) → ⊥) → (task : Task) → Names (codes "propose") rows task → ⊥
 only_propose rows none (Hear n t questions me) named = apart (codes "propose") (codes "hear") refl named.0
@@ -82,6 +86,7 @@ only_propose rows none (Transcript address question) named = apart (codes "propo
 only_propose rows none (Audit file n t questions) named = apart (codes "propose") (codes "audit") refl named.0
 only_propose rows none (Simulate script trace chart) named = apart (codes "propose") (codes "simulate") refl named.0
 only_propose rows none (Dump journal count) named = apart (codes "propose") (codes "dump") refl named.0
+only_propose rows none (Migrate old new) named = apart (codes "propose") (codes "migrate") refl named.0
 
 pub only_ask : (rows : List Row) → ((address : Bor Text) (question : ℕ) → Names (codes "ask") rows (Ask address question) → ⊥) → (task : Task) → Names (codes "ask") rows task → ⊥
 only_ask rows none (Hear n t questions me) named = apart (codes "ask") (codes "hear") refl named.0
@@ -95,6 +100,7 @@ only_ask rows none (Transcript address question) named = apart (codes "ask") (co
 only_ask rows none (Audit file n t questions) named = apart (codes "ask") (codes "audit") refl named.0
 only_ask rows none (Simulate script trace chart) named = apart (codes "ask") (codes "simulate") refl named.0
 only_ask rows none (Dump journal count) named = apart (codes "ask") (codes "dump") refl named.0
+only_ask rows none (Migrate old new) named = apart (codes "ask") (codes "migrate") refl named.0
 
 pub only_status : (rows : List Row) → ((address : Bor Text) → Names (codes "status") rows (Status address) → ⊥) → (task : Task) → Names (codes "status") rows task → ⊥
 only_status rows none (Hear n t questions me) named = apart (codes "status") (codes "hear") refl named.0
@@ -108,6 +114,7 @@ only_status rows none (Transcript address question) named = apart (codes "status
 only_status rows none (Audit file n t questions) named = apart (codes "status") (codes "audit") refl named.0
 only_status rows none (Simulate script trace chart) named = apart (codes "status") (codes "simulate") refl named.0
 only_status rows none (Dump journal count) named = apart (codes "status") (codes "dump") refl named.0
+only_status rows none (Migrate old new) named = apart (codes "status") (codes "migrate") refl named.0
 
 pub only_transcript : (rows : List Row) → ((address : Bor Text) (question : ℕ) → Names (codes "transcript") rows (Transcript address question) → ⊥) → (task : Task) → Names (codes "transcript") rows task → ⊥
 only_transcript rows none (Hear n t questions me) named = apart (codes "transcript") (codes "hear") refl named.0
@@ -121,6 +128,7 @@ only_transcript rows none (Transcript address question) named = none address que
 only_transcript rows none (Audit file n t questions) named = apart (codes "transcript") (codes "audit") refl named.0
 only_transcript rows none (Simulate script trace chart) named = apart (codes "transcript") (codes "simulate") refl named.0
 only_transcript rows none (Dump journal count) named = apart (codes "transcript") (codes "dump") refl named.0
+only_transcript rows none (Migrate old new) named = apart (codes "transcript") (codes "migrate") refl named.0
 
 pub only_audit : (rows : List Row) → ((file : Bor Text) (n : ℕ) (t : ℕ) (questions : ℕ) → Names (codes "audit") rows (Audit file n t questions) → ⊥) → (task : Task) → Names (codes "audit") rows task → ⊥
 only_audit rows none (Hear n t questions me) named = apart (codes "audit") (codes "hear") refl named.0
@@ -134,6 +142,7 @@ only_audit rows none (Transcript address question) named = apart (codes "audit")
 only_audit rows none (Audit file n t questions) named = none file n t questions named
 only_audit rows none (Simulate script trace chart) named = apart (codes "audit") (codes "simulate") refl named.0
 only_audit rows none (Dump journal count) named = apart (codes "audit") (codes "dump") refl named.0
+only_audit rows none (Migrate old new) named = apart (codes "audit") (codes "migrate") refl named.0
 
 pub only_simulate : (rows : List Row) → ((script : Bor Text) (trace : Option (Bor Text)) (chart : Option (Bor Text)) → Names (codes "simulate") rows (Simulate script trace chart) → ⊥) → (task : Task) → Names (codes "simulate") rows task → ⊥
 only_simulate rows none (Hear n t questions me) named = apart (codes "simulate") (codes "hear") refl named.0
@@ -147,6 +156,7 @@ only_simulate rows none (Transcript address question) named = apart (codes "simu
 only_simulate rows none (Audit file n t questions) named = apart (codes "simulate") (codes "audit") refl named.0
 only_simulate rows none (Simulate script trace chart) named = none script trace chart named
 only_simulate rows none (Dump journal count) named = apart (codes "simulate") (codes "dump") refl named.0
+only_simulate rows none (Migrate old new) named = apart (codes "simulate") (codes "migrate") refl named.0
 
 pub only_dump : (rows : List Row) → ((journal : Bor Text) (count : Bool) → Names (codes "dump") rows (Dump journal count) → ⊥) → (task : Task) → Names (codes "dump") rows task → ⊥
 only_dump rows none (Hear n t questions me) named = apart (codes "dump") (codes "hear") refl named.0
@@ -160,6 +170,21 @@ only_dump rows none (Transcript address question) named = apart (codes "dump") (
 only_dump rows none (Audit file n t questions) named = apart (codes "dump") (codes "audit") refl named.0
 only_dump rows none (Simulate script trace chart) named = apart (codes "dump") (codes "simulate") refl named.0
 only_dump rows none (Dump journal count) named = none journal count named
+only_dump rows none (Migrate old new) named = apart (codes "dump") (codes "migrate") refl named.0
+
+pub only_migrate : (rows : List Row) → ((old : Bor Text) (new : Bor Text) → Names (codes "migrate") rows (Migrate old new) → ⊥) → (task : Task) → Names (codes "migrate") rows task → ⊥
+only_migrate rows none (Hear n t questions me) named = apart (codes "migrate") (codes "hear") refl named.0
+only_migrate rows none (Init settings) named = apart (codes "migrate") (codes "init") refl named.0
+only_migrate rows none (Check settings) named = apart (codes "migrate") (codes "check") refl named.0
+only_migrate rows none (Run settings stay log any_host) named = apart (codes "migrate") (codes "run") refl named.0
+only_migrate rows none (Propose address question bit) named = apart (codes "migrate") (codes "propose") refl named.0
+only_migrate rows none (Ask address question) named = apart (codes "migrate") (codes "ask") refl named.0
+only_migrate rows none (Status address) named = apart (codes "migrate") (codes "status") refl named.0
+only_migrate rows none (Transcript address question) named = apart (codes "migrate") (codes "transcript") refl named.0
+only_migrate rows none (Audit file n t questions) named = apart (codes "migrate") (codes "audit") refl named.0
+only_migrate rows none (Simulate script trace chart) named = apart (codes "migrate") (codes "simulate") refl named.0
+only_migrate rows none (Dump journal count) named = apart (codes "migrate") (codes "dump") refl named.0
+only_migrate rows none (Migrate old new) named = none old new named
 
 -- the name and the rows of the command that was met, each by itself
 met_of : (met : Option (Text × List Row)) (name : Text) (rows : List Row) → Some name ≡ option_map (λ (p : Text × List Row). p.0) met

@@ -8,7 +8,7 @@ use Rattle.clap.specs.Simple.{matches_of, subcommand_of}
 use Rattle.clap.specs.Faults.{fault_of}
 use Rattle.usage.specs.Usage.{program_app}
 use Rattle.usage.specs.declared.command_line.Task.{Task}
-use Rattle.usage.specs.declared.command_line.Task.TheVariants.{Hear, Init, Check, Run, Propose, Ask, Status, Transcript, Audit, Simulate, Dump}
+use Rattle.usage.specs.declared.command_line.Task.TheVariants.{Hear, Init, Check, Run, Propose, Ask, Status, Transcript, Audit, Simulate, Dump, Migrate}
 
 -- the text writes the number in decimal digits, behind a plus or none, and it has at most that many bits
 abbrev pub WritesNumber : ℕ → Text → ℕ → Type 0
@@ -55,6 +55,8 @@ Names name rows (Simulate script trace chart) = (name ≡ codes "simulate") × H
     × MayHaveText (codes "chart") rows (option_map (λ path. path.now) chart)
 Names name rows (Dump journal count) = (name ≡ codes "dump") × HasText (codes "journal") rows journal.now
     × HasFlag (codes "count") rows count
+Names name rows (Migrate old new) = (name ≡ codes "migrate") × HasText (codes "old") rows old.now
+    × HasText (codes "new") rows new.now
 
 -- the command that was met, with what was given for its words, asks for the task
 pub record IsAskedFor (met : Option (Text × List Row)) (task : Task) : Type 0 where

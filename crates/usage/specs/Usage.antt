@@ -102,6 +102,10 @@ audit_app = taking (codes "audit") (word_rule (codes "file") ∷ size_rules)
 abbrev pub dump_app : App
 dump_app = taking (codes "dump") (word_rule (codes "journal") ∷ flag_rule (codes "count") ∷ [])
 
+-- `bracha migrate OLD NEW`
+abbrev pub migrate_app : App
+migrate_app = taking (codes "migrate") (word_rule (codes "old") ∷ word_rule (codes "new") ∷ [])
+
 -- `bracha simulate [--trace FILE] [--chart FILE] SCRIPT`
 abbrev pub simulate_app : App
 simulate_app = taking (codes "simulate") (word_rule (codes "script") ∷ file_rule (codes "trace") ∷ file_rule (codes "chart") ∷ [])
@@ -127,7 +131,7 @@ with_telling app = with_rule (with_rule app quiet_rule) verbose_rule
 
 -- the commands, in the order of the help
 abbrev pub commands : List App
-commands = init_app ∷ check_app ∷ run_app ∷ propose_app ∷ ask_app ∷ status_app ∷ transcript_app ∷ audit_app ∷ dump_app ∷ simulate_app ∷ hear_app ∷ []
+commands = init_app ∷ check_app ∷ run_app ∷ propose_app ∷ ask_app ∷ status_app ∷ transcript_app ∷ audit_app ∷ dump_app ∷ migrate_app ∷ simulate_app ∷ hear_app ∷ []
 
 -- `bracha [--quiet] [--verbose] COMMAND [--quiet] [--verbose] ..`
 abbrev pub program_app : App

@@ -1,7 +1,7 @@
 //! The words of the command line.
 
 ghost use Rattle.usage.specs.Tasks.{AreQuiet, AskFor, HasFlag, HasNumberOption, IsAskedFor, IsQuiet, Names, SaysQuiet, rows_in};
-ghost use Rattle.usage.specs.Usage.{Builds, address_rule, as_u16, as_u8, ask_app, audit_app, bare_app, check_app, dump_app, file_rule, flag_rule, hear_app, init_app, number_rule, program_app};
+ghost use Rattle.usage.specs.Usage.{Builds, address_rule, as_u16, as_u8, ask_app, audit_app, bare_app, check_app, dump_app, file_rule, flag_rule, hear_app, init_app, migrate_app, number_rule, program_app};
 ghost use Rattle.usage.specs.Usage.{propose_app, run_app, simulate_app, size_rules, status_app, transcript_app, desk_rules, quiet_rule, verbose_rule, word_rule, with_rules, with_telling};
 ghost use Rattle.clap.specs.Words.{App, FailsBy, Rule, app_of, fault_of, first_of, new_app, rule_of, subcommand_rows_of, with_rule, with_subcommand};
 ghost use Rattle.std.specs.Prelude.{◌≡◌, ◌↔◌, IfOk, IfSome, IsNone, IsTrue, Some, codes, map, option_map, ℕ};
@@ -75,6 +75,11 @@ pub enum Task<'a> {
     Dump {
         journal: &'a str,
         count: bool,
+    },
+    /// Brings the journal of version 1 in one file over into a new one in another.
+    Migrate {
+        old: &'a str,
+        new: &'a str,
     },
 }
 
@@ -188,10 +193,10 @@ fn with_telling<'a>(alloc: Global, command: Built<'a>) -> Built<'a>
 fn with_size<'a>(alloc: Global, command: Built<'a>) -> Built<'a>
     ensures { (app : App) → Builds app command.entry → Builds (with_rules app size_rules) result }
 {
-    let n = number(alloc, "n", "N", "How many members there are (1 to 32)");
+    let n = number(alloc, "n", "N", "How many members there are (1 to 64)");
     let liars = "How many of them may lie (less than a third)";
     let t = number(alloc, "t", "T", liars);
-    let count = "How many questions there are (1 to 256)";
+    let count = "How many questions there are (1 to 4096)";
     let questions = number(alloc, "questions", "Q", count);
     let command = with_arg(command, of_u16(n));
     let command = with_arg(command, of_u16(t));
@@ -331,6 +336,19 @@ fn dump<'a>(alloc: Global) -> Built<'a>
     with_arg(command, flag(alloc, "count", count))
 }
 
+fn migrate<'a>(alloc: Global) -> Built<'a>
+    ensures { Builds migrate_app result }
+{
+    let about = "Brings a member's journal of version 1 over into a new file";
+    let examples =
+        "It prints `migrated C`, how many records there are. The old file is left as it is, and is out of use from then on: a member that ran on both would say things twice.\n\nExample, while the member doesn't run:\n  bracha migrate member-1.journal member-1-v2.journal";
+    let old = "The file of the old journal";
+    let new = "The file of the new one, which is made (or empty)";
+    let command = named(alloc, "migrate", about, examples);
+    let command = with_arg(command, word(alloc, "old", "OLD", old));
+    with_arg(command, word(alloc, "new", "NEW", new))
+}
+
 fn simulate<'a>(alloc: Global) -> Built<'a>
     ensures { Builds simulate_app result }
 {
@@ -382,6 +400,7 @@ fn program<'a>(alloc: Global) -> Built<'a>
     let program = with_command(alloc, program, transcript(alloc));
     let program = with_command(alloc, program, audit(alloc));
     let program = with_command(alloc, program, dump(alloc));
+    let program = with_command(alloc, program, migrate(alloc));
     let program = with_command(alloc, program, simulate(alloc));
     with_command(alloc, program, hear(alloc))
 }
@@ -532,6 +551,17 @@ fn dump_of<'a>(options: &ArgMatches<'a>) -> Option<Task<'a>>
     })
 }
 
+/// The values of `migrate`'s words.
+fn migrate_of<'a>(options: &ArgMatches<'a>) -> Option<Task<'a>>
+    ensures some { IfSome result (Names (codes "migrate") (rows_in options.now)) }
+    ensures none { IsNone result → (task : Task) → Names (codes "migrate") (rows_in options.now) task → ⊥ }
+{
+    Some(Task::Migrate {
+        old: text_of(options, "old")?,
+        new: text_of(options, "new")?,
+    })
+}
+
 /// The values of `simulate`'s words.
 fn simulate_of<'a>(options: &ArgMatches<'a>) -> Option<Task<'a>>
     ensures some { IfSome result (Names (codes "simulate") (rows_in options.now)) }
@@ -560,6 +590,7 @@ fn named_task<'a>(name: &str, options: &ArgMatches<'a>) -> Option<Task<'a>>
         "transcript" => transcript_of(options),
         "audit" => audit_of(options),
         "dump" => dump_of(options),
+        "migrate" => migrate_of(options),
         "simulate" => simulate_of(options),
         _ => None,
     }

@@ -180,7 +180,7 @@ fn remove(rt: &HostRuntime, paths: &[&str]) -> Result<(), Fail> {
 }
 
 /// A journal of no records: cluster 7, n 4, t 1, one question, member 1.
-const EMPTY: [u8; 25] = *b"BRACHAJ1\0\0\0\0\0\0\0\x07\x04\x01\0\x01\x01\0\0\0\0";
+const EMPTY: [u8; 25] = *b"BRACHAJ2\0\0\0\0\0\0\0\x07\x04\x01\0\x01\x01\0\0\0\0";
 
 /// A script of a member by itself, which proposes once.
 const ONE_PROPOSAL: &str = "n 1\nt 0\nquestions 1\nliars\nseed 1\npropose 0 0 1\n";
@@ -264,7 +264,7 @@ fn faults_of_words_and_files(rt: HostRuntime) -> Result<(), Fail> {
         Ends("simulate bracha_tests_none.script", "file", 1),
         Ends("hear --n 0 --t 0 --questions 1 --me 0", "size NoMembers", 1),
         Ends(
-            "hear --n 33 --t 0 --questions 1 --me 0",
+            "hear --n 65 --t 0 --questions 1 --me 0",
             "size TooManyMembers",
             1,
         ),
@@ -327,7 +327,7 @@ const TOLD: [(&str, &[u8]); 7] = [
     ),
     ("bracha_tests_more_end.script", b"n 4\nt 1\n"),
     ("bracha_tests_more_lines.script", b"n 4\r\nt 1\r\n"),
-    ("bracha_tests_more.journal", b"BRACHAJ1"),
+    ("bracha_tests_more.journal", b"BRACHAJ2"),
 ];
 
 /// Whether both lines are told, and the first alone by the option and by the environment.
@@ -363,7 +363,7 @@ fn a_second_line_names_the_thing(rt: HostRuntime) -> Result<(), Fail> {
         ),
         Names(
             "dump bracha_tests_more.journal",
-            "bracha: journal BadHeader\nbracha_tests_more.journal: byte 0: bytes 42 52 41 43 48 41 4a 31: journal BadHeader\n",
+            "bracha: journal BadHeader\nbracha_tests_more.journal: byte 0: bytes 42 52 41 43 48 41 4a 32: journal BadHeader\n",
         ),
         Names(
             "check bracha_tests_more_text.toml",
@@ -406,12 +406,12 @@ fn a_second_line_names_the_thing(rt: HostRuntime) -> Result<(), Fail> {
 }
 
 /// The journal's header with an echo in a batch behind it, and a record of no kind in the next.
-const ODD: [u8; 45] =
-    *b"BRACHAJ1\0\0\0\0\0\0\0\x07\x04\x01\0\x01\x01\0\0\0\x01\0\x01\x02\0\0\0\x01\x01\x01\x01\0\x01\x09\0\0\0\x01\x01\x01\0";
+const ODD: [u8; 43] =
+    *b"BRACHAJ2\0\0\0\0\0\0\0\x07\x04\x01\0\x01\x01\0\0\0\x01\0\x01\x02\0\0\0\x01\x11\x01\0\x01\x09\0\0\0\x01\x11\0";
 
 /// The second line of the odd journal.
 const ODD_LINE: &str =
-    "\nbracha_tests_bytes_of.journal: byte 34: bytes 01 00 01 09 00 00 00 01 01 01 00: journal BadRecord\n";
+    "\nbracha_tests_bytes_of.journal: byte 33: bytes 01 00 01 09 00 00 00 01 11 00: journal BadRecord\n";
 
 #[test]
 fn a_second_line_shows_the_bytes_of_a_journal(rt: HostRuntime) -> Result<(), Fail> {
@@ -431,10 +431,10 @@ fn a_second_line_shows_the_bytes_of_a_journal(rt: HostRuntime) -> Result<(), Fai
             "run bracha_tests_bytes_of.toml",
             "\nbracha_tests_bytes_of.journal: byte 24: end of file: journal CutShort\n",
         ),
-        Put(journal, &ODD[..34]),
+        Put(journal, &ODD[..33]),
         Says(
             "check bracha_tests_bytes_of.toml",
-            "\nbracha_tests_bytes_of.journal: byte 24: bytes 01 00 01 02 00 00 00 01 01 01: journal CutShort\n",
+            "\nbracha_tests_bytes_of.journal: byte 24: bytes 01 00 01 02 00 00 00 01 11: journal CutShort\n",
         ),
     ];
     play(&rt, &steps)?;
@@ -442,8 +442,8 @@ fn a_second_line_shows_the_bytes_of_a_journal(rt: HostRuntime) -> Result<(), Fai
 }
 
 /// The journal's header with an echo in a batch behind it.
-const ONE: [u8; 35] =
-    *b"BRACHAJ1\0\0\0\0\0\0\0\x07\x04\x01\0\x01\x01\0\0\0\x01\0\x01\x02\0\0\0\x01\x01\x01\0";
+const ONE: [u8; 34] =
+    *b"BRACHAJ2\0\0\0\0\0\0\0\x07\x04\x01\0\x01\x01\0\0\0\x01\0\x01\x02\0\0\0\x01\x11\0";
 
 #[test]
 fn a_second_line_shows_the_front_of_a_journal(rt: HostRuntime) -> Result<(), Fail> {
@@ -488,6 +488,67 @@ fn a_second_line_shows_the_front_of_a_journal(rt: HostRuntime) -> Result<(), Fai
     remove(&rt, &[path, other, journal])
 }
 
+/// The same of version 1.
+const OLD: [u8; 35] =
+    *b"BRACHAJ1\0\0\0\0\0\0\0\x07\x04\x01\0\x01\x01\0\0\0\x01\0\x01\x02\0\0\0\x01\x01\x01\0";
+
+#[test]
+fn a_journal_of_version_1_is_brought_over(rt: HostRuntime) -> Result<(), Fail> {
+    let (old, new, more) = (
+        "bracha_tests_old.journal",
+        "bracha_tests_new.journal",
+        "bracha_tests_newer.journal",
+    );
+    let steps = [
+        Put(old, &OLD),
+        Names(
+            "dump bracha_tests_old.journal",
+            "bracha: journal OldVersion\nbracha_tests_old.journal: byte 0: bytes 42 52 41 43 48 41 4a 31 00 00 00 00 00 00 00 07 ..: journal OldVersion\n",
+        ),
+        Prints(
+            "migrate bracha_tests_old.journal bracha_tests_new.journal",
+            "migrated 1\nstatus 0\n",
+        ),
+        Has(new, &ONE),
+        Names(
+            "migrate bracha_tests_old.journal bracha_tests_new.journal",
+            "bracha: migrate NotEmpty\nbracha_tests_new.journal: the journal of member 1 of cluster 7 with 1 record\n",
+        ),
+        Has(new, &ONE),
+        // A new file that is made for it is gone after a fault, and one that was there is left.
+        Names(
+            "migrate bracha_tests_new.journal bracha_tests_newer.journal",
+            "bracha: migrate NotOld\nbracha_tests_new.journal: no journal of version 1\n",
+        ),
+        Lacks(more),
+        Put(more, b""),
+        Prints(
+            "migrate bracha_tests_new.journal bracha_tests_newer.journal",
+            "status 1\n",
+        ),
+        Has(more, b""),
+        Clear(more),
+        Says(
+            "migrate bracha_tests_old.journal bracha_tests_old.journal",
+            "bracha: same file bracha_tests_old.journal\n",
+        ),
+        Has(old, &OLD),
+        Put(old, &OLD[..34]),
+        Names(
+            "migrate bracha_tests_old.journal bracha_tests_newer.journal",
+            "bracha: migrate CutShort\nbracha_tests_old.journal: migrate CutShort\n",
+        ),
+        Lacks(more),
+        Names(
+            "migrate bracha_tests_nowhere.journal bracha_tests_newer.journal",
+            "bracha: file\nbracha_tests_nowhere.journal: open: No such file or directory (os error 2)\n",
+        ),
+        Lacks(more),
+    ];
+    play(&rt, &steps)?;
+    remove(&rt, &[old, new])
+}
+
 /// What is no regular file is not read for a second line: this one has no end.
 #[test]
 fn a_second_line_reads_no_device(rt: HostRuntime) -> Result<(), Fail> {
@@ -524,16 +585,16 @@ fn a_second_line_says_what_is_asked(rt: HostRuntime) -> Result<(), Fail> {
         "desk = '127.0.0.1:5'\nseed = '0000000000000000000000000000000000000000000000000000000000000001'\n";
     for (at, row) in [
         Wrong(
-            "n = 33\nt = 1\nquestions = 1\nme = 1\n",
+            "n = 65\nt = 1\nquestions = 1\nme = 1\n",
             four,
             end,
-            "bracha: size TooManyMembers\nbracha_tests_asked.toml:2: n: must be an integer from 1 to 32\n",
+            "bracha: size TooManyMembers\nbracha_tests_asked.toml:2: n: must be an integer from 1 to 64\n",
         ),
         Wrong(
             "n = 'four'\n",
             four,
             end,
-            "bracha: settings n\nbracha_tests_asked.toml:2: n: must be an integer from 1 to 32\n",
+            "bracha: settings n\nbracha_tests_asked.toml:2: n: must be an integer from 1 to 64\n",
         ),
         Wrong(
             "n = 4\nt = 2\nquestions = 1\nme = 1\n",
@@ -545,7 +606,7 @@ fn a_second_line_says_what_is_asked(rt: HostRuntime) -> Result<(), Fail> {
             "n = 4\nt = 1\nquestions = 0\nme = 1\n",
             four,
             end,
-            "bracha: size NoQuestions\nbracha_tests_asked.toml:4: questions: must be an integer from 1 to 256\n",
+            "bracha: size NoQuestions\nbracha_tests_asked.toml:4: questions: must be an integer from 1 to 4096\n",
         ),
         Wrong(
             "n = 4\nt = 1\nquestions = 1\nme = 4\n",
@@ -801,7 +862,7 @@ fn init_makes_the_journal_once(rt: HostRuntime) -> Result<(), Fail> {
 }
 
 /// A journal of no records: cluster 7, one member, one question.
-const ALONE: [u8; 25] = *b"BRACHAJ1\0\0\0\0\0\0\0\x07\x01\0\0\x01\0\0\0\0\0";
+const ALONE: [u8; 25] = *b"BRACHAJ2\0\0\0\0\0\0\0\x07\x01\0\0\x01\0\0\0\0\0";
 
 /// A member whose journal is missing says who may make one; a second member at a port that is taken says so.
 fn takes_no_port_twice(rt: &HostRuntime) -> Result<(), Fail> {

@@ -4,6 +4,6 @@ use Rattle.commands.proofs.damage.split_batch.Goals as goal
 
 pub returns-then-behind-records-clause-none : goal.returns-then-behind-records-clause-none
 returns-then-behind-records-clause-none c = λ none header batch gate behind is same.
-    let short : length c.args.bytes.now ≤ 3 + 7 * (get_or c.args.bytes.now 1 0 * 256 + get_or c.args.bytes.now 2 0) =
+    let short : length c.args.bytes.now ≤ 3 + 6 * (get_or c.args.bytes.now 1 0 * 256 + get_or c.args.bytes.now 2 0) =
     search (rules, c.if-behind-records.true, c.in-len3-up.len_at_least) in
     too_short header c.args.bytes.now batch gate behind is same short

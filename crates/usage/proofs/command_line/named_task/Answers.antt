@@ -51,6 +51,12 @@ returns-in-dump-clause-some c = subst (λ (name : Text). IfSome c.dump_of.result
 pub returns-in-dump-clause-none : goal.returns-in-dump-clause-none
 returns-in-dump-clause-none c = λ none task named. c.dump_of.ensures.none none task (subst (λ (name : Text). Names name (rows_in c.args.options.now) task) c.in-dump.is named)
 
+pub returns-in-migrate-clause-some : goal.returns-in-migrate-clause-some
+returns-in-migrate-clause-some c = subst (λ (name : Text). IfSome c.migrate_of.result (Names name (rows_in c.args.options.now))) (sym c.in-migrate.is) c.migrate_of.ensures.some
+
+pub returns-in-migrate-clause-none : goal.returns-in-migrate-clause-none
+returns-in-migrate-clause-none c = λ none task named. c.migrate_of.ensures.none none task (subst (λ (name : Text). Names name (rows_in c.args.options.now) task) c.in-migrate.is named)
+
 pub returns-in-simulate-clause-some : goal.returns-in-simulate-clause-some
 returns-in-simulate-clause-some c = subst (λ (name : Text). IfSome c.simulate_of.result (Names name (rows_in c.args.options.now))) (sym c.in-simulate.is) c.simulate_of.ensures.some
 

@@ -13,5 +13,6 @@ returns c =
     let transcript = c.with_command-program-7.ensures _ _ status c.transcript.ensures refl in
     let audit = c.with_command-program-8.ensures _ _ transcript c.audit.ensures refl in
     let dump = c.with_command-program-9.ensures _ _ audit c.dump.ensures refl in
-    let simulate = c.with_command-program-10.ensures _ _ dump c.simulate.ensures refl in
+    let migrate = c.with_command-program-10.ensures _ _ dump c.migrate.ensures refl in
+    let simulate = c.with_command-program-11.ensures _ _ migrate c.simulate.ensures refl in
     c.with_command.ensures _ _ simulate c.hear.ensures refl
