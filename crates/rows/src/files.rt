@@ -6,7 +6,8 @@
 //! `cuts` opens every front, and `bytes PLACE` the file with each value at that place: each answers its runs, a first number,
 //! a last one, and what is answered to all of them.
 
-use crate::phrases::{bytes_of, header_of, records_text, words_of};
+use crate::phrases::{bytes_of, header_of, header_text, records_text, words_of};
+use crate::runs::Runs;
 use disk::{Disk, MemDisk};
 use journal::{Journal, JournalFault, peek};
 use std::alloc::{AllocError, Global};
@@ -22,56 +23,11 @@ pub struct File {
 /// The number of records that an opening gives, or its fault.
 type Answer = Result<usize, JournalFault>;
 
-/// A text of runs: of each the first number, the last one and the answer.
-#[derive(Drop)]
-struct Runs {
-    alloc: Global,
-    text: String,
-    first: usize,
-    next: usize,
-    answer: Option<Answer>,
-}
-
 /// What is said of an answer.
 fn answer_text(alloc: Global, answer: Answer) -> Result<String, AllocError> {
     match answer {
         Ok(count) => format!(in alloc; "{count}"),
         Err(fault) => format!(in alloc; "{fault}"),
-    }
-}
-
-impl Runs {
-    fn new(alloc: Global) -> Runs {
-        Runs {
-            alloc,
-            text: String::new(alloc),
-            first: 0,
-            next: 0,
-            answer: None,
-        }
-    }
-
-    /// Ends the run.
-    fn end(&mut self) -> Result<(), AllocError> {
-        if let Some(answer) = self.answer {
-            let space = if self.first == 0 { "" } else { " " };
-            let (first, last) = (self.first, self.next.saturating_sub(1));
-            let answer = answer_text(self.alloc, answer)?;
-            let run = format!(in self.alloc; "{space}{first}-{last} {answer}")?;
-            self.text.push_str(run.as_str())?;
-        }
-        self.first = self.next;
-        Ok(())
-    }
-
-    /// The next number has that answer.
-    fn take(&mut self, answer: Answer) -> Result<(), AllocError> {
-        if self.answer != Some(answer) {
-            self.end()?;
-            self.answer = Some(answer);
-        }
-        self.next = self.next.saturating_add(1);
-        Ok(())
     }
 }
 
@@ -99,10 +55,9 @@ fn cuts(alloc: Global, header: Header, bytes: &[u8]) -> Result<String, AllocErro
     let mut runs = Runs::new(alloc);
     for len in 0..bytes.len() {
         let (front, _) = bytes.split_at(len);
-        runs.take(opening(alloc, Some(header), front))?;
+        runs.take(answer_text(alloc, opening(alloc, Some(header), front))?)?;
     }
-    runs.end()?;
-    Ok(runs.text)
+    runs.finish()
 }
 
 /// The file's answer with that byte at a place, which has its own again then.
@@ -131,33 +86,16 @@ fn bytes_at(
 ) -> Result<String, AllocError> {
     let mut runs = Runs::new(alloc);
     for byte in 0..256u16 {
-        runs.take(with_byte(alloc, Some(header), bytes, at, byte as u8))?;
+        let answer = with_byte(alloc, Some(header), bytes, at, byte as u8);
+        runs.take(answer_text(alloc, answer)?)?;
     }
-    runs.end()?;
-    Ok(runs.text)
+    runs.finish()
 }
 
 /// The records that an opening gives, or its fault.
 fn opened(alloc: Global, header: &Header, bytes: &[u8]) -> Option<String> {
     match Journal::open(alloc, disk_of(alloc, bytes).ok()?, header) {
         Ok((_, records)) => records_text(alloc, "", records.as_slice()).ok(),
-        Err(fault) => format!(in alloc; "{fault}").ok(),
-    }
-}
-
-/// The header that a file begins with, or the fault.
-fn header_text(alloc: Global, header: Result<Header, JournalFault>) -> Option<String> {
-    match header {
-        Ok(header) => {
-            let (cluster, size, me) = (header.cluster(), header.size(), header.me());
-            format!(in alloc;
-                "{cluster} {} {} {} {me}",
-                size.n(),
-                size.t(),
-                size.questions()
-            )
-            .ok()
-        }
         Err(fault) => format!(in alloc; "{fault}").ok(),
     }
 }
@@ -212,7 +150,10 @@ impl File {
                 self.add(digits)
             }
             ["more", digits] => self.add(digits),
-            ["header"] => header_text(self.alloc, self.header()),
+            ["header"] => match self.header() {
+                Ok(header) => header_text(self.alloc, &header),
+                Err(fault) => format!(in self.alloc; "{fault}").ok(),
+            },
             ["open"] => answer_text(self.alloc, opening(self.alloc, None, &self.bytes)).ok(),
             ["open", n, t, questions, me] => {
                 opened(self.alloc, &header_of(n, t, questions, me)?, &self.bytes)

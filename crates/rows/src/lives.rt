@@ -9,9 +9,9 @@
 
 use crate::files::disk_of;
 use crate::phrases::{
-    answer_text, bytes_of, header_of, records_text, statement_of, toss_of, words_of,
+    answer_text, bytes_of, header_of, pick_of, records_text, statement_of, toss_of, words_of,
 };
-use disk::{Disk, MemDisk, Pick};
+use disk::{Disk, MemDisk};
 use journal::create;
 use member::{Member, MemberFault};
 use questions::Answer;
@@ -44,16 +44,6 @@ pub struct Life {
     header: Option<Header>,
     disk: Option<MemDisk>,
     up: Option<Up>,
-}
-
-/// The pick of these words.
-fn pick_of(words: &[&str]) -> Option<Pick> {
-    match words {
-        ["kept"] => Some(Pick::Kept),
-        ["lost"] => Some(Pick::Lost),
-        ["fill", byte] => Some(Pick::Fill(byte.parse().ok()?)),
-        _ => None,
-    }
 }
 
 /// What is said of an answer, or of the fault.
@@ -281,7 +271,7 @@ impl Life {
     /// Plays a row.
     pub fn told(&mut self, action: &str) -> Option<String> {
         let alloc = self.alloc;
-        let any = Size::new(32, 0, 256).ok()?;
+        let any = Size::new(64, 0, 4096).ok()?;
         if let Some(event) = action.strip_prefix("hear ") {
             let event = event_of(alloc, any, event)?;
             return match &mut self.up {

@@ -11,9 +11,11 @@ mod files;
 mod frames;
 mod jobs;
 mod lives;
+mod migrations;
 mod numbers;
 mod phrases;
 mod player;
+mod runs;
 mod steps;
 
 use player::Player;

@@ -1,5 +1,6 @@
 //! Words of rows, and what they stand for.
 
+use disk::Pick;
 use questions::Answer;
 use rounds::Toss;
 use std::alloc::Global;
@@ -19,6 +20,28 @@ pub fn size_of(n: &str, t: &str, questions: &str) -> Option<Size> {
 /// The header of the cluster 7, of that size and member.
 pub fn header_of(n: &str, t: &str, questions: &str, me: &str) -> Option<Header> {
     Header::new(7, size_of(n, t, questions)?, me.parse().ok()?)
+}
+
+/// The cluster, the size and the member of a header.
+pub fn header_text(alloc: Global, header: &Header) -> Option<String> {
+    let (cluster, size, me) = (header.cluster(), header.size(), header.me());
+    format!(in alloc;
+        "{cluster} {} {} {} {me}",
+        size.n(),
+        size.t(),
+        size.questions()
+    )
+    .ok()
+}
+
+/// The pick of these words.
+pub fn pick_of(words: &[&str]) -> Option<Pick> {
+    match words {
+        ["kept"] => Some(Pick::Kept),
+        ["lost"] => Some(Pick::Lost),
+        ["fill", byte] => Some(Pick::Fill(byte.parse().ok()?)),
+        _ => None,
+    }
 }
 
 /// The bytes of hexadecimal digits.
@@ -70,7 +93,8 @@ pub fn statement_of(alloc: Global, size: Size, digits: &str) -> Option<Statement
     }
 }
 
-/// The digits of a record's seven bytes.
+/// The digits of a record: of a statement those that a frame has, of a decision 04, the question, 00, the round, 00 and
+/// the bit.
 fn record_text(alloc: Global, record: &Record) -> Result<String, Memory> {
     match *record {
         Record::Said(statement) => {

@@ -6,6 +6,7 @@ use crate::files::File;
 use crate::frames::Stream;
 use crate::jobs::Job;
 use crate::lives::Life;
+use crate::migrations::Migration;
 use crate::numbers;
 use crate::steps::Questions;
 use std::alloc::Global;
@@ -19,6 +20,7 @@ pub enum Player {
     Journals(File),
     Jobs(Job),
     Lives(Life),
+    Migrations(Migration),
     Numbers(Global),
     Questions(Questions),
     /// There is no such player.
@@ -35,6 +37,7 @@ impl Player {
             "journals" => Player::Journals(File::new(alloc)),
             "jobs" => Player::Jobs(Job::new(alloc)),
             "lives" => Player::Lives(Life::new(alloc)),
+            "migrations" => Player::Migrations(Migration::new(alloc)),
             "numbers" => Player::Numbers(alloc),
             "questions" => Player::Questions(Questions::new(alloc)),
             _ => Player::Nobody,
@@ -50,6 +53,7 @@ impl Player {
             Player::Journals(file) => file.told(action),
             Player::Jobs(job) => job.told(action),
             Player::Lives(life) => life.told(action),
+            Player::Migrations(migration) => migration.told(action),
             Player::Numbers(alloc) => numbers::told(*alloc, action),
             Player::Questions(questions) => questions.told(action),
             Player::Nobody => None,

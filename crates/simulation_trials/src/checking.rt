@@ -31,11 +31,11 @@ desk 192.168.0.1:5
 ";
 
 /// The member's journal, with a batch of two records.
-const TWO_RECORDS: [u8; 42] =
-    *b"BRACHAJ1\0\0\0\0\0\0\0\x07\x04\x01\0\x01\x01\0\0\0\x01\0\x02\x02\0\0\0\x01\x01\x01\x04\0\0\0\x01\0\x01\0";
+const TWO_RECORDS: [u8; 40] =
+    *b"BRACHAJ2\0\0\0\0\0\0\0\x07\x04\x01\0\x01\x01\0\0\0\x01\0\x02\x02\0\0\0\x01\x11\x04\0\0\0\x01\x01\0";
 
 /// A journal of member 2, with no records.
-const OF_MEMBER_2: [u8; 25] = *b"BRACHAJ1\0\0\0\0\0\0\0\x07\x04\x01\0\x01\x02\0\0\0\0";
+const OF_MEMBER_2: [u8; 25] = *b"BRACHAJ2\0\0\0\0\0\0\0\x07\x04\x01\0\x01\x02\0\0\0\0";
 
 /// The settings of member 1.
 fn settings_of(alloc: Global) -> Option<Settings> {
@@ -80,7 +80,7 @@ fn says_what_is_there(rt: HostRuntime) -> Result<(), Fail> {
 fn says_what_is_wrong(rt: HostRuntime) -> Result<(), Fail> {
     let header = settings_of(rt.alloc()).ok_or("settings")?.header;
     let rows = [
-        (&TWO_RECORDS[..41], JournalFault::CutShort),
+        (&TWO_RECORDS[..39], JournalFault::CutShort),
         // The file is another member's.
         (OF_MEMBER_2.as_slice(), JournalFault::OtherHeader),
     ];

@@ -6,13 +6,13 @@ use journal::JournalFault::{BadRecord, CutShort};
 use std::alloc::{AllocError, Global};
 
 /// The header of cluster 7, n 4, t 1, one question, member 1.
-const FRONT: [u8; 24] = *b"BRACHAJ1\0\0\0\0\0\0\0\x07\x04\x01\0\x01\x01\0\0\0";
+const FRONT: [u8; 24] = *b"BRACHAJ2\0\0\0\0\0\0\0\x07\x04\x01\0\x01\x01\0\0\0";
 
 /// An open gate, one record, and `echo 0 0 1 1 one`.
-const BATCH: [u8; 10] = [1, 0, 1, 2, 0, 0, 0, 1, 1, 1];
+const BATCH: [u8; 9] = [1, 0, 1, 2, 0, 0, 0, 1, 0x11];
 
 /// The same, but of a kind that is none.
-const ODD: [u8; 10] = [1, 0, 1, 9, 0, 0, 0, 1, 1, 1];
+const ODD: [u8; 9] = [1, 0, 1, 9, 0, 0, 0, 1, 0x11];
 
 /// The header, and behind it these.
 fn journal(alloc: Global, one: &[u8], two: &[u8], end: &[u8]) -> Result<Vec<u8>, AllocError> {
@@ -40,15 +40,15 @@ fn a_file_goes_wrong_behind_its_batches(rt: HostRuntime) {
     let rows: [(JournalFault, (&[u8], &[u8], &[u8]), usize); 7] = [
         // No gate at all, and one that opens nothing.
         (CutShort, (&[], &[], &[]), 24),
-        (CutShort, (&BATCH, &[], &[1]), 34),
+        (CutShort, (&BATCH, &[], &[1]), 33),
         // A batch with no gate behind it, and one that lacks a byte.
         (CutShort, (&BATCH, &[], &[]), 24),
-        (CutShort, (&BATCH, &BATCH, &BATCH[..9]), 44),
+        (CutShort, (&BATCH, &BATCH, &BATCH[..8]), 42),
         // A record that is none, in the second batch and in the first.
-        (BadRecord, (&BATCH, &ODD, &[0]), 34),
+        (BadRecord, (&BATCH, &ODD, &[0]), 33),
         (BadRecord, (&ODD, &BATCH, &[0]), 24),
         // A count of 0.
-        (BadRecord, (&BATCH, &[1, 0, 0], &[0]), 34),
+        (BadRecord, (&BATCH, &[1, 0, 0], &[0]), 33),
     ];
     for (at, (fault, parts, place)) in rows.iter().enumerate() {
         let is_there = goes_wrong_at(rt.alloc(), *fault, *parts, Some(*place));
@@ -62,6 +62,7 @@ fn other_faults_are_of_the_start_or_of_no_place(rt: HostRuntime) {
         (JournalFault::NotEmpty, Some(0)),
         (JournalFault::BadHeader, Some(0)),
         (JournalFault::OtherHeader, Some(0)),
+        (JournalFault::OldVersion, Some(0)),
         (JournalFault::Device, None),
         (JournalFault::Memory, None),
         (JournalFault::Stopped, None),

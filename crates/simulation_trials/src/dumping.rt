@@ -23,11 +23,11 @@ seed = '0000000000000000000000000000000000000000000000000000000000000000'
 ";
 
 /// That member's journal of no records.
-const EMPTY: [u8; 25] = *b"BRACHAJ1\0\0\0\0\0\0\0\x07\x04\x01\0\x01\x01\0\0\0\0";
+const EMPTY: [u8; 25] = *b"BRACHAJ2\0\0\0\0\0\0\0\x07\x04\x01\0\x01\x01\0\0\0\0";
 
 /// And with a batch of the Echo One at question 0, origin 0, round 1, step 1, and of the decision 1 in round 1.
-const TWO_RECORDS: [u8; 42] =
-    *b"BRACHAJ1\0\0\0\0\0\0\0\x07\x04\x01\0\x01\x01\0\0\0\x01\0\x02\x02\0\0\0\x01\x01\x01\x04\0\0\0\x01\0\x01\0";
+const TWO_RECORDS: [u8; 40] =
+    *b"BRACHAJ2\0\0\0\0\0\0\0\x07\x04\x01\0\x01\x01\0\0\0\x01\0\x02\x02\0\0\0\x01\x11\x04\0\0\0\x01\x01\0";
 
 /// A disk that has these bytes.
 pub(crate) fn disk_of(alloc: Global, bytes: &[u8]) -> Option<MemDisk> {
@@ -60,7 +60,7 @@ fn counts_the_records(rt: HostRuntime) {
     let rows = [
         (EMPTY.as_slice(), "0\n", None),
         (TWO_RECORDS.as_slice(), "2\n", None),
-        (&TWO_RECORDS[..41], "", Some(JournalFault::CutShort)),
+        (&TWO_RECORDS[..39], "", Some(JournalFault::CutShort)),
     ];
     for (at, (bytes, want, fault)) in rows.iter().enumerate() {
         assert!(rt;
@@ -91,8 +91,8 @@ fn prints_the_records(rt: HostRuntime) {
             "cluster 7 n 4 t 1 questions 1 me 1\necho 0 0 1 1 one\ndecided 0 1 1\n",
         ),
         (
-            b"BRACHAJ1\xff\xff\xff\xff\xff\xff\xff\xff\x20\x0a\x01\x00\x1f\0\0\0\x01\0\x03\x01\0\xff\x1f\x20\x03\x02\x03\0\x09\x02\x01\x03\x04\x04\0\xfe\0\x20\0\0\xff\0\x01\x02\0\0\x01\x02\x03\x03\0".as_slice(),
-            "cluster 18446744073709551615 n 32 t 10 questions 256 me 31\ninitial 255 31 32 3 sure-zero\nready 9 2 1 3 unsure\ndecided 254 32 0\necho 0 1 2 3 sure-one\n",
+            b"BRACHAJ2\xff\xff\xff\xff\xff\xff\xff\xff\x40\x15\x10\0\x3f\0\0\0\x01\0\x03\x01\x0f\xff\x3f\x20\x32\x03\0\x09\x02\x01\x34\x04\x0f\xfe\0\x20\0\xff\0\x01\x02\0\0\x01\x02\x33\0".as_slice(),
+            "cluster 18446744073709551615 n 64 t 21 questions 4096 me 63\ninitial 4095 63 32 3 sure-zero\nready 9 2 1 3 unsure\ndecided 4094 32 0\necho 0 1 2 3 sure-one\n",
         ),
     ];
     for (at, (bytes, want)) in rows.iter().enumerate() {
@@ -114,9 +114,9 @@ fn prints_nothing_of_no_journal(rt: HostRuntime) {
         (b"".as_slice(), "journal BadHeader"),
         (&EMPTY[..23], "journal BadHeader"),
         (&EMPTY[..24], "journal CutShort"),
-        (&TWO_RECORDS[..41], "journal CutShort"),
+        (&TWO_RECORDS[..39], "journal CutShort"),
         (
-            b"BRACHAJ1\0\0\0\0\0\0\0\x07\x04\x01\0\x01\x01\0\0\0\x01\0\0\0".as_slice(),
+            b"BRACHAJ2\0\0\0\0\0\0\0\x07\x04\x01\0\x01\x01\0\0\0\x01\0\0\0".as_slice(),
             "journal BadRecord",
         ),
     ];

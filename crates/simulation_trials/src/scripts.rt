@@ -308,7 +308,7 @@ fn names_the_first_fault(rt: HostRuntime) {
             ScriptFault::Size(SizeFault::TooManyLiars),
         ),
         (
-            b"n 4\nt 1\nquestions 257\n",
+            b"n 4\nt 1\nquestions 4097\n",
             ScriptFault::Size(SizeFault::TooManyQuestions),
         ),
         (b"n 3\nt 1\nquestions\n", ScriptFault::Line(3)),

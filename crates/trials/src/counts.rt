@@ -10,7 +10,7 @@ const VALUES: [Value; 5] = [Zero, One, SureZero, SureOne, Unsure];
 fn cast(sent: [(u8, Value); 4]) -> Result<Votes, Fail> {
     let mut votes = Votes::none();
     for (member, value) in sent {
-        if member >= 32 {
+        if member >= 64 {
             return Err(Fail::from("a member"));
         }
         votes = votes.with(member, value);
@@ -61,6 +61,12 @@ fn rows_of_counts(rt: HostRuntime) -> Result<(), Fail> {
             [2, 1, 0, 0, 0],
         ),
         (
+            64,
+            true,
+            [(0, SureZero), (63, SureOne), (62, Unsure), (63, SureOne)],
+            [0, 0, 1, 1, 1],
+        ),
+        (
             4,
             false,
             [(0, One), (3, One), (4, One), (31, Zero)],
@@ -83,14 +89,7 @@ fn rows_of_counts(rt: HostRuntime) -> Result<(), Fail> {
             4,
             true,
             [(2, Unsure), (2, SureOne), (1, SureZero), (1, Unsure)],
-            [0, 0, 1, 1, 0],
-        ),
-        // Nobody sent Unsure but in step 3.
-        (
-            4,
-            false,
-            [(0, Unsure), (1, Unsure), (2, One), (2, Unsure)],
-            [0, 1, 0, 0, 0],
+            [0, 0, 0, 0, 2],
         ),
     ];
     for (at, (n, third, sent, want)) in rows.into_iter().enumerate() {

@@ -187,7 +187,7 @@ const FIVE: &str = "['localhost:1', 'localhost:2', 'localhost:3', 'localhost:4',
 fn size_is_named(rt: &(impl AllocGlobal + Abort)) -> Result<(), Fail> {
     for (changes, want) in [
         ([("n", "0")].as_slice(), "size NoMembers"),
-        ([("n", "33")].as_slice(), "size TooManyMembers"),
+        ([("n", "65")].as_slice(), "size TooManyMembers"),
         (
             [("n", "300"), ("t", "300")].as_slice(),
             "size TooManyMembers",
@@ -207,7 +207,7 @@ fn size_is_named(rt: &(impl AllocGlobal + Abort)) -> Result<(), Fail> {
             "size NoQuestions",
         ),
         (
-            [("questions", "257"), ("peers", "[]")].as_slice(),
+            [("questions", "4097"), ("peers", "[]")].as_slice(),
             "size TooManyQuestions",
         ),
     ] {

@@ -13,11 +13,11 @@ use std::test::Fail;
 use terms::{Header, Kind, Place, Record, Size, Statement, Value};
 
 /// The file of cluster 7, of four members of whom one may lie, and one question; the member 1; no record.
-const EMPTY: [u8; 25] = *b"BRACHAJ1\0\0\0\0\0\0\0\x07\x04\x01\0\x01\x01\0\0\0\0";
+const EMPTY: [u8; 25] = *b"BRACHAJ2\0\0\0\0\0\0\0\x07\x04\x01\0\x01\x01\0\0\0\0";
 
 /// The same with the Echo One at question 0, origin 0, round 1, step 1.
-const ONE_ECHO: [u8; 35] =
-    *b"BRACHAJ1\0\0\0\0\0\0\0\x07\x04\x01\0\x01\x01\0\0\0\x01\0\x01\x02\0\0\0\x01\x01\x01\0";
+const ONE_ECHO: [u8; 34] =
+    *b"BRACHAJ2\0\0\0\0\0\0\0\x07\x04\x01\0\x01\x01\0\0\0\x01\0\x01\x02\0\0\0\x01\x11\0";
 
 fn header(me: u8) -> Result<Header, Fail>
     ensures { IfOk result (λ h. h ≡ new_header 7 (new_size 4 1 1) me) }

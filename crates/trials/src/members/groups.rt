@@ -72,6 +72,6 @@ fn a_group_is_four_calls_and_one_batch(rt: HostRuntime) -> Result<(), Fail> {
     assert!(rt; hands_out(&member, &[of(&rt, Echo, One), of(&rt, Ready, One)]));
     assert!(rt; has_no_call_left(&mut member)?);
     member.fuse(None);
-    assert!(rt; member.into_disk().len() == Ok(42));
+    assert!(rt; member.into_disk().len() == Ok(40));
     Ok(())
 }
