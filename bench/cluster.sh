@@ -68,12 +68,12 @@ settle() {
         }' "711$1" "$questions"
 }
 
-# Of a journal, how many batches it has: its header and first gate take 25 bytes, a batch 3, and a record 7.
+# Of a journal, how many batches it has: its header and first gate take 25 bytes, a batch 3, and a record 6.
 batches() {
     local records bytes
     records=$("$program" dump "member-$1.journal" | tail -n +2 | wc -l)
     bytes=$(stat -c %s "member-$1.journal")
-    echo $(((bytes - 25 - 7 * records) / 3))
+    echo $(((bytes - 25 - 6 * records) / 3))
 }
 
 sync=$(sync_seconds)

@@ -6,10 +6,10 @@ set -euo pipefail
 cd "$(dirname "$0")/.."
 copy=$(mktemp -d)
 trap 'rm -r "$copy"' EXIT
-grep -E '^(terms|vocabulary|votes|rbc|validate|rounds|questions):' crates.txt > "$copy/crates.txt"
+grep -E '^(terms|terms_prelude|votes|rbc|validate|rounds|questions):' crates.txt > "$copy/crates.txt"
 cp HANDLES "$copy"
 mkdir "$copy/crates"
-cp -a crates/{terms,vocabulary,votes,rbc,validate,rounds,questions} "$copy/crates"
+cp -a crates/{terms,terms_prelude,votes,rbc,validate,rounds,questions} "$copy/crates"
 cd "$copy/crates/questions"
 printf '\n#[cfg(test)]\nmod tests;\n' >> src/lib.rt
 cp "$OLDPWD/bench/core-tests.txt" src/tests.rt

@@ -19,8 +19,8 @@ HERE = os.path.dirname(os.path.abspath(__file__))
 ROOT = os.path.dirname(HERE)
 TRIES = 5
 # A test of these, and the crates that it stands on.
-DECODER = ["terms", "vocabulary", "spelling", "wire"]
-CORE = ["terms", "vocabulary", "votes", "rbc", "validate", "rounds", "questions"]
+DECODER = ["terms", "terms_prelude", "statement_codec", "wire"]
+CORE = ["terms", "terms_prelude", "votes", "rbc", "validate", "rounds", "questions"]
 APPEND = ["disk"]
 
 

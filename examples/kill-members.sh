@@ -2,7 +2,8 @@
 # Runs a cluster of four members on this machine and kills one of them, by SIGKILL, in the middle of the proposals on each
 # of twelve questions. On one all propose 0, on the next all propose 1, on the third two propose 0 and two propose 1, and so
 # on. All members have to decide each question alike, and for the bit that was proposed where there is one; each journal has
-# to have each decision once.
+# to have each decision once. At the end SIGTERM ends each member cleanly, since it is started with that signal blocked, for which
+# `env` is wanted as coreutils have it from 8.31 on.
 #
 #   examples/kill-members.sh [PROGRAM]     PROGRAM is bracha; left out, it is crates/bracha/out/bracha of this repository
 set -euo pipefail
@@ -22,7 +23,7 @@ fail() {
 
 start() {
     rm -f "output-$1" # that of its last life says ready too
-    "$program" run --stay "member-$1.toml" >"output-$1" 2>"log-$1" &
+    env --block-signal=TERM,INT --ignore-signal=XFSZ "$program" run --stay --log "member-$1.toml" >"output-$1" 2>"log-$1" &
     process[$1]=$!
     for _ in {1..200}; do
         if grep -qs ready "output-$1"; then return; fi
@@ -70,8 +71,10 @@ for question in {0..11}; do
     done
 done
 for member in 0 1 2 3; do
+    # SIGTERM, which is blocked, ends it as the end of its input would
     kill "${process[$member]}"
-    wait "${process[$member]}" 2>/dev/null || true
+    wait "${process[$member]}" || fail "member $member ended with status $?"
+    [ "$(tail -n 1 "log-$member")" = end ] || fail "member $member was cut off"
     count=$("$program" dump "member-$member.journal" | grep -c '^decided')
     if [ "$count" != 12 ]; then fail "member $member has $count decisions"; fi
 done

@@ -28,7 +28,7 @@ trap cleanup EXIT
 
 for member in 0 1 2 3; do
     "$program" init "member-$member.toml"
-    "$program" run --stay "member-$member.toml" >"output-$member" 2>"log-$member" &
+    env --block-signal=TERM,INT "$program" run --stay --log "member-$member.toml" >"output-$member" 2>"log-$member" &
     started="$started $!"
 done
 for member in 0 1 2 3; do

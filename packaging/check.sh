@@ -24,7 +24,7 @@ options_of() {
     sed -n 's/^ *\(-[a-zA-Z], \)\{0,1\}\(--[a-z-]*\).*/\2/p' | grep -v -x -e --help || true
 }
 
-commands=$("$program" --help | sed -n '/^Commands:/,/^$/s/^  \([a-z]*\).*/\1/p')
+commands=$("$program" --help | sed -n '/^Commands:/,/^$/s/^  \([a-z-]*\).*/\1/p')
 [ -n "$commands" ] || { echo "$program names no commands"; exit 1; }
 for command in $commands; do
     for file in packaging/bracha.1 packaging/completions/*; do

@@ -3,8 +3,12 @@
 
 Members of a cluster of four, as processes, on a network that means them no good, and one on a disk that stalls:
 
-- 64 connections that don't greet, and one more; 32 clients, and one more; a place that is given back is given again;
-- a member that may open 24 files: its doors come back once others go;
+- 64 connections that don't greet, and one more; 32 clients, and one more, which takes the place of the one that was silent
+  longest; a place that is given back is given again;
+- greetings that aren't, of which each is closed with nothing said; a second link of a peer whose first one goes on; one
+  Initial 10,000 times, which is one record;
+- a member that may open 24 files: its doors come back once others go; one that may open 31, which are enough for three
+  clients: the fourth takes the place of the one that was silent longest;
 - a client and a peer that read nothing, a peer that sends a byte a second, and a client that reads a transcript a byte a
   second: the others are served, and decide;
 - garbage at both doors of each member, as fast as it goes, for S seconds (60), while four members decide 256 questions:
@@ -36,10 +40,10 @@ class Member:
 
     def __init__(self, program, folder, me, ports, files=None, stalls=None):
         self.me, self.door, self.desk = me, ports + me, ports + 10 + me
-        settings = f"{folder}/member-{me}.toml"
+        settings, self.journal = f"{folder}/member-{me}.toml", f"{folder}/journal-{me}"
         peers = ", ".join(f'"127.0.0.1:{ports + it}"' for it in range(N))
         with open(settings, "w", encoding="ascii") as file:
-            file.write(f'cluster = 7\nn = {N}\nt = 1\nquestions = {QUESTIONS}\nme = {me}\njournal = "{folder}/journal-{me}"\n'
+            file.write(f'cluster = 7\nn = {N}\nt = 1\nquestions = {QUESTIONS}\nme = {me}\njournal = "{self.journal}"\n'
                        f'peers = [{peers}]\ndesk = "127.0.0.1:{self.desk}"\nseed = "{me:02x}{"5a" * 31}"\n')
         subprocess.run([program, "init", settings], check=True)
         limit = (lambda: resource.setrlimit(resource.RLIMIT_NOFILE, (files, files))) if files else None
@@ -138,15 +142,99 @@ def too_many_that_do_not_greet(program):
         assert until(lambda: is_let_in(member)), "a place that was given back isn't given again"
 
 
+def is_answered(client):
+    """Whether a client's STATUS has its reply."""
+    try:
+        client.sendall(b"STATUS\n")
+        return client.makefile("rb").readline().startswith(b"UP ")
+    except OSError:
+        return False
+
+
 def too_many_clients(program):
     with cluster(program, PORTS + 20, [0]) as [member]:
-        clients = [connect(member.desk) for _ in range(32)]
-        for stream in clients:
-            stream.sendall(b"STATUS\n")
-            assert stream.recv(3) == b"UP ", "a client has no reply"
-        assert is_closed(connect(member.desk)), "the 33rd wasn't closed"
+        clients = []
+        for _ in range(32):
+            clients.append(connect(member.desk))
+            assert is_answered(clients[-1]), "a client has no reply"
+        assert is_answered(clients[0]), "a client has no second reply"
+        one_more = connect(member.desk)
+        assert is_answered(one_more), "the 33rd has no reply"
+        assert is_closed(clients[1]), "the one that was silent longest wasn't closed"
+        assert all(is_answered(it) for it in [clients[0], *clients[2:], one_more]), "another one was closed"
         clients[7].close()
-        assert until(lambda: member.ask(b"STATUS").startswith("UP ")), "a place that was given back isn't given again"
+        one_more = connect(member.desk)
+        assert is_answered(one_more), "a place that was given back isn't given again"
+        assert all(is_answered(it) for it in [clients[0], *clients[2:7], *clients[8:]]), "it wasn't that place"
+
+
+def said(kind, origin, value):
+    """The frame of a statement on question 0, round 1 and step 1."""
+    return bytes([0, 8, 3, kind, 0, 0, origin, 1, 1, value])
+
+
+def false_greetings(program):
+    """To member 0: what is no greeting of a peer to it is closed, with nothing said, and the next peer is let in."""
+    of_five = bytearray(greets(1, 0))
+    of_five[12] = 5
+    with cluster(program, PORTS, [0]) as [member]:
+        for bytes_ in (b"\0\1\0", b"\0\x09\2" + bytes(8), said(2, 0, 1), greets(1, 0, 8), greets(1, 2), bytes(of_five), greets(7, 0),
+                       b"\0\x10\4\2" + said(2, 0, 1)[3:] + said(3, 0, 1)[3:], b"\xff", b"GET / HTTP/1.1\r\n\r\n"):
+            with connect(member.door) as stream:
+                stream.sendall(bytes_)
+                assert is_closed(stream), f"{bytes_.hex()} isn't closed, or answered"
+        with connect(member.door) as stream:
+            stream.sendall(greets(1, 0)[:9])
+            stream.shutdown(socket.SHUT_WR)
+            assert is_closed(stream), "nine bytes and the end"
+        assert until(lambda: is_let_in(member)), "a peer isn't let in"
+
+
+def welcomed(member, peer):
+    """A link of that peer that was welcomed, and the number that the Welcome names, once its seat is free."""
+    end = time.monotonic() + 10
+    while time.monotonic() < end:
+        stream = connect(member.door)
+        stream.sendall(greets(peer, member.me))
+        welcome = b""
+        with contextlib.suppress(OSError):
+            while len(welcome) < 11 and (piece := stream.recv(11 - len(welcome))):
+                welcome += piece
+        if len(welcome) == 11:
+            assert welcome[:3] == b"\0\x09\2", welcome.hex()
+            return stream, int.from_bytes(welcome[3:], "big")
+        stream.close()
+        time.sleep(0.1)
+    raise AssertionError("no Welcome comes")
+
+
+def two_links_of_a_peer(program):
+    with cluster(program, PORTS + 20, [0]) as [member]:
+        first, number = welcomed(member, 1)
+        assert number == 0
+        for _ in range(3):
+            with connect(member.door) as second:
+                second.sendall(greets(1, 0))
+                assert is_closed(second), "a second link isn't closed"
+        first.sendall(said(1, 1, 1))
+        assert until(lambda: member.ask(b"STATUS") == "UP 1 0"), "what the first one said behind it isn't taken"
+        first.close()
+        third, number = welcomed(member, 1)
+        assert number == 1, number
+        third.close()
+
+
+def one_statement_many_times(program):
+    with cluster(program, PORTS + 20, [0]) as [member]:
+        link, _ = welcomed(member, 1)
+        link.sendall(said(1, 1, 1) * 10_000)
+        link.close()
+        link, number = welcomed(member, 1)
+        assert number == 10_000, number
+        link.close()
+        assert member.ask(b"STATUS") == "UP 1 0"
+        # the header, the gates, a count and a record
+        assert os.path.getsize(member.journal) == 34, os.path.getsize(member.journal)
 
 
 def few_files(program):
@@ -160,6 +248,19 @@ def few_files(program):
             stream.close()
         assert until(lambda: member.ask(b"STATUS").startswith("UP ")), "its desk doesn't come back"
         assert until(lambda: is_let_in(member)), "its door for peers doesn't come back"
+
+
+def few_clients(program):
+    """Of 31 files its links want 25, so there are 6 for three clients."""
+    with cluster(program, PORTS + 20, [0], files=31) as [member]:
+        said = "bracha: 31 open files are enough for 3 of 32 clients: the links want 25, and each client 2"
+        assert said in member.told(), member.told()
+        clients = [connect(member.desk) for _ in range(3)]
+        assert all(is_answered(it) for it in clients), "a client has no reply"
+        fourth = connect(member.desk)
+        assert is_answered(fourth), "the fourth has no reply"
+        assert is_closed(clients[0]), "the one that was silent longest wasn't closed"
+        assert all(is_answered(it) for it in [*clients[1:], fourth]), "another one was closed"
 
 
 def propose(member, question, bit):
@@ -292,7 +393,11 @@ def main():
     tests = {
         "too many that do not greet": lambda: too_many_that_do_not_greet(program),
         "too many clients": lambda: too_many_clients(program),
+        "false greetings": lambda: false_greetings(program),
+        "two links of a peer": lambda: two_links_of_a_peer(program),
+        "one statement many times": lambda: one_statement_many_times(program),
         "few files": lambda: few_files(program),
+        "few clients": lambda: few_clients(program),
         "slow ends": lambda: slow_ends(program),
         "a disk that stalls": lambda: stalled_disk(program, library),
         "flood": lambda: flood(program, words.seconds),

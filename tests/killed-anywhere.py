@@ -89,8 +89,11 @@ class Peer(threading.Thread):
                 body = whole(stream, int.from_bytes(length, "big"))
                 if body is None:
                     return
+                # one statement, or behind their count several, each as a frame of its own
                 if body[0] == 3:
                     self.said += length + body
+                elif body[0] == 4:
+                    self.said += b"".join(b"\0\x08\x03" + body[at : at + 7] for at in range(2, len(body), 7))
         except OSError:
             pass
 

@@ -1,6 +1,7 @@
 # Completions of fish for bracha. Put it into ~/.config/fish/completions or /usr/share/fish/vendor_completions.d.
-set -l commands init check run propose ask status transcript audit dump migrate simulate hear help
+set -l commands new-cluster init check run propose ask status transcript audit dump migrate simulate hear help
 complete -c bracha -f
+complete -c bracha -n "not __fish_seen_subcommand_from $commands" -a new-cluster -d "Write the settings of a new cluster"
 complete -c bracha -n "not __fish_seen_subcommand_from $commands" -a init -d "Make the journal of a member"
 complete -c bracha -n "not __fish_seen_subcommand_from $commands" -a check -d "Say whether a member would start"
 complete -c bracha -n "not __fish_seen_subcommand_from $commands" -a run -d "Run a member"
@@ -17,10 +18,18 @@ complete -c bracha -n "not __fish_seen_subcommand_from $commands" -a help -d "Pr
 complete -c bracha -n "not __fish_seen_subcommand_from $commands" -l version -d "Print the version"
 complete -c bracha -l help -d "Print help"
 complete -c bracha -l quiet -d "One line for a fault"
-complete -c bracha -F -n "__fish_seen_subcommand_from init check run audit dump migrate simulate"
-complete -c bracha -n "__fish_seen_subcommand_from run" -l stay -d "Run until it is killed"
+complete -c bracha -F -n "__fish_seen_subcommand_from new-cluster init check run propose audit dump migrate simulate"
+complete -c bracha -n "__fish_seen_subcommand_from run" -l stay -d "Run until a signal"
 complete -c bracha -n "__fish_seen_subcommand_from run" -l any-host -d "Unsafe: take links from any host"
 complete -c bracha -n "__fish_seen_subcommand_from run" -l log -d "Tell events on standard error"
+complete -c bracha -n "__fish_seen_subcommand_from new-cluster" -l n -x -d "Members"
+complete -c bracha -n "__fish_seen_subcommand_from new-cluster" -l t -x -d "Liars"
+complete -c bracha -n "__fish_seen_subcommand_from new-cluster" -l questions -x -d "Questions"
+complete -c bracha -n "__fish_seen_subcommand_from new-cluster" -l cluster -x -d "The cluster's number"
+complete -c bracha -n "__fish_seen_subcommand_from propose" -l all -d "To all members of the settings"
+complete -c bracha -n "__fish_seen_subcommand_from ask" -l wait -d "Until it is decided"
+complete -c bracha -n "__fish_seen_subcommand_from ask status check dump" -l json -d "Objects of JSON"
+complete -c bracha -n "__fish_seen_subcommand_from propose ask status transcript" -l timeout -x -d "Seconds to wait"
 complete -c bracha -n "__fish_seen_subcommand_from dump" -l count -d "How many records there are"
 complete -c bracha -n "__fish_seen_subcommand_from simulate" -l trace -r -F -d "A line for each event"
 complete -c bracha -n "__fish_seen_subcommand_from simulate" -l chart -r -F -d "A chart in SVG"

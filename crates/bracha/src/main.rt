@@ -7,18 +7,18 @@ ghost use Rattle.clap.specs.declared.error.kind.ErrorKind.TheVariants.{DisplayHe
 ghost use Rattle.std.specs.Prelude.{◌≡◌, ◌≢◌, ◌⊎◌, IfOk};
 
 use clap::error::ErrorKind;
-use edge::{
-    Failure, Fault, HeldStreams, ask_at, audit_file, check_file, dump_file, hear_input,
-    hold_streams, init_file, migrate_file, own_words, propose_at, run_file, simulate_file,
-    status_at, transcript_at, wants_quiet,
-};
+use command_line::{Task, command};
+use numerals::size_from;
 use running::Machine;
 use std::convert::AsStr;
 use std::io;
 use std::net::{TcpListener, TcpStream};
 use std::process::ExitCode;
-use usage::{Task, command};
-use words::size_from;
+use system::{
+    Failure, Fault, HeldStreams, NewCluster, ask_at, audit_file, await_at, check_file, dump_file,
+    hear_input, hold_streams, init_file, migrate_file, new_cluster, own_words, propose_at,
+    propose_to_all, run_file, simulate_file, status_at, transcript_at, wants_quiet,
+};
 
 /// Does the task, and gives the status to end with.
 fn work<R: Machine>(rt: &R, host: &HostRuntime, task: Task) -> Result<u8, Failure> {
@@ -32,8 +32,28 @@ fn work<R: Machine>(rt: &R, host: &HostRuntime, task: Task) -> Result<u8, Failur
             let size = size_from(n, t, questions).map_err(|fault| Fault::Size(fault))?;
             Ok(hear_input(host, size, me)?)
         }
+        Task::NewCluster {
+            n,
+            t,
+            questions,
+            cluster,
+            folder,
+            hosts,
+        } => {
+            let size = size_from(n, t, questions).map_err(|fault| Fault::Size(fault))?;
+            let cluster = u64::from(cluster);
+            new_cluster(
+                host,
+                &NewCluster {
+                    size,
+                    cluster,
+                    folder,
+                    hosts,
+                },
+            )
+        }
         Task::Init { settings } => init_file(host, settings),
-        Task::Check { settings } => check_file(host, settings),
+        Task::Check { settings, json } => check_file(host, settings, json),
         Task::Run {
             settings,
             stay,
@@ -44,10 +64,40 @@ fn work<R: Machine>(rt: &R, host: &HostRuntime, task: Task) -> Result<u8, Failur
             address,
             question,
             bit,
-        } => propose_at(host, address, question, bit),
-        Task::Ask { address, question } => ask_at(host, address, question),
-        Task::Status { address } => status_at(host, address),
-        Task::Transcript { address, question } => transcript_at(host, address, question),
+            all: false,
+            timeout,
+        } => propose_at(host, address, question, bit, timeout),
+        Task::Propose {
+            address,
+            question,
+            bit,
+            all: true,
+            timeout,
+        } => propose_to_all(host, address, question, bit, timeout),
+        Task::Ask {
+            address,
+            question,
+            wait: false,
+            json,
+            timeout,
+        } => ask_at(host, address, question, json, timeout),
+        Task::Ask {
+            address,
+            question,
+            wait: true,
+            json,
+            timeout,
+        } => await_at(host, address, question, json, timeout),
+        Task::Status {
+            address,
+            json,
+            timeout,
+        } => status_at(host, address, json, timeout),
+        Task::Transcript {
+            address,
+            question,
+            timeout,
+        } => transcript_at(host, address, question, timeout),
         Task::Audit {
             file,
             n,
@@ -57,7 +107,11 @@ fn work<R: Machine>(rt: &R, host: &HostRuntime, task: Task) -> Result<u8, Failur
             let size = size_from(n, t, questions).map_err(|fault| Fault::Size(fault))?;
             audit_file(host, file, size)
         }
-        Task::Dump { journal, count } => dump_file(host, journal, count),
+        Task::Dump {
+            journal,
+            count,
+            json,
+        } => dump_file(host, journal, count, json),
         Task::Migrate { old, new } => migrate_file(host, old, new),
         Task::Simulate {
             script,

@@ -3,7 +3,7 @@ use Rattle.std.proofs.Common.{◌≡◌, ℕ, ◌+◌, ◌*◌, ◌%◌, ◌/◌
 use Rattle.std.proofs.lemmas.List.{take_more}
 use Rattle.std.proofs.lemmas.List.Concat.{flat_map-append}
 use Rattle.std.specs.List.{flat_map}
-use Rattle.vocabulary.specs.Terms.{Header, Record}
+use Rattle.terms_prelude.specs.Terms.{Header, Record}
 use Rattle.journal.specs.declared.fault.JournalFault.{JournalFault}
 use Rattle.journal.specs.Words.{Batch, batch_bytes, header_text, record_bytes, batches_bytes, AreBatches, IsBatch, IsHeader, HasHeader, Holds, RefusesFile}
 use Rattle.journal.proofs.One.{behind_header, one_header}

@@ -2,10 +2,11 @@
 use Rattle.std.proofs.Common.{string_bytes, ℕ, ◌≡◌, ap, ap₂, ◌∙◌, append_assoc, codes, List, [], ◌∷◌, ◌++◌}
 use Rattle.std.specs.List.{flat_map}
 use Rattle.settings.specs.declared.document.Settings.{Settings}
-use Rattle.words.specs.Sentences.{sentence}
-use Rattle.words.specs.Lines.{line}
+use Rattle.numerals.specs.Sentences.{sentence}
+use Rattle.numerals.specs.Lines.{line}
 use Rattle.commands.specs.Dumps.{header_line}
-use Rattle.commands.specs.Checks.{address_text, peer_line, settings_text}
+use Rattle.settings.specs.Texts.{address_text}
+use Rattle.commands.specs.Checks.{peer_line, settings_text}
 
 joined : (head journal peers desk : List ℕ)
     → head ++ (codes "journal " ++ (journal ++ (codes "\n" ++ (peers ++ (codes "desk " ++ (desk ++ codes "\n"))))))

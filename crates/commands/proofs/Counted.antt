@@ -3,16 +3,16 @@ use Rattle.std.proofs.Common.{ℕ, ◌≡◌, ◌+◌, ◌<◌, ◌≤◌, ◌^�
 use denote.RawPtr.{null_ptr}
 use Rattle.std.specs.Global.{Vec}
 use Rattle.std.specs.List.{flat_map}
-use Rattle.vocabulary.specs.Terms.{Size, Record}
+use Rattle.terms_prelude.specs.Terms.{Size, Record}
 use Rattle.script.specs.declared.Script.{Script}
-use Rattle.script.specs.Words.{TossedAct, tossed_act, IsTold, IsScript}
+use Rattle.script.specs.Words.{TossedAct, tossed_act, SaysCluster, IsScript}
 use Rattle.sim.specs.declared.events.Event.{Event}
 use Rattle.sim.specs.declared.events.Mark.{Mark}
 use Rattle.sim.specs.declared.cluster.Cluster.{Cluster}
 use Rattle.sim.specs.declared.cluster.Outcome.{Outcome}
 use Rattle.sim.specs.declared.TheConstants.{MOST_EVENTS}
 use Rattle.sim.specs.Words.{Played, ClusterStandsFor, played, unplayed, and_then, last_saved, IsSimulation, Verdict, among}
-use Rattle.words.specs.Sentences.{bit_digit}
+use Rattle.numerals.specs.Sentences.{bit_digit}
 use Rattle.report.specs.Traces.{is_skipped}
 use Rattle.commands.specs.Simulations.{verdict_line, line_of_counts, simulation_text}
 use Rattle.commands.specs.Counts.{CountsPlayed}
@@ -72,7 +72,7 @@ one_counted alloc size liars all left old new event mark events skips digit stan
 
 -- all were played: what is printed is of a script that the text says, and of an outcome of it
 pub told_whole : (alloc : Global) (text : List ℕ) (size : Size) (liars : List ℕ) (all : List TossedAct) (cluster : Cluster) (events skips : ℕ) (verdicts : Vec Verdict) (made : List ℕ)
-    → length liars < 2 ^ 63 → length all ≤ MOST_EVENTS → IsTold text size liars all → (so : CountsPlayed size liars all [] cluster events skips)
+    → length liars < 2 ^ 63 → length all ≤ MOST_EVENTS → SaysCluster text size liars all → (so : CountsPlayed size liars all [] cluster events skips)
     → IsSimulation size (among liars) (λ p. false) so.script so.marks so.saved verdicts.items
     → made ≡ flat_map verdict_line verdicts.items ++ line_of_counts events skips
     → (script : Script) × (outcome : Outcome) × IsScript text script × IsOutcome script outcome × (made ≡ simulation_text outcome)
@@ -91,7 +91,7 @@ told_whole alloc text size liars all cluster events skips verdicts made short fe
     } in (
       script,
       outcome,
-      subst (λ (l : List TossedAct). IsTold text size liars l) (sym told_are) says,
+      subst (λ (l : List TossedAct). SaysCluster text size liars l) (sym told_are) says,
       simulated,
       is ∙ (ap (λ (k : ℕ). flat_map verdict_line verdicts.items ++ line_of_counts k skips) so.events_are
           ∙ ap (λ (k : ℕ). flat_map verdict_line verdicts.items ++ line_of_counts (length so.marks) k) so.skips_are),

@@ -1,34 +1,26 @@
 -- The pieces of a dump's lines.
-use Rattle.std.proofs.Common.{ℕ, ◌≡◌, ◌+◌, ◌<◌, refl, sym, ap, ◌∙◌, subst, arith, append_assoc, append-nil, codes, List, [], ◌∷◌, ◌++◌, length, take, get_or, suc}
+use Rattle.std.proofs.Common.{ℕ, ◌≡◌, inl, inr, Option, None, Some, refl, sym, ap, ◌∙◌, subst, append_assoc, codes, List, ◌++◌}
 use Rattle.std.specs.Fmt.{decimal}
-use Rattle.std.proofs.Math.Seq.{take-suc}
-use Rattle.vocabulary.specs.Terms.{Record, Header}
+use Rattle.std.specs.Io.KnownBytes.{Appends}
+use Rattle.std.proofs.lemmas.List.Concat.{flat_map-append}
+use Rattle.terms_prelude.specs.Terms.{Record, Header}
 use Rattle.journal.specs.declared.fault.JournalFault.{JournalFault}
 use Rattle.journal.specs.declared.fault.JournalFault.TheVariants as unheld
 use Rattle.journal.specs.Words.{IsOfFile, IsFaultOfOpening, HasHeader, IsOldVersion, RefusesFile}
 use Rattle.journal.specs.Faults.{IsFaultOfPeek}
 use Rattle.journal.proofs.One.{one_header}
+use Rattle.commands.specs.declared.dump.Form.{Form}
+use Rattle.commands.specs.declared.dump.Form.TheVariants.{Lines, Objects}
+use Rattle.commands.specs.declared.fault.DumpFault.{DumpFault}
 use Rattle.commands.specs.declared.fault.DumpFault.TheVariants as dump
-use Rattle.commands.specs.Faults.{of_opening}
-use Rattle.commands.specs.Dumps.{IsUnreadable, header_line, record_line, record_lines}
+use Rattle.commands.specs.Faults.{IsOfDump, IsOfPrint, of_opening}
+use Rattle.commands.specs.Dumps.{IsUnreadable, header_line, record_line, records_text}
+use Rattle.commands.specs.Objects.{record_object}
 
 pub header_pieces : (h : Header) (cluster n t questions me : ℕ) → cluster ≡ h.cluster → n ≡ h.size.n → t ≡ h.size.t → questions ≡ h.size.questions → me ≡ h.me
     → codes "cluster " ++ (decimal cluster ++ (codes " n " ++ (decimal n ++ (codes " t " ++ (decimal t
     ++ (codes " questions " ++ (decimal questions ++ (codes " me " ++ (decimal me ++ codes "\n"))))))))) ≡ header_line h
 header_pieces h cluster n t questions me a b c d e = rw (a, b, c, d, e) (simp append_assoc)
-
-lines-append : (xs ys : List Record) → record_lines (xs ++ ys) ≡ record_lines xs ++ record_lines ys
-lines-append [] ys = refl
-lines-append (r ∷ xs) ys = ap (λ t. record_line r ++ t) (lines-append xs ys) ∙ sym (append_assoc (record_line r) (record_lines xs) (record_lines ys))
-
--- one more record
-pub lines-snoc : (records : List Record) (i : ℕ) (r : Record) (head text more new : List ℕ) → r ≡ get_or records i r → i < length records
-    → text ≡ head ++ record_lines (take i records) → more ≡ record_line r → new ≡ text ++ more → new ≡ head ++ record_lines (take (i + 1) records)
-lines-snoc records i r head text more new at within before one is =
-    let e : suc i ≡ i + 1 = omega arith in
-    let step : take (i + 1) records ≡ take i records ++ r ∷ [] =
-    subst (λ k. take k records ≡ take i records ++ r ∷ []) e (take-suc records i r within ∙ ap (λ (x : Record). take i records ++ x ∷ []) (sym at)) in
-    is ∙ rw (step, lines-append, before, one) (simp (append_assoc, append-nil))
 
 -- what opening found wrong is wrong with a file that begins with the header
 unread : (header : Header) (why : JournalFault) (file : List ℕ) → HasHeader header file → (IsOfFile why → RefusesFile header why file) → IsFaultOfOpening why
@@ -81,3 +73,24 @@ pub headless : (why named : JournalFault) (file : List ℕ) → IsFaultOfPeek wh
     → (why ≡ unheld.BadHeader → IsOldVersion file → ⊥) → (why ≡ unheld.OldVersion → IsOldVersion file) → of_opening why ≡ dump.Journal named → IsUnreadable named file
 headless why named file of none new old e =
     subst (λ (w : JournalFault). IsUnreadable w file) (same_fault why named e).1 (peeked why file of none new old)
+
+-- what is written, and what is written behind it
+pub appends_more : (a b c : Option (List ℕ)) (x y : List ℕ) → Appends a b x → Appends b c y → Appends a c (x ++ y)
+appends_more None b c x y one two = tt
+appends_more (Some a) None c x y one two = absurd one
+appends_more (Some a) (Some b) None x y one two = absurd two
+appends_more (Some a) (Some b) (Some c) x y one two = two ∙ ap (λ (l : List ℕ). l ++ y) one ∙ append_assoc a x y
+
+-- the text of records, and that of others behind them
+pub records_text-append : (form : Form) (records more : List Record) → records_text form (records ++ more) ≡ records_text form records ++ records_text form more
+records_text-append Lines records more = flat_map-append record_line records more
+records_text-append Objects records more = flat_map-append record_object records more
+
+-- a write that failed, or memory that was refused, is no fault of a journal, and is one of a dump
+pub no_journal : (ends : DumpFault) (named : JournalFault) → IsOfPrint ends → ends ≡ dump.Journal named → ⊥
+no_journal ends named (inl memory) is = let bad : dump.Memory ≡ dump.Journal named = sym memory ∙ is in cc bad
+no_journal ends named (inr stream) is = let bad : dump.Stream ≡ dump.Journal named = sym stream ∙ is in cc bad
+
+pub dump_of_print : (ends : DumpFault) → IsOfPrint ends → IsOfDump ends
+dump_of_print ends (inl memory) = subst (λ (e : DumpFault). IsOfDump e) (sym memory) tt
+dump_of_print ends (inr stream) = subst (λ (e : DumpFault). IsOfDump e) (sym stream) tt

@@ -1,6 +1,6 @@
 -- Which of the lines is the first.
 use Rattle.std.proofs.Common.{ℕ, zero, suc, ◌≡◌, ◌+◌, ◌-◌, ◌<◌, subst, arith, List, [], ◌∷◌, get_or, length, take, IsSomeAnd, Some, slice_get, Bor}
-use Rattle.commands.specs.Places.{IsFirstLine, NoLine, texts}
+use Rattle.commands.specs.TextLines.{IsFirstLine, NoLine, texts}
 
 -- what is said of a line is said of the one at its place
 is_at : (P : List ℕ → Type 0) (d : Bor (List ℕ)) (lines : List (Bor (List ℕ))) (i : ℕ) → i < length lines → P (get_or lines i d).now → IsSomeAnd (slice_get (texts lines) i) P

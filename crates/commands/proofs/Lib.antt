@@ -11,3 +11,4 @@ pub mod Lines
 pub mod Migrating
 pub mod Owning
 pub mod Asking
+mod Counting

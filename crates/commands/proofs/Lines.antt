@@ -4,7 +4,7 @@ use Rattle.std.specs.Io.KnownBytes.{Consumes}
 use Rattle.std.specs.List.{All, flat_map}
 use Rattle.std.proofs.lemmas.Grind.{flat_map-append}
 use Rattle.std.proofs.lemmas.List.Elements.{All-append}
-use Rattle.words.specs.Lines.{NoEnd, line}
+use Rattle.numerals.specs.Lines.{NoEnd, line}
 use Rattle.commands.specs.Transcripts.{AreLines, lines_text}
 use Rattle.commands.proofs.Reading.{reads_nothing}
 

@@ -1,7 +1,7 @@
 -- The pieces of the words for whose journal a file is.
 use Rattle.std.proofs.Common.{ℕ, ◌≡◌, ◌==◌, refl, codes, List, ◌++◌}
 use Rattle.std.specs.Fmt.{decimal}
-use Rattle.vocabulary.specs.Terms.{Header}
+use Rattle.terms_prelude.specs.Terms.{Header}
 use Rattle.commands.specs.Owners.{header_words, unless, differences, other_words, owner_words}
 
 pub header_pieces : (h : Header) (cluster n t questions me : ℕ) → cluster ≡ h.cluster → n ≡ h.size.n → t ≡ h.size.t → questions ≡ h.size.questions → me ≡ h.me

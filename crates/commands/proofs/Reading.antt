@@ -1,7 +1,7 @@
 -- Bytes that are read one after the other.
 use Rattle.std.proofs.Common.{ℕ, ◌≡◌, ◌==◌, ◌∙◌, ap, refl, sym, false, Option, Some, None, List, [], ◌∷◌, ◌++◌, append_assoc}
 use Rattle.std.specs.Io.KnownBytes.{Consumes}
-use Rattle.words.specs.Lines.{NoEnd}
+use Rattle.numerals.specs.Lines.{NoEnd}
 
 -- one byte more was read
 pub reads_more : (old between new : Option (List ℕ)) (bytes : List ℕ) (byte : ℕ) → Consumes old between bytes → Consumes between new (byte ∷ [])

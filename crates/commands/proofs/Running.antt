@@ -5,8 +5,8 @@ use Rattle.commands.specs.declared.fault.SimulateFault.{SimulateFault}
 use Rattle.commands.specs.declared.fault.SimulateFault.TheVariants as ended
 use Rattle.script.specs.declared.fault.ScriptFault.{ScriptFault}
 use Rattle.script.specs.declared.fault.ScriptFault.TheVariants as unread
-use Rattle.vocabulary.specs.Terms.{Size}
-use Rattle.script.specs.Words.{TossedAct, IsTold, IsFirstFault}
+use Rattle.terms_prelude.specs.Terms.{Size}
+use Rattle.script.specs.Words.{TossedAct, SaysCluster, IsFirstFault}
 use Rattle.sim.specs.declared.faults.SimFault.{SimFault}
 use Rattle.sim.specs.declared.faults.SimFault.TheVariants as unrun
 use Rattle.sim.specs.Outcomes.{AreLiars}
@@ -35,7 +35,7 @@ unread_ends text result fault is first = made_of text result (of_script fault) i
 abbrev Answered : Type 0 → SimFault → SimFault → Type 0
 Answered B fault one = IsErrOf {T = B} {E = SimFault} (Err fault) one
 
-of_unrun : {B : Type 0} (text : List ℕ) (size : Size) (liars : List ℕ) (events : List TossedAct) (fault : SimFault) → IsTold text size liars events → (Answered B fault unrun.BadLiars → AreLiars size liars → ⊥)
+of_unrun : {B : Type 0} (text : List ℕ) (size : Size) (liars : List ℕ) (events : List TossedAct) (fault : SimFault) → SaysCluster text size liars events → (Answered B fault unrun.BadLiars → AreLiars size liars → ⊥)
     → (Answered B fault unrun.BadDisks → ⊥) → (Answered B fault unrun.Device → ⊥) → (Answered B fault unrun.Full → ⊥) → IsOfSimulate text (of_sim fault)
 of_unrun text size liars events unrun.BadLiars says bad disks device full = (size, liars, events, says, bad refl)
 of_unrun text size liars events unrun.BadDisks says bad disks device full = disks refl
@@ -45,7 +45,7 @@ of_unrun text size liars events unrun.Full says bad disks device full = full ref
 
 -- a script that can't be run
 pub unrun_ends : {A B : Type 0} (text : List ℕ) (size : Size) (liars : List ℕ) (events : List TossedAct) (result : Result A SimulateFault) (fault : SimFault) → IsErrAnd result (λ given. given ≡ of_sim fault)
-    → IsTold text size liars events → (Answered B fault unrun.BadLiars → AreLiars size liars → ⊥) → (Answered B fault unrun.BadDisks → ⊥) → (Answered B fault unrun.Device → ⊥) → (Answered B fault unrun.Full → ⊥)
+    → SaysCluster text size liars events → (Answered B fault unrun.BadLiars → AreLiars size liars → ⊥) → (Answered B fault unrun.BadDisks → ⊥) → (Answered B fault unrun.Device → ⊥) → (Answered B fault unrun.Full → ⊥)
     → IfErr result (IsOfSimulate text)
 unrun_ends {A} {B} text size liars events result fault is says bad disks device full =
     made_of text result (of_sim fault) is (of_unrun {B = B} text size liars events fault says bad disks device full)

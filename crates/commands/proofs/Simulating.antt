@@ -6,7 +6,7 @@ use Rattle.std.proofs.Math.Seq.{take-suc}
 use Rattle.std.proofs.lemmas.List.Concat.{flat_map-append}
 use Rattle.sim.specs.declared.events.Mark.{Mark}
 use Rattle.sim.specs.declared.events.Mark.TheVariants.{Done}
-use Rattle.words.specs.Sentences.{bit_digit}
+use Rattle.numerals.specs.Sentences.{bit_digit}
 use Rattle.report.specs.Traces.{is_skipped}
 use Rattle.commands.specs.Simulations.{skipped, verdict_line, line_of_counts}
 

@@ -1,7 +1,7 @@
 -- What a script came to that nobody looked into.
 use Rattle.std.specs.Prelude.{ℕ, ◌≡◌, false, List, ◌++◌, length, map}
 use Rattle.std.specs.Global.{Vec}
-use Rattle.vocabulary.specs.Terms.{Size, Record}
+use Rattle.terms_prelude.specs.Terms.{Size, Record}
 use Rattle.script.specs.Acts.{TossedAct, tossed_act}
 use Rattle.sim.specs.declared.events.Event.{Event}
 use Rattle.sim.specs.declared.events.Mark.{Mark}

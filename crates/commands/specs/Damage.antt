@@ -2,7 +2,7 @@
 use Rattle.std.specs.Prelude.{ℕ, ◌≡◌, ◌≢◌, ◌+◌, ◌*◌, ◌<◌, if◌then◌else◌, nat_lt, List, [], ◌∷◌, ◌++◌, codes, length, take, Option, Some, None, IsSomeAnd}
 use Rattle.std.specs.List.{flat_map}
 use Rattle.sim.specs.Texts.{byte_text}
-use Rattle.vocabulary.specs.Terms.{Header}
+use Rattle.terms_prelude.specs.Terms.{Header}
 use Rattle.journal.specs.declared.fault.JournalFault.{JournalFault}
 use Rattle.journal.specs.declared.fault.JournalFault.TheVariants.{NotEmpty, BadHeader, OtherHeader, BadRecord, CutShort, Device, Memory, Stopped, Full, OldVersion}
 use Rattle.journal.specs.File.{HasHeader}

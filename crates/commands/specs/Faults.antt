@@ -16,9 +16,9 @@ use Rattle.journal.specs.declared.fault.JournalFault.{JournalFault}
 use Rattle.journal.specs.declared.fault.JournalFault.TheVariants as unheld
 use Rattle.script.specs.declared.fault.ScriptFault.{ScriptFault}
 use Rattle.script.specs.declared.fault.ScriptFault.TheVariants as unread
-use Rattle.vocabulary.specs.Terms.{Size}
+use Rattle.terms_prelude.specs.Terms.{Size}
 use Rattle.script.specs.Acts.{TossedAct}
-use Rattle.script.specs.Scripts.{IsTold, IsFirstFault}
+use Rattle.script.specs.Scripts.{SaysCluster, IsFirstFault}
 use Rattle.sim.specs.declared.faults.SimFault.{SimFault}
 use Rattle.sim.specs.declared.faults.SimFault.TheVariants as unrun
 use Rattle.sim.specs.Outcomes.{AreLiars}
@@ -81,7 +81,7 @@ IsOfWriting ends = (ends ≡ simulate.Memory) ⊎ (ends ≡ simulate.Stream)
 -- the text says a script of liars that can't be: nothing else keeps a script from being run over empty disks
 abbrev pub CannotRun : List ℕ → SimFault → Type 0
 CannotRun text unrun.BadLiars =
-    (size : Size) × (liars : List ℕ) × (events : List TossedAct) × IsTold text size liars events × (AreLiars size liars → ⊥)
+    (size : Size) × (liars : List ℕ) × (events : List TossedAct) × SaysCluster text size liars events × (AreLiars size liars → ⊥)
 CannotRun text unrun.BadDisks = ⊥
 CannotRun text unrun.Device = ⊥
 CannotRun text unrun.Memory = ⊥

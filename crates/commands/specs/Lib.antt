@@ -6,9 +6,11 @@ pub mod Pages
 pub mod Talks
 pub mod Transcripts
 pub mod Checks
-pub mod Places
+pub mod TextLines
 pub mod Damage
 pub mod Shows
 pub mod Owners
 pub mod Asked
 pub mod Migrations
+pub mod Replies
+pub mod Objects

@@ -1,7 +1,7 @@
 -- What the command `migrate` does, and why it doesn't.
 use Rattle.std.specs.Prelude.{ℕ, ◌≡◌, ◌+◌, ◌<◌, ◌^◌, List, ◌++◌, codes, length}
 use Rattle.std.specs.Fmt.{decimal}
-use Rattle.vocabulary.specs.Terms.{Record, Header}
+use Rattle.terms_prelude.specs.Terms.{Record, Header}
 use Rattle.disk.specs.Model.{MayLeave}
 use Rattle.disk.specs.declared.device.Disk.{Ghosts as DiskGhosts}
 use Rattle.journal.specs.declared.journal.Journal.{Journal}
@@ -12,7 +12,7 @@ use Rattle.migration.specs.Old.{HasOldHeader, HoldsOld, RefusesOld}
 use Rattle.migration.specs.Thousands.{in_thousands}
 use Rattle.migration.specs.declared.fault.MigrateFault.{MigrateFault}
 use Rattle.migration.specs.declared.fault.MigrateFault.TheVariants.{NotEmpty, NotOld, OtherHeader, BadRecord, CutShort, OldDevice, NewDevice, Memory, Full}
-use Rattle.words.specs.Lines.{line}
+use Rattle.numerals.specs.Lines.{line}
 
 -- the line of what was brought over
 abbrev pub migrated_text : ℕ → List ℕ

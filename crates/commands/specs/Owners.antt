@@ -1,7 +1,7 @@
 -- Whose journal a file is.
 use Rattle.std.specs.Prelude.{ℕ, ◌≡◌, ◌==◌, ◌⊎◌, Bool, true, false, List, [], ◌++◌, codes, length}
 use Rattle.std.specs.Fmt.{decimal}
-use Rattle.vocabulary.specs.Terms.{Header, Record}
+use Rattle.terms_prelude.specs.Terms.{Header, Record}
 use Rattle.journal.specs.declared.fault.JournalFault.{JournalFault}
 use Rattle.journal.specs.File.{HasHeader, Holds, RefusesFile}
 

@@ -4,8 +4,8 @@ use Rattle.std.specs.List.{flat_map}
 use Rattle.std.specs.Fmt.{decimal}
 use Rattle.sim.specs.declared.cluster.Outcome.{Outcome}
 use Rattle.sim.specs.declared.events.Mark.{Mark}
-use Rattle.words.specs.Sentences.{sentence, bit_digit}
-use Rattle.words.specs.Lines.{line}
+use Rattle.numerals.specs.Sentences.{sentence, bit_digit}
+use Rattle.numerals.specs.Lines.{line}
 use Rattle.report.specs.Traces.{is_skipped}
 
 -- how many events were skipped

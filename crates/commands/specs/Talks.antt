@@ -1,8 +1,9 @@
 -- What a client asks a member that runs, and what its reply means.
 use Rattle.std.specs.Prelude.{ℕ, ◌≡◌, ◌⊎◌, List, [], ◌∷◌, ◌++◌, codes}
 use Rattle.std.specs.Fmt.{decimal}
-use Rattle.words.specs.Lines.{line}
-use Rattle.words.specs.Sentences.{sentence}
+use Rattle.numerals.specs.Lines.{line}
+use Rattle.numerals.specs.Sentences.{sentence}
+use Rattle.commands.specs.Replies.{HasCounts}
 
 -- the line that proposes a bit on a question
 abbrev pub propose_line : ℕ → ℕ → List ℕ
@@ -20,9 +21,16 @@ status_line = line (codes "STATUS")
 abbrev pub transcript_line : ℕ → List ℕ
 transcript_line question = line (sentence (codes "TRANSCRIPT" ∷ decimal question ∷ []))
 
--- the member is up: what follows are its counts
+-- the words in front of a member's reply, and its line
+abbrev pub member_words : ℕ → List ℕ
+member_words member = codes "member " ++ (decimal member ++ codes " ")
+
+abbrev pub member_line : ℕ → List ℕ → List ℕ
+member_line member reply = (member_words member ++ reply) ++ 10 ∷ []
+
+-- the member is up: it says its counts
 abbrev pub IsUp : List ℕ → Type 0
-IsUp reply = (counts : List ℕ) × (reply ≡ codes "UP " ++ counts)
+IsUp reply = (m d : ℕ) × HasCounts reply m d
 
 -- the member did as it was asked
 abbrev pub IsGood : List ℕ → Type 0

@@ -1,7 +1,7 @@
 -- The reply to the line that asks for a transcript.
 use Rattle.std.specs.Prelude.{ℕ, ◌≡◌, ◌⊎◌, ◌<◌, ◌^◌, Bool, List, ◌++◌, length}
 use Rattle.std.specs.List.{All, flat_map}
-use Rattle.words.specs.Lines.{NoEnd, line}
+use Rattle.numerals.specs.Lines.{NoEnd, line}
 use Rattle.transcripts.specs.Lines.{head_line}
 
 -- the bytes of the lines, each with the byte 10 at its end

@@ -6,29 +6,20 @@ ghost use Rattle.std.specs.Io.KnownBytes.{Appends};
 ghost use Rattle.journal.specs.Faults.{IsOfFile};
 ghost use Rattle.journal.specs.File.{Holds, RefusesFile};
 ghost use Rattle.journal.specs.declared.fault.JournalFault.{JournalFault};
-ghost use Rattle.vocabulary.specs.Terms.{Record};
-ghost use Rattle.commands.specs.Checks.{address_text, peer_line, records_line, settings_text};
+ghost use Rattle.terms_prelude.specs.Terms.{Record};
+ghost use Rattle.commands.specs.Checks.{peer_line, records_line, settings_text};
+ghost use Rattle.commands.specs.Objects.{check_object};
 ghost use Rattle.commands.specs.Faults.{IsOfDump, IsOfPrint};
 
 use crate::dump::header_line;
 use crate::fault::DumpFault;
+use crate::objects::check_object;
 use disk::Disk;
 use journal::Journal;
-use settings::{Address, Settings};
+use settings::{Address, Settings, address_text};
 use std::alloc::{AllocError, Global};
 use std::io::Write;
 use terms::Header;
-
-/// The text of an address, `HOST:PORT`.
-fn address_text(alloc: Global, address: &Address) -> Result<String, AllocError>
-    ensures { IfOk result (λ text. string_bytes text ≡ address_text address.now) }
-{
-    let octets = &address.octets;
-    format!(in alloc;
-        "{}.{}.{}.{}:{}",
-        octets[0], octets[1], octets[2], octets[3], address.port
-    )
-}
 
 /// The line of a peer.
 fn peer_line(alloc: Global, peer: &Address) -> Result<String, AllocError>
@@ -108,6 +99,29 @@ pub fn check_journal<D: Disk + Drop, W: Write>(
     let (_journal, records) = Journal::open(alloc, disk, header)?;
     let text = records_line(alloc, records.len())?;
     output.write_all(text.as_bytes())?;
+    output.flush()?;
+    Ok(0)
+}
+
+/// Writes what the settings say, but for the seed, and how many records the journal that the disk has holds, if a member of
+/// these settings can run on it: one object of JSON in a line. The status is 0. The faults are those of [`check_journal`].
+pub fn print_check<D: Disk + Drop, W: Write>(
+    alloc: Global,
+    settings: &Settings,
+    disk: D,
+    output: &mut W,
+) -> Result<u8, DumpFault>
+    ensures status { IfOk result (λ status. status ≡ 0) }
+    ensures all { D.keeps disk → OnOk result ((records : List Record)
+        × Holds settings.now.header records (D.state disk).seen
+        × Appends (W.contents output.old) (W.contents output.new) (check_object settings.now (length records))) }
+    ensures fault { D.keeps disk → (fault : JournalFault) → result ≡ Err (DumpFault.Journal fault) → IsOfFile fault → RefusesFile settings.now.header fault (D.state disk).seen }
+    ensures nothing { (fault : JournalFault) → result ≡ Err (DumpFault.Journal fault) → output.new ≡ output.old }
+    ensures only { IfErr result IsOfDump }
+{
+    let (_journal, records) = Journal::open(alloc, disk, &settings.header)?;
+    let text = check_object(alloc, settings, records.len())?;
+    output.write_all(&text)?;
     output.flush()?;
     Ok(0)
 }

@@ -1,15 +1,17 @@
 //! The commands `propose`, `ask` and `status`: one line to the desk of a member that runs, and its reply.
 
-ghost use Rattle.std.specs.Prelude.{ℕ, List, [], ◌≡◌, ◌∷◌, ◌++◌, ◌↔◌, IsTrue, IfOk, IfErr, IfSome, ◌≢◌, string_bytes, Err};
+ghost use Rattle.std.specs.Prelude.{ℕ, List, [], ◌≡◌, ◌∷◌, ◌++◌, ◌↔◌, IsTrue, IfOk, IfErr, IfSome, ◌≢◌, string_bytes, codes, Err};
 ghost use Rattle.std.specs.Io.KnownBytes.{Appends, Consumes};
-ghost use Rattle.words.specs.Lines.{NoEnd};
-ghost use Rattle.commands.specs.Talks.{propose_line, ask_line, status_line, IsUp, IsGood, HasStatus};
+ghost use Rattle.numerals.specs.Lines.{NoEnd};
+ghost use Rattle.commands.specs.Talks.{propose_line, ask_line, status_line, member_line, member_words, IsUp, IsGood, HasStatus};
+ghost use Rattle.commands.specs.Replies.{IsReply, SaysSame};
 ghost use Rattle.commands.specs.declared.fault.TalkFault.TheVariants.{NoAnswer};
 
 use crate::fault::TalkFault;
+use crate::replies::{counts, is_reply, object_of};
+use numerals::is;
 use std::alloc::{AllocError, Global};
 use std::io::{Read, Write};
-use words::is;
 
 /// How many bytes a reply has at most.
 const LONGEST_REPLY: usize = 64;
@@ -39,7 +41,7 @@ pub fn status_line() -> &'static str
 fn is_up(reply: &[u8]) -> bool
     ensures { IsTrue result ↔ IsUp reply.now }
 {
-    reply.starts_with(b"UP ")
+    counts(reply).is_some()
 }
 
 /// Whether the reply says that the member did as it was asked.
@@ -104,11 +106,103 @@ pub(crate) fn send<W: Write>(line: &str, connection: &mut W) -> Result<(), TalkF
     }
 }
 
+/// Sends the line over a connection to a member's desk, and reads one reply, which is given without its end.
+///
+/// [`TalkFault::NoAnswer`]: the connection failed or ended before a whole line came, or the line is no reply of a desk.
+/// [`TalkFault::Memory`]: memory was refused.
+pub fn exchange<R: Read, S: Write>(
+    alloc: Global,
+    line: &str,
+    to: &mut S,
+    from: &mut R,
+) -> Result<Vec<u8>, TalkFault>
+    ensures { IfOk result (λ reply. NoEnd reply.items × IsReply reply.items
+        × Appends (S.contents to.old) (S.contents to.new) line.now
+        × Consumes (R.remaining from.old) (R.remaining from.new) (reply.items ++ 10 ∷ [])) }
+{
+    send(line, to)?;
+    let reply = reply_of(alloc, from)?;
+    if is_reply(&reply) {
+        Ok(reply)
+    } else {
+        Err(TalkFault::NoAnswer)
+    }
+}
+
+/// Writes a reply with its end. The status is 0 for `OK`, `HAVE b`, `DECIDED b`, `UNDECIDED` and `UP m d`, and 1 for any other
+/// reply.
+///
+/// [`TalkFault::Stream`]: the write failed. [`TalkFault::Memory`]: memory was refused.
+pub fn tell<W: Write>(mut reply: Vec<u8>, output: &mut W) -> Result<u8, TalkFault>
+    ensures all { IfOk result (λ status. Appends (W.contents output.old) (W.contents output.new) (reply.items ++ 10 ∷ [])
+        × HasStatus reply.items status) }
+    ensures only { result ≢ Err NoAnswer }
+{
+    let status = status_of(&reply);
+    reply.push(b'\n')?;
+    print_reply(&reply, output)?;
+    Ok(status)
+}
+
+/// Writes the object of JSON that says the same as a reply, in a line. The status is that of the reply.
+///
+/// [`TalkFault::NoAnswer`]: it is no reply of a desk. [`TalkFault::Stream`]: the write failed. [`TalkFault::Memory`]: memory
+/// was refused.
+pub fn tell_object<W: Write>(alloc: Global, reply: &[u8], output: &mut W) -> Result<u8, TalkFault>
+    ensures all { IfOk result (λ status. (object : List ℕ) × SaysSame reply.now object
+        × Appends (W.contents output.old) (W.contents output.new) (object ++ 10 ∷ [])
+        × HasStatus reply.now status) }
+    ensures only { result ≡ Err NoAnswer → IsReply reply.now → ⊥ }
+{
+    let Some(mut object) = object_of(alloc, reply)? else {
+        return Err(TalkFault::NoAnswer);
+    };
+    object.push('\n')?;
+    print_reply(object.as_bytes(), output)?;
+    Ok(status_of(reply))
+}
+
+/// The reply of a member of that number, in words, and the status for it.
+///
+/// [`TalkFault::Stream`]: the write failed. [`TalkFault::Memory`]: memory was refused.
+pub fn tell_of<W: Write>(
+    alloc: Global,
+    member: u8,
+    reply: &[u8],
+    output: &mut W,
+) -> Result<u8, TalkFault>
+    ensures all { IfOk result (λ status. Appends (W.contents output.old) (W.contents output.new) (member_line member reply.now)
+        × HasStatus reply.now status) }
+    ensures only { result ≢ Err NoAnswer }
+{
+    let head = member_words(alloc, member)?;
+    let mut text = Vec::new(alloc);
+    text.extend_from_slice(head.as_bytes())?;
+    text.extend_from_slice(reply)?;
+    text.push(b'\n')?;
+    print_reply(&text, output)?;
+    Ok(status_of(reply))
+}
+
+/// The words in front of a member's reply.
+fn member_words(alloc: Global, member: u8) -> Result<String, AllocError>
+    ensures { IfOk result (λ text. string_bytes text ≡ member_words member) }
+{
+    format!(in alloc; "member {member} ")
+}
+
+/// Whether the reply says that there is no decision yet.
+pub fn is_undecided(reply: &[u8]) -> bool
+    ensures { IsTrue result ↔ (reply.now ≡ codes "UNDECIDED") }
+{
+    is(reply, "UNDECIDED")
+}
+
 /// Sends the line over a connection to a member's desk, reads one reply, and writes it with its end. The status is 0 for
 /// `OK`, `HAVE b`, `DECIDED b`, `UNDECIDED` and `UP m d`, and 1 for any other reply.
 ///
-/// [`TalkFault::NoAnswer`]: the connection failed or ended before a whole reply came, and nothing was written.
-/// [`TalkFault::Stream`]: the write failed. [`TalkFault::Memory`]: memory was refused.
+/// [`TalkFault::NoAnswer`]: the connection failed or ended before a whole line came, or the line is no reply of a desk, and
+/// nothing was written. [`TalkFault::Stream`]: the write failed. [`TalkFault::Memory`]: memory was refused.
 pub fn talk<R: Read, S: Write, W: Write>(
     alloc: Global,
     line: &str,
@@ -116,19 +210,15 @@ pub fn talk<R: Read, S: Write, W: Write>(
     from: &mut R,
     output: &mut W,
 ) -> Result<u8, TalkFault>
-    ensures all { IfOk result (λ status. (reply : List ℕ) × NoEnd reply
+    ensures all { IfOk result (λ status. (reply : List ℕ) × NoEnd reply × IsReply reply
         × Appends (S.contents to.old) (S.contents to.new) line.now
         × Consumes (R.remaining from.old) (R.remaining from.new) (reply ++ 10 ∷ [])
         × Appends (W.contents output.old) (W.contents output.new) (reply ++ 10 ∷ [])
         × HasStatus reply status) }
     ensures nothing { result ≡ Err NoAnswer → output.new ≡ output.old }
 {
-    send(line, to)?;
-    let mut reply = reply_of(alloc, from)?;
-    let status = status_of(&reply);
-    reply.push(b'\n')?;
-    print_reply(&reply, output)?;
-    Ok(status)
+    let reply = exchange(alloc, line, to, from)?;
+    tell(reply, output)
 }
 
 /// Writes the reply.

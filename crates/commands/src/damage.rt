@@ -2,7 +2,7 @@
 
 ghost use Rattle.std.specs.Prelude.{◌≡◌, ◌<◌, ◌++◌, ◌∷◌, [], ℕ, drop, false, true, length, IfOk, IfSome, IsNone, List, string_bytes};
 ghost use Rattle.disk.specs.Memory.{memory_state};
-ghost use Rattle.vocabulary.specs.Terms.{Header, Record};
+ghost use Rattle.terms_prelude.specs.Terms.{Header, Record};
 ghost use Rattle.journal.specs.declared.fault.JournalFault.{JournalFault};
 ghost use Rattle.journal.specs.File.{HasHeader, Holds, RefusesFile};
 ghost use Rattle.journal.specs.Texts.{header_text};

@@ -9,22 +9,26 @@ mod dump;
 mod fault;
 mod init;
 mod migrate;
+mod objects;
 mod owners;
-mod places;
+mod replies;
 mod shown;
 mod simulate;
+mod text_lines;
 mod transcript;
 
 pub use asked::{asked_words, key_words};
-pub use check::{check_journal, print_settings};
-pub use client::{ask_line, propose_line, status_line, talk};
+pub use check::{check_journal, print_check, print_settings};
+pub use client::{
+    ask_line, exchange, is_undecided, propose_line, status_line, talk, tell, tell_object, tell_of,
+};
 pub use damage::{bytes_at, fault_place};
-pub use dump::{dump_count, dump_lines};
+pub use dump::{dump_count, dump_count_object, dump_lines, dump_objects};
 pub use fault::{DumpFault, InitFault, MigrationFault, SimulateFault, TalkFault};
 pub use init::init_disk;
 pub use migrate::migrate_disks;
 pub use owners::{other_owner, owner};
-pub use places::{line_at, line_of_byte, line_of_key, text_fault};
 pub use shown::{Shelf, SimulationEnd, show_simulation};
 pub use simulate::{Pages, print, print_verdicts, simulate_pages, simulate_text, takes_output};
+pub use text_lines::{line_at, line_of_byte, line_of_key, lines_in, text_fault};
 pub use transcript::{fetch_transcript, transcript_line};

@@ -5,7 +5,7 @@ ghost use Rattle.std.specs.List.{flat_map};
 ghost use Rattle.std.specs.Io.KnownBytes.{Appends};
 ghost use Rattle.script.specs.declared.Script.{Script};
 ghost use Rattle.sim.specs.declared.cluster.Outcome.{Outcome};
-ghost use Rattle.vocabulary.specs.Terms.{Size};
+ghost use Rattle.terms_prelude.specs.Terms.{Size};
 ghost use Rattle.sim.specs.declared.TheConstants.{MOST_EVENTS};
 ghost use Rattle.sim.specs.Outcomes.{AreDisks, among, fused_in};
 ghost use Rattle.sim.specs.Plays.{ClusterStandsFor, unplayed};
@@ -20,13 +20,13 @@ ghost use Rattle.commands.specs.Simulations.{verdict_line, line_of_counts, simul
 
 use crate::fault::SimulateFault;
 use disk::MemDisk;
+use numerals::is;
 use report::{chart_text, is_skipped, trace_text};
 use script::{Script, Source};
 use sim::{Cluster, Event, Mark, Outcome, SimFault};
 use std::alloc::{AllocError, Global};
 use std::io::Write;
 use terms::{Memory, Size};
-use words::is;
 
 /// How many events were played, and how many of them were skipped.
 #[derive(Clone, Copy)]

@@ -8,6 +8,7 @@ ghost use Rattle.commands.specs.declared.fault.TalkFault.TheVariants.{NoAnswer};
 
 use crate::client::{print_reply, reply_of, send};
 use crate::fault::TalkFault;
+use crate::replies::is_reply;
 use std::alloc::{AllocError, Global};
 use std::io::{Read, Write};
 use transcripts::count_in;
@@ -47,13 +48,15 @@ fn whole_reply<R: Read>(alloc: Global, from: &mut R) -> Result<(Vec<u8>, u8), Ta
 {
     let mut reply = reply_of(alloc, from)?;
     let count = count_in(&reply);
+    let known = is_reply(&reply);
     reply.push(b'\n')?;
     match count {
         Some(count) => {
             read_lines(alloc, count, from, &mut reply)?;
             Ok((reply, 0))
         }
-        None => Ok((reply, 1)),
+        None if known => Ok((reply, 1)),
+        None => Err(TalkFault::NoAnswer),
     }
 }
 
@@ -61,7 +64,8 @@ fn whole_reply<R: Read>(alloc: Global, from: &mut R) -> Result<(Vec<u8>, u8), Ta
 /// transcript, as many lines belong to it as that counts, and the status is 0; else it is that line alone, and the status
 /// is 1.
 ///
-/// [`TalkFault::NoAnswer`]: the connection failed or ended before a whole reply came, and nothing was written.
+/// [`TalkFault::NoAnswer`]: the connection failed or ended before a whole reply came, or what came is none, and nothing was
+/// written.
 /// [`TalkFault::Stream`]: the write failed. [`TalkFault::Memory`]: memory was refused.
 pub fn fetch_transcript<R: Read, S: Write, W: Write>(
     alloc: Global,

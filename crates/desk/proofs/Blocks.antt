@@ -4,8 +4,8 @@ use Rattle.std.specs.List.{flat_map}
 use Rattle.std.proofs.lemmas.Grind.{flat_map-append}
 use Rattle.std.proofs.Math.Seq.{take-length}
 use Rattle.std.proofs.lemmas.List.{take_more}
-use Rattle.vocabulary.specs.Terms.{Statement}
-use Rattle.words.specs.Lines.{line}
+use Rattle.terms_prelude.specs.Terms.{Statement}
+use Rattle.numerals.specs.Lines.{line}
 use Rattle.links.specs.Told.{Told, has_written, has_failed, BreaksOff}
 use Rattle.transcripts.specs.Lines.{head_line, pair_line, transcript_text}
 

@@ -3,7 +3,7 @@ use Rattle.std.proofs.Common.{◌≡◌, ◌⊎◌, ℕ, zero, suc, ◌+◌, ◌
 use Rattle.std.specs.List.{flat_map}
 use Rattle.std.proofs.lemmas.Grind.{flat_map-append}
 use Rattle.std.proofs.lemmas.List.Elements.{All-append}
-use Rattle.words.specs.Lines.{NoEnd, line}
+use Rattle.numerals.specs.Lines.{NoEnd, line}
 use Rattle.links.specs.Told.{Told, has_read, has_written, has_failed, has_ended, BreaksOff}
 use Rattle.desk.specs.declared.command.Command.{Command}
 use Rattle.desk.specs.declared.reply.Reply.{Reply}

@@ -5,10 +5,10 @@ use Rattle.std.proofs.lemmas.Int.Digits.{digits_value-lt}
 use Rattle.std.proofs.Math.Nat.{pow-le-pow_right}
 use Rattle.desk.specs.declared.line.LineRequest.{LineRequest}
 use Rattle.desk.specs.declared.line.LineRequest.TheVariants.{Propose, Ask, Status, Transcript}
-use Rattle.words.specs.Numbers.{IsBelow}
-use Rattle.words.specs.Spaces.{NoSpace}
+use Rattle.numerals.specs.Numbers.{IsBelow}
+use Rattle.numerals.specs.Spaces.{NoSpace}
 use Rattle.desk.specs.Lines.{IsQuestion, IsWord, IsBitWord, IsProposal, Asks}
-use Rattle.words.proofs.Cuts.{digits_spaceless, one_cut, no_cut}
+use Rattle.numerals.proofs.Cuts.{digits_spaceless, one_cut, no_cut}
 
 -- five digits write a small number
 pub number_of : (digits : List ℕ) (question : ℕ) → IsQuestion digits question → IsBelow 64 digits question

@@ -1,7 +1,7 @@
 -- The replies to commands.
 use Rattle.std.specs.Prelude.{ℕ, ◌≡◌, ◌⊎◌, ◌<◌, ◌≤◌, nat_lt, Bool, true, false, Option, Some, None, length, if◌then◌else◌}
 use Rattle.terms.specs.Reply.{Reply as Answers}
-use Rattle.vocabulary.specs.Terms.{Proposal}
+use Rattle.terms_prelude.specs.Terms.{Proposal}
 use Rattle.terms.specs.Reply.Reply.{Foreign as AsForeign, Repeat as AsRepeat, Have as AsHave, Taken as AsTaken}
 use Rattle.questions.specs.Replay.Entry.{Proposed}
 use Rattle.questions.specs.Replies.{reply_of}

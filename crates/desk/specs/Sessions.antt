@@ -1,7 +1,7 @@
 -- What a client's session reads and writes.
 use Rattle.std.specs.Prelude.{ℕ, ◌≡◌, ◌⊎◌, ◌<◌, ◌≤◌, Bool, Option, Result, Ok, Err, List, [], ◌∷◌, ◌++◌, length}
 use Rattle.std.specs.List.{All, flat_map}
-use Rattle.words.specs.Lines.{NoEnd, line}
+use Rattle.numerals.specs.Lines.{NoEnd, line}
 use Rattle.node.specs.Verdicts.{known_at, KnowsMore}
 use Rattle.node.specs.Views.{BookView}
 use Rattle.links.specs.Told.{Told, has_written, has_failed, has_ended, BreaksOff}

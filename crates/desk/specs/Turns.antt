@@ -1,6 +1,6 @@
 -- A client's session under way.
 use Rattle.std.specs.Prelude.{ℕ, ◌≡◌, ◌⊎◌, List, ◌++◌}
-use Rattle.words.specs.Lines.{line}
+use Rattle.numerals.specs.Lines.{line}
 use Rattle.links.specs.Told.{Told, has_written, BreaksOff}
 use Rattle.desk.specs.Replies.{reply_text}
 use Rattle.desk.specs.Sessions.{Exchange, IsLine, InTurn, NoRequests, exchanged}

@@ -1,7 +1,7 @@
 //! The line that is being read.
 
 ghost use Rattle.std.specs.Prelude.{◌≡◌, ◌≤◌, []};
-ghost use Rattle.desk.specs.Held.{Takes};
+ghost use Rattle.desk.specs.Held.{ReadsByte};
 ghost use Rattle.desk.specs.declared.line.TheConstants.{LONGEST};
 
 use crate::line::LONGEST;
@@ -46,9 +46,9 @@ impl HeldLine {
         }
     }
 
-    /// Takes a byte. The byte 10, and one that is too many, change nothing.
-    pub(crate) fn take(&mut self, byte: u8) -> LineStep
-        ensures { Takes self.old byte result self.new }
+    /// Reads a byte. The byte 10, and one that is too many, change nothing.
+    pub(crate) fn read(&mut self, byte: u8) -> LineStep
+        ensures { ReadsByte self.old byte result self.new }
     {
         if byte == b'\n' {
             return LineStep::Ends;

@@ -4,7 +4,7 @@ ghost use Rattle.std.specs.Prelude.{ℕ, ◌≡◌, ◌-◌, ◌<◌, ◌↔◌,
 ghost use Rattle.desk.specs.Lines.{IsQuestion, IsWord, IsBitWord, IsProposal, IsPropose, Asks, LineAsks, is_return, trimmed};
 ghost use Rattle.desk.specs.declared.line.LineRequest.{LineRequest};
 
-use words::{behind, first_space, is, number, split_at_space};
+use numerals::{behind, first_space, is, number, split_at_space};
 
 /// The most bytes of a line before the byte 10 that ends it.
 pub(crate) const LONGEST: usize = 4096;

@@ -4,7 +4,7 @@ ghost use Rattle.std.specs.Prelude.{IsTrue, ◌↔◌};
 ghost use Rattle.desk.specs.Lines.{IsRequest};
 
 use crate::line::trimmed;
-use words::is;
+use numerals::is;
 
 /// How many bytes ` HTTP/1.` and the one behind it are.
 const VERSION: usize = 9;

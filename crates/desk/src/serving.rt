@@ -1,4 +1,4 @@
-//! A client's session.
+//! A client's session: begin at `serve`, last.
 
 ghost use Rattle.std.specs.Prelude.{◌≡◌, ◌∷◌, ℕ, List, [], Bool, false, length, IfErr, OnOk};
 ghost use Rattle.member.specs.Readers.{member_saved};
@@ -68,69 +68,6 @@ fn answer_once<D: Disk, J: Naming>(
     (reply, after != before)
 }
 
-/// Rings the bell behind a command, once the book was given back: for its news, or for a thread that wants the book.
-fn ring_behind<D: Disk, J: Naming, R: Wait>(rt: &R, hub: &Hub<D, J>, has_news: bool) {
-    if has_news {
-        hub.ring(rt);
-    } else {
-        hub.ring_if_wanted(rt);
-    }
-}
-
-/// Does a command under the lock. It rings the bell where the member has more records than before.
-fn answer_alone<D: Disk, J: Naming, T: Tosser, R: Wait>(
-    rt: &R,
-    hub: &Hub<D, J>,
-    tosser: &mut T,
-    command: &Command,
-) -> Reply
-    ensures propose { (question : ℕ) (bit : Bool) → command.now ≡ Propose question bit →
-        IsProposalReply D T.may_toss tosser.old question bit result tosser.new }
-    ensures status { command.now ≡ Status → IsStatusReply D T.may_toss tosser.old result tosser.new }
-{
-    let toss = tosser.toss();
-    let mut book = hub.lock(rt);
-    let (reply, has_news) = answer_once(&mut *book, command, toss);
-    drop(book);
-    ring_behind(rt, hub, has_news);
-    reply
-}
-
-/// What was heard of a question, if it shows the decision. The lock is held until it is copied, and not while it is written.
-fn transcript_of<D: Disk, J: Naming, R: Wait>(rt: &R, hub: &Hub<D, J>, question: u16) -> Reply
-    ensures { (book : BookView D) × IsTranscriptReply book question result }
-{
-    let book = hub.lock(rt);
-    let reply = transcribe(&*book, question);
-    drop(book);
-    hub.ring_if_wanted(rt);
-    reply
-}
-
-/// The reply to a line.
-fn reply_to<D: Disk, J: Naming, T: Tosser, R: Wait>(
-    rt: &R,
-    hub: &Hub<D, J>,
-    pass: &mut Pass,
-    tosser: &mut T,
-    line: &[u8],
-) -> Reply
-    requires { pass.old.cells ≡ J.names }
-    ensures cells { pass.new.cells ≡ J.names }
-    ensures reply { AnswersLine D T.may_toss hub.now.size.questions (sitting pass.old.known tosser.old) line.now result
-        (sitting pass.new.known tosser.new) }
-{
-    match parse(line, hub.header().size()) {
-        Err(refusal) => refusal,
-        Ok(Command::Ask { question }) => ask(hub, pass, question),
-        Ok(Command::Propose { question, bit }) => {
-            answer_alone(rt, hub, tosser, &Command::Propose { question, bit })
-        }
-        Ok(Command::Status) => answer_alone(rt, hub, tosser, &Command::Status),
-        Ok(Command::Transcript { question }) => transcript_of(rt, hub, question),
-    }
-}
-
 /// Answers a line that ends the session with [`Reply::BadLine`], and says why it ended.
 fn refuse<S: Stream>(stream: &mut S, why: DeskEnd) -> DeskEnd
     ensures { Refuses (S.told stream.old) (S.told stream.new) why result }
@@ -141,134 +78,179 @@ fn refuse<S: Stream>(stream: &mut S, why: DeskEnd) -> DeskEnd
     }
 }
 
-/// Answers the line that is held, and begins a new one.
-fn answer_held<D: Disk, J: Naming, S: Stream, T: Tosser, R: Wait>(
-    rt: &R,
-    hub: &Hub<D, J>,
-    pass: &mut Pass,
-    tosser: &mut T,
-    held: &mut HeldLine,
-    stream: &mut S,
-) -> Result<(), DeskEnd>
-    requires { pass.old.cells ≡ J.names }
-    ensures cells { pass.new.cells ≡ J.names }
-    ensures held { held.new ≡ [] }
-    ensures ok { OnOk result (Says (λ said. AnswersLine D T.may_toss hub.now.size.questions (sitting pass.old.known tosser.old)
-        held.old said (sitting pass.new.known tosser.new)) (S.told stream.old) (S.told stream.new)) }
-    ensures err { IfErr result (λ why. (why ≡ DeskEnd.Lost)
-        × FailsToSay (λ said. AnswersLine D T.may_toss hub.now.size.questions (sitting pass.old.known tosser.old)
-        held.old said (sitting pass.new.known tosser.new)) (S.told stream.old) (S.told stream.new)) }
-{
-    let reply = reply_to(rt, hub, pass, tosser, held.line());
-    held.clear();
-    write_reply(stream, &reply)
+/// What answers a client: the hub of the member, and by what it waits for the locks.
+#[derive(Drop)]
+struct Server<'a, D: Disk, J: Naming, R> {
+    rt: &'a R,
+    hub: &'a Hub<D, J>,
 }
 
-/// Takes a byte, and answers the line that it ends.
-fn take<D: Disk, J: Naming, S: Stream, T: Tosser, R: Wait>(
-    rt: &R,
-    hub: &Hub<D, J>,
-    pass: &mut Pass,
-    tosser: &mut T,
-    held: &mut HeldLine,
-    stream: &mut S,
-    byte: u8,
-) -> Result<(), DeskEnd>
-    requires { pass.old.cells ≡ J.names }
-    ensures cells { pass.new.cells ≡ J.names }
-    ensures on { (begun : Sitting T) (old : Told) (more : List ℕ) →
-        Serving (AnswersLine D T.may_toss hub.now.size.questions) begun (sitting pass.old.known tosser.old) old (S.told stream.old) held.old (byte ∷ more) →
-        OnOk result (Serving (AnswersLine D T.may_toss hub.now.size.questions) begun (sitting pass.new.known tosser.new) old (S.told stream.new) held.new more) }
-    ensures off { (begun : Sitting T) (old : Told) (more : List ℕ) →
-        Serving (AnswersLine D T.may_toss hub.now.size.questions) begun (sitting pass.old.known tosser.old) old (S.told stream.old) held.old (byte ∷ more) →
-        IfErr result (Serves (AnswersLine D T.may_toss hub.now.size.questions) begun (sitting pass.new.known tosser.new) old (S.told stream.new)) }
-{
-    match held.take(byte) {
-        LineStep::More => Ok(()),
-        LineStep::Ends => {
-            if is_request(held.line()) {
-                return Err(refuse(stream, DeskEnd::Request));
+impl<D: Disk, J: Naming, R: Wait> Server<'_, D, J, R> {
+    /// Does a command under the lock. Where the member has more records than before, what it says is shown to who writes links.
+    fn answer_alone<T: Tosser>(&self, tosser: &mut T, command: &Command) -> Reply
+        ensures propose { (question : ℕ) (bit : Bool) → command.now ≡ Propose question bit →
+            IsProposalReply D T.may_toss tosser.old question bit result tosser.new }
+        ensures status { command.now ≡ Status → IsStatusReply D T.may_toss tosser.old result tosser.new }
+    {
+        let toss = tosser.toss();
+        let mut book = self.hub.lock(self.rt);
+        let (reply, has_news) = answer_once(&mut *book, command, toss);
+        if has_news {
+            self.hub.post(self.rt, &book);
+        }
+        reply
+    }
+
+    /// What was heard of a question, if it shows the decision. The lock is held until it is copied, and not while it is written.
+    fn transcript_of(&self, question: u16) -> Reply
+        ensures { (book : BookView D) × IsTranscriptReply book question result }
+    {
+        let book = self.hub.lock(self.rt);
+        transcribe(&*book, question)
+    }
+
+    /// The reply to a line.
+    fn reply_to<T: Tosser>(&self, pass: &mut Pass, tosser: &mut T, line: &[u8]) -> Reply
+        requires { pass.old.cells ≡ J.names }
+        ensures cells { pass.new.cells ≡ J.names }
+        ensures reply { AnswersLine D T.may_toss self.now.hub.now.size.questions (sitting pass.old.known tosser.old) line.now result
+            (sitting pass.new.known tosser.new) }
+    {
+        match parse(line, self.hub.header().size()) {
+            Err(refusal) => refusal,
+            Ok(Command::Ask { question }) => ask(self.hub, pass, question),
+            Ok(Command::Propose { question, bit }) => {
+                self.answer_alone(tosser, &Command::Propose { question, bit })
             }
-            answer_held(rt, hub, pass, tosser, held, stream)
-        }
-        LineStep::TooLong => Err(refuse(stream, DeskEnd::TooLong)),
-    }
-}
-
-/// Takes the bytes of a read, and answers the lines that they end.
-fn take_all<D: Disk, J: Naming, S: Stream, T: Tosser, R: Wait>(
-    rt: &R,
-    hub: &Hub<D, J>,
-    pass: &mut Pass,
-    tosser: &mut T,
-    held: &mut HeldLine,
-    stream: &mut S,
-    piece: &[u8],
-) -> Result<(), DeskEnd>
-    requires { pass.old.cells ≡ J.names }
-    ensures cells { pass.new.cells ≡ J.names }
-    ensures on { (begun : Sitting T) (old : Told) →
-        Serving (AnswersLine D T.may_toss hub.now.size.questions) begun (sitting pass.old.known tosser.old) old (S.told stream.old) held.old piece.now →
-        OnOk result (Serving (AnswersLine D T.may_toss hub.now.size.questions) begun (sitting pass.new.known tosser.new) old (S.told stream.new) held.new []) }
-    ensures off { (begun : Sitting T) (old : Told) →
-        Serving (AnswersLine D T.may_toss hub.now.size.questions) begun (sitting pass.old.known tosser.old) old (S.told stream.old) held.old piece.now →
-        IfErr result (Serves (AnswersLine D T.may_toss hub.now.size.questions) begun (sitting pass.new.known tosser.new) old (S.told stream.new)) }
-{
-    for byte in piece {
-        if let Err(end) = take(rt, hub, pass, tosser, held, stream, *byte) {
-            return Err(end);
+            Ok(Command::Status) => self.answer_alone(tosser, &Command::Status),
+            Ok(Command::Transcript { question }) => self.transcript_of(question),
         }
     }
-    Ok(())
-}
 
-/// At the end of the input, answers the line that is held, if it has any bytes.
-fn finish<D: Disk, J: Naming, S: Stream, T: Tosser, R: Wait>(
-    rt: &R,
-    hub: &Hub<D, J>,
-    pass: &mut Pass,
-    tosser: &mut T,
-    held: &mut HeldLine,
-    stream: &mut S,
-) -> DeskEnd
-    requires { pass.old.cells ≡ J.names }
-    ensures cells { pass.new.cells ≡ J.names }
-    ensures off { (begun : Sitting T) (old : Told) (before : Told) → S.told stream.old ≡ has_ended before →
-        Serving (AnswersLine D T.may_toss hub.now.size.questions) begun (sitting pass.old.known tosser.old) old before held.old [] →
-        Serves (AnswersLine D T.may_toss hub.now.size.questions) begun (sitting pass.new.known tosser.new) old (S.told stream.new) result }
-{
-    if held.line().is_empty() {
-        return DeskEnd::Ended;
+    /// Answers the line that is held, and begins a new one.
+    fn answer_held<S: Stream, T: Tosser>(
+        &self,
+        pass: &mut Pass,
+        tosser: &mut T,
+        held: &mut HeldLine,
+        stream: &mut S,
+    ) -> Result<(), DeskEnd>
+        requires { pass.old.cells ≡ J.names }
+        ensures cells { pass.new.cells ≡ J.names }
+        ensures held { held.new ≡ [] }
+        ensures ok { OnOk result (Says (λ said. AnswersLine D T.may_toss self.now.hub.now.size.questions (sitting pass.old.known tosser.old)
+            held.old said (sitting pass.new.known tosser.new)) (S.told stream.old) (S.told stream.new)) }
+        ensures err { IfErr result (λ why. (why ≡ DeskEnd.Lost)
+            × FailsToSay (λ said. AnswersLine D T.may_toss self.now.hub.now.size.questions (sitting pass.old.known tosser.old)
+            held.old said (sitting pass.new.known tosser.new)) (S.told stream.old) (S.told stream.new)) }
+    {
+        let reply = self.reply_to(pass, tosser, held.line());
+        held.clear();
+        write_reply(stream, &reply)
     }
-    match answer_held(rt, hub, pass, tosser, held, stream) {
-        Ok(()) => DeskEnd::Ended,
-        Err(end) => end,
-    }
-}
 
-/// Reads a piece, and answers the lines that it ends.
-fn turn<D: Disk, J: Naming, S: Stream, T: Tosser, R: Wait>(
-    rt: &R,
-    hub: &Hub<D, J>,
-    pass: &mut Pass,
-    tosser: &mut T,
-    held: &mut HeldLine,
-    stream: &mut S,
-) -> Result<(), DeskEnd>
-    requires { pass.old.cells ≡ J.names }
-    ensures cells { pass.new.cells ≡ J.names }
-    ensures on { (begun : Sitting T) (old : Told) →
-        Serving (AnswersLine D T.may_toss hub.now.size.questions) begun (sitting pass.old.known tosser.old) old (S.told stream.old) held.old [] →
-        OnOk result (Serving (AnswersLine D T.may_toss hub.now.size.questions) begun (sitting pass.new.known tosser.new) old (S.told stream.new) held.new []) }
-    ensures off { (begun : Sitting T) (old : Told) →
-        Serving (AnswersLine D T.may_toss hub.now.size.questions) begun (sitting pass.old.known tosser.old) old (S.told stream.old) held.old [] →
-        IfErr result (Serves (AnswersLine D T.may_toss hub.now.size.questions) begun (sitting pass.new.known tosser.new) old (S.told stream.new)) }
-{
-    let mut piece = [0u8; PIECE];
-    match stream.read(&mut piece) {
-        Ok(0) => Err(finish(rt, hub, pass, tosser, held, stream)),
-        Ok(count) => take_all(rt, hub, pass, tosser, held, stream, &piece[..count]),
-        Err(_) => Err(DeskEnd::Lost),
+    /// Reads a byte, and answers the line that it ends.
+    fn serve_byte<S: Stream, T: Tosser>(
+        &self,
+        pass: &mut Pass,
+        tosser: &mut T,
+        held: &mut HeldLine,
+        stream: &mut S,
+        byte: u8,
+    ) -> Result<(), DeskEnd>
+        requires { pass.old.cells ≡ J.names }
+        ensures cells { pass.new.cells ≡ J.names }
+        ensures on { (begun : Sitting T) (old : Told) (more : List ℕ) →
+            Serving (AnswersLine D T.may_toss self.now.hub.now.size.questions) begun (sitting pass.old.known tosser.old) old (S.told stream.old) held.old (byte ∷ more) →
+            OnOk result (Serving (AnswersLine D T.may_toss self.now.hub.now.size.questions) begun (sitting pass.new.known tosser.new) old (S.told stream.new) held.new more) }
+        ensures off { (begun : Sitting T) (old : Told) (more : List ℕ) →
+            Serving (AnswersLine D T.may_toss self.now.hub.now.size.questions) begun (sitting pass.old.known tosser.old) old (S.told stream.old) held.old (byte ∷ more) →
+            IfErr result (Serves (AnswersLine D T.may_toss self.now.hub.now.size.questions) begun (sitting pass.new.known tosser.new) old (S.told stream.new)) }
+    {
+        match held.read(byte) {
+            LineStep::More => Ok(()),
+            LineStep::Ends => {
+                if is_request(held.line()) {
+                    return Err(refuse(stream, DeskEnd::Request));
+                }
+                self.answer_held(pass, tosser, held, stream)
+            }
+            LineStep::TooLong => Err(refuse(stream, DeskEnd::TooLong)),
+        }
+    }
+
+    /// Reads the bytes of a piece, and answers the lines that they end.
+    fn serve_bytes<S: Stream, T: Tosser>(
+        &self,
+        pass: &mut Pass,
+        tosser: &mut T,
+        held: &mut HeldLine,
+        stream: &mut S,
+        piece: &[u8],
+    ) -> Result<(), DeskEnd>
+        requires { pass.old.cells ≡ J.names }
+        ensures cells { pass.new.cells ≡ J.names }
+        ensures on { (begun : Sitting T) (old : Told) →
+            Serving (AnswersLine D T.may_toss self.now.hub.now.size.questions) begun (sitting pass.old.known tosser.old) old (S.told stream.old) held.old piece.now →
+            OnOk result (Serving (AnswersLine D T.may_toss self.now.hub.now.size.questions) begun (sitting pass.new.known tosser.new) old (S.told stream.new) held.new []) }
+        ensures off { (begun : Sitting T) (old : Told) →
+            Serving (AnswersLine D T.may_toss self.now.hub.now.size.questions) begun (sitting pass.old.known tosser.old) old (S.told stream.old) held.old piece.now →
+            IfErr result (Serves (AnswersLine D T.may_toss self.now.hub.now.size.questions) begun (sitting pass.new.known tosser.new) old (S.told stream.new)) }
+    {
+        for byte in piece {
+            if let Err(end) = self.serve_byte(pass, tosser, held, stream, *byte) {
+                return Err(end);
+            }
+        }
+        Ok(())
+    }
+
+    /// At the end of the input, answers the line that is held, if it has any bytes.
+    fn finish<S: Stream, T: Tosser>(
+        &self,
+        pass: &mut Pass,
+        tosser: &mut T,
+        held: &mut HeldLine,
+        stream: &mut S,
+    ) -> DeskEnd
+        requires { pass.old.cells ≡ J.names }
+        ensures cells { pass.new.cells ≡ J.names }
+        ensures off { (begun : Sitting T) (old : Told) (before : Told) → S.told stream.old ≡ has_ended before →
+            Serving (AnswersLine D T.may_toss self.now.hub.now.size.questions) begun (sitting pass.old.known tosser.old) old before held.old [] →
+            Serves (AnswersLine D T.may_toss self.now.hub.now.size.questions) begun (sitting pass.new.known tosser.new) old (S.told stream.new) result }
+    {
+        if held.line().is_empty() {
+            return DeskEnd::Ended;
+        }
+        match self.answer_held(pass, tosser, held, stream) {
+            Ok(()) => DeskEnd::Ended,
+            Err(end) => end,
+        }
+    }
+
+    /// Reads a piece, and answers the lines that it ends.
+    fn turn<S: Stream, T: Tosser>(
+        &self,
+        pass: &mut Pass,
+        tosser: &mut T,
+        held: &mut HeldLine,
+        stream: &mut S,
+    ) -> Result<(), DeskEnd>
+        requires { pass.old.cells ≡ J.names }
+        ensures cells { pass.new.cells ≡ J.names }
+        ensures on { (begun : Sitting T) (old : Told) →
+            Serving (AnswersLine D T.may_toss self.now.hub.now.size.questions) begun (sitting pass.old.known tosser.old) old (S.told stream.old) held.old [] →
+            OnOk result (Serving (AnswersLine D T.may_toss self.now.hub.now.size.questions) begun (sitting pass.new.known tosser.new) old (S.told stream.new) held.new []) }
+        ensures off { (begun : Sitting T) (old : Told) →
+            Serving (AnswersLine D T.may_toss self.now.hub.now.size.questions) begun (sitting pass.old.known tosser.old) old (S.told stream.old) held.old [] →
+            IfErr result (Serves (AnswersLine D T.may_toss self.now.hub.now.size.questions) begun (sitting pass.new.known tosser.new) old (S.told stream.new)) }
+    {
+        let mut piece = [0u8; PIECE];
+        match stream.read(&mut piece) {
+            Ok(0) => Err(self.finish(pass, tosser, held, stream)),
+            Ok(count) => self.serve_bytes(pass, tosser, held, stream, &piece[..count]),
+            Err(_) => Err(DeskEnd::Lost),
+        }
     }
 }
 
@@ -276,8 +258,8 @@ fn turn<D: Disk, J: Naming, S: Stream, T: Tosser, R: Wait>(
 /// stream fails.
 ///
 /// A line ends at the byte 10, and bytes behind the last one are a line too. `ASK` goes by the board and takes no lock;
-/// `PROPOSE` and `STATUS` take the book's, and a toss each; `TRANSCRIPT` takes the lock and no toss. The bell is rung where the
-/// member has new records. Replies are written without memory, and no lock is held while they are. The pass is of the hub's
+/// `PROPOSE` and `STATUS` take the book's, and a toss each; `TRANSCRIPT` takes the lock and no toss. What the member says
+/// because of a proposal is shown to who writes links. Replies are written without memory, and no lock is held while they are. The pass is of the hub's
 /// board, and knows each decision that was written, so a decision that was told is told again.
 ///
 /// It may wait for the stream and for the lock. The stream stays open.
@@ -294,9 +276,10 @@ pub fn serve<D: Disk, J: Naming, S: Stream, T: Tosser, R: Wait>(
     ensures serves { Serves (AnswersLine D T.may_toss hub.now.size.questions) (sitting pass.old.known tosser.old)
         (sitting pass.new.known tosser.new) (S.told stream.old) (S.told stream.new) result }
 {
+    let server = Server { rt, hub };
     let mut held = HeldLine::new();
     for _ in rt.forever() {
-        if let Err(end) = turn(rt, hub, pass, tosser, &mut held, stream) {
+        if let Err(end) = server.turn(pass, tosser, &mut held, stream) {
             return end;
         }
     }

@@ -2,7 +2,7 @@
 
 ghost use Rattle.std.specs.Prelude.{ℕ, ◌≡◌, ◌≤◌, ◌+◌, ◌++◌, List, [], IfErr, OnOk};
 ghost use Rattle.arrayvec.specs.ArrayVec.{array_vec_len};
-ghost use Rattle.words.specs.Lines.{line};
+ghost use Rattle.numerals.specs.Lines.{line};
 ghost use Rattle.links.specs.Told.{has_written, BreaksOff};
 ghost use Rattle.desk.specs.Replies.{reply_text};
 ghost use Rattle.desk.specs.declared.reply.Reply.TheVariants as reply;

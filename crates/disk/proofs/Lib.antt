@@ -7,4 +7,3 @@ pub mod Outcomes
 mod Placing
 mod Torn
 mod Under
-mod Walks

@@ -6,7 +6,7 @@ use Rattle.disk.specs.declared.file.FileDisk.{FileDisk}
 
 -- how often it has failed
 abbrev pub file_failures : FileDisk → ℕ
-file_failures disk = disk.named.failures.count
+file_failures disk = disk.named.failures.value
 
 -- what the system's calls on the file did
 abbrev pub file_done : FileDisk → Done

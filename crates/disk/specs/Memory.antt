@@ -18,7 +18,7 @@ memory_since disk = LeftSince disk.log.start disk.log.calls
 
 -- how often it has failed
 abbrev pub memory_failures : MemDisk → ℕ
-memory_failures disk = disk.failures.count
+memory_failures disk = disk.failures.value
 
 -- the fuse: how many calls still pass before all fail, where one is in
 abbrev pub fuse_left : MemDisk → Option ℕ

@@ -3,4 +3,4 @@ use Rattle.disk.specs.System.{Done}
 use Rattle.disk.specs.declared.system.RealFile.{RealFile}
 
 abbrev pub real_done : RealFile → Done
-real_done file = file.account.done
+real_done file = file.account.value

@@ -1,22 +1,24 @@
-//! What was done with a file of the system, as an account that only clauses read. No word of memory holds it.
-ghost use Rattle.std.specs.Prelude.{◌≡◌};
-ghost use Rattle.std.specs.Borrow.{ftrue};
-ghost use Rattle.disk.specs.System.{Done, nothing_done};
-
+//! What was done with a file of the system, to be recorded for clauses alone.
+use ghost_record::{Change, Recorded};
 use std::marker::Model;
 
-/// What the system's calls did so far. A value takes no memory, and has no word at run time.
+/// What the system's calls did so far.
 #[derive(Drop)]
-pub(crate) struct Account {
-    pub ghost done: { Done },
-}
+pub(crate) struct Account {}
 
 impl Model for Account {
-    ghost also_owns = { λ _. ftrue };
+    ghost use Rattle.disk.specs.System.{Done, nothing_done};
+
+    ghost Value = { Done };
+
+    ghost view = { λ _. nothing_done };
 }
 
-// SAFETY: it has no word of memory.
-unsafe impl Send for Account {}
+impl Recorded for Account {
+    ghost use Rattle.disk.specs.System.{nothing_done};
+
+    ghost begun = { nothing_done };
+}
 
 /// What one call of the system did.
 #[derive(Clone, Copy, Drop)]
@@ -31,21 +33,8 @@ pub(crate) enum SystemCall<'a> {
     Synced,
 }
 
-impl Account {
+impl Change<Account> for SystemCall<'_> {
     ghost use Rattle.disk.specs.Deeds.{done_after};
 
-    /// Nothing was done.
-    pub(crate) fn new() -> Account
-        ensures { result.done ≡ nothing_done }
-    {
-        Account {}
-    }
-
-    /// The account with one deed more.
-    #[inline(always)]
-    pub(crate) fn then(&self, _deed: &SystemCall<'_>) -> Account
-        ensures { result.done ≡ done_after self.now.done _deed.now }
-    {
-        Account {}
-    }
+    ghost after = { done_after };
 }

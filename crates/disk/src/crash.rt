@@ -1,5 +1,5 @@
 //! What a crash makes of a file in memory.
-ghost use Rattle.std.specs.Prelude.{◌≡◌, ◌||◌, nat_le, if◌then◌else◌};
+ghost use Rattle.std.specs.Prelude.{◌≡◌, ◌≤◌, ◌<◌, ◌||◌, ℕ, false, nat_le, if◌then◌else◌};
 ghost use Rattle.disk.specs.Model.{is_touched};
 ghost use Rattle.disk.specs.Crash.{filled_from};
 
@@ -19,9 +19,21 @@ pub enum Pick {
 pub(crate) fn fill(seen: &mut [u8], synced: usize, written: &[(usize, usize)], byte: u8)
     ensures { seen.new ≡ filled_from synced written.now byte 0 seen.old }
 {
-    for place in 0..seen.len() {
+    for place in first_place(synced, written).min(seen.len())..seen.len() {
         seen[place] = left_at(place, seen[place], synced, written, byte);
     }
+}
+
+/// A place before which all is left as it was: the first past this length, or of a range.
+fn first_place(synced: usize, written: &[(usize, usize)]) -> usize
+    ensures synced { result ≤ synced }
+    ensures written { (place : ℕ) → place < result → is_touched place written.now ≡ false }
+{
+    let mut first = synced;
+    for (at, _) in written {
+        first = first.min(*at);
+    }
+    first
 }
 
 /// What is left at a place, where the file had this length at the last sync.

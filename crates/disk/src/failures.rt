@@ -1,35 +1,29 @@
-//! A count of failures that only clauses read. No word of memory holds it, so it has no greatest value.
-ghost use Rattle.std.specs.Prelude.{◌≡◌, ◌+◌, ℕ};
-ghost use Rattle.std.specs.Borrow.{ftrue};
+//! A count of failures, to be recorded for clauses alone: no word holds it, so it has no greatest value.
+use ghost_record::{Change, Recorded};
+use std::marker::Model;
 
-use std::marker::{Model, PhantomData};
-
-/// How often something has failed. A value takes no memory, and has no word at run time.
+/// How often something has failed.
 #[derive(Drop)]
-pub struct Failures {
-    marker: PhantomData<u8>,
-    pub ghost count: { ℕ },
-}
+pub struct Failures {}
 
 impl Model for Failures {
-    ghost also_owns = { λ _. ftrue };
+    ghost use Rattle.std.specs.Prelude.{ℕ};
+
+    ghost Value = { ℕ };
+
+    ghost view = { λ _. 0 };
 }
 
-// SAFETY: it has no word of memory.
-unsafe impl Send for Failures {}
+impl Recorded for Failures {
+    ghost begun = { 0 };
+}
 
-impl Failures {
-    /// No failure yet.
-    pub(crate) fn none() -> Failures
-        ensures { result.count ≡ 0 }
-    {
-        Failures {
-            marker: PhantomData,
-        }
-    }
+/// One failure.
+#[derive(Clone, Copy, Drop)]
+pub struct Failure;
 
-    /// One failure more.
-    pub(crate) fn raise(&mut self)
-        ensures { self.new.count ≡ self.old.count + 1 }
-    {}
+impl Change<Failures> for Failure {
+    ghost use Rattle.std.specs.Prelude.{◌+◌};
+
+    ghost after = { λ count _. count + 1 };
 }

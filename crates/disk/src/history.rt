@@ -1,22 +1,26 @@
-//! The calls that a disk in memory has answered, as an account that only clauses read. No word of memory holds it.
-ghost use Rattle.std.specs.Prelude.{◌≡◌, []};
-ghost use Rattle.std.specs.Borrow.{ftrue};
-ghost use Rattle.disk.specs.Replay.{FilePast, begun};
-
+//! The calls that a disk in memory has answered, to be recorded for clauses alone.
+use ghost_record::{Change, Recorded};
 use std::marker::Model;
 
-/// The file at first, and each call since then. A value takes no memory, and has no word at run time.
+/// The file at first, and each call since then.
 #[derive(Drop)]
-pub(crate) struct History {
-    pub ghost past: { FilePast },
-}
+pub(crate) struct History {}
 
 impl Model for History {
-    ghost also_owns = { λ _. ftrue };
+    ghost use Rattle.std.specs.Prelude.{[]};
+    ghost use Rattle.disk.specs.Replay.{FilePast, begun as past_begun};
+
+    ghost Value = { FilePast };
+
+    ghost view = { λ _. past_begun [] };
 }
 
-// SAFETY: it has no word of memory.
-unsafe impl Send for History {}
+impl Recorded for History {
+    ghost use Rattle.std.specs.Prelude.{[]};
+    ghost use Rattle.disk.specs.Replay.{begun as past_begun};
+
+    ghost begun = { past_begun [] };
+}
 
 /// What happened to the file.
 #[derive(Clone, Copy, Drop)]
@@ -33,21 +37,8 @@ pub(crate) enum Deed<'a> {
     Synced,
 }
 
-impl History {
+impl Change<History> for Deed<'_> {
     ghost use Rattle.disk.specs.Happened.{past_after};
 
-    /// No call yet, on an empty file.
-    pub(crate) fn new() -> History
-        ensures { result.past ≡ begun [] }
-    {
-        History {}
-    }
-
-    /// The history with one deed more.
-    #[inline(always)]
-    pub(crate) fn then(&self, _deed: &Deed<'_>) -> History
-        ensures { result.past ≡ past_after self.now.past _deed.now }
-    {
-        History {}
-    }
+    ghost after = { past_after };
 }

@@ -8,6 +8,7 @@ ghost use Rattle.disk.specs.Crash.{left};
 use crate::Pick;
 use crate::content::Content;
 use crate::history::{Deed, History};
+use ghost_record::GhostRecord;
 use std::alloc::{AllocError, Global};
 use std::marker::Model;
 
@@ -15,7 +16,7 @@ use std::marker::Model;
 #[derive(Drop)]
 pub struct LoggedFile {
     content: Content,
-    history: History,
+    history: GhostRecord<History>,
 }
 
 impl Model for LoggedFile {
@@ -25,9 +26,9 @@ impl Model for LoggedFile {
 
     ghost Value = { FilePast };
 
-    ghost view = { λ log. log.history.past };
+    ghost view = { λ log. log.history.value };
 
-    ghost invariant = { λ log. content_state log.content ≡ state_of log.history.past };
+    ghost invariant = { λ log. content_state log.content ≡ state_of log.history.value };
 }
 
 impl LoggedFile {
@@ -37,7 +38,7 @@ impl LoggedFile {
     {
         LoggedFile {
             content: Content::empty(alloc),
-            history: History::new(),
+            history: GhostRecord::new(),
         }
     }
 

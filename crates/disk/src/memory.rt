@@ -5,9 +5,10 @@ ghost use Rattle.disk.specs.Fuse.{lets_pass, burnt, CountsFault};
 ghost use Rattle.disk.specs.Laws.{counts_now, only_now, may_leave_seen};
 ghost use Rattle.disk.specs.Crash.{left};
 
-use crate::failures::Failures;
+use crate::failures::{Failure, Failures};
 use crate::log::LoggedFile;
 use crate::{DeviceFault, Disk, Pick};
+use ghost_record::GhostRecord;
 use std::alloc::{AllocError, Global};
 
 /// A disk in memory, which keeps the model. A call fails where its fuse stops it, and a write also where memory is
@@ -18,7 +19,7 @@ use std::alloc::{AllocError, Global};
 pub struct MemDisk {
     log: LoggedFile,
     fuse: Option<u64>,
-    failures: Failures,
+    failures: GhostRecord<Failures>,
 }
 
 impl MemDisk {
@@ -79,7 +80,7 @@ impl MemDisk {
         MemDisk {
             log,
             fuse: None,
-            failures: Failures::none(),
+            failures: GhostRecord::new(),
         }
     }
 
@@ -111,7 +112,7 @@ impl MemDisk {
         ensures cause { CountsFailures (memory_failures self.old) (memory_failures self.new) result }
         ensures counted { CountsFault (memory_failures self.old) (memory_failures self.new) result }
     {
-        self.failures.raise();
+        self.failures = self.failures.then(&Failure);
         Err(DeviceFault)
     }
 

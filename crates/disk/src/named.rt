@@ -4,9 +4,10 @@ ghost use Rattle.disk.specs.Model.{CountsFailures};
 ghost use Rattle.disk.specs.System.{with_told, with_read, with_written, with_synced, WroteSome};
 
 use crate::DeviceFault;
-use crate::failures::Failures;
+use crate::failures::{Failure, Failures};
 use crate::system::SystemFile;
 use crate::whole::{length_of, read_whole, settle, write_whole};
+use ghost_record::GhostRecord;
 use std::io;
 
 /// An open file, and the folder in which its name stands. Each call that fails is counted.
@@ -16,19 +17,22 @@ pub(crate) struct NamedFile<F: SystemFile> {
     pub(crate) folder: F,
     /// Whether a sync has put the folder on the disk, and so the file's name.
     pub(crate) named: bool,
-    pub(crate) failures: Failures,
+    pub(crate) failures: GhostRecord<Failures>,
 }
 
 /// The answer to a call of the system.
-fn answer<T: Drop>(failures: &mut Failures, done: io::Result<T>) -> Result<T, DeviceFault>
+fn answer<T: Drop>(
+    failures: &mut GhostRecord<Failures>,
+    done: io::Result<T>,
+) -> Result<T, DeviceFault>
     ensures ok { IfOk result (λ value. done ≡ Ok value) }
     ensures err { OnErr result (OnErr done (Unit {0})) }
-    ensures cause { CountsFailures failures.old.count failures.new.count result }
+    ensures cause { CountsFailures failures.old.value failures.new.value result }
 {
     match done {
         Ok(value) => Ok(value),
         Err(_) => {
-            failures.raise();
+            *failures = failures.then(&Failure);
             Err(DeviceFault)
         }
     }
@@ -40,13 +44,13 @@ impl<F: SystemFile> NamedFile<F> {
         ensures file { result.file ≡ file }
         ensures folder { result.folder ≡ folder }
         ensures unnamed { result.named ≡ false }
-        ensures failures { result.failures.count ≡ 0 }
+        ensures failures { result.failures.value ≡ 0 }
     {
         NamedFile {
             file,
             folder,
             named: false,
-            failures: Failures::none(),
+            failures: GhostRecord::new(),
         }
     }
 
@@ -54,7 +58,7 @@ impl<F: SystemFile> NamedFile<F> {
     pub(crate) fn len(&mut self) -> Result<usize, DeviceFault>
         ensures told { IfOk result (λ n. F.done self.new.file ≡ with_told (F.done self.old.file) n) }
         ensures folder { (self.new.folder ≡ self.old.folder) × (self.new.named ≡ self.old.named) }
-        ensures cause { CountsFailures self.old.failures.count self.new.failures.count result }
+        ensures cause { CountsFailures self.old.failures.value self.new.failures.value result }
     {
         let length = length_of(&mut self.file);
         answer(&mut self.failures, length)
@@ -64,7 +68,7 @@ impl<F: SystemFile> NamedFile<F> {
     pub(crate) fn read_at(&mut self, at: usize, buf: &mut [u8]) -> Result<(), DeviceFault>
         ensures got { OnOk result (F.done self.new.file ≡ with_read (F.done self.old.file) at buf.new) }
         ensures folder { (self.new.folder ≡ self.old.folder) × (self.new.named ≡ self.old.named) }
-        ensures cause { CountsFailures self.old.failures.count self.new.failures.count result }
+        ensures cause { CountsFailures self.old.failures.value self.new.failures.value result }
     {
         let read = read_whole(&mut self.file, at, buf);
         answer(&mut self.failures, read)
@@ -75,7 +79,7 @@ impl<F: SystemFile> NamedFile<F> {
         ensures whole { OnOk result (F.done self.new.file ≡ with_written (F.done self.old.file) at bytes.now) }
         ensures part { OnErr result (WroteSome (F.done self.old.file) (F.done self.new.file) at bytes.now) }
         ensures folder { (self.new.folder ≡ self.old.folder) × (self.new.named ≡ self.old.named) }
-        ensures cause { CountsFailures self.old.failures.count self.new.failures.count result }
+        ensures cause { CountsFailures self.old.failures.value self.new.failures.value result }
     {
         let written = write_whole(&mut self.file, at, bytes);
         answer(&mut self.failures, written)
@@ -87,7 +91,7 @@ impl<F: SystemFile> NamedFile<F> {
         ensures folder { OnOk result (self.old.named ≡ false → F.done self.new.folder ≡ with_synced (F.done self.old.folder)) }
         ensures named { OnOk result (self.new.named ≡ true) }
         ensures unnamed { OnErr result (self.new.named ≡ self.old.named) }
-        ensures cause { CountsFailures self.old.failures.count self.new.failures.count result }
+        ensures cause { CountsFailures self.old.failures.value self.new.failures.value result }
     {
         let settled = settle_both(&mut self.file, &mut self.folder, self.named);
         match answer(&mut self.failures, settled) {

@@ -3,6 +3,7 @@ ghost use Rattle.std.specs.Prelude.{◌≡◌, ◌≤◌, length, take, IfOk, On
 ghost use Rattle.disk.specs.System.{Done, nothing_done, with_told, with_read, with_written, with_synced};
 
 use crate::account::{Account, SystemCall};
+use ghost_record::GhostRecord;
 use std::fs::File;
 use std::io;
 use std::os::unix::fs::FileExt;
@@ -43,7 +44,7 @@ pub(crate) trait SystemFile {
 #[derive(Drop)]
 pub(crate) struct RealFile {
     file: File,
-    account: Account,
+    account: GhostRecord<Account>,
 }
 
 impl RealFile {
@@ -55,7 +56,7 @@ impl RealFile {
     {
         RealFile {
             file,
-            account: Account::new(),
+            account: GhostRecord::new(),
         }
     }
 }

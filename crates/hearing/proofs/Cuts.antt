@@ -1,7 +1,7 @@
 -- The parts of a piece's line are those at its first space.
 use Rattle.std.proofs.Common.{ℕ, ◌≡◌, ◌∙◌, sym, List, ◌∷◌, ◌++◌}
-use Rattle.words.specs.Spaces.{NoSpace}
-use Rattle.words.proofs.Cuts.{digits_spaceless, one_cut}
+use Rattle.numerals.specs.Spaces.{NoSpace}
+use Rattle.numerals.proofs.Cuts.{digits_spaceless, one_cut}
 use Rattle.hearing.specs.Pieces.{IsPiece}
 
 -- a piece on a line has the parts of the line's cut

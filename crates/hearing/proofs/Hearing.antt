@@ -1,13 +1,13 @@
 -- What one statement's answer is made of, and what it leaves.
 use Rattle.std.proofs.Common.{ℕ, ◌≡◌, refl, sym, ap, ◌∙◌, subst, Option, Some, None, List, ◌++◌, append_assoc, codes}
 use Rattle.std.specs.List.{flat_map}
-use Rattle.vocabulary.specs.Terms.{Kind, Echo, Ready, Value, Place, Statement, Size, FitsStep, Past, after_hearing, MaySay, IsLeast, said_if, after_records, AllFit, FitsIf}
+use Rattle.terms_prelude.specs.Terms.{Kind, Echo, Ready, Value, Place, Statement, Size, FitsStep, Past, after_hearing, MaySay, IsLeast, said_if, after_records, AllFit, FitsIf}
 use Rattle.terms.proofs.Fit.{fit_heard, echo_fits, ready_fits}
 use Rattle.rbc.specs.declared.Heard.{Heard}
 use Rattle.rbc.specs.declared.Heard.TheVariants.{News, Repeat, Foreign}
 use Rattle.rbc.specs.declared.Broadcasts.{Broadcasts}
 use Rattle.rbc.specs.Words.{heard_as, BroadcastsStandFor}
-use Rattle.words.specs.Lines.{line}
+use Rattle.numerals.specs.Lines.{line}
 use Rattle.hearing.specs.Replies.{frame_line, AnswersAs, AnswersStatement}
 use Rattle.hearing.specs.Sessions.{IsOf}
 

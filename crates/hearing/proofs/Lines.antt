@@ -2,12 +2,12 @@
 use Rattle.std.proofs.Common.{ℕ, zero, suc, ◌==◌, ◌-◌, ◌≡◌, ◌+◌, Bool, true, false, eqb, refl, sym, ap, ◌∙◌, subst, ◌⊎◌, inl, inr, arith, Option, Some, None, List, [], ◌∷◌, ◌++◌, length, append_assoc, append-nil, length-append, IfSome, slice_get, eqb-true}
 use Rattle.std.specs.Io.KnownBytes.{Appends, IsAtEnd}
 use Rattle.std.specs.Io.BufRead.{take_through, drop_through, DropsThrough}
-use Rattle.vocabulary.specs.Terms.{Size}
+use Rattle.terms_prelude.specs.Terms.{Size}
 use Rattle.hearing.specs.declared.session.Session.{Session}
 use Rattle.hearing.specs.Pieces.{IsNoPiece}
-use Rattle.words.specs.Lines.{NoEnd, lines_of, onto_line}
+use Rattle.numerals.specs.Lines.{NoEnd, lines_of, onto_line}
 use Rattle.hearing.specs.InTurn.{InTurn}
-use Rattle.hearing.specs.Replies.{Hearing, no_hearing, AnswersLine}
+use Rattle.hearing.specs.Replies.{Hearing, no_hearing, AnswersInput}
 use Rattle.hearing.specs.Keeping.{SessionStandsFor}
 use Rattle.hearing.specs.Hears.{Hears, WritesReplies}
 use Rattle.hearing.proofs.Turns.{InTurn-snoc}
@@ -44,7 +44,7 @@ first_line b (c ∷ more) = step (eqb b 10) refl (first_line c more)
 abbrev pub AreHeard : Size → ℕ → List ℕ → Option (List ℕ) → Session → Option (List ℕ) → Option (List ℕ) → ℕ → Type 0
 AreHeard size me all left session old new number =
     (rest : List ℕ) × (good : List (List ℕ)) × (after : Hearing) × (text : List ℕ)
-    × (left ≡ Some rest) × (lines_of all ≡ good ++ lines_of rest) × InTurn (AnswersLine size) (no_hearing size me) good after text
+    × (left ≡ Some rest) × (lines_of all ≡ good ++ lines_of rest) × InTurn (AnswersInput size) (no_hearing size me) good after text
     × SessionStandsFor session after × Appends old new text × (number ≡ length good + 1)
 
 -- bytes with no end of a line have none anywhere
@@ -63,14 +63,14 @@ line_is {bytes} {line} {text} f read ended last = step f.taken
 
 -- the end of the input
 pub all_heard : (size : Size) (me : ℕ) (all rest : List ℕ) (good : List (List ℕ)) (after : Hearing) (text : List ℕ) → rest ≡ []
-    → lines_of all ≡ good ++ lines_of rest → InTurn (AnswersLine size) (no_hearing size me) good after text → Hears size me all None text
+    → lines_of all ≡ good ++ lines_of rest → InTurn (AnswersInput size) (no_hearing size me) good after text → Hears size me all None text
 all_heard size me all rest good after text none lines answered =
     record { good = good; others = lines_of rest; after = after; lines = lines; answered = answered; stops = ap lines_of none }
 
 -- a line that is no piece
 pub stopped : (size : Size) (me number : ℕ) (all rest : List ℕ) (good : List (List ℕ)) (after : Hearing) (text line : List ℕ) → (f : FirstLine rest) → line ≡ f.line
     → IsNoPiece size.n line → number ≡ length good + 1
-    → lines_of all ≡ good ++ lines_of rest → InTurn (AnswersLine size) (no_hearing size me) good after text → Hears size me all (Some number) text
+    → lines_of all ≡ good ++ lines_of rest → InTurn (AnswersInput size) (no_hearing size me) good after text → Hears size me all (Some number) text
 stopped size me number all rest good after text line f same bad count lines answered =
     record {
       good = good;
@@ -141,7 +141,7 @@ pub one_line : (size : Size) (me number n : ℕ) (known left next old mid new : 
     → IfSome known (λ all. AreHeard size me all left session old mid number)
     → WasRead left next line → length line ≡ n → (n ≡ 0 → ⊥)
     → ((front : List ℕ) → line ≡ front ++ 10 ∷ [] → text ≡ front) → (NoEnd line → text ≡ line)
-    → ((h : Hearing) → SessionStandsFor session h → (after : Hearing) × (shown : List ℕ) × AnswersLine size h text after shown × SessionStandsFor later after × Appends mid new shown)
+    → ((h : Hearing) → SessionStandsFor session h → (after : Hearing) × (shown : List ℕ) × AnswersInput size h text after shown × SessionStandsFor later after × Appends mid new shown)
     → IfSome known (λ all. AreHeard size me all next later old new (number + 1))
 one_line size me number n None left next old mid new session later line text h read len some cut last answers = tt
 one_line size me number n (Some all) left next old mid new session later line text (rest, good, before, shown, is, lines, answered, at, grown, count) read len some cut last answers =
@@ -156,7 +156,7 @@ one_line size me number n (Some all) left next old mid new session later line te
       shown ++ a.1,
       r.1,
       lines ∙ (ap (λ ls. good ++ ls) f.lines ∙ sym (append_assoc good (f.line ∷ []) (lines_of (drop_through 10 rest)))),
-      InTurn-snoc (AnswersLine size) (no_hearing size me) good f.line before a.0 shown a.1 answered (subst (λ (l : List ℕ). AnswersLine size before l a.0 a.1) same a.2),
+      InTurn-snoc (AnswersInput size) (no_hearing size me) good f.line before a.0 shown a.1 answered (subst (λ (l : List ℕ). AnswersInput size before l a.0 a.1) same a.2),
       a.3,
       joined old mid new shown a.1 grown a.4,
       omega (arith, more, count),

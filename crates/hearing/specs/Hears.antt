@@ -2,11 +2,11 @@
 use Rattle.std.specs.Prelude.{ℕ, ◌≡◌, ◌+◌, Option, Some, None, List, [], ◌∷◌, ◌++◌, length}
 use Rattle.std.specs.Prelude.{IfSome}
 use Rattle.std.specs.Io.KnownBytes.{Appends}
-use Rattle.vocabulary.specs.Terms.{Size}
+use Rattle.terms_prelude.specs.Terms.{Size}
 use Rattle.hearing.specs.Pieces.{IsNoPiece}
-use Rattle.words.specs.Lines.{lines_of}
+use Rattle.numerals.specs.Lines.{lines_of}
 use Rattle.hearing.specs.InTurn.{InTurn}
-use Rattle.hearing.specs.Replies.{Hearing, no_hearing, AnswersLine}
+use Rattle.hearing.specs.Replies.{Hearing, no_hearing, AnswersInput}
 
 -- the lines after these are none, or the first of them is no piece and has the number of the bad line
 abbrev pub StopsAt : Size → List (List ℕ) → Option ℕ → List (List ℕ) → Type 0
@@ -21,7 +21,7 @@ pub record Hears (size : Size) (me : ℕ) (input : List ℕ) (bad : Option ℕ) 
   pub others : List (List ℕ)
   pub after : Hearing
   pub lines : lines_of input ≡ good ++ others
-  pub answered : InTurn (AnswersLine size) (no_hearing size me) good after text
+  pub answered : InTurn (AnswersInput size) (no_hearing size me) good after text
   pub stops : StopsAt size good bad others
 
 -- where the input is known and the output tells what it holds, the output grows by such an answer and nothing else

@@ -1,6 +1,6 @@
 -- The lines of `hear`: a sender, one space, and a piece of the sender's stream in hexadecimal digits.
 use Rattle.std.specs.Prelude.{ℕ, ◌≡◌, ◌<◌, List, ◌∷◌, ◌++◌}
-use Rattle.words.specs.Numbers.{IsNumber, IsHexOf}
+use Rattle.numerals.specs.Numbers.{IsNumber, IsHexOf}
 
 -- the digits are decimal digits alone, at least one, and write the number of a member
 pub record IsMemberBelow (n : ℕ) (digits : List ℕ) (member : ℕ) : Type 0 where

@@ -1,7 +1,7 @@
 -- What `hear` answers to one statement, to one piece of a stream, and to one line.
 use Rattle.std.specs.Prelude.{ℕ, ◌≡◌, Option, List, [], ◌++◌, codes}
 use Rattle.std.specs.List.{flat_map}
-use Rattle.vocabulary.specs.Terms.{Echo, Ready, Value, Place, Statement, Record, Said, Decided, Size, Past, no_past, after_hearing, MaySay, IsLeast, said_if, after_records}
+use Rattle.terms_prelude.specs.Terms.{Echo, Ready, Value, Place, Statement, Record, Said, Decided, Size, Past, no_past, after_hearing, MaySay, IsLeast, said_if, after_records}
 use Rattle.wire.specs.declared.message.Message.{Message}
 use Rattle.wire.specs.declared.message.Message.TheVariants as message
 use Rattle.wire.specs.declared.message.WireFault.{WireFault}
@@ -13,7 +13,7 @@ use Rattle.rbc.specs.declared.Heard.{Heard}
 use Rattle.rbc.specs.declared.Heard.TheVariants.{News, Repeat, Foreign}
 use Rattle.rbc.specs.Answers.{heard_as}
 use Rattle.hex.specs.Hex.{encode_lower}
-use Rattle.words.specs.Lines.{line}
+use Rattle.numerals.specs.Lines.{line}
 use Rattle.hearing.specs.Pieces.{IsPiece}
 use Rattle.hearing.specs.InTurn.{InTurn}
 pub use Rattle.terms.specs.Keep.{put}
@@ -98,6 +98,6 @@ pub record AnswersPiece (size : Size) (from : ℕ) (before : Hearing) (piece : L
   pub text_is : text ≡ others ++ broken_line end
 
 -- the line is answered by the text
-abbrev pub AnswersLine : Size → Hearing → List ℕ → Hearing → List ℕ → Type 0
-AnswersLine size before line after text =
+abbrev pub AnswersInput : Size → Hearing → List ℕ → Hearing → List ℕ → Type 0
+AnswersInput size before line after text =
     (sender : ℕ) × (piece : List ℕ) × IsPiece size.n line sender piece × AnswersPiece size sender before piece after text

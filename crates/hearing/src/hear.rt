@@ -2,7 +2,7 @@
 
 ghost use Rattle.std.specs.Prelude.{ℕ, List, ◌≡◌, ◌≤◌, ◌↔◌, ◌∷◌, ◌++◌, [], IfOk, None, Some};
 ghost use Rattle.std.specs.Io.KnownBytes.{Keeps};
-ghost use Rattle.words.specs.Lines.{NoEnd};
+ghost use Rattle.numerals.specs.Lines.{NoEnd};
 ghost use Rattle.hearing.specs.Hears.{WritesReplies};
 
 use crate::fault::HearFault;

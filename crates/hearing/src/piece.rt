@@ -3,9 +3,9 @@
 ghost use Rattle.std.specs.Prelude.{IfOk, IfSome, IsSome, ℕ, MatchOption};
 ghost use Rattle.hearing.specs.Pieces.{IsMemberBelow, IsNoPiece, IsPiece};
 
+use numerals::{bytes, number8, split_at_space};
 use std::alloc::Global;
 use terms::Memory;
-use words::{bytes, number8, split_at_space};
 
 /// A piece of a sender's stream.
 #[derive(Drop)]

@@ -4,15 +4,15 @@ ghost use Rattle.std.specs.Prelude.{ℕ, ◌≡◌, ◌<◌, ◌++◌, OnOk, IfO
 ghost use Rattle.std.specs.Io.KnownBytes.{Appends};
 ghost use Rattle.std.specs.List.{flat_map, AllByRecursion};
 ghost use Rattle.terms.specs.declared.Size.{Size as SizeOf};
-ghost use Rattle.vocabulary.specs.Terms.{IsSize, IsWellFormed, FitsStep, Past, no_past, said_if, after_records, AllFit, FitsIf};
+ghost use Rattle.terms_prelude.specs.Terms.{IsSize, IsWellFormed, FitsStep, Past, no_past, said_if, after_records, AllFit, FitsIf};
 ghost use Rattle.wire.specs.Texts.{frame_bytes as text_of, Fits};
 ghost use Rattle.wire.specs.Reading.{End};
 ghost use Rattle.hex.specs.Hex.{encode_lower};
 ghost use Rattle.rbc.specs.Readers.{broadcasts_size};
 ghost use Rattle.rbc.specs.Stands.{BroadcastsStandFor};
 ghost use Rattle.hearing.specs.InTurn.{InTurn};
-ghost use Rattle.words.specs.Lines.{line};
-ghost use Rattle.hearing.specs.Replies.{frame_line, fault_name, broken_line, AnswersStatement, AnswersOne, AnswersMessage, AnswersPiece, AnswersLine, Hearing, no_hearing};
+ghost use Rattle.numerals.specs.Lines.{line};
+ghost use Rattle.hearing.specs.Replies.{frame_line, fault_name, broken_line, AnswersStatement, AnswersOne, AnswersMessage, AnswersPiece, AnswersInput, Hearing, no_hearing};
 ghost use Rattle.hearing.specs.Pieces.{IsNoPiece};
 ghost use Rattle.hearing.specs.Faults.{IsOfStream};
 ghost use Rattle.hearing.specs.Sessions.{HasFeeders, HasBroadcasts, AreFed, EachStandsFor};
@@ -244,8 +244,8 @@ impl Session {
         })
     }
 
-    /// Takes the next piece of the sender's stream, and adds the answers to the text.
-    pub fn take(&mut self, sender: u8, piece: &[u8], text: &mut Vec<u8>) -> Result<(), Memory>
+    /// Hears the next piece of the sender's stream, and adds the answers to the text.
+    pub fn hear(&mut self, sender: u8, piece: &[u8], text: &mut Vec<u8>) -> Result<(), Memory>
         requires sound { IsWhole self.old.size self.old }
         requires sender { sender < self.old.size.n }
         ensures answers { OnOk result ((h : Hearing) → SessionStandsFor self.old h →
@@ -272,14 +272,14 @@ impl Session {
         }
     }
 
-    /// Answers a line of the input: a piece of a sender's stream is taken, and what it is answered is written. False
+    /// Answers a line of the input: a piece of a sender's stream is heard, and what it is answered is written. False
     /// where the line isn't one: then nothing changed and nothing was written.
     ///
     /// [`HearFault::Stream`] and [`HearFault::Memory`]: a write or a growth failed, and the session is not to be used again.
     pub fn answer<W: Write>(&mut self, line: &[u8], output: &mut W) -> Result<bool, HearFault>
         requires { IsWhole self.old.size self.old }
         ensures answers { result ≡ Ok true → (h : Hearing) → SessionStandsFor self.old h →
-            (after : Hearing) × (text : List ℕ) × AnswersLine self.old.size h line.now after text
+            (after : Hearing) × (text : List ℕ) × AnswersInput self.old.size h line.now after text
             × SessionStandsFor self.new after × Appends (W.contents output.old) (W.contents output.new) text }
         ensures sound { result ≡ Ok true → IsWhole self.old.size self.new }
         ensures no_piece { result ≡ Ok false → IsNoPiece self.old.size.n line.now }
@@ -290,7 +290,7 @@ impl Session {
             None => Ok(false),
             Some(piece) => {
                 let mut text = Vec::new(self.alloc);
-                self.take(piece.sender, &piece.bytes, &mut text)?;
+                self.hear(piece.sender, &piece.bytes, &mut text)?;
                 output.write_all(&text)?;
                 output.flush()?;
                 Ok(true)

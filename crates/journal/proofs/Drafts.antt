@@ -2,7 +2,7 @@
 use Rattle.std.proofs.Common.{◌≡◌, ◌≢◌, inl, inr, ℕ, zero, suc, false, ◌+◌, ◌*◌, ◌<◌, ◌≤◌, List, [], ◌∷◌, ◌++◌, length, get_or, take, drop, refl, sym, ◌∙◌, ap, subst, arith, append_assoc, append-nil, length-append, length-drop, get_or-drop, take_at, drop_at}
 use Rattle.std.proofs.lemmas.Bool.{cases_eq}
 use Rattle.std.proofs.lemmas.List.{drop_more, take_all, drop_all, get_or_at}
-use Rattle.vocabulary.specs.Terms.{Record, Header}
+use Rattle.terms_prelude.specs.Terms.{Record, Header}
 use Rattle.disk.specs.Model.{State, MayLeave, at_rest, after_write, overwritten, is_touched}
 use Rattle.journal.specs.Words.{Draft, Batch, header_text, journal_text, draft_text, batch_body, batch_bytes, batches_bytes, batch_records, new_batch, AreBatches, IsHeader, AreWellFormedFor, IsHeld, IsShut, IsCommit, IsNoJournal, IsDraftOf, HoldsAllOrNothing, draft_disk, draft_header, draft_gate, with_batch}
 use Rattle.journal.proofs.Crash.{outside_one}

@@ -3,7 +3,7 @@ use Rattle.std.proofs.Common.{◌≡◌, ◌≢◌, inl, inr, ℕ, zero, suc, �
 use Rattle.std.proofs.Math.Nat.{mul-suc, mul-zero}
 use Rattle.std.proofs.lemmas.List.{nil_from_length}
 use Rattle.std.specs.List.{flat_map}
-use Rattle.vocabulary.specs.Terms.{Record, Header, IsSize}
+use Rattle.terms_prelude.specs.Terms.{Record, Header, IsSize}
 use Rattle.journal.specs.Words.{Spelling, Batch, batch_in, batches_in, batch_records, IsWellFormedFor, AreWellFormedFor, IsBatch, AreBatches, IsCutIn, IsBadIn}
 use Rattle.journal.proofs.Spelled.{IsSpelling}
 use Rattle.journal.proofs.Texts.{length-spelled, same_front}
@@ -144,3 +144,17 @@ module _ (spelling : Spelling) (fixed : IsSpelling spelling) where
   one_text h (b ∷ bs) (c ∷ cs) x y lawful good good' same =
       let parts = same_batch h b c (batches_in spelling bs ++ 0 ∷ x) (batches_in spelling cs ++ 0 ∷ y) lawful good.0 good'.0 (sym (append_assoc (batch_in spelling b) (batches_in spelling bs) (0 ∷ x)) ∙ same ∙ append_assoc (batch_in spelling c) (batches_in spelling cs) (0 ∷ y)) in
       (λ i. parts.0 i ++ one_text h bs cs x y lawful good.1 good'.1 parts.1 i)
+
+  -- Where bytes are batches up to a closed gate, what stands behind the first of them are the others.
+  pub rest_of_batches : (h : Header) (bs cs : List Batch) (x y : List ℕ) → IsSize h.size → AreBatches h bs → AreBatches h cs → batches_in spelling bs ++ 0 ∷ x ≡ batches_in spelling cs ++ y
+      → (ds : List Batch) × AreBatches h ds × (batch_records bs ≡ batch_records cs ++ batch_records ds) × (y ≡ batches_in spelling ds ++ 0 ∷ x)
+  rest_of_batches h bs [] x y lawful good good' same = (bs, good, refl, sym same)
+  rest_of_batches h [] (c ∷ cs) x y lawful good good' same = absurd (good'.0.opened (cc same))
+  rest_of_batches h (b ∷ bs) (c ∷ cs) x y lawful good good' same =
+      let parts = same_batch h b c (batches_in spelling bs ++ 0 ∷ x) (batches_in spelling cs ++ y) lawful good.0 good'.0 (sym (append_assoc (batch_in spelling b) (batches_in spelling bs) (0 ∷ x)) ∙ same ∙ append_assoc (batch_in spelling c) (batches_in spelling cs) y) in
+      let after = rest_of_batches h bs cs x y lawful good.1 good'.1 parts.1 in (
+        after.0,
+        after.1,
+        (λ i. parts.0 i ++ after.2 i) ∙ sym (append_assoc c.records (batch_records cs) (batch_records after.0)),
+        after.3,
+      )

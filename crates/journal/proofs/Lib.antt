@@ -1,4 +1,5 @@
 mod Append
+pub mod Batching
 pub mod Crash
 pub mod Drafts
 pub mod Endings

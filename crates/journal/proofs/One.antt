@@ -1,6 +1,6 @@
 -- A file holds one list of records at most, by one header.
 use Rattle.std.proofs.Common.{◌≡◌, ℕ, List, ◌∷◌, ◌++◌, sym, ◌∙◌, refl, subst, append_assoc}
-use Rattle.vocabulary.specs.Terms.{Record, Header}
+use Rattle.terms_prelude.specs.Terms.{Record, Header}
 use Rattle.journal.specs.Words.{header_text, batches_bytes, version_2, HasHeader, Holds}
 use Rattle.journal.proofs.Endings.{one_text}
 use Rattle.journal.proofs.Headers.{same_header}

@@ -1,7 +1,7 @@
 -- A file that is read, and one that is made.
 use Rattle.std.proofs.Common.{◌≡◌, ℕ, ◌+◌, ◌≤◌, List, [], ◌∷◌, ◌++◌, length, take, drop, refl, sym, ◌∙◌, ap, arith, append_assoc, length-append, take-append-drop, append-nil, length-take-le, take_at, take-take, get_or, codes}
 use Rattle.std.proofs.lemmas.List.{drop_all}
-use Rattle.vocabulary.specs.Terms.{Record, Header}
+use Rattle.terms_prelude.specs.Terms.{Record, Header}
 use Rattle.disk.specs.Model.{State, at_rest, overwritten}
 use Rattle.journal.specs.Words.{JournalFault, NotEmpty, BadHeader, OtherHeader, BadRecord, CutShort, Device, Memory, Stopped, Full, OldVersion, header_text, batches_bytes, IsHeader, HasHeader, GoesWrong, RefusesFile, IsHeld, IsOfFile, IsOldVersion, ReadsBatches, Stumbles, BreaksBatches}
 use Rattle.journal.proofs.Headers.{mark_again}

@@ -1,6 +1,6 @@
 -- What a call comes to, as its contract says it.
 use Rattle.std.proofs.Common.{◌≡◌, ◌⊎◌, inl, inr, ℕ, Result, Ok, Err, IfOk, IfErr, false, List, sym, ◌∙◌, ap, subst, arith}
-use Rattle.vocabulary.specs.Terms.{Record, Header}
+use Rattle.terms_prelude.specs.Terms.{Record, Header}
 use Rattle.disk.specs.Model.{State, at_rest}
 use Rattle.disk.specs.declared.device.Disk.{Ghosts as DiskGhosts}
 use Rattle.journal.specs.Words.{JournalFault, NotEmpty, BadHeader, OtherHeader, BadRecord, CutShort, Device, Memory, Stopped, Full, OldVersion, IsFaultOfOpening, IsOfFile, RefusesFile, Holds, IsHeld, WasRead, HandsBack, HasOpened, Journal, journal_disk, journal_header, journal_gate, journal_is_stopped}

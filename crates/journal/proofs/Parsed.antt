@@ -1,6 +1,6 @@
 -- Each file of bytes holds records, or is refused.
 use Rattle.std.proofs.Common.{◌≡◌, ◌⊎◌, inl, inr, ℕ, Bool, true, false, List, ◌++◌, length, refl, sym, ◌∙◌, ap, subst, arith, append_assoc}
-use Rattle.vocabulary.specs.Terms.{Record, Header}
+use Rattle.terms_prelude.specs.Terms.{Record, Header}
 use Rattle.journal.specs.Words.{JournalFault, BadHeader, OtherHeader, BadRecord, CutShort, OldVersion, header_text, Batch, batches_bytes, batch_records, version_2, IsHeader, AreBatches, AreBytes, HasHeader, Holds, RefusesFile}
 use Rattle.journal.proofs.Endings.{Ending, Closed, Cut, Bad, EndsIn}
 use Rattle.journal.proofs.Headers.{header_eq, same_by, by_same}

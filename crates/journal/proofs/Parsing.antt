@@ -6,7 +6,7 @@ use Rattle.std.proofs.Math.Seq.{take-add}
 use Rattle.std.proofs.lemmas.Nat.{be_bytes_2}
 use Rattle.std.specs.List.{flat_map}
 use Rattle.std.specs.Int.{w16, to_be_bytes}
-use Rattle.vocabulary.specs.Terms.{Record, Header, IsSize}
+use Rattle.terms_prelude.specs.Terms.{Record, Header, IsSize}
 use Rattle.journal.specs.Words.{Spelling, Batch, body_in, batches_in, IsWellFormedFor, AreWellFormedFor, AreBatches, AreBytes}
 use Rattle.journal.proofs.Endings.{Ending, Closed, Cut, Bad, EndsIn}
 use Rattle.journal.proofs.Headers.{two_fit}

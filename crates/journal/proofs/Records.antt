@@ -2,9 +2,9 @@
 use Rattle.std.proofs.Common.{◌≡◌, ◌≢◌, ℕ, ◌+◌, ◌*◌, ◌/◌, ◌%◌, ◌<◌, Bool, List, [], ◌∷◌, ◌++◌, length, get_or, Option, Some, None, refl, sym, ◌∙◌, ap, arith, IfSome}
 use Rattle.std.proofs.lemmas.Nat.{be_bytes_2, from_be_bytes-to_be_bytes_2}
 use Rattle.std.specs.Int.{w16, to_be_bytes, from_be_bytes}
-use Rattle.vocabulary.specs.Terms.{Kind, Initial, Echo, Ready, Value, Zero, One, SureZero, SureOne, Unsure, Statement, Place, Record, Said, Decided, Header, IsSize, new_place, value_code}
+use Rattle.terms_prelude.specs.Terms.{Kind, Initial, Echo, Ready, Value, Zero, One, SureZero, SureOne, Unsure, Statement, Place, Record, Said, Decided, Header, IsSize, new_place, value_code}
 use Rattle.journal.specs.Words.{bit_byte, record_bytes, IsStatementFor, IsDecisionFor, IsWellFormedFor, HasBytes}
-use Rattle.spelling.specs.Statements.{kind_byte}
+use Rattle.statement_codec.specs.Statements.{kind_byte}
 use Rattle.journal.proofs.Headers.{two_fit}
 
 -- what has P has Q

@@ -1,6 +1,6 @@
 -- A file is refused for one fault at most, and for none where it holds records.
 use Rattle.std.proofs.Common.{◌≡◌, ◌≢◌, ℕ, List, ◌∷◌, ◌++◌, refl, sym, ◌∙◌, ap, append_assoc}
-use Rattle.vocabulary.specs.Terms.{Record, Header}
+use Rattle.terms_prelude.specs.Terms.{Record, Header}
 use Rattle.journal.specs.Words.{JournalFault, NotEmpty, BadHeader, OtherHeader, BadRecord, CutShort, Device, Memory, Stopped, Full, OldVersion, header_text, batches_bytes, HasHeader, Holds, GoesWrong, IsOldVersion, RefusesFile, version_2}
 use Rattle.journal.proofs.Opened.{header_is_new}
 use Rattle.journal.proofs.Endings.{Ending, Closed, Cut, Bad, EndsIn, one_end}

@@ -1,9 +1,9 @@
 -- Records of version 2: six bytes each.
 use Rattle.std.proofs.Common.{◌≡◌, ◌⊎◌, inl, inr, ℕ, ◌+◌, ◌*◌, ◌<◌, ◌≤◌, ◌≢◌, Bool, true, false, nat_eq, if◌then◌else◌, List, [], ◌∷◌, ◌++◌, length, get_or, take, refl, sym, ◌∙◌, ap, subst, arith}
 use Rattle.std.proofs.lemmas.List.{take_rest}
-use Rattle.vocabulary.specs.Terms.{Kind, Initial, Echo, Ready, Record, Said, Decided, Header, IsSize, new_place, new_statement}
-use Rattle.spelling.specs.Statements.{kind_byte, kind_from, value_from}
-use Rattle.spelling.proofs.Statements.{kind_again, value_again}
+use Rattle.terms_prelude.specs.Terms.{Kind, Initial, Echo, Ready, Record, Said, Decided, Header, IsSize, new_place, new_statement}
+use Rattle.statement_codec.specs.Statements.{kind_byte, kind_from, value_from}
+use Rattle.statement_codec.proofs.Statements.{kind_again, value_again}
 use Rattle.journal.specs.Words.{JournalFault, BadRecord, Memory, bit_byte, record_bytes, version_2, IsWellFormedFor, IsBad, HasOddRecord, BreaksBatches}
 use Rattle.journal.proofs.Records.{asked, step_in, value_in, said_back, decided_back}
 use Rattle.journal.proofs.Spelled.{IsSpelling}

@@ -2,7 +2,7 @@
 use Rattle.std.proofs.Common.{◌≡◌, inl, inr, ℕ, ◌+◌, ◌*◌, ◌<◌, ◌≤◌, length, arith}
 use Rattle.std.proofs.Math.Nat.{mul-suc, mul-le-mul_left}
 use Rattle.std.proofs.lemmas.Bool.{cases_lt}
-use Rattle.vocabulary.specs.Terms.{Record, Header, IsSize}
+use Rattle.terms_prelude.specs.Terms.{Record, Header, IsSize}
 use Rattle.journal.specs.Words.{Spelling, IsWellFormedFor}
 
 -- each record has as many bytes, and no two of one header have the same

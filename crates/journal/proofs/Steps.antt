@@ -5,7 +5,7 @@ use Rattle.std.proofs.lemmas.List.Concat.{flat_map-append}
 use Rattle.std.proofs.lemmas.Nat.{be_bytes_2}
 use Rattle.std.specs.List.{flat_map}
 use Rattle.std.specs.Int.{w16, to_be_bytes}
-use Rattle.vocabulary.specs.Terms.{Record, Header}
+use Rattle.terms_prelude.specs.Terms.{Record, Header}
 use Rattle.journal.specs.Words.{Spelling, Batch, body_in, batches_in, batch_records, IsWellFormedFor, AreWellFormedFor, AreBatches, IsBadIn, StumblesIn, AreTextIn, HasOddIn}
 use Rattle.journal.proofs.Headers.{two_fit}
 use Rattle.journal.proofs.Spelled.{IsSpelling, fits_in, no_rest, one_left, as_many}

@@ -1,7 +1,7 @@
 -- What can be told of bytes, and records and headers: each test says yes or no.
 use Rattle.std.proofs.Common.{◌≡◌, ◌≢◌, ◌⊎◌, inl, inr, ℕ, zero, suc, ◌*◌, ◌<◌, ◌≤◌, ◌^◌, List, [], ◌∷◌, length, take, codes, refl, sym, ◌∙◌, ap, subst, arith}
 use Rattle.std.proofs.lemmas.Bool.{cases_eq, cases_lt}
-use Rattle.vocabulary.specs.Terms.{Kind, Initial, Echo, Ready, Value, Zero, One, SureZero, SureOne, Unsure, Size, Record, Said, Decided, Header, IsSize, IsPlain, IsOfThird, FitsStep}
+use Rattle.terms_prelude.specs.Terms.{Kind, Initial, Echo, Ready, Value, Zero, One, SureZero, SureOne, Unsure, Size, Record, Said, Decided, Header, IsSize, IsPlain, IsOfThird, FitsStep}
 use Rattle.journal.specs.Words.{record_bytes, header_text, IsHeader, IsStatementFor, IsDecisionFor, IsWellFormedFor, HasHeader, IsOldVersion}
 use Rattle.journal.proofs.Headers.{read_off, read_back}
 use Rattle.journal.proofs.Six.{record_at, record_back}

@@ -3,7 +3,7 @@ use Rattle.std.proofs.Common.{◌≡◌, ℕ, ◌+◌, ◌*◌, List, [], ◌∷
 use Rattle.std.proofs.Math.Nat.{mul-suc, mul-zero}
 use Rattle.std.proofs.lemmas.List.Concat.{flat_map-append}
 use Rattle.std.specs.List.{flat_map, AllByRecursion}
-use Rattle.vocabulary.specs.Terms.{Record, Said, Decided, Header}
+use Rattle.terms_prelude.specs.Terms.{Record, Said, Decided, Header}
 use Rattle.journal.specs.Words.{Spelling, version_2, record_bytes, header_text, Batch, batch_in, batches_in, batch_bytes, batch_body, batches_bytes, batch_records, AreBatches, IsBatch}
 
 -- a header has 24 bytes

@@ -1,6 +1,6 @@
 -- A journal's file that isn't one yet: its first byte is 0.
 use Rattle.std.specs.Prelude.{ℕ, ◌≡◌, ◌⊎◌, ◌↔◌, ◌+◌, ◌<◌, ◌≤◌, List, [], ◌++◌, length}
-use Rattle.vocabulary.specs.Terms.{Header}
+use Rattle.terms_prelude.specs.Terms.{Header}
 use Rattle.disk.specs.Model.{State, MayLeave, LeavesOnly, at_rest, after_write}
 use Rattle.disk.specs.declared.device.Disk.{Ghosts as DiskGhosts}
 use Rattle.journal.specs.declared.draft.Draft.{Draft}

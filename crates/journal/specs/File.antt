@@ -1,12 +1,12 @@
 -- What a file holds, and what is wrong with one that holds nothing.
 use Rattle.std.specs.Prelude.{ℕ, ◌≡◌, ◌≢◌, ◌⊎◌, ◌+◌, ◌*◌, ◌<◌, ◌≤◌, List, [], ◌∷◌, ◌++◌, length, take, drop, codes}
-use Rattle.vocabulary.specs.Terms.{Record, Header}
+use Rattle.terms_prelude.specs.Terms.{Record, Header}
 use Rattle.disk.specs.Model.{State, at_rest}
 use Rattle.journal.specs.declared.fault.JournalFault.{JournalFault}
 use Rattle.journal.specs.declared.fault.JournalFault.TheVariants.{NotEmpty, BadHeader, OtherHeader, BadRecord, CutShort, Device, Memory, Stopped, Full, OldVersion}
 use Rattle.journal.specs.Texts.{Spelling, version_2, header_text, Batch, batches_bytes, batch_records}
 use Rattle.journal.specs.WellFormed.{IsHeader, IsWellFormedFor, AreBatches}
-pub use Rattle.spelling.specs.Bytes.{AreBytes}
+pub use Rattle.statement_codec.specs.Bytes.{AreBytes}
 
 -- a file that begins so
 abbrev pub IsFrontOf : List ℕ → List ℕ → Type 0

@@ -1,11 +1,11 @@
 -- What reading the bytes behind a header finds.
 use Rattle.std.specs.Prelude.{ℕ, ◌≡◌, ◌≢◌, ◌*◌, ◌<◌, List, ◌∷◌, ◌++◌, length, take, drop}
 use Rattle.std.specs.List.{flat_map}
-use Rattle.vocabulary.specs.Terms.{Statement, Record, Header, new_place, value_code}
+use Rattle.terms_prelude.specs.Terms.{Statement, Record, Header, new_place, value_code}
 use Rattle.journal.specs.declared.fault.JournalFault.{JournalFault}
 use Rattle.journal.specs.declared.fault.JournalFault.TheVariants.{NotEmpty, BadHeader, OtherHeader, BadRecord, CutShort, Device, Memory, Stopped, Full, OldVersion}
 use Rattle.journal.specs.Texts.{Spelling, version_2, Batch, batches_in, batch_records}
-use Rattle.spelling.specs.Statements.{kind_byte}
+use Rattle.statement_codec.specs.Statements.{kind_byte}
 use Rattle.journal.specs.WellFormed.{IsWellFormedFor, AreWellFormedFor, AreBatches}
 use Rattle.journal.specs.File.{IsCut, IsBad}
 
@@ -36,6 +36,13 @@ pub record HasOddIn (spelling : Spelling) (header : Header) (count : ℕ) (bytes
   pub place : ℕ
   pub below : place < count
   pub odd : (r : Record) → IsWellFormedFor header r → take spelling.width (drop (spelling.width * place) bytes) ≢ spelling.bytes r
+
+-- In front of these bytes stand batches whose records in order are these, and behind them that.
+pub record TakesBatches (header : Header) (bytes : List ℕ) (records : List Record) (behind : List ℕ) : Type 0 where
+  pub batches : List Batch
+  pub good : AreBatches header batches
+  pub is : bytes ≡ batches_in version_2 batches ++ behind
+  pub records_are : records ≡ batch_records batches
 
 -- the same in the spelling of version 2
 abbrev pub ReadsBatches : Header → List ℕ → ℕ → List Record → Type 0

@@ -2,8 +2,8 @@
 use Rattle.std.specs.Prelude.{ℕ, ◌+◌, ◌*◌, Bool, true, false, codes, List, [], ◌∷◌, ◌++◌, length, drop}
 use Rattle.std.specs.List.{flat_map}
 use Rattle.std.specs.Int.{w16, w64, to_be_bytes}
-use Rattle.vocabulary.specs.Terms.{Statement, Record, Said, Decided, Header, value_code}
-use Rattle.spelling.specs.Statements.{kind_byte}
+use Rattle.terms_prelude.specs.Terms.{Statement, Record, Said, Decided, Header, value_code}
+use Rattle.statement_codec.specs.Statements.{kind_byte}
 
 -- the byte of a bit
 abbrev pub bit_byte : Bool → ℕ

@@ -1,6 +1,6 @@
 //! A journal's file that is written before it is one.
 ghost use Rattle.std.specs.Prelude.{◌≡◌, ◌↔◌, ◌+◌, ◌*◌, ◌<◌, ◌≤◌, ◌^◌, List, [], ◌∷◌, ◌++◌, length, IsErrOf, IfOk, IfErr, OnOk};
-ghost use Rattle.vocabulary.specs.Terms.{Header};
+ghost use Rattle.terms_prelude.specs.Terms.{Header};
 ghost use Rattle.disk.specs.Model.{MayLeave, LeavesOnly, CountsFailures, at_rest, after_write, overwritten};
 ghost use Rattle.journal.specs.Texts.{Batch, new_batch, draft_text};
 ghost use Rattle.journal.specs.WellFormed.{IsHeader, AreWellFormedFor};

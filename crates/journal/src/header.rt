@@ -1,7 +1,7 @@
 //! A header in bytes.
 ghost use Rattle.std.specs.Prelude.{◌≡◌, ◌↔◌, ◌∷◌, ◌++◌, [], take, drop, codes, IsTrue, IfSome, IsNone};
 ghost use Rattle.std.specs.Int.{w64, to_be_bytes};
-ghost use Rattle.vocabulary.specs.Terms.{Header};
+ghost use Rattle.terms_prelude.specs.Terms.{Header};
 ghost use Rattle.journal.specs.Texts.{header_text};
 ghost use Rattle.journal.specs.WellFormed.{IsHeader};
 

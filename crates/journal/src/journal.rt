@@ -1,6 +1,6 @@
 //! Batches of records, each whole on the disk or not there.
 ghost use Rattle.std.specs.Prelude.{◌≡◌, ◌≤◌, ℕ, List, [], ◌∷◌, ◌++◌, length, false, IfOk, IfErr, OnOk};
-ghost use Rattle.vocabulary.specs.Terms.{Record, Header};
+ghost use Rattle.terms_prelude.specs.Terms.{Record, Header};
 ghost use Rattle.disk.specs.Memory.{memory_state, with_fuse};
 ghost use Rattle.journal.specs.WellFormed.{AreWellFormedFor};
 ghost use Rattle.journal.specs.Outcomes.{HasAdded, HasNotAdded, AddsAllOrNothing, HasOpened, HandsBack};

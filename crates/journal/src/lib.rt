@@ -34,6 +34,7 @@
 //! records from before, or those and the whole batch. The module `laws` says what holds of every file.
 #![tactic(auto)]
 
+mod batches;
 mod commit;
 mod draft;
 mod fault;
@@ -46,6 +47,7 @@ mod record;
 mod spare;
 mod tail;
 
+pub use batches::Batches;
 pub use draft::Draft;
 pub use fault::JournalFault;
 pub use header::header_of;

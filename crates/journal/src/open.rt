@@ -1,6 +1,6 @@
 //! Making a journal's file, and reading it.
-ghost use Rattle.std.specs.Prelude.{◌≡◌, ◌≢◌, ◌↔◌, ◌⊎◌, ◌+◌, ◌<◌, ◌≤◌, ℕ, List, [], ◌∷◌, ◌++◌, length, IsErr, IsErrOf, IfOk, IfErr, OnOk, OnErr};
-ghost use Rattle.vocabulary.specs.Terms.{Header};
+ghost use Rattle.std.specs.Prelude.{◌≡◌, ◌≢◌, ◌↔◌, ◌⊎◌, ◌+◌, ◌<◌, ◌≤◌, ℕ, List, [], ◌∷◌, ◌++◌, drop, length, IsErr, IsErrOf, IfOk, IfErr, OnOk, OnErr};
+ghost use Rattle.terms_prelude.specs.Terms.{Header};
 ghost use Rattle.disk.specs.Model.{State, MayLeave, LeavesOnly, at_rest, after_write};
 ghost use Rattle.journal.specs.Texts.{header_text};
 ghost use Rattle.journal.specs.File.{HasHeader, Holds, IsOldVersion, RefusesFile, IsHeld};
@@ -117,7 +117,7 @@ pub(crate) fn load<D: Disk>(
 }
 
 /// All the bytes, once they are on the disk.
-fn fetch<D: Disk>(alloc: Global, disk: &mut D) -> Result<Vec<u8>, JournalFault>
+pub(crate) fn fetch<D: Disk>(alloc: Global, disk: &mut D) -> Result<Vec<u8>, JournalFault>
     ensures bytes { D.keeps disk.old → IfOk result (λ bytes. bytes.items ≡ (D.state disk.old).seen) }
     ensures read { OnOk result (WasRead D.Disk disk.old disk.new) }
     ensures fault { IfErr result (λ fault. (header : Header) → HandsBack D.Disk disk.old header fault disk.new) }
@@ -127,6 +127,24 @@ fn fetch<D: Disk>(alloc: Global, disk: &mut D) -> Result<Vec<u8>, JournalFault>
     let mut bytes = vec![in alloc; 0; len]?;
     disk.read_at(0, &mut bytes)?;
     Ok(bytes)
+}
+
+/// The bytes behind the header, which is to be this one.
+pub(crate) fn behind_header<'a>(header: &Header, bytes: &'a [u8]) -> Result<&'a [u8], JournalFault>
+    ensures header { OnOk result (HasHeader header.now bytes.now) }
+    ensures behind { IfOk result (λ behind. behind.now ≡ drop 24 bytes.now) }
+    ensures refused { IfErr result (λ fault. RefusesFile header.now fault bytes.now) }
+    ensures only { IfErr result IsOfFile }
+{
+    let Some((front, behind)) = bytes.split_first_chunk::<HEADER>() else {
+        return Err(JournalFault::BadHeader);
+    };
+    match header_of(front) {
+        Some(found) if found == *header => Ok(behind),
+        Some(_) => Err(JournalFault::OtherHeader),
+        None if is_old(front) => Err(JournalFault::OldVersion),
+        None => Err(JournalFault::BadHeader),
+    }
 }
 
 /// The place of the closed gate, and the records before it.
@@ -139,16 +157,7 @@ fn read_file(
     ensures refused { IfErr result (λ fault. IsOfFile fault → RefusesFile header.now fault bytes.now) }
     ensures only { IfErr result (λ fault. IsOfFile fault ⊎ (fault ≡ Memory)) }
 {
-    let Some((front, behind)) = bytes.split_first_chunk::<HEADER>() else {
-        return Err(JournalFault::BadHeader);
-    };
-    match header_of(front) {
-        Some(found) if found == *header => {
-            let (gate, records) = read(alloc, header, behind)?;
-            Ok((HEADER + gate, records))
-        }
-        Some(_) => Err(JournalFault::OtherHeader),
-        None if is_old(front) => Err(JournalFault::OldVersion),
-        None => Err(JournalFault::BadHeader),
-    }
+    let behind = behind_header(header, bytes)?;
+    let (gate, records) = read(alloc, header, behind)?;
+    Ok((HEADER + gate, records))
 }

@@ -1,11 +1,11 @@
 //! A record in bytes.
 ghost use Rattle.std.specs.Prelude.{◌≡◌, ◌≢◌, ◌↔◌, Bool, IsTrue, IfSome, IsNone, MatchOption};
-ghost use Rattle.vocabulary.specs.Terms.{Statement, Record, Said, Decided};
+ghost use Rattle.terms_prelude.specs.Terms.{Statement, Record, Said, Decided};
 ghost use Rattle.journal.specs.Texts.{bit_byte, said_bytes, record_bytes};
 ghost use Rattle.journal.specs.WellFormed.{IsStatementFor, IsDecisionFor, IsWellFormedFor};
 ghost use Rattle.journal.specs.Reading.{HasBytes};
 
-use spelling::{byte_of_kind, byte_of_value, kind_of, value_of};
+use statement_codec::{byte_of_kind, byte_of_value, kind_of, value_of};
 use terms::{Header, Kind, LAST_ROUND, Place, Record, Statement};
 
 /// How many bytes a record has.

@@ -1,7 +1,7 @@
 -- One toss more.
 use Rattle.std.proofs.Common.{◌≡◌, refl, sym, ap, ◌∙◌, subst, ℕ, List, [], ◌∷◌, ◌++◌}
 use Rattle.std.proofs.lemmas.List.{map-append}
-use Rattle.vocabulary.specs.Terms.{Statement}
+use Rattle.terms_prelude.specs.Terms.{Statement}
 use Rattle.rounds.specs.declared.tosses.Toss.{Toss}
 use Rattle.links.specs.Tosses.{Draws, tosses_in}
 

@@ -1,17 +1,11 @@
--- What is done to the book for a group of statements.
+-- How a session ends where a group of statements isn't taken.
 use Rattle.std.specs.Prelude.{ℕ, ◌≡◌, List}
-use Rattle.vocabulary.specs.Terms.{Statement}
-use Rattle.questions.specs.declared.answer.Answer.{Answer}
+use Rattle.terms_prelude.specs.Terms.{Size, Statement}
 use Rattle.member.specs.declared.fault.MemberFault.{MemberFault}
 use Rattle.member.specs.declared.fault.MemberFault.TheVariants as fault
-use Rattle.node.specs.Groups.{AppliesAll, RefusesAll}
-use Rattle.node.specs.Views.{BookView}
+use Rattle.node.specs.Lines.{IsRefusal}
 use Rattle.links.specs.declared.ends.LinkEnd.{LinkEnd}
 use Rattle.links.specs.declared.ends.LinkEnd.TheVariants as end
-
--- the group was answered, and the book heard nothing else
-abbrev pub HandsInTo : {D : Type 0} → BookView D → List (ℕ × Statement × ℕ) → BookView D → Type 0
-HandsInTo old group new = (answers : List Answer) × AppliesAll old group answers new
 
 -- how a session ends where the member refuses a group
 abbrev pub end_of : MemberFault → LinkEnd
@@ -22,6 +16,6 @@ end_of fault.JournalFull = end.Stopped
 end_of fault.NoSuchQuestion = end.Stopped
 end_of fault.NoSuchMember = end.Stopped
 
--- the group was refused, and the session ends so
-abbrev pub RefusesGroup : {D : Type 0} → BookView D → List (ℕ × Statement × ℕ) → LinkEnd → BookView D → Type 0
-RefusesGroup old group why new = (refusal : MemberFault) × RefusesAll old group refusal new × (why ≡ end_of refusal)
+-- the group wasn't taken, and the session ends so
+abbrev pub RefusesGroup : (D : Type 0) → Size → List (ℕ × Statement × ℕ) → LinkEnd → Type 0
+RefusesGroup D size group why = (refusal : MemberFault) × IsRefusal D size group refusal × (why ≡ end_of refusal)

@@ -1,6 +1,6 @@
 -- Tosses that are drawn in order.
 use Rattle.std.specs.Prelude.{ℕ, ◌≡◌, List, [], ◌∷◌, map}
-use Rattle.vocabulary.specs.Terms.{Statement}
+use Rattle.terms_prelude.specs.Terms.{Statement}
 use Rattle.rounds.specs.declared.tosses.Toss.{Toss}
 
 -- the tosses of statements, in order

@@ -1,8 +1,9 @@
-//! The reader of a link.
-ghost use Rattle.std.specs.Prelude.{◌≡◌, ◌⊎◌, ◌≤◌, ◌∷◌, ◌++◌, length, List, [], ℕ, true, false, IfOk, IfErr, IsErrOf, OnOk, OnErr};
+//! The reader of a link: begin at `read_link`, last.
+ghost use Rattle.std.specs.Prelude.{◌≡◌, ◌⊎◌, ◌<◌, ◌≤◌, ◌∷◌, ◌++◌, length, List, [], ℕ, true, false, IfOk, IfErr, IsErrOf, OnOk, OnErr};
 ghost use Rattle.wire.specs.Reading.{AreBytes};
 ghost use Rattle.node.specs.Groups.{said_in, heard_from};
-ghost use Rattle.links.specs.Groups.{HandsInTo, RefusesGroup, end_of};
+ghost use Rattle.node.specs.Lines.{WasTaken};
+ghost use Rattle.links.specs.Groups.{RefusesGroup, end_of};
 ghost use Rattle.links.specs.Tosses.{Draws, tosses_in};
 ghost use Rattle.links.specs.Handing.{in_order, all_in_place, HandsInSome, HandsInFewer, HandsInAll, ReadsLink};
 ghost use Rattle.links.specs.Turns.{Waits, ReadsOn, ReadsOff};
@@ -12,8 +13,7 @@ use crate::sending::write_message;
 use crate::stream::Stream;
 use disk::Disk;
 use member::MemberFault;
-use node::{Book, Hub, Naming, Seat};
-use questions::Answer;
+use node::{Hub, Naming, Seat};
 use rounds::{Toss, Tosser};
 use std::alloc::Global;
 use std::sync::Wait;
@@ -32,7 +32,7 @@ const GROUP: usize = 256;
 pub enum Point {
     /// Before a group of statements of that peer, a number below n, is handed in.
     Before(u8),
-    /// After a group of that peer was handed in or refused, and before the bell rings for it.
+    /// After a group of that peer was handed in or refused.
     After(u8),
 }
 
@@ -63,87 +63,6 @@ fn end_of(fault: MemberFault) -> LinkEnd
         MemberFault::NoSuchQuestion => LinkEnd::Stopped,
         MemberFault::NoSuchMember => LinkEnd::Stopped,
     }
-}
-
-/// Hands in one group to the book, and says whether it was answered with records. Nothing else is done to the book.
-fn hand_in_to<D: Disk, J: Naming>(
-    book: &mut Book<D, J>,
-    seat: &mut Seat,
-    group: &[(Statement, Toss)],
-) -> Result<bool, LinkEnd>
-    requires { length group.now ≤ 256 }
-    ensures book { IfOk result (λ _. HandsInTo book.old (heard_from seat.old.peer group.now) book.new) }
-    ensures ok { OnOk result (HandsInAll seat.old seat.new (said_in group.now)) }
-    ensures err { OnErr result (seat.new ≡ seat.old) }
-    ensures refuses { IfErr result (λ why. RefusesGroup book.old (heard_from seat.old.peer group.now) why book.new) }
-    ensures only { IfErr result (λ why. (why ≡ LinkEnd.Stopped) ⊎ (why ≡ LinkEnd.Memory)) }
-{
-    match book.apply_all(seat, group) {
-        Ok(answers) => Ok(answers.iter().any(has_records)),
-        Err(fault) => Err(end_of(fault)),
-    }
-}
-
-/// Hands in one group. Where it is answered with records the bell rings for them, once.
-fn hand_in_group<D: Disk, J: Naming, G: Gate, R: Wait>(
-    rt: &R,
-    hub: &Hub<D, J>,
-    seat: &mut Seat,
-    group: &[(Statement, Toss)],
-    gate: &G,
-) -> Result<(), LinkEnd>
-    requires { length group.now ≤ 256 }
-    ensures ok { OnOk result (HandsInAll seat.old seat.new (said_in group.now)) }
-    ensures err { OnErr result (seat.new ≡ seat.old) }
-    ensures only { IfErr result (λ why. (why ≡ LinkEnd.Stopped) ⊎ (why ≡ LinkEnd.Memory)) }
-{
-    gate.pass(Point::Before(seat.peer()));
-    let turn = hub.take_turn(rt);
-    let handed = hand_in_to(&mut hub.lock(rt), seat, group);
-    hub.ring_if_wanted(rt);
-    hub.give_way(rt);
-    drop(turn);
-    gate.pass(Point::After(seat.peer()));
-    match handed {
-        Ok(has_news) => {
-            if has_news {
-                hub.ring(rt);
-            }
-            Ok(())
-        }
-        Err(why) => Err(why),
-    }
-}
-
-/// Whether it is an answer with records.
-fn has_records(answer: &Answer) -> bool {
-    matches!(answer, Answer::Taken(records) if !records.is_empty())
-}
-
-/// Hands in the statements, each with its toss, in groups of at most 256.
-fn hand_in_groups<D: Disk, J: Naming, G: Gate, R: Wait>(
-    rt: &R,
-    hub: &Hub<D, J>,
-    seat: &mut Seat,
-    events: &[(Statement, Toss)],
-    gate: &G,
-) -> Result<(), LinkEnd>
-    ensures ok { OnOk result (HandsInAll seat.old seat.new (said_in events.now)) }
-    ensures some { OnErr result (HandsInSome seat.old seat.new (said_in events.now)) }
-    ensures refused { OnErr result (HandsInFewer seat.old seat.new (said_in events.now)) }
-    ensures only { IfErr result (λ why. (why ≡ LinkEnd.Stopped) ⊎ (why ≡ LinkEnd.Memory)) }
-{
-    seat.recall();
-    let mut rest = events;
-    while !rest.is_empty() {
-        let (group, behind) = rest.split_at(rest.len().min(GROUP));
-        match hand_in_group(rt, hub, seat, group, gate) {
-            Ok(()) => {}
-            Err(why) => return Err(why),
-        }
-        rest = behind;
-    }
-    Ok(())
 }
 
 /// Adds a statement with the toss that is drawn for it.
@@ -236,133 +155,161 @@ fn all_in_place(version: Version, messages: &[Message]) -> bool
     true
 }
 
-/// Hands in the statements of these messages, up to one that is out of place.
-fn hand_in<D: Disk, J: Naming, G: Gate, T: Tosser, R: Wait>(
-    rt: &R,
-    alloc: Global,
-    hub: &Hub<D, J>,
-    seat: &mut Seat,
-    version: Version,
-    messages: &[Message],
-    gate: &G,
-    tosser: &mut T,
-) -> Result<(), LinkEnd>
-    ensures ok { OnOk result (HandsInAll seat.old seat.new (in_order version messages.now)) }
-    ensures in_place { OnOk result (all_in_place version messages.now ≡ true) }
-    ensures some { OnErr result (HandsInSome seat.old seat.new (in_order version messages.now)) }
-    ensures refused { IsErrOf result LinkEnd.Stopped → HandsInFewer seat.old seat.new (in_order version messages.now) }
-    ensures order { IsErrOf result LinkEnd.OutOfOrder → HandsInAll seat.old seat.new (in_order version messages.now) }
-    ensures out_of_order { IsErrOf result LinkEnd.OutOfOrder → all_in_place version messages.now ≡ false }
-    ensures only { IfErr result (λ why.
-        (why ≡ LinkEnd.OutOfOrder) ⊎ ((why ≡ LinkEnd.Stopped) ⊎ (why ≡ LinkEnd.Memory))) }
-{
-    seat.recall();
-    let Ok(events) = gather(alloc, version, messages, tosser) else {
-        return Err(LinkEnd::Memory);
-    };
-    match hand_in_groups(rt, hub, seat, &events, gate) {
-        Ok(()) => {}
-        Err(why) => return Err(why),
-    }
-    if !all_in_place(version, messages) {
-        return Err(LinkEnd::OutOfOrder);
-    }
-    Ok(())
-}
-
 /// Each of them is below 256. It does nothing.
 fn are_bytes(bytes: &[u8])
     ensures { AreBytes bytes.now }
 {}
 
-/// Reads a piece, and hands in what it gives: `on` where the session goes on, `off` where it ended.
-fn turn<D: Disk, J: Naming, S: Stream, G: Gate, T: Tosser, R: Wait>(
-    rt: &R,
-    hub: &Hub<D, J>,
-    seat: &mut Seat,
-    stream: &mut S,
+/// What a session of a reader goes by: its hub, the gate round its groups, its version, and by what it waits.
+#[derive(Drop)]
+struct Reader<'a, D: Disk, J: Naming, G, R> {
+    rt: &'a R,
+    alloc: Global,
+    hub: &'a Hub<D, J>,
     version: Version,
-    feeder: &mut Feeder,
-    messages: &mut Vec<Message>,
-    gate: &G,
-    tosser: &mut T,
-) -> Result<(), LinkEnd>
-    ensures on { (rest : List ℕ) → Waits feeder.old rest →
-        OnOk result (ReadsOn version (S.told stream.old) (S.told stream.new) feeder.old.size rest feeder.new seat.old seat.new) }
-    ensures off { (rest : List ℕ) → Waits feeder.old rest →
-        IfErr result (λ why. ReadsOff version (S.told stream.old) (S.told stream.new) feeder.old.size rest seat.old seat.new why) }
-{
-    seat.recall();
-    let mut piece = [0u8; PIECE];
-    let count = match stream.read(&mut piece) {
-        Ok(0) => return Err(LinkEnd::Ended),
-        Ok(count) => count,
-        Err(_) => return Err(LinkEnd::Lost),
-    };
-    are_bytes(&piece[..count]);
-    messages.clear();
-    let fed = match feeder.feed(&piece[..count], messages) {
-        Ok(fed) => fed,
-        Err(_) => return Err(LinkEnd::Memory),
-    };
-    let alloc = *messages.allocator();
-    match hand_in(rt, alloc, hub, seat, version, messages, gate, tosser) {
-        Ok(()) => match fed {
-            Fed::More => Ok(()),
-            Fed::Broken(fault) => Err(LinkEnd::Broken(fault)),
-        },
-        Err(why) => Err(why),
-    }
+    gate: &'a G,
 }
 
-/// A session but for the closing of its stream.
-fn read_session<D: Disk, J: Naming, S: Stream, G: Gate, T: Tosser, R: Wait>(
-    rt: &R,
-    alloc: Global,
-    hub: &Hub<D, J>,
-    mut seat: Seat,
-    stream: &mut S,
-    version: Version,
-    gate: &G,
-    tosser: &mut T,
-) -> (Seat, LinkEnd)
-    ensures { ReadsLink version hub.now.size (S.told stream.old) (S.told stream.new) seat result.0 result.1 }
-{
-    seat.recall();
-    let size = hub.header().size();
-    size.recall();
-    let welcome = Message::Welcome { next: seat.next() };
-    match write_message(alloc, stream, &welcome) {
-        Ok(()) => {}
-        Err(why) => return (seat, why),
-    }
-    let mut feeder = Feeder::new(size);
-    let mut messages = Vec::new(alloc);
-    for _ in rt.forever() {
-        if let Err(why) = turn(
-            rt,
-            hub,
-            &mut seat,
-            stream,
-            version,
-            &mut feeder,
-            &mut messages,
-            gate,
-            tosser,
-        ) {
-            return (seat, why);
+impl<D: Disk, J: Naming, G: Gate, R: Wait> Reader<'_, D, J, G, R> {
+    /// Hands in one group. When it returns the member has answered it, and what it says of it is on its way.
+    fn hand_in_group(&self, seat: &mut Seat, group: &[(Statement, Toss)]) -> Result<(), LinkEnd>
+        requires { length group.now ≤ 256 }
+        ensures taken { OnOk result (0 < length group.now → WasTaken D (heard_from seat.old.peer group.now)) }
+        ensures refused { IfErr result (RefusesGroup D self.now.hub.now.size (heard_from seat.old.peer group.now)) }
+        ensures ok { OnOk result (HandsInAll seat.old seat.new (said_in group.now)) }
+        ensures err { OnErr result (seat.new ≡ seat.old) }
+        ensures only { IfErr result (λ why. (why ≡ LinkEnd.Stopped) ⊎ (why ≡ LinkEnd.Memory)) }
+    {
+        self.gate.pass(Point::Before(seat.peer()));
+        let handed = self.hub.hand_in(self.rt, seat, group);
+        self.gate.pass(Point::After(seat.peer()));
+        match handed {
+            Ok(()) => Ok(()),
+            Err(fault) => Err(end_of(fault)),
         }
     }
-    unreachable!()
+
+    /// Hands in the statements, each with its toss, in groups of at most 256.
+    fn hand_in_groups(&self, seat: &mut Seat, events: &[(Statement, Toss)]) -> Result<(), LinkEnd>
+        ensures ok { OnOk result (HandsInAll seat.old seat.new (said_in events.now)) }
+        ensures some { OnErr result (HandsInSome seat.old seat.new (said_in events.now)) }
+        ensures refused { OnErr result (HandsInFewer seat.old seat.new (said_in events.now)) }
+        ensures only { IfErr result (λ why. (why ≡ LinkEnd.Stopped) ⊎ (why ≡ LinkEnd.Memory)) }
+    {
+        seat.recall();
+        let mut rest = events;
+        while !rest.is_empty() {
+            let (group, behind) = rest.split_at(rest.len().min(GROUP));
+            match self.hand_in_group(seat, group) {
+                Ok(()) => {}
+                Err(why) => return Err(why),
+            }
+            rest = behind;
+        }
+        Ok(())
+    }
+
+    /// Hands in the statements of these messages, up to one that is out of place.
+    fn hand_in<T: Tosser>(
+        &self,
+        seat: &mut Seat,
+        messages: &[Message],
+        tosser: &mut T,
+    ) -> Result<(), LinkEnd>
+        ensures ok { OnOk result (HandsInAll seat.old seat.new (in_order self.now.version messages.now)) }
+        ensures in_place { OnOk result (all_in_place self.now.version messages.now ≡ true) }
+        ensures some { OnErr result (HandsInSome seat.old seat.new (in_order self.now.version messages.now)) }
+        ensures refused { IsErrOf result LinkEnd.Stopped → HandsInFewer seat.old seat.new (in_order self.now.version messages.now) }
+        ensures order { IsErrOf result LinkEnd.OutOfOrder → HandsInAll seat.old seat.new (in_order self.now.version messages.now) }
+        ensures out_of_order { IsErrOf result LinkEnd.OutOfOrder → all_in_place self.now.version messages.now ≡ false }
+        ensures only { IfErr result (λ why.
+            (why ≡ LinkEnd.OutOfOrder) ⊎ ((why ≡ LinkEnd.Stopped) ⊎ (why ≡ LinkEnd.Memory))) }
+    {
+        seat.recall();
+        let Ok(events) = gather(self.alloc, self.version, messages, tosser) else {
+            return Err(LinkEnd::Memory);
+        };
+        match self.hand_in_groups(seat, &events) {
+            Ok(()) => {}
+            Err(why) => return Err(why),
+        }
+        if !all_in_place(self.version, messages) {
+            return Err(LinkEnd::OutOfOrder);
+        }
+        Ok(())
+    }
+
+    /// Reads a piece, and hands in what it gives: `on` where the session goes on, `off` where it ended.
+    fn turn<S: Stream, T: Tosser>(
+        &self,
+        seat: &mut Seat,
+        stream: &mut S,
+        feeder: &mut Feeder,
+        messages: &mut Vec<Message>,
+        tosser: &mut T,
+    ) -> Result<(), LinkEnd>
+        ensures on { (rest : List ℕ) → Waits feeder.old rest →
+            OnOk result (ReadsOn self.now.version (S.told stream.old) (S.told stream.new) feeder.old.size rest feeder.new seat.old seat.new) }
+        ensures off { (rest : List ℕ) → Waits feeder.old rest →
+            IfErr result (λ why. ReadsOff self.now.version (S.told stream.old) (S.told stream.new) feeder.old.size rest seat.old seat.new why) }
+    {
+        seat.recall();
+        let mut piece = [0u8; PIECE];
+        let count = match stream.read(&mut piece) {
+            Ok(0) => return Err(LinkEnd::Ended),
+            Ok(count) => count,
+            Err(_) => return Err(LinkEnd::Lost),
+        };
+        are_bytes(&piece[..count]);
+        messages.clear();
+        let fed = match feeder.feed(&piece[..count], messages) {
+            Ok(fed) => fed,
+            Err(_) => return Err(LinkEnd::Memory),
+        };
+        match self.hand_in(seat, messages, tosser) {
+            Ok(()) => match fed {
+                Fed::More => Ok(()),
+                Fed::Broken(fault) => Err(LinkEnd::Broken(fault)),
+            },
+            Err(why) => Err(why),
+        }
+    }
+
+    /// A session but for the closing of its stream.
+    fn read_session<S: Stream, T: Tosser>(
+        &self,
+        mut seat: Seat,
+        stream: &mut S,
+        tosser: &mut T,
+    ) -> (Seat, LinkEnd)
+        ensures { ReadsLink self.now.version self.now.hub.now.size (S.told stream.old) (S.told stream.new) seat result.0 result.1 }
+    {
+        seat.recall();
+        let size = self.hub.header().size();
+        size.recall();
+        let welcome = Message::Welcome { next: seat.next() };
+        match write_message(self.alloc, stream, &welcome) {
+            Ok(()) => {}
+            Err(why) => return (seat, why),
+        }
+        let mut feeder = Feeder::new(size);
+        let mut messages = Vec::new(self.alloc);
+        for _ in self.rt.forever() {
+            if let Err(why) = self.turn(&mut seat, stream, &mut feeder, &mut messages, tosser) {
+                return (seat, why);
+            }
+        }
+        unreachable!()
+    }
 }
 
 /// A session of the link from the seat's peer, whose Hello was read: writes the Welcome with the seat's next, and then
 /// hands in each statement that the stream gives, until the session ends. It gives the seat back, and the stream is
 /// closed.
 ///
-/// The statements of a read, which is of at most 512 bytes, are handed in as one group ([`node::Book::apply_all`]), or
-/// as groups of 256 where there are more. A draw of the tosser goes with each statement, in order. The gate's points stand
-/// round each group, and the hub's bell rings once for each that was answered with records.
+/// The statements of a read, which is of at most 512 bytes, are handed in as one group ([`node::Hub::hand_in`]), or as groups
+/// of 256 where there are more. A draw of the tosser goes with each statement, in order. The gate's points stand round each
+/// group, and it reads on once the group was answered.
 ///
 /// It ends:
 ///
@@ -386,7 +333,14 @@ pub fn read_link<D: Disk, J: Naming, S: Stream, G: Gate, T: Tosser, R: Wait>(
     ensures reads { ReadsLink version hub.now.size (S.told stream.old) (S.told stream.new) seat result.0 result.1 }
     ensures closed { S.is_closed stream.new ≡ true }
 {
-    let (seat, why) = read_session(rt, alloc, hub, seat, stream, version, gate, tosser);
+    let reader = Reader {
+        rt,
+        alloc,
+        hub,
+        version,
+        gate,
+    };
+    let (seat, why) = reader.read_session(seat, stream, tosser);
     stream.close();
     (seat, why)
 }

@@ -1,4 +1,4 @@
-//! The writer of a link.
+//! The writer of a link: begin at `write_link`, last.
 ghost use Rattle.std.specs.Prelude.{◌≡◌, ◌+◌, ◌<◌, ◌≤◌, ◌^◌, true, length, vec_len, IfOk, IfErr};
 ghost use Rattle.wire.specs.Texts.{frame_bytes};
 ghost use Rattle.wire.specs.declared.message.Message.TheVariants as message;
@@ -14,7 +14,7 @@ use crate::sending::{send, write_message};
 use crate::stream::Stream;
 use disk::Disk;
 use member::Sealed;
-use node::{Book, Hub, Naming, Watch};
+use node::{Hub, Naming};
 use std::alloc::Global;
 use std::sync::Wait;
 use terms::{Header, Size};
@@ -62,102 +62,14 @@ fn hello(header: &Header, version: Version, peer: u8) -> Message
     }
 }
 
-/// The statements of the outbox from a number on, none where there are none yet.
-fn pull<D: Disk, J: Naming>(
-    book: &Book<D, J>,
-    version: Version,
-    from: u64,
-) -> Result<Vec<Sealed>, LinkEnd>
-    ensures few { IfOk result (λ v. vec_len v ≤ 99) }
-    ensures numbered { IfOk result (λ v. is_numbered from v.items ≡ true) }
-    ensures fits { IfOk result (λ v. 0 < vec_len v → from + vec_len v < 2 ^ 64) }
-    ensures only { IfErr result IsEndOrMemory }
+/// The most statements that are written at a time.
+fn most(version: Version) -> usize
+    ensures { result ≤ 99 }
 {
-    let most = match version {
+    match version {
         Version::One => PULL,
         Version::Two => MOST_STATEMENTS,
-    };
-    match book.pull(from, most) {
-        Ok(items) => Ok(items),
-        Err(_) => Err(LinkEnd::Memory),
     }
-}
-
-/// What is new in a book that was lent, from a number on. At a hub that is shut the session ends where there is nothing.
-fn look<D: Disk, J: Naming>(
-    hub: &Hub<D, J>,
-    book: &Book<D, J>,
-    version: Version,
-    from: u64,
-) -> Result<Vec<Sealed>, LinkEnd>
-    ensures few { IfOk result (λ v. vec_len v ≤ 99) }
-    ensures numbered { IfOk result (λ v. is_numbered from v.items ≡ true) }
-    ensures fits { IfOk result (λ v. 0 < vec_len v → from + vec_len v < 2 ^ 64) }
-    ensures only { IfErr result IsEndOrMemory }
-{
-    match pull(book, version, from) {
-        Err(why) => Err(why),
-        Ok(items) => {
-            if items.is_empty() && hub.is_shut() {
-                return Err(LinkEnd::Ended);
-            }
-            Ok(items)
-        }
-    }
-}
-
-/// The same, where no other thread has the book; else nothing, and the bell is to ring once it is given back.
-fn try_look<'a, D: Disk, J: Naming>(
-    alloc: Global,
-    hub: &'a Hub<D, J>,
-    watch: Watch<'a>,
-    version: Version,
-    from: u64,
-) -> (Watch<'a>, Result<Vec<Sealed>, LinkEnd>)
-    ensures few { IfOk result.1 (λ v. vec_len v ≤ 99) }
-    ensures numbered { IfOk result.1 (λ v. is_numbered from v.items ≡ true) }
-    ensures fits { IfOk result.1 (λ v. 0 < vec_len v → from + vec_len v < 2 ^ 64) }
-    ensures only { IfErr result.1 IsEndOrMemory }
-{
-    match hub.try_lock() {
-        Some(book) => (watch, look(hub, &book, version, from)),
-        None => (hub.want(watch), Ok(Vec::new(alloc))),
-    }
-}
-
-/// What is new in the outbox from a number on, once the bell rang for it; nothing where it rang for nothing, or while another
-/// thread has the book.
-fn next_items<D: Disk, J: Naming, R: Wait>(
-    rt: &R,
-    alloc: Global,
-    hub: &Hub<D, J>,
-    version: Version,
-    from: u64,
-) -> Result<Vec<Sealed>, LinkEnd>
-    ensures few { IfOk result (λ v. vec_len v ≤ 99) }
-    ensures numbered { IfOk result (λ v. is_numbered from v.items ≡ true) }
-    ensures fits { IfOk result (λ v. 0 < vec_len v → from + vec_len v < 2 ^ 64) }
-    ensures only { IfErr result IsEndOrMemory }
-{
-    let watch = hub.watch(rt);
-    let (watch, found) = try_look(alloc, hub, watch, version, from);
-    match found {
-        Err(why) => return Err(why),
-        Ok(items) => {
-            if !items.is_empty() {
-                return Ok(items);
-            }
-        }
-    }
-    if hub.is_shut() {
-        // Nobody rings any more, and no peer is to be told Idle.
-        hub.leave(watch);
-        return look(hub, &hub.lock(rt), version, from);
-    }
-    let watch = hub.wait(rt, watch);
-    let (watch, found) = try_look(alloc, hub, watch, version, from);
-    hub.leave(watch);
-    found
 }
 
 /// Writes an Idle frame.
@@ -197,83 +109,88 @@ fn write_items<S: Stream>(
     }
 }
 
-/// Writes what is new, or one Idle frame.
-fn write_some<D: Disk, J: Naming, S: Stream, R: Wait>(
-    rt: &R,
+/// What a session of a writer goes by: its hub, its version, and by what it waits.
+#[derive(Drop)]
+struct Writer<'a, D: Disk, J: Naming, R> {
+    rt: &'a R,
     alloc: Global,
-    hub: &Hub<D, J>,
-    stream: &mut S,
+    hub: &'a Hub<D, J>,
     version: Version,
-    from: u64,
-) -> Result<u64, LinkEnd>
-    ensures ok { IfOk result (λ next. WritesGroups version (S.told stream.old) (S.told stream.new) from next) }
-    ensures err { IfErr result (λ why. WritesOn version (S.told stream.old) (S.told stream.new) from why) }
-{
-    match next_items(rt, alloc, hub, version, from) {
-        Err(why) => Err(why),
-        Ok(items) => {
-            if items.is_empty() {
-                return match write_idle(alloc, stream, version, from) {
-                    Ok(()) => Ok(from),
-                    Err(why) => Err(why),
-                };
+}
+
+impl<D: Disk, J: Naming, R: Wait> Writer<'_, D, J, R> {
+    /// What is new in the outbox from a number on, once the bell rang for it; nothing where it rang for nothing. At a hub that is
+    /// shut the session ends where there is nothing.
+    fn next_items(&self, from: u64) -> Result<Vec<Sealed>, LinkEnd>
+        ensures few { IfOk result (λ v. vec_len v ≤ 99) }
+        ensures numbered { IfOk result (λ v. is_numbered from v.items ≡ true) }
+        ensures fits { IfOk result (λ v. 0 < vec_len v → from + vec_len v < 2 ^ 64) }
+        ensures only { IfErr result IsEndOrMemory }
+    {
+        match self.hub.next(self.rt, from, most(self.version)) {
+            Ok(Some(items)) => Ok(items),
+            Ok(None) => Err(LinkEnd::Ended),
+            Err(_) => Err(LinkEnd::Memory),
+        }
+    }
+
+    /// Writes what is new, or one Idle frame.
+    fn write_some<S: Stream>(&self, stream: &mut S, from: u64) -> Result<u64, LinkEnd>
+        ensures ok { IfOk result (λ next. WritesGroups self.now.version (S.told stream.old) (S.told stream.new) from next) }
+        ensures err { IfErr result (λ why. WritesOn self.now.version (S.told stream.old) (S.told stream.new) from why) }
+    {
+        match self.next_items(from) {
+            Err(why) => Err(why),
+            Ok(items) => {
+                if items.is_empty() {
+                    return match write_idle(self.alloc, stream, self.version, from) {
+                        Ok(()) => Ok(from),
+                        Err(why) => Err(why),
+                    };
+                }
+                write_items(self.alloc, stream, self.version, from, items.as_slice())
             }
-            write_items(alloc, stream, version, from, items.as_slice())
         }
     }
-}
 
-/// Writes from a number on until the session ends.
-fn write_on<D: Disk, J: Naming, S: Stream, R: Wait>(
-    rt: &R,
-    alloc: Global,
-    hub: &Hub<D, J>,
-    stream: &mut S,
-    version: Version,
-    first: u64,
-) -> LinkEnd
-    ensures { WritesOn version (S.told stream.old) (S.told stream.new) first result }
-{
-    let mut number = first;
-    for _ in rt.forever() {
-        match write_some(rt, alloc, hub, stream, version, number) {
-            Ok(next) => number = next,
-            Err(why) => return why,
+    /// Writes from a number on until the session ends.
+    fn write_on<S: Stream>(&self, stream: &mut S, first: u64) -> LinkEnd
+        ensures { WritesOn self.now.version (S.told stream.old) (S.told stream.new) first result }
+    {
+        let mut number = first;
+        for _ in self.rt.forever() {
+            match self.write_some(stream, number) {
+                Ok(next) => number = next,
+                Err(why) => return why,
+            }
         }
+        unreachable!()
     }
-    unreachable!()
-}
 
-/// A session but for the closing of its stream.
-fn write_session<D: Disk, J: Naming, S: Stream, R: Wait>(
-    rt: &R,
-    alloc: Global,
-    hub: &Hub<D, J>,
-    peer: u8,
-    stream: &mut S,
-    version: Version,
-) -> (LinkEnd, bool)
-    ensures { WritesLink hub.now version peer (S.told stream.old) (S.told stream.new) result.0 result.1 }
-{
-    let header = hub.header();
-    let greeting = hello(&header, version, peer);
-    match write_message(alloc, stream, &greeting) {
-        Ok(()) => {}
-        Err(why) => return (why, false),
-    }
-    match read_welcome(alloc, stream, header.size()) {
-        Ok(next) => {
-            let why = write_on(rt, alloc, hub, stream, version, next);
-            return (why, true);
+    /// A session but for the closing of its stream.
+    fn write_session<S: Stream>(&self, peer: u8, stream: &mut S) -> (LinkEnd, bool)
+        ensures { WritesLink self.now.hub.now self.now.version peer (S.told stream.old) (S.told stream.new) result.0 result.1 }
+    {
+        let header = self.hub.header();
+        let greeting = hello(&header, self.version, peer);
+        match write_message(self.alloc, stream, &greeting) {
+            Ok(()) => {}
+            Err(why) => return (why, false),
         }
-        Err(why) => return (why, false),
+        match read_welcome(self.alloc, stream, header.size()) {
+            Ok(next) => {
+                let why = self.write_on(stream, next);
+                return (why, true);
+            }
+            Err(why) => return (why, false),
+        }
     }
 }
 
 /// A session of the link to a peer, a number below n: writes the Hello, reads the Welcome, at most 11 bytes in all, and
 /// then writes the statements of the outbox from its next on, in order, until the session ends: in version 1 at most 64 at a
-/// time, in version 2 at most 99, which are one frame. Woken by the bell with nothing new, or while another thread has the
-/// book, it writes an Idle. The stream is closed. Beside the end it answers whether it read its Welcome.
+/// time, in version 2 at most 99, which are one frame. Woken by the bell with nothing new it writes an Idle. It waits for no
+/// disk. The stream is closed. Beside the end it answers whether it read its Welcome.
 ///
 /// It ends:
 ///
@@ -296,7 +213,13 @@ pub fn write_link<D: Disk, J: Naming, S: Stream, G: Gate, R: Wait>(
     ensures writes { WritesLink hub.now version peer (S.told stream.old) (S.told stream.new) result.0 result.1 }
     ensures closed { S.is_closed stream.new ≡ true }
 {
-    let ended = write_session(rt, alloc, hub, peer, stream, version);
+    let writer = Writer {
+        rt,
+        alloc,
+        hub,
+        version,
+    };
+    let ended = writer.write_session(peer, stream);
     stream.close();
     ended
 }

@@ -1,6 +1,6 @@
 -- What a crash within a call left is in doubt.
 use Rattle.std.proofs.Common.{◌≡◌, ◌⊎◌, inl, inr, ⊎_elim, ℕ, List, ◌++◌, Option, Some, false, sym, subst}
-use Rattle.vocabulary.specs.Terms.{Header, Record, Event, Hearing, Proposal, Statement}
+use Rattle.terms_prelude.specs.Terms.{Header, Record, Event, Hearing, Proposal, Statement}
 use Rattle.terms.specs.Keep.{put}
 use Rattle.world.specs.Words.{World, after, Hears}
 use Rattle.world.proofs.Runs.{put-here}

@@ -1,6 +1,6 @@
-//! A member over its journal.
+//! A member over its journal: begin at `Member::hear`.
 ghost use Rattle.std.specs.Prelude.{◌≡◌, ◌⊎◌, ◌↔◌, ◌+◌, ◌^◌, ◌<◌, ◌≤◌, ℕ, Bool, true, false, Option, None, List, [], ◌++◌, length, Ok, IsErrOf, IfOk, IfErr, OnOk, OnErr};
-ghost use Rattle.vocabulary.specs.Terms.{Record, Statement, got, is_foreign, said, records_of, Hearing, Proposal, new_place, Initial, IsSize};
+ghost use Rattle.terms_prelude.specs.Terms.{Record, Statement, got, is_foreign, said, records_of, Hearing, Proposal, new_place, Initial, IsSize};
 ghost use Rattle.disk.specs.Model.{LeavesOnly};
 ghost use Rattle.journal.specs.File.{Holds};
 ghost use Rattle.journal.specs.WellFormed.{AreWellFormedFor};
@@ -9,7 +9,8 @@ ghost use Rattle.questions.specs.Faults.{records_fault};
 ghost use Rattle.questions.specs.Replies.{reply_of};
 ghost use Rattle.questions.specs.declared.answer.Answer.{Answer};
 ghost use Rattle.member.specs.Answers.{IsFull, gate_after};
-ghost use Rattle.member.specs.Faults.{refusal, member_fault, Stops};
+ghost use Rattle.member.specs.Faults.{refusal};
+ghost use Rattle.member.specs.Keeping.{Kept};
 ghost use Rattle.member.specs.Sealed.{sealed_from};
 ghost use Rattle.member.specs.Outcomes.{AnswersTo, HasSaved, HasFailed, StaysOn, IsOneEvent, IsOpened, IsARestart, IsNotOpened};
 ghost use Rattle.member.specs.Sound.{IsSound, IsFiled};
@@ -147,69 +148,44 @@ impl<D: Disk> Member<D> {
         self.keep(answer)
     }
 
+    /// Stops, and gives the fault that did it.
+    pub(crate) fn stopped_by(&mut self, fault: MemberFault) -> MemberFault
+        ensures stopped { self.new ≡ record self.old { stopped = true } }
+        ensures fault { result ≡ fault }
+    {
+        self.stopped = true;
+        fault
+    }
+
     /// Saves what the core answered, or stops.
     fn keep(&mut self, answer: Result<Answer, CoreFault>) -> Result<Answer, MemberFault>
         requires few { IfOk answer (λ a. length (records_of (reply_of a)) ≤ 99) }
         requires well_formed { IfOk answer (λ a. AreWellFormedFor (member_header self.old) (records_of (reply_of a))) }
         requires going { member_is_stopped self.old ≡ false }
         requires filed { IsFiled D.Disk self.old }
-        ensures filed { IsFiled D.Disk self.new }
-        ensures answer { IfOk result (λ a. answer ≡ Ok a) }
-        ensures saved { IfOk result (λ a. member_saved self.new ≡ member_saved self.old ++ records_of (reply_of a)) }
-        ensures same { OnErr result (member_saved self.new ≡ member_saved self.old) }
-        ensures core { self.new.core ≡ self.old.core }
-        ensures header { member_header self.new ≡ member_header self.old }
-        ensures going { OnOk result (member_is_stopped self.new ≡ false) }
-        ensures any_moment { D.keeps (member_disk self.old) → IfOk answer (λ a.
-            LeavesOnly D.moment D.since (member_disk self.old) (member_disk self.new)
-            (λ file. Holds (member_header self.old) (member_saved self.old) file
-            ⊎ Holds (member_header self.old) (member_saved self.old ++ records_of (reply_of a)) file)) }
-        ensures refused { IfErr answer (λ _. member_disk self.new ≡ member_disk self.old) }
-        ensures no_call { IfOk result (λ a. length (records_of (reply_of a)) ≡ 0 → member_disk self.new ≡ member_disk self.old) }
-
-        ensures told { IfErr answer (λ fault. IsErrOf result (member_fault fault)) }
-        ensures stopping { IfOk answer (λ _. IfErr result Stops) }
-        ensures unchanged { IfErr result (λ fault. (Stops fault → ⊥) → self.new ≡ self.old) }
-        ensures stops { IfErr result (λ fault. Stops fault → member_is_stopped self.new ≡ true) }
-        ensures same_disk { IsErrOf result MemberFault.Memory ⊎ IsErrOf result MemberFault.JournalFull →
-            member_disk self.new ≡ member_disk self.old }
-        ensures memory { IsErrOf result MemberFault.Memory → IfOk answer (λ a. 0 < length (records_of (reply_of a))) }
-        ensures full { IsErrOf result MemberFault.JournalFull →
-            (a : Answer) × (answer ≡ Ok a) × (2 ^ 31 < gate_after self.old (length (records_of (reply_of a)))) }
-        ensures room { IfOk result (λ a. 0 < length (records_of (reply_of a)) →
-            member_gate self.new ≡ gate_after self.old (length (records_of (reply_of a)))) }
-        ensures within { IfOk result (λ a. 0 < length (records_of (reply_of a)) → member_gate self.new ≤ 2 ^ 31) }
-
-        ensures device { IsErrOf result MemberFault.Device →
-            D.failures (member_disk self.old) < D.failures (member_disk self.new) }
-        ensures failures { D.failures (member_disk self.old) ≤ D.failures (member_disk self.new) }
-        ensures kept { D.keeps (member_disk self.old) ↔ D.keeps (member_disk self.new) }
+        ensures { Kept D.Disk self.old self.old.core answer result self.new }
     {
-        let fault = match answer {
-            Ok(answer) => {
-                match save(
-                    &mut self.journal,
-                    &mut self.records,
-                    &mut self.outbox,
-                    records_in(&answer),
-                ) {
-                    Ok(()) => return Ok(answer),
-                    Err(JournalFault::Device) => MemberFault::Device,
-                    Err(JournalFault::Full) => MemberFault::JournalFull,
-                    Err(_) => MemberFault::Memory,
-                }
-            }
-            Err(CoreFault::NoSuchQuestion) => return Err(MemberFault::NoSuchQuestion),
-            Err(CoreFault::NoSuchMember) => return Err(MemberFault::NoSuchMember),
-            Err(_) => MemberFault::Memory,
-        };
-        self.stopped = true;
-        Err(fault)
+        match answer {
+            Ok(answer) => match save(
+                &mut self.journal,
+                &mut self.records,
+                &mut self.outbox,
+                records_in(&answer),
+            ) {
+                Ok(()) => Ok(answer),
+                Err(JournalFault::Device) => Err(self.stopped_by(MemberFault::Device)),
+                Err(JournalFault::Full) => Err(self.stopped_by(MemberFault::JournalFull)),
+                Err(_) => Err(self.stopped_by(MemberFault::Memory)),
+            },
+            Err(CoreFault::NoSuchQuestion) => Err(MemberFault::NoSuchQuestion),
+            Err(CoreFault::NoSuchMember) => Err(MemberFault::NoSuchMember),
+            Err(_) => Err(self.stopped_by(MemberFault::Memory)),
+        }
     }
 }
 
-/// The records of the answer.
-pub(crate) fn records_in(answer: &Answer) -> &[Record]
+/// The records of the answer: none of one that takes nothing.
+pub fn records_in(answer: &Answer) -> &[Record]
     ensures { result.now ≡ records_of (reply_of answer.now) }
 {
     match answer {

@@ -1,6 +1,6 @@
 -- What bringing a journal over comes to, as the contracts say it.
 use Rattle.std.proofs.Common.{◌≡◌, ◌⊎◌, inl, inr, ℕ, List, [], refl, sym, ◌∙◌, ap, subst, arith}
-use Rattle.vocabulary.specs.Terms.{Record, Header}
+use Rattle.terms_prelude.specs.Terms.{Record, Header}
 use Rattle.disk.specs.Model.{MayLeave, LeavesOnly, at_rest}
 use Rattle.disk.specs.declared.device.Disk.{Ghosts as DiskGhosts}
 use Rattle.disk.proofs.Moments.{started, leaves_more}

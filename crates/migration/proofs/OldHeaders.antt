@@ -1,6 +1,6 @@
 -- A header of version 1 is one of version 2, but for the byte that tells the version.
 use Rattle.std.proofs.Common.{◌≡◌, ℕ, zero, suc, List, [], ◌∷◌, get_or, take, slice_set, codes, refl, sym, ◌∙◌, ap, arith}
-use Rattle.vocabulary.specs.Terms.{Header}
+use Rattle.terms_prelude.specs.Terms.{Header}
 use Rattle.journal.proofs.Headers.{same_header as same_new}
 use Rattle.migration.specs.Words.{header_text, old_header_text, IsOldHeader}
 

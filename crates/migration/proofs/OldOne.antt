@@ -1,6 +1,6 @@
 -- A file of version 1 holds one list of records at most, by one header.
 use Rattle.std.proofs.Common.{◌≡◌, ℕ, List, ◌∷◌, ◌++◌, sym, ◌∙◌, refl, subst, append_assoc}
-use Rattle.vocabulary.specs.Terms.{Record, Header}
+use Rattle.terms_prelude.specs.Terms.{Record, Header}
 use Rattle.journal.proofs.Endings.{one_text}
 use Rattle.journal.proofs.Texts.{same_front}
 use Rattle.migration.specs.Words.{old_header_text, batches_in, version_1, HasOldHeader, HoldsOld}

@@ -1,7 +1,7 @@
 -- A file of version 1 that is read.
 use Rattle.std.proofs.Common.{◌≡◌, ◌⊎◌, inl, inr, ℕ, ◌≤◌, List, [], ◌∷◌, ◌++◌, length, take, drop, refl, sym, ◌∙◌, ap, subst, arith, append_assoc, length-append, take-append-drop, take_at, take-take}
 use Rattle.std.specs.List.{AllByRecursion}
-use Rattle.vocabulary.specs.Terms.{Record, Header}
+use Rattle.terms_prelude.specs.Terms.{Record, Header}
 use Rattle.migration.specs.Words.{MigrateFault, NotEmpty, NotOld, OtherHeader, BadRecord, CutShort, OldDevice, NewDevice, Memory, Full, Batch, batch_records, batches_in, version_1, AreBatches, IsWellFormedFor, AreWellFormedFor, HoldsOld, old_header_text, IsOldHeader, HasOldHeader, GoesOldWrong, RefusesOld, IsOfOldFile, ReadsIn, StumblesIn, BreaksOld}
 use Rattle.journal.specs.File.{IsOldVersion}
 use Rattle.migration.proofs.OldHeaders.{mark_of}

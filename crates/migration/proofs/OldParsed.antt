@@ -1,7 +1,7 @@
 -- Each file of bytes of version 1 holds records, or is refused.
 use Rattle.std.proofs.Common.{◌≡◌, ◌⊎◌, inl, inr, ℕ, ◌≤◌, Bool, true, false, List, ◌++◌, length, get_or, slice_set, refl, sym, ◌∙◌, ap, subst, arith, append_assoc}
 use Rattle.std.proofs.lemmas.Bool.{cases_eq, cases_lt}
-use Rattle.vocabulary.specs.Terms.{Record, Header}
+use Rattle.terms_prelude.specs.Terms.{Record, Header}
 use Rattle.journal.proofs.Endings.{Ending, Closed, Cut, Bad, EndsIn}
 use Rattle.journal.proofs.Headers.{header_eq, same_by, by_same}
 use Rattle.journal.proofs.One.{one_header}

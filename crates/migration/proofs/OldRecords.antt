@@ -2,7 +2,7 @@
 use Rattle.std.proofs.Common.{◌≡◌, ◌≢◌, ◌⊎◌, inl, inr, ℕ, zero, suc, ◌+◌, ◌*◌, ◌<◌, ◌≤◌, Bool, true, false, List, [], ◌∷◌, ◌++◌, length, get_or, take, refl, sym, ◌∙◌, ap, subst, arith, append-nil}
 use Rattle.std.proofs.lemmas.Bool.{cases_eq, cases_lt}
 use Rattle.std.proofs.lemmas.List.{drop_all, take_rest}
-use Rattle.vocabulary.specs.Terms.{Value, Record, Said, Decided, Header, IsSize, FitsStep, value_code}
+use Rattle.terms_prelude.specs.Terms.{Value, Record, Said, Decided, Header, IsSize, FitsStep, value_code}
 use Rattle.journal.proofs.Records.{code_small}
 use Rattle.journal.proofs.Six.{same_record as same_new}
 use Rattle.journal.proofs.Spelled.{IsSpelling}

@@ -1,6 +1,6 @@
 -- A file of version 1 is refused for one fault at most, and for none where it holds records.
 use Rattle.std.proofs.Common.{◌≡◌, ◌≢◌, ℕ, List, ◌∷◌, ◌++◌, refl, sym, ◌∙◌, ap, append_assoc}
-use Rattle.vocabulary.specs.Terms.{Record, Header}
+use Rattle.terms_prelude.specs.Terms.{Record, Header}
 use Rattle.journal.proofs.Endings.{Ending, Closed, Cut, Bad, EndsIn, one_end}
 use Rattle.migration.specs.Words.{MigrateFault, NotEmpty, NotOld, OtherHeader, BadRecord, CutShort, OldDevice, NewDevice, Memory, Full, old_header_text, batches_in, version_1, HasOldHeader, HoldsOld, GoesOldWrong, RefusesOld}
 use Rattle.migration.proofs.OldOne.{one_header, behind_header}

@@ -1,6 +1,6 @@
 -- How many bytes headers and records of version 1 have.
 use Rattle.std.proofs.Common.{◌≡◌, length, refl}
-use Rattle.vocabulary.specs.Terms.{Record, Said, Decided, Header}
+use Rattle.terms_prelude.specs.Terms.{Record, Said, Decided, Header}
 use Rattle.migration.specs.Words.{old_record_bytes, old_header_text}
 
 pub length-header_text : (h : Header) → length (old_header_text h) ≡ 24

@@ -1,8 +1,8 @@
 -- A journal's file of version 1: its bytes, what it holds, and what is wrong with one that holds nothing.
 use Rattle.std.specs.Prelude.{ℕ, ◌≡◌, ◌≢◌, ◌≤◌, Bool, codes, List, ◌∷◌, ◌++◌, []}
 use Rattle.std.specs.Int.{w16, to_be_bytes}
-use Rattle.vocabulary.specs.Terms.{Record, Said, Decided, Header}
-use Rattle.spelling.specs.Statements.{statement_bytes}
+use Rattle.terms_prelude.specs.Terms.{Record, Said, Decided, Header}
+use Rattle.statement_codec.specs.Statements.{statement_bytes}
 use Rattle.journal.specs.Texts.{Batch, Spelling, batch_records, batches_in, header_numbers, bit_byte}
 use Rattle.journal.specs.WellFormed.{IsHeader, AreBatches}
 use Rattle.journal.specs.File.{IsFrontOf, IsCutIn, IsBadIn}

@@ -1,6 +1,6 @@
 -- What stands after the old file was read, or wasn't.
 use Rattle.std.specs.Prelude.{◌≡◌, ◌↔◌, ◌<◌, ◌≤◌}
-use Rattle.vocabulary.specs.Terms.{Header}
+use Rattle.terms_prelude.specs.Terms.{Header}
 use Rattle.disk.specs.Model.{MayLeave, LeavesOnly}
 use Rattle.disk.specs.declared.device.Disk.{Ghosts as DiskGhosts}
 use Rattle.migration.specs.declared.fault.MigrateFault.{MigrateFault}

@@ -1,6 +1,6 @@
 -- What stands once a journal was brought over, or wasn't.
 use Rattle.std.specs.Prelude.{ℕ, ◌≡◌, ◌⊎◌, ◌↔◌, ◌<◌, ◌≤◌, ◌^◌, List, length}
-use Rattle.vocabulary.specs.Terms.{Record, Header}
+use Rattle.terms_prelude.specs.Terms.{Record, Header}
 use Rattle.disk.specs.Model.{LeavesOnly}
 use Rattle.disk.specs.declared.device.Disk.{Ghosts as DiskGhosts}
 use Rattle.journal.specs.declared.journal.Journal.{Journal}

@@ -1,6 +1,6 @@
 -- A new file that is being filled.
 use Rattle.std.specs.Prelude.{ℕ, ◌≡◌, ◌⊎◌, ◌↔◌, ◌+◌, ◌*◌, ◌<◌, ◌≤◌, ◌^◌, List, [], length}
-use Rattle.vocabulary.specs.Terms.{Record, Header}
+use Rattle.terms_prelude.specs.Terms.{Record, Header}
 use Rattle.disk.specs.Model.{State, MayLeave, LeavesOnly, at_rest, after_write}
 use Rattle.disk.specs.declared.device.Disk.{Ghosts as DiskGhosts}
 use Rattle.journal.specs.declared.draft.Draft.{Draft}

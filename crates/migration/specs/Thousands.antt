@@ -1,6 +1,6 @@
 -- Records in batches of 1,000.
 use Rattle.std.specs.Prelude.{ℕ, zero, suc, List, [], ◌∷◌, length, take, drop}
-use Rattle.vocabulary.specs.Terms.{Record}
+use Rattle.terms_prelude.specs.Terms.{Record}
 use Rattle.journal.specs.Texts.{Batch, new_batch}
 
 -- so many batches at most

@@ -2,7 +2,7 @@
 //! that the contracts of this crate cite.
 
 ghost use Rattle.std.specs.Prelude.{◌≡◌, ◌⊎◌, ℕ, List};
-ghost use Rattle.vocabulary.specs.Terms.{Record, Header};
+ghost use Rattle.terms_prelude.specs.Terms.{Record, Header};
 ghost use Rattle.journal.specs.File.{AreBytes, IsOldVersion};
 ghost use Rattle.migration.specs.declared.fault.MigrateFault.{MigrateFault};
 ghost use Rattle.migration.specs.Old.{IsOldHeader, HoldsOld, RefusesOld};

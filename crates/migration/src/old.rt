@@ -1,6 +1,6 @@
 //! A journal's file of version 1. It is read, and never written.
 ghost use Rattle.std.specs.Prelude.{◌≡◌, ◌↔◌, ◌⊎◌, ◌+◌, ◌<◌, ◌≤◌, ℕ, List, IsErrOf, IfOk, IfErr, OnOk};
-ghost use Rattle.vocabulary.specs.Terms.{Header};
+ghost use Rattle.terms_prelude.specs.Terms.{Header};
 ghost use Rattle.disk.specs.Model.{MayLeave, LeavesOnly};
 ghost use Rattle.journal.specs.WellFormed.{AreWellFormedFor};
 ghost use Rattle.journal.specs.Outcomes.{WasRead};

@@ -2,7 +2,7 @@
 use Rattle.std.proofs.Common.{ℕ, zero, suc, ◌≡◌, ◌<◌, ◌≤◌, ◌+◌, ◌-◌, List, [], ◌∷◌, ◌++◌, length, drop, get_or, cond, Bool, true, false, ◌==◌, ne_eqb, refl, sym, ap, ◌∙◌, arith, append-nil, append_assoc, length-append, slice_get}
 use Rattle.std.proofs.lemmas.List.{drop_more, drop_all}
 use Rattle.std.specs.Global.{Vec}
-use Rattle.vocabulary.specs.Terms.{Statement}
+use Rattle.terms_prelude.specs.Terms.{Statement}
 use Rattle.questions.specs.Words.{Entry, Heard, Proposed, link_part}
 use Rattle.node.specs.Histories.{joined}
 use Rattle.node.specs.Words.{heard_on, same_statements}

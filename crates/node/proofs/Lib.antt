@@ -11,3 +11,4 @@ pub mod Grouping
 pub mod Numbers
 pub mod Linking
 pub mod Living
+pub mod Shares

@@ -2,7 +2,7 @@
 use Rattle.std.proofs.Common.{ℕ, zero, suc, ◌≡◌, ◌<◌, Bool, true, false, ◌||◌, nat_le, if◌then◌else◌, refl, sym, subst, arith, Option, Some, None, List, [], ◌∷◌, ◌++◌}
 use Rattle.std.proofs.lemmas.List.Elements.{All-append}
 use Rattle.std.specs.List.{list_any}
-use Rattle.vocabulary.specs.Terms.{Statement, Size, Reply, Foreign, Repeat, Have, Taken, Hearing, keep_or, without_tosses}
+use Rattle.terms_prelude.specs.Terms.{Statement, Size, Reply, Foreign, Repeat, Have, Taken, Hearing, keep_or, without_tosses}
 use Rattle.questions.specs.Audits.{AreOfMembers}
 use Rattle.questions.specs.Faults.{number_fault}
 use Rattle.questions.specs.Words.{Entry, Heard, Proposed, entry_event, entry_statements}

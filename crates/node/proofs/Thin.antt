@@ -1,6 +1,6 @@
 -- What was heard since the opening is proof of what was decided since then.
 use Rattle.std.proofs.Common.{ℕ, ◌≡◌, zero, suc, arith, ◌<◌, ◌+◌, ◌*◌, ◌==◌, Bool, true, false, cond, refl, sym, ap, subst, ◌∙◌, Option, Some, None, List, [], ◌∷◌, take}
-use Rattle.vocabulary.specs.Terms.{Header, Record, Statement, Size, IsAudit, AtLeast, IsValid, Accepted, sure, pairs_on, hear_all, decided}
+use Rattle.terms_prelude.specs.Terms.{Header, Record, Statement, Size, IsAudit, AtLeast, IsValid, Accepted, sure, pairs_on, hear_all, decided}
 use Rattle.questions.specs.Audits.{AreOfMembers, IsProof}
 use Rattle.questions.specs.Replay.{Entry, IsReplay, entry_statements}
 use Rattle.questions.proofs.Showing.{replay_shows}

@@ -1,8 +1,8 @@
 -- An entry of a history in fifteen bytes.
 use Rattle.std.specs.Prelude.{ℕ, ◌≡◌, ◌/◌, ◌%◌, ◌==◌, Bool, false, List, [], ◌∷◌, ◌++◌, get_or, if◌then◌else◌}
 use Rattle.std.specs.Int.{w16, w64, to_be_bytes, from_be_bytes}
-use Rattle.vocabulary.specs.Terms.{Kind, Value, Place, Statement, IsPlace, FitsStep, new_place, new_statement}
-use Rattle.spelling.specs.Statements.{kind_from, value_from}
+use Rattle.terms_prelude.specs.Terms.{Kind, Value, Place, Statement, IsPlace, FitsStep, new_place, new_statement}
+use Rattle.statement_codec.specs.Statements.{kind_from, value_from}
 use Rattle.questions.specs.Replay.{Entry}
 use Rattle.questions.specs.Replay.Entry.{Heard, Proposed}
 

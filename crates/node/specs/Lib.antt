@@ -9,6 +9,8 @@ pub mod Histories
 pub mod Settled
 pub mod Groups
 pub mod Laws
+pub mod Parts
+pub mod Lines
 pub mod Lives
 pub mod Marks
 pub mod Transcripts

@@ -1,6 +1,6 @@
 -- What a book gives of a question that is decided.
 use Rattle.std.specs.Prelude.{ℕ, ◌≡◌, ◌<◌, ◌≤◌, Bool, List, Some, None}
-use Rattle.vocabulary.specs.Terms.{Statement, pairs_on}
+use Rattle.terms_prelude.specs.Terms.{Statement, pairs_on}
 use Rattle.questions.specs.Audits.{IsProof}
 use Rattle.questions.specs.Replay.{Entry, entry_statements}
 use Rattle.member.specs.Answers.{verdict_of}

@@ -1,12 +1,12 @@
-//! The book: a member, what happened since its opening, and what it published.
+//! The book: a member, what happened since its opening, and what it published. Begin at `Book`.
 ghost use Rattle.std.specs.Prelude.{◌≡◌, ◌⊎◌, ◌↔◌, ◌+◌, ◌<◌, ◌≤◌, ◌^◌, ℕ, List, [], ◌∷◌, ◌++◌, length, take, drop, Bool, true, false, IfOk, IfErr, IfSome, OnOk, OnErr, Some, None, IsErrOf, IsSome, IfNone, slice_get, vec_len};
 ghost use Rattle.std.specs.Arc.{arc_value};
-ghost use Rattle.vocabulary.specs.Terms.{Hearing, Proposal, records_of, records_of_all, Header};
+ghost use Rattle.terms_prelude.specs.Terms.{Hearing, Proposal, records_of, records_of_all, Header};
 ghost use Rattle.questions.specs.Replay.Entry.{Heard, Proposed};
 ghost use Rattle.questions.specs.Replies.{reply_of};
 ghost use Rattle.world.specs.World.{World, IsCorrect};
 ghost use Rattle.member.specs.Answers.{verdict_of, IsFull};
-ghost use Rattle.member.specs.Groups.{replies_of, AllCome, IsFullOfAll, MayAllBeCutOff};
+ghost use Rattle.member.specs.Groups.{hearings, replies_of, AllCome, IsFullOfAll, MayAllBeCutOff};
 ghost use Rattle.member.specs.Life.{MemberIsAt, DoesStep, Comes, MayBeCutOff};
 ghost use Rattle.world.specs.World.Step.{Hears};
 ghost use Rattle.member.specs.Outcomes.{HasSaved, StaysOn};
@@ -25,15 +25,16 @@ ghost use Rattle.node.specs.Verdicts.{known_at, KnowsMore};
 
 use crate::board::{Board, Pass};
 use crate::entry::Entry;
-use crate::group::{note_all, prepare};
+use crate::group::{add_all_taken, prepare};
 use crate::history::History;
 use crate::marks::{Firsts, keep_all};
 use crate::notes::Notes;
 use crate::seat::Seat;
 use crate::settle::is_settled;
+use crate::shown::part;
 use crate::transcript::{Transcript, TranscriptFault, heard_on};
 use disk::Disk;
-use member::{Member, MemberFault, Sealed};
+use member::{Member, MemberFault, Sealed, records_in};
 use questions::{Answer, audit};
 use rounds::Toss;
 use std::alloc::Global;
@@ -160,7 +161,7 @@ impl<D: Disk, J: Naming> Book<D, J> {
             Ok(answer) => {
                 seat.firsts.keep(seat.peer, statement);
                 seat.next = seat.next.saturating_add(1);
-                note(
+                add_if_taken(
                     &mut self.history,
                     Entry::Heard {
                         from: seat.peer,
@@ -177,14 +178,11 @@ impl<D: Disk, J: Naming> Book<D, J> {
     }
 
     /// Hands in statements of the seat's peer as one group, each with its toss: at most 256, and perhaps none. The answers
-    /// are those to one after another, and each that takes its statement lengthens the history by it. The records of all
-    /// answers are saved as one batch, by four calls of the device, as [`Member::hear_all`] says. Each answer counts for the
-    /// seat, and after a fault none does.
+    /// are those of [`Book::hear_all`]. Each answer counts for the seat, and after a fault none does.
     ///
-    /// Room in history and seat, and for the list that the member hears, is made first: where a member that isn't stopped
-    /// has none, it is stopped, with [`MemberFault::Memory`], and no call of the device is made. The other faults are the
-    /// member's, and those that stop it stop the book. After each fault the records, the history and the seat are as they
-    /// were.
+    /// Room in the seat, and for the list that the member hears, is made first: where a member that isn't stopped has none,
+    /// it is stopped, with [`MemberFault::Memory`], and no call of the device is made. After each fault the records, the
+    /// history and the seat are as they were.
     pub fn apply_all(
         &mut self,
         seat: &mut Seat,
@@ -219,21 +217,61 @@ impl<D: Disk, J: Naming> Book<D, J> {
         if self.member.is_stopped() {
             return Err(MemberFault::Stopped);
         }
-        let Some(group) = prepare(
-            self.alloc,
-            seat.peer,
-            events,
-            &mut self.history,
-            &mut seat.firsts,
-        ) else {
+        let Some(group) = prepare(self.alloc, seat.peer, events, &mut seat.firsts) else {
             self.member.stop();
             return Err(MemberFault::Memory);
         };
-        match self.member.hear_all(&group) {
+        match self.hear_all(&group) {
             Ok(answers) => {
                 keep_all(&mut seat.firsts, seat.peer, events);
                 seat.next = seat.next.saturating_add(events.len() as u64);
-                note_all(&mut self.history, &group, &answers);
+                Ok(answers)
+            }
+            Err(fault) => Err(fault),
+        }
+    }
+
+    /// Hears statements of any members as one group, each with its sender and its toss: at most 256, and perhaps none. The
+    /// answers are those to one after another, and each that takes its statement lengthens the history by it. The records of
+    /// all answers are saved as one batch, by four calls of the device, as [`Member::hear_all`] says.
+    ///
+    /// Room in the history is made first: where a member that isn't stopped has none, it is stopped, with
+    /// [`MemberFault::Memory`], and no call of the device is made. The other faults are the member's, and those that stop it
+    /// stop the book. After each fault the records and the history are as they were.
+    pub fn hear_all(&mut self, events: &[(u8, Statement, Toss)]) -> Result<Vec<Answer>, MemberFault>
+        requires few { length events.now ≤ 256 }
+        ensures answer { IfOk result (λ answers. AppliesAll self.old (hearings events.now) answers.items self.new) }
+        ensures length { IfOk result (λ answers. length answers.items ≡ length events.now) }
+        ensures saved { IfOk result (λ answers.
+            HasSaved D.Disk self.old.member (records_of_all (replies_of answers.items)) self.new.member) }
+        ensures four_calls { D.keeps (member_disk self.old.member) → IfOk result (λ answers.
+            0 < length (records_of_all (replies_of answers.items)) →
+            D.moment (member_disk self.new.member) ≡ D.moment (member_disk self.old.member) + 4) }
+        // In the world it is the member's event, or the member hears nothing and goes down.
+        ensures life { (header : Header) (liars : ℕ → Bool) (w : World) → IsCorrect header.size liars header.me →
+            MemberIsAt D.Disk header w self.old.member → AllCome w (hearings events.now) →
+            LivesOnAll D.Disk header liars w (hearings events.now) result self.old.member self.new.member }
+        // A crash within the call: it made no call of the device, or it is that event with all records in doubt.
+        ensures cut { (header : Header) (liars : ℕ → Bool) (w : World) → IsCorrect header.size liars header.me →
+            MemberIsAt D.Disk header w self.old.member → AllCome w (hearings events.now) →
+            MayAllBeCutOff D.Disk header liars w (hearings events.now) self.old.member self.new.member }
+
+        ensures fault { IfErr result (λ f. RefusesAll self.old (hearings events.now) f self.new) }
+        ensures disk { IfErr result (λ f. Spares D.Disk
+            (IsFullOfAll self.old.member (hearings events.now)) f self.old.member self.new.member) }
+        ensures memory_only_at_some { IsErrOf result MemberFault.Memory → 0 < length events.now }
+        ensures stays { StaysOn D.Disk self.old.member self.new.member }
+    {
+        if self.member.is_stopped() {
+            return Err(MemberFault::Stopped);
+        }
+        if !self.history.make_room(events.len()) {
+            self.member.stop();
+            return Err(MemberFault::Memory);
+        }
+        match self.member.hear_all(events) {
+            Ok(answers) => {
+                add_all_taken(&mut self.history, events, &answers);
                 publish_all(&self.member, &mut self.notes, &answers);
                 Ok(answers)
             }
@@ -273,7 +311,7 @@ impl<D: Disk, J: Naming> Book<D, J> {
         }
         match self.member.propose(question, bit, toss) {
             Ok(answer) => {
-                note(
+                add_if_taken(
                     &mut self.history,
                     Entry::Proposed {
                         question,
@@ -442,24 +480,14 @@ fn make_room_for_both(history: &mut History, firsts: &mut Firsts) -> bool
     history.make_room(1) && firsts.make_room(1)
 }
 
-/// Notes the entry where the answer takes it.
-pub(crate) fn note(history: &mut History, entry: Entry, answer: &Answer)
+/// Adds the entry where the answer takes it.
+pub(crate) fn add_if_taken(history: &mut History, entry: Entry, answer: &Answer)
     requires { 0 < history.old.room }
     ensures entries { history.new.entries ≡ lengthened history.old.entries (noted entry) (reply_of answer.now) }
     ensures room { history.old.room ≤ history.new.room + 1 }
 {
     if let Answer::Taken(_) = answer {
         history.push_reserved(entry);
-    }
-}
-
-/// The records of the answer.
-fn records_in(answer: &Answer) -> &[Record]
-    ensures { result.now ≡ records_of (reply_of answer.now) }
-{
-    match answer {
-        Answer::Taken(records) => records.as_slice(),
-        _ => &[],
     }
 }
 
@@ -516,17 +544,4 @@ fn decided<D: Disk>(member: &Member<D>) -> u16
         }
     }
     count
-}
-
-/// A part of the outbox.
-fn part(alloc: Global, outbox: &[Sealed], from: u64, max: usize) -> Result<Vec<Sealed>, Memory>
-    ensures items { IfOk result (λ v. v.items ≡ take max (drop from outbox.now)) }
-    ensures fits { IfOk result (λ v. 0 < vec_len v → from + vec_len v < 2 ^ 64) }
-{
-    if from >= outbox.len() as u64 {
-        return Ok(Vec::new(alloc));
-    }
-    let rest = &outbox[from as usize..];
-    let end = max.min(rest.len());
-    Ok(Vec::from_slice(alloc, &rest[..end])?)
 }

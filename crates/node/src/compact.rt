@@ -1,13 +1,13 @@
 //! An entry of a history in fifteen bytes.
 ghost use Rattle.std.specs.Prelude.{◌≡◌};
-ghost use Rattle.vocabulary.specs.Terms.{new_place};
+ghost use Rattle.terms_prelude.specs.Terms.{new_place};
 ghost use Rattle.questions.specs.Replay.Entry.{Heard, Proposed};
 ghost use Rattle.node.specs.Compact.{packed, kind_in, value_in};
 ghost use Rattle.node.specs.Entries.{noted};
 
 use crate::entry::Entry;
 use rounds::Toss;
-use spelling::{byte_of_kind, byte_of_value};
+use statement_codec::{byte_of_kind, byte_of_value};
 use std::marker::Model;
 use terms::{Kind, Place, Statement, Value};
 

@@ -3,6 +3,7 @@
 //! [`Board`], which takes no lock.
 #![tactic(auto)]
 
+mod batch;
 mod board;
 mod book;
 mod compact;
@@ -11,17 +12,20 @@ mod group;
 mod history;
 mod hub;
 pub mod laws;
+mod line;
 mod marks;
 mod notes;
+mod outcome;
 mod rack;
 mod seat;
 mod settle;
+mod shown;
 mod transcript;
 
 pub use board::{Board, Pass};
 pub use book::{Book, Naming};
 pub use entry::Entry;
-pub use hub::{Hub, Watch};
+pub use hub::Hub;
 pub use rack::Rack;
 pub use seat::Seat;
 pub use settle::{Closing, close};

@@ -1,6 +1,6 @@
 //! What a book heard of a question that is decided.
 ghost use Rattle.std.specs.Prelude.{◌≡◌, [], ◌∷◌, ◌++◌, IfOk, OnOk, MatchOption};
-ghost use Rattle.vocabulary.specs.Terms.{pairs_on};
+ghost use Rattle.terms_prelude.specs.Terms.{pairs_on};
 ghost use Rattle.questions.specs.Replay.{entry_statements};
 ghost use Rattle.node.specs.Entries.{noted};
 ghost use Rattle.node.specs.Transcripts.{heard_on};

@@ -1,6 +1,6 @@
 -- What changes of its lists do to the words of a `Broadcasts`.
 use Rattle.std.proofs.Common.{ℕ, ◌≡◌, ◌+◌, ◌*◌, ◌<◌, Bool, true, false, cond, ◌&&◌, eqb, leb, refl, sym, ap, ◌∙◌, Option, Some, None, is_some}
-use Rattle.vocabulary.specs.Terms.{Kind, Initial, Echo, Ready, Place, Size, Value, Statement, count_below, keep_or, given, FitsStep, value_is, kind_eq, new_place}
+use Rattle.terms_prelude.specs.Terms.{Kind, Initial, Echo, Ready, Place, Size, Value, Statement, count_below, keep_or, given, FitsStep, value_is, kind_eq, new_place}
 use Rattle.terms.proofs.Same.{kind_eq-true}
 use Rattle.rbc.specs.Words.{Known, Broadcasts, same_spot, is_at, is_third, no_known, value_known, voted_known, is_reached, heard_known, said_known, say_known, accepted_known, has_spot, spot_of, known_in, touched_known, broadcasts_size, broadcasts_me, broadcasts_got, broadcasts_accepted, broadcasts_said}
 use Rattle.rbc.proofs.Cells.{step_same, known_in-spot}
@@ -111,12 +111,11 @@ module _ (b b' : Broadcasts) (same_size : b'.size ≡ b.size) (same_me : b'.me �
   in_new : (q : Place) → known_in (touched_known b'.cells) b'.size.n q ≡ new q
   in_new q = ap (λ (z : Size). known_in (touched_known b'.cells) z.n q) same_size
 
-  -- the tables are the same
-  pub nothing_more : ((spot : ℕ) → touched_known b'.cells spot ≡ touched_known b.cells spot) → IsSame b b'
+  -- the same is known of all places
+  pub no_change : ((q : Place) → new q ≡ old q) → IsSame b b'
   unfolding broadcasts_size broadcasts_me broadcasts_got broadcasts_accepted broadcasts_said
-  nothing_more h =
-      let e : (q : Place) → known_in (touched_known b'.cells) b'.size.n q ≡ old q =
-      λ q. in_new q ∙ ap (λ (x : Known). cond (has_spot b.size.n q) x no_known) (h (spot_of b.size.n q)) in
+  no_change h =
+      let e : (q : Place) → known_in (touched_known b'.cells) b'.size.n q ≡ old q = λ q. in_new q ∙ h q in
       record {
         size = same_size;
         me = same_me;
@@ -124,6 +123,11 @@ module _ (b b' : Broadcasts) (same_size : b'.size ≡ b.size) (same_me : b'.me �
         accepted = λ place. ap (λ (x : Known). accepted_known place x) (e place);
         said = λ kind place. ap (λ (x : Known). said_known x kind) (e place);
       }
+
+  -- the tables are the same
+  pub nothing_more : ((spot : ℕ) → touched_known b'.cells spot ≡ touched_known b.cells spot) → IsSame b b'
+  nothing_more h =
+      no_change (λ q. ap (λ (x : Known). cond (has_spot b.size.n q) x no_known) (h (spot_of b.size.n q)))
 
   -- one more statement heard
   pub one_heard : (from : ℕ) (s : Statement) → from < 64 → FitsStep s.place.step s.value

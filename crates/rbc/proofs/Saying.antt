@@ -1,7 +1,7 @@
 -- What a statement of its own does to what a `Broadcasts` stands for, and what changes nothing.
 use Rattle.std.proofs.Common.{ℕ, zero, suc, ◌≡◌, ◌≤◌, inl, inr, Bool, true, false, refl, sym, ap, ◌∙◌, arith, Option, None, IsSome, [], ◌∷◌, ◌++◌}
 use Rattle.std.proofs.lemmas.Bool.{false≢true}
-use Rattle.vocabulary.specs.Terms.{Value, Kind, Initial, Echo, Ready, kind_eq, Place, Size, Statement, Said, count_below, said, keep_or, given, Past, no_past, after_record}
+use Rattle.terms_prelude.specs.Terms.{Value, Kind, Initial, Echo, Ready, kind_eq, Place, Size, Statement, Said, count_below, said, keep_or, given, Past, no_past, after_record}
 use Rattle.terms.proofs.Journal.{said-append_one}
 use Rattle.rbc.specs.Words.{Broadcasts, no_known, touched_known, touched_made, spot_of, IsTouched, is_at, BroadcastsStandFor, broadcasts_size, broadcasts_me, broadcasts_accepted, broadcasts_said}
 use Rattle.rbc.proofs.Changes.{IsSame, SaysOne, said_with, none_got, none_said, none_accepted}

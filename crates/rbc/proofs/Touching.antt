@@ -191,7 +191,7 @@ table_written numbers cells number cell table at =
           ap (λ s. get_or numbers s 0) (same k) ∙ table.named k (omega (arith, lt, long)) (subst (λ s. s < length numbers) (same k) within);
     }
 
-pub known_written : (cells : List Cell) (number spot : ℕ) (known : Known) (other : ℕ) → NoTwo cells → IsAt cells number spot
+known_written : (cells : List Cell) (number spot : ℕ) (known : Known) (other : ℕ) → NoTwo cells → IsAt cells number spot
     → touched_known (set cells number (record { spot = spot; known = known })) other ≡ cond (eqb other spot) known (touched_known cells other)
 known_written [] number spot known other none at = absurd (omega (arith, at.within))
 known_written (c ∷ cells) zero spot known other none at = elim (cases_eq other spot) [
@@ -215,6 +215,13 @@ known_written (c ∷ cells) (suc number) spot known other none at =
     step true e false f first = refl
     step false e true f first = refl
     step false e false f first = refl
+
+-- the same where the cell's spot is only known to be this
+pub tagged_written : (cells : List Cell) (number spot tag : ℕ) (known : Known) (other : ℕ) → NoTwo cells → IsAt cells number spot → tag ≡ spot
+    → touched_known (set cells number (record { spot = tag; known = known })) other ≡ cond (eqb other spot) known (touched_known cells other)
+tagged_written cells number spot tag known other none at same =
+    ap (λ (t : ℕ). touched_known (set cells number (record { spot = t; known = known })) other) same
+    ∙ known_written cells number spot known other none at
 
 -- one cell more has its number
 pub one_named : (numbers : List ℕ) (cells : List Cell) (k : ℕ) → AreApart cells → k < length cells → AreNamed numbers cells k → AreNamed (set numbers (spot_at cells k) k) cells (k + 1)

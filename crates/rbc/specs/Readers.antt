@@ -1,6 +1,6 @@
 -- What a `Broadcasts` knows. Contracts cite these words, and never what it keeps to answer them.
 use Rattle.std.specs.Prelude.{ℕ, Option}
-use Rattle.vocabulary.specs.Terms.{Kind, Value, Place, Size}
+use Rattle.terms_prelude.specs.Terms.{Kind, Value, Place, Size}
 use Rattle.rbc.specs.declared.Broadcasts.{Broadcasts}
 use Rattle.rbc.specs.Known.{value_known, accepted_known, said_known}
 use Rattle.rbc.specs.Table.{known_in}

@@ -1,11 +1,13 @@
 //! The places of one question, each at its spot: by round, then by step, then by origin.
 ghost use Rattle.std.specs.Prelude.{◌≡◌, ◌<◌, ℕ, true, IsOk, IfOk, OnOk, OnErr, cond};
-ghost use Rattle.vocabulary.specs.Terms.{Place, IsPlace};
+ghost use Rattle.terms_prelude.specs.Terms.{Place, IsPlace};
 ghost use Rattle.rbc.specs.Spots.{same_spot};
-ghost use Rattle.rbc.specs.Known.{heard_known};
+ghost use Rattle.rbc.specs.Known.{say_known};
+ghost use Rattle.rbc.specs.Taking.{Receives};
 ghost use Rattle.rbc.specs.Table.{spot_of, known_in};
 ghost use Rattle.rbc.specs.Touching.{touched_known, touched_made};
 
+use crate::Taken;
 use crate::known::Known;
 use crate::touched::Touched;
 use std::alloc::AllocError;
@@ -31,34 +33,38 @@ pub fn known_at(cells: &Touched, size: Size, place: Place) -> Known
     cells.at(spot)
 }
 
-/// Keeps what is known of the place, in place of what was. Nothing is asked of memory where it has a cell.
-pub fn keep(cells: &mut Touched, size: Size, place: Place, known: Known) -> Result<(), AllocError>
-    requires { place.origin < size.n }
+/// Says a statement at its place. Nothing is asked of memory where the place has a cell.
+pub fn say(cells: &mut Touched, size: Size, s: &Statement) -> Result<(), AllocError>
+    requires { s.now.place.origin < size.n }
     ensures ok { OnOk result ((q : Place) → known_in (touched_known cells.new) size.n q
-        ≡ cond (same_spot place q) known (known_in (touched_known cells.old) size.n q)) }
-    ensures err { OnErr result ((spot : ℕ) → touched_known cells.new spot ≡ touched_known cells.old spot) }
-    ensures reached { touched_made cells.old (spot_of size.n place) ≡ true → IsOk result }
-{
-    let spot = spot(size, place);
-    let number = cells.reach(spot)?;
-    cells.set(number, spot, known);
-    Ok(())
-}
-
-/// Hears a statement at its place, of which no vote of that kind is known yet, and gives what is known of the place then.
-/// Nothing is asked of memory where it has a cell.
-pub fn hear(cells: &mut Touched, size: Size, from: u8, s: Statement) -> Result<Known, AllocError>
-    requires from { from < 64 }
-    requires origin { s.place.origin < size.n }
-    ensures known { IfOk result (λ known.
-        known ≡ heard_known s.place (known_in (touched_known cells.old) size.n s.place) size from s.kind s.value) }
-    ensures ok { OnOk result ((q : Place) → known_in (touched_known cells.new) size.n q
-        ≡ cond (same_spot s.place q) (heard_known s.place (known_in (touched_known cells.old) size.n s.place) size from s.kind s.value)
+        ≡ cond (same_spot s.now.place q) (say_known (known_in (touched_known cells.old) size.n s.now.place) s.now.kind s.now.value)
         (known_in (touched_known cells.old) size.n q)) }
     ensures err { OnErr result ((spot : ℕ) → touched_known cells.new spot ≡ touched_known cells.old spot) }
-    ensures reached { touched_made cells.old (spot_of size.n s.place) ≡ true → IsOk result }
+    ensures reached { touched_made cells.old (spot_of size.n s.now.place) ≡ true → IsOk result }
 {
     let spot = spot(size, s.place());
     let number = cells.reach(spot)?;
-    Ok(cells.hear(number, size, from, s))
+    cells.say(number, s);
+    Ok(())
+}
+
+/// Receives a statement at its place: it counts, or is a repeat. Nothing is asked of memory where the place has a cell.
+pub fn receive(
+    cells: &mut Touched,
+    size: Size,
+    from: u8,
+    s: &Statement,
+) -> Result<Taken, AllocError>
+    requires from { from < 64 }
+    requires origin { s.now.place.origin < size.n }
+    ensures taken { IfOk result (Receives size from s.now (known_in (touched_known cells.old) size.n s.now.place)
+        (known_in (touched_known cells.new) size.n s.now.place)) }
+    ensures others { OnOk result ((q : Place) → known_in (touched_known cells.new) size.n q
+        ≡ cond (same_spot s.now.place q) (known_in (touched_known cells.new) size.n s.now.place) (known_in (touched_known cells.old) size.n q)) }
+    ensures err { OnErr result ((spot : ℕ) → touched_known cells.new spot ≡ touched_known cells.old spot) }
+    ensures reached { touched_made cells.old (spot_of size.n s.now.place) ≡ true → IsOk result }
+{
+    let spot = spot(size, s.place());
+    let number = cells.reach(spot)?;
+    Ok(cells.receive(number, size, from, s))
 }

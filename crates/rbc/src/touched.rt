@@ -10,6 +10,7 @@ ghost use Rattle.std.specs.List.{position_from};
 ghost use Rattle.rbc.specs.Touching.{touched_known, touched_made, AreApart, IsTable, IsAt};
 
 use crate::known::{self, Known, nothing};
+use crate::{Taken, rules};
 use std::alloc::{AllocError, Global};
 use std::marker::Model;
 use terms::{Size, Statement};
@@ -50,7 +51,8 @@ impl Model for Touched {
 
 impl Touched {
     ghost use Rattle.std.specs.Prelude.{◌≡◌, ◌<◌, ◌==◌, ℕ, [], length, true, cond, IfOk, IsOk};
-    ghost use Rattle.rbc.specs.Known.{heard_known};
+    ghost use Rattle.rbc.specs.Known.{say_known};
+    ghost use Rattle.rbc.specs.Taking.{Receives};
     ghost use Rattle.std.specs.List.{position_from};
     ghost use Rattle.rbc.specs.Touching.{touched_known, touched_made, IsAt};
 
@@ -87,25 +89,25 @@ impl Touched {
         }
     }
 
-    /// Hears a statement in the cell of that number, and gives what is known of its spot then.
-    pub fn hear(&mut self, number: usize, size: Size, from: u8, s: Statement) -> Known
+    /// Receives a statement in the cell of that number.
+    pub fn receive(&mut self, number: usize, size: Size, from: u8, s: &Statement) -> Taken
         requires number { number < length self.old }
         requires from { from < 64 }
-        ensures known { (spot : ℕ) → IsAt self.old number spot →
-            result ≡ heard_known s.place (touched_known self.old spot) size from s.kind s.value }
-        ensures heard { (spot : ℕ) → IsAt self.old number spot → (other : ℕ) →
-            touched_known self.new other ≡ cond (other == spot) result (touched_known self.old other) }
+        ensures taken { (spot : ℕ) → IsAt self.old number spot →
+            Receives size from s.now (touched_known self.old spot) (touched_known self.new spot) result }
+        ensures others { (spot : ℕ) → IsAt self.old number spot → (other : ℕ) →
+            touched_known self.new other ≡ cond (other == spot) (touched_known self.new spot) (touched_known self.old other) }
     {
-        known::hear(&mut self.cells[number].known, size, from, s);
-        self.cells[number].known
+        rules::receive(&mut self.cells[number].known, size, from, s)
     }
 
-    /// Keeps what is known of the spot in its cell.
-    pub fn set(&mut self, number: usize, spot: u16, known: Known)
-        requires { IsAt self.old number spot }
-        ensures { (other : ℕ) → touched_known self.new other ≡ cond (other == spot) known (touched_known self.old other) }
+    /// Says a statement in the cell of that number.
+    pub fn say(&mut self, number: usize, s: &Statement)
+        requires { number < length self.old }
+        ensures { (spot : ℕ) → IsAt self.old number spot → (other : ℕ) → touched_known self.new other
+            ≡ cond (other == spot) (say_known (touched_known self.old spot) s.now.kind s.now.value) (touched_known self.old other) }
     {
-        self.cells[number] = Cell { spot, known };
+        known::say(&mut self.cells[number].known, s);
     }
 }
 
@@ -164,7 +166,7 @@ fn add(numbers: &mut Vec<u16>, cells: &mut Vec<Cell>, spot: u16) -> Result<usize
     Ok(number)
 }
 
-/// Makes room for a cell more, and where there is none for a quarter more.
+/// Makes room for a cell more, and where there is none for as many again and one.
 fn make_room(cells: &mut Vec<Cell>) -> Result<(), AllocError>
     ensures same { cells.new.items ≡ cells.old.items }
     ensures room { OnOk result (vec_len cells.new < vec_capacity cells.new) }
@@ -172,7 +174,7 @@ fn make_room(cells: &mut Vec<Cell>) -> Result<(), AllocError>
     if cells.len() < cells.capacity() {
         return Ok(());
     }
-    cells.reserve_exact(cells.len() / 4 + 1)
+    cells.reserve_exact(cells.len() + 1)
 }
 
 /// Makes the numbers reach a spot, if the cells allow so many: then all spots have theirs that the cells allow.

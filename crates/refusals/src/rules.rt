@@ -1,6 +1,6 @@
 //! Frames and the rules: values in memory, with no disk.
 ghost use Rattle.std.specs.Prelude.{◌≡◌, IfSome};
-ghost use Rattle.vocabulary.specs.Terms.{new_place};
+ghost use Rattle.terms_prelude.specs.Terms.{new_place};
 ghost use Rattle.rbc.specs.Readers.{broadcasts_size};
 
 use crate::ending::Ending;

@@ -1,6 +1,6 @@
 //! What the calls are about: a cluster of four, its member 1, and some statements.
 ghost use Rattle.std.specs.Prelude.{◌≡◌, IfSome};
-ghost use Rattle.vocabulary.specs.Terms.{new_place};
+ghost use Rattle.terms_prelude.specs.Terms.{new_place};
 
 use terms::{Header, Kind, Place, Size, Statement, Value};
 

@@ -3,7 +3,7 @@ use Rattle.std.proofs.Common.{ℕ, suc, ◌≡◌, ◌+◌, ◌<◌, refl, sym, 
 use Rattle.std.specs.declared.alloc.AllocError.{AllocError}
 use Rattle.std.proofs.lemmas.Result.{IfOk-weaker}
 use Rattle.std.proofs.Math.Seq.{take-suc}
-use Rattle.vocabulary.specs.Terms.{Record, Said, Decided, Statement}
+use Rattle.terms_prelude.specs.Terms.{Record, Said, Decided, Statement}
 use Rattle.report.specs.Charts.{statements_said, IsSvg}
 use Rattle.report.specs.Runs.{size_text, page_text, legend_text, picture}
 

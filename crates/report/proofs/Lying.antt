@@ -1,7 +1,7 @@
 -- Bytes that are the frame of a statement.
 use Rattle.std.proofs.Common.{ℕ, suc, ◌≡◌, ◌+◌, Some, List, [], ◌∷◌, ◌++◌, length, slice_get, refl, sym, ap, subst, ◌∙◌, arith, length-append}
 use Rattle.std.specs.List.{flat_map}
-use Rattle.vocabulary.specs.Terms.{Statement, Size, IsSize}
+use Rattle.terms_prelude.specs.Terms.{Statement, Size, IsSize}
 use Rattle.wire.specs.declared.message.Message.{Message}
 use Rattle.wire.specs.declared.message.Message.TheVariants as message
 use Rattle.wire.specs.Words.{frame_body, frame_bytes, Fits, ReadsMessages, End, Rest, Broken, Ends, IsPartial, Took, Feeds}

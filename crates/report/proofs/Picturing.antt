@@ -7,8 +7,8 @@ use Rattle.std.proofs.lemmas.Grind.{flat_map-append}
 use Rattle.std.proofs.lemmas.Result.{IfOk-weaker}
 use Rattle.std.proofs.Math.Seq.{take-suc}
 use Rattle.std.proofs.lemmas.List.{drop_more}
-use Rattle.words.specs.Sentences.{bit_digit}
-use Rattle.vocabulary.specs.Terms.{Record, Said, Decided, Size, Kind}
+use Rattle.numerals.specs.Sentences.{bit_digit}
+use Rattle.terms_prelude.specs.Terms.{Record, Said, Decided, Size, Kind}
 use Rattle.sim.specs.declared.events.Event.{Event}
 use Rattle.sim.specs.declared.events.Event.TheVariants.{Propose, Deliver, DeliverAll, LieBytes, Fuse, Crash, Restart, Reset}
 use Rattle.sim.specs.declared.events.Mark.{Mark}

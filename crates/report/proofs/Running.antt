@@ -6,7 +6,7 @@ use Rattle.std.proofs.lemmas.Grind.{flat_map-append}
 use Rattle.std.proofs.Math.ListN.{drop_of_length-le}
 use Rattle.std.proofs.Math.Nat.{min-le_left, min-le_right}
 use Rattle.std.proofs.lemmas.List.{drop_more}
-use Rattle.vocabulary.specs.Terms.{Record, Size}
+use Rattle.terms_prelude.specs.Terms.{Record, Size}
 use Rattle.sim.specs.declared.events.Event.{Event}
 use Rattle.sim.specs.declared.events.Mark.{Mark}
 use Rattle.sim.specs.declared.events.Mark.TheVariants.{Done, Failed, Skipped}
@@ -17,7 +17,7 @@ use Rattle.report.specs.Columns.{IsNew}
 use Rattle.report.specs.Drawings.{Element, element_text, picture_text}
 use Rattle.report.specs.Pictures.{column_x, heads, last_pieces, row_y}
 use Rattle.report.specs.Runs.{Stage, AreNew, IsTaken, IsPassedOver, IsDrawn, AreDrawn, picture, IsChart}
-use Rattle.report.specs.Scenes.{stage_of, IsBegun, Takes, Passes, IsFinished}
+use Rattle.report.specs.Scenes.{stage_of, IsBegun, Draws, DrawsUnlessSkipped, IsFinished}
 use Rattle.report.proofs.Elements.{unchanged}
 
 some_same : (x y : Column) → Some x ≡ Some y → x ≡ y
@@ -37,7 +37,7 @@ drawn_is size number event (Skipped reason) saved old new row piece e is = cc
 
 -- a skipped event
 pub passed_over : (number : ℕ) (event : Event) (mark : Mark) (saved : List Record) (canvas : Canvas) → is_skipped mark ≡ true
-    → Passes number event mark saved canvas canvas
+    → DrawsUnlessSkipped number event mark saved canvas canvas
 passed_over number event mark saved canvas e = record {
   row = [];
   piece = [];
@@ -49,7 +49,7 @@ passed_over number event mark saved canvas e = record {
 
 -- another one
 pub passed : (number : ℕ) (event : Event) (mark : Mark) (saved : List Record) (old new : Canvas) → is_skipped mark ≡ false
-    → Takes number event mark saved old new → Passes number event mark saved old new
+    → Draws number event mark saved old new → DrawsUnlessSkipped number event mark saved old new
 passed number event mark saved old new e taken = record {
   row = taken.row;
   piece = taken.piece;
@@ -116,7 +116,7 @@ rows_few size number event (Skipped reason) saved old new row piece is = let e =
 
 -- one event more
 pub far_on : (size : Size) (liars : List ℕ) (events : List Event) (marks : List Mark) (saved : List (Vec Record)) (i : ℕ) (old new : Canvas)
-    (event : Event) (mark : Mark) (records : Vec Record) (kept : List Record) → kept ≡ records.items → IsFar size liars events marks saved i old → Passes (i + 1) event mark kept old new
+    (event : Event) (mark : Mark) (records : Vec Record) (kept : List Record) → kept ≡ records.items → IsFar size liars events marks saved i old → DrawsUnlessSkipped (i + 1) event mark kept old new
     → drop i events ≡ event ∷ drop (i + 1) events → drop i marks ≡ mark ∷ drop (i + 1) marks → drop i saved ≡ records ∷ drop (i + 1) saved
     → IsFar size liars events marks saved (i + 1) new
 far_on size liars events marks saved i old new event mark records kept same far passes a b d =

@@ -2,7 +2,7 @@
 use Rattle.std.proofs.Common.{ℕ, ◌≡◌, refl, subst, Bool, true, false, Result, IfOk, string_bytes, String, List, Global}
 use Rattle.std.specs.declared.alloc.AllocError.{AllocError}
 use mir.Val.{bool_byte}
-use Rattle.words.specs.Sentences.{bit_digit}
+use Rattle.numerals.specs.Sentences.{bit_digit}
 
 -- a text with other words for its bytes
 pub written_as : (r : Result (String Global) AllocError) (bytes others : List ℕ) → bytes ≡ others → IfOk r (λ s. string_bytes s ≡ bytes) → IfOk r (λ s. string_bytes s ≡ others)

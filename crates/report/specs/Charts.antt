@@ -2,8 +2,8 @@
 use Rattle.std.specs.Prelude.{ℕ, ◌+◌, ◌-◌, ◌^◌, ◌≡◌, ◌<◌, ◌==◌, ◌⊎◌, nat_le, Bool, true, false, if◌then◌else◌, Option, Some, None, List, [], ◌∷◌, ◌++◌, codes, length, min, take, slice_get, slice_index}
 use Rattle.std.specs.Fmt.{decimal}
 use Rattle.hex.specs.Hex.{encode_lower}
-use Rattle.words.specs.Sentences.{sentence}
-use Rattle.vocabulary.specs.Terms.{Record, Said, Decided, Statement, Size}
+use Rattle.numerals.specs.Sentences.{sentence}
+use Rattle.terms_prelude.specs.Terms.{Record, Said, Decided, Statement, Size}
 use Rattle.wire.specs.declared.message.Message.TheVariants as message
 use Rattle.wire.specs.Reading.{ReadsMessages, Rest}
 use Rattle.report.specs.Records.{statement_text}

@@ -1,6 +1,6 @@
 -- What the chart knows of a member.
 use Rattle.std.specs.Prelude.{ℕ, ◌≡◌, ◌++◌, Bool, true, false, not, if◌then◌else◌, Option, Some, None, List, [], length, replicate, slice_get}
-use Rattle.vocabulary.specs.Terms.{Record}
+use Rattle.terms_prelude.specs.Terms.{Record}
 use Rattle.sim.specs.declared.events.Event.{Event}
 use Rattle.sim.specs.declared.events.Event.TheVariants.{DeliverAll}
 use Rattle.sim.specs.declared.events.Mark.{Mark}

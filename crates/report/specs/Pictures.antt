@@ -3,8 +3,8 @@ use Rattle.std.specs.Prelude.{ℕ, zero, suc, ◌-◌, ◌/◌, ◌%◌, ◌&&�
 use Rattle.std.specs.List.{flat_map, count_by}
 use Rattle.std.specs.Fmt.{decimal}
 use Rattle.disk.specs.declared.crash.Pick.{Pick}
-use Rattle.words.specs.Sentences.{sentence, bit_digit}
-use Rattle.vocabulary.specs.Terms.{Record, Said, Decided, Size, Kind, Initial, Echo, Ready, kind_eq}
+use Rattle.numerals.specs.Sentences.{sentence, bit_digit}
+use Rattle.terms_prelude.specs.Terms.{Record, Said, Decided, Size, Kind, Initial, Echo, Ready, kind_eq}
 use Rattle.sim.specs.declared.events.Event.{Event}
 use Rattle.sim.specs.declared.events.Event.TheVariants.{Propose, Deliver, DeliverAll, LieBytes, Fuse, Crash, Restart, Reset}
 use Rattle.sim.specs.declared.events.Which.{Which}

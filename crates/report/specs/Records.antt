@@ -1,8 +1,8 @@
 -- Records in words.
 use Rattle.std.specs.Prelude.{ℕ, List, [], ◌∷◌, codes}
 use Rattle.std.specs.Fmt.{decimal}
-use Rattle.words.specs.Sentences.{sentence, bit_digit}
-use Rattle.vocabulary.specs.Terms.{Kind, Initial, Echo, Ready, Value, Zero, One, SureZero, SureOne, Unsure, Statement, Record, Said, Decided}
+use Rattle.numerals.specs.Sentences.{sentence, bit_digit}
+use Rattle.terms_prelude.specs.Terms.{Kind, Initial, Echo, Ready, Value, Zero, One, SureZero, SureOne, Unsure, Statement, Record, Said, Decided}
 
 -- the word of a kind
 abbrev pub kind_word : Kind → List ℕ

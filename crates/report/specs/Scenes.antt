@@ -1,6 +1,6 @@
 -- A chart in the making.
 use Rattle.std.specs.Prelude.{ℕ, ◌≡◌, List, [], ◌++◌, string_bytes}
-use Rattle.vocabulary.specs.Terms.{Record, Size}
+use Rattle.terms_prelude.specs.Terms.{Record, Size}
 use Rattle.sim.specs.declared.events.Event.{Event}
 use Rattle.sim.specs.declared.events.Mark.{Mark}
 use Rattle.report.specs.declared.chart.Canvas.{Canvas}
@@ -25,7 +25,7 @@ pub record IsBegun (size : Size) (liars : List ℕ) (canvas : Canvas) : Type 0 w
   pub heads_stand : string_bytes canvas.events.text ≡ picture_text (heads size.n canvas.columns.items 24)
 
 -- an event that wasn't skipped is drawn
-pub record Takes (number : ℕ) (event : Event) (outcome : Mark) (saved : List Record) (old new : Canvas) : Type 0 where
+pub record Draws (number : ℕ) (event : Event) (outcome : Mark) (saved : List Record) (old new : Canvas) : Type 0 where
   pub row : List Element
   pub piece : List Element
   pub size_is : new.size ≡ old.size
@@ -34,7 +34,7 @@ pub record Takes (number : ℕ) (event : Event) (outcome : Mark) (saved : List R
   pub lifelines : Grows old.lifelines new.lifelines piece
 
 -- an event is drawn, if it wasn't skipped
-pub record Passes (number : ℕ) (event : Event) (outcome : Mark) (saved : List Record) (old new : Canvas) : Type 0 where
+pub record DrawsUnlessSkipped (number : ℕ) (event : Event) (outcome : Mark) (saved : List Record) (old new : Canvas) : Type 0 where
   pub row : List Element
   pub piece : List Element
   pub size_is : new.size ≡ old.size

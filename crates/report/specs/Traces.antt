@@ -3,15 +3,15 @@ use Rattle.std.specs.Prelude.{ℕ, ◌+◌, Bool, true, false, List, [], ◌∷�
 use Rattle.std.specs.Global.{Vec}
 use Rattle.std.specs.List.{flat_map}
 use Rattle.std.specs.Fmt.{decimal}
-use Rattle.vocabulary.specs.Terms.{Record}
+use Rattle.terms_prelude.specs.Terms.{Record}
 use Rattle.sim.specs.declared.events.Event.{Event}
 use Rattle.sim.specs.declared.events.Mark.{Mark}
 use Rattle.sim.specs.declared.events.Mark.TheVariants.{Done, Failed, Skipped}
 use Rattle.sim.specs.Texts.{event_text}
-use Rattle.words.specs.Sentences.{sentence}
+use Rattle.numerals.specs.Sentences.{sentence}
 use Rattle.sim.specs.declared.events.Reason.TheVariants.{NoSuch, WrongSide, NotUp, Running, Nothing}
 use Rattle.report.specs.Records.{record_text}
-use Rattle.words.specs.Lines.{line}
+use Rattle.numerals.specs.Lines.{line}
 
 -- the event was skipped
 abbrev pub is_skipped : Mark → Bool

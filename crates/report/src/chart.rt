@@ -347,7 +347,7 @@ struct Canvas {
 impl Canvas {
     ghost use Rattle.std.specs.Prelude.{ℕ, ◌≡◌, ◌+◌, ◌<◌, IfOk, OnOk, Some, List, length, slice_get, string_bytes};
     ghost use Rattle.sim.specs.declared.TheConstants.{MOST_EVENTS};
-    ghost use Rattle.report.specs.Scenes.{DrawsOnly, IsBegun, Takes, Passes, IsFinished};
+    ghost use Rattle.report.specs.Scenes.{DrawsOnly, IsBegun, Draws, DrawsUnlessSkipped, IsFinished};
     ghost use Rattle.report.specs.Charts.{member_of, delivered, group_count, group_text, text_if, IsLieLabel, IsSvg};
     ghost use Rattle.report.specs.Columns.{FollowAll, HaveLifelines, said_before};
     ghost use Rattle.report.specs.Drawings.{Element, Grows};
@@ -393,7 +393,7 @@ impl Canvas {
     }
 
     /// Draws an event that wasn't skipped into a row of its own.
-    fn take(
+    fn draw(
         &mut self,
         number: usize,
         event: &Event,
@@ -402,7 +402,7 @@ impl Canvas {
     ) -> Result<(), AllocError>
         ensures follow { OnOk result (FollowAll event.now mark saved.now self.old.columns.items self.new.columns.items) }
         ensures row { OnOk result (self.old.rows < MOST_EVENTS → self.new.rows ≡ self.old.rows + 1) }
-        ensures takes { OnOk result (self.old.rows < MOST_EVENTS → Takes number event.now mark saved.now self.old self.new) }
+        ensures draws { OnOk result (self.old.rows < MOST_EVENTS → Draws number event.now mark saved.now self.old self.new) }
     {
         let row = self.rows;
         let y = y_of(row);
@@ -413,19 +413,19 @@ impl Canvas {
     }
 
     /// Draws an event, unless it was skipped.
-    fn pass(
+    fn draw_unless_skipped(
         &mut self,
         number: usize,
         event: &Event,
         mark: Mark,
         saved: &[Record],
     ) -> Result<(), AllocError>
-        ensures { OnOk result (self.old.rows < MOST_EVENTS → Passes number event.now mark saved.now self.old self.new) }
+        ensures { OnOk result (self.old.rows < MOST_EVENTS → DrawsUnlessSkipped number event.now mark saved.now self.old self.new) }
     {
         if is_skipped(&mark) {
             return Ok(());
         }
-        self.take(number, event, mark, saved)?;
+        self.draw(number, event, mark, saved)?;
         Ok(())
     }
 
@@ -791,7 +791,7 @@ pub fn chart_text(
     let count = events.len().min(marks.len()).min(saved.len());
     let mut scene = Canvas::new(alloc, size, liars)?;
     for (index, event) in events[..count].iter().enumerate() {
-        scene.pass(index + 1, event, marks[index], &saved[index])?;
+        scene.draw_unless_skipped(index + 1, event, marks[index], &saved[index])?;
     }
     scene.finish()
 }

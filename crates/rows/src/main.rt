@@ -5,20 +5,10 @@
 //! they say, and before that each row that isn't, with its line. The file `stdout` beside `src` has what a good run prints.
 #![tactic(auto)]
 
-mod audits;
-mod broadcasts;
-mod files;
-mod frames;
-mod jobs;
-mod lives;
-mod migrations;
-mod numbers;
-mod phrases;
 mod player;
-mod runs;
-mod steps;
 
 use player::Player;
+use std::sync::Wait;
 use std::{fs, io};
 
 /// What a row says is done, and what it says is answered: nothing where it has no arrow.
@@ -33,47 +23,48 @@ fn parts(line: &str) -> (&str, &str) {
 }
 
 /// Plays a row. Tells whether it is as it says, and prints it where it isn't.
-fn is_so(
-    rt: &HostRuntime,
+fn is_so<R: Wait>(
+    rt: &R,
+    host: &HostRuntime,
     player: &mut Player,
     place: (&str, usize),
     line: &str,
 ) -> io::Result<bool> {
     let (name, number) = place;
     let (action, answer) = parts(line);
-    match player.told(action) {
+    match player.told(rt, action) {
         Some(told) if told.as_str() == answer => Ok(true),
         Some(told) => {
-            println!(rt; "{name}:{number}: says {answer}, is {told}")?;
+            println!(host; "{name}:{number}: says {answer}, is {told}")?;
             Ok(false)
         }
         None => {
-            println!(rt; "{name}:{number}: is no row")?;
+            println!(host; "{name}:{number}: is no row")?;
             Ok(false)
         }
     }
 }
 
 /// Plays a file.
-fn play(rt: &HostRuntime, player: &mut Player, name: &str) -> io::Result<()> {
-    let Ok(text) = fs::read_to_string(rt, name) else {
-        return println!(rt; "{name}: can't be read");
+fn play<R: Wait>(rt: &R, host: &HostRuntime, player: &mut Player, name: &str) -> io::Result<()> {
+    let Ok(text) = fs::read_to_string(host, name) else {
+        return println!(host; "{name}: can't be read");
     };
     let mut count = 0u64;
     for (at, line) in text.as_str().lines().enumerate() {
         let is_row = !line.is_empty() && !line.starts_with('#');
-        if is_row && is_so(rt, player, (name, at.saturating_add(1)), line)? {
+        if is_row && is_so(rt, host, player, (name, at.saturating_add(1)), line)? {
             count = count.saturating_add(1);
         }
     }
-    println!(rt; "{name}: {count} rows as they say")
+    println!(host; "{name}: {count} rows as they say")
 }
 
 fn main(rt: HostRuntime) -> io::Result<()> {
     let index = fs::read_to_string(&rt, "index")?;
     for line in index.as_str().lines() {
         match line.split_once(' ') {
-            Some((topic, name)) => play(&rt, &mut Player::new(rt.alloc(), topic), name)?,
+            Some((topic, name)) => play(&rt, &rt, &mut Player::new(rt.alloc(), topic), name)?,
             None => println!(rt; "{line}: names no file")?,
         }
     }

@@ -1,1 +1,5 @@
+mod Beginnings
+mod Coming
+mod Hellos
 mod Looking
+mod Tables

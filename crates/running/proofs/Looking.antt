@@ -3,17 +3,13 @@ use Rattle.std.proofs.Common.{ℕ, zero, suc, ◌≡◌, ◌+◌, ◌<◌, ◌�
 use Rattle.std.specs.Prelude.{option_map}
 use Rattle.std.specs.Option.{option_to_list}
 use Rattle.std.proofs.lemmas.Bool.{cases_eq}
-use Rattle.vocabulary.specs.Terms.{Record}
+use Rattle.terms_prelude.specs.Terms.{Record}
 use Rattle.member.specs.Answers.{verdict_of}
 use Rattle.running.specs.declared.events.LogEvent.{LogEvent}
 use Rattle.running.specs.declared.events.LogEvent.TheVariants.{Stopped}
 use Rattle.running.specs.Queues.{Waiting, HaveCome}
 use Rattle.running.specs.Watches.{Watching, AreTold, decision_event, decision_of, decisions_below, is_told, stop_of}
-
--- what came after what came
-pub come_on : (old mid new : Waiting) (events more : List LogEvent) → HaveCome old events mid → HaveCome mid more new → HaveCome old (events ++ more) new
-come_on old mid new [] more same come = subst (λ (w : Waiting). HaveCome w more new) same come
-come_on old mid new (event ∷ events) more (next, first, rest) come = (next, first, come_on next mid new events more rest come)
+use Rattle.running.proofs.Coming.{come_on}
 
 -- a question that is looked at has its own entry changed, and no other
 set_same : (told : List Bool) (k : ℕ) (v : Bool)

@@ -1,5 +1,5 @@
 -- The lines of a log.
-use Rattle.std.specs.Prelude.{ℕ, Bool, false, true, List, ◌++◌, codes}
+use Rattle.std.specs.Prelude.{ℕ, Bool, false, true, List, [], ◌++◌, Option, Some, None, codes, nat_lt, if◌then◌else◌}
 use Rattle.std.specs.Fmt.{decimal}
 use Rattle.std.specs.Net.Text.{ip_text}
 use Rattle.wire.specs.declared.message.Version.{Version}
@@ -8,6 +8,11 @@ use Rattle.wire.specs.declared.message.WireFault.{WireFault}
 use Rattle.wire.specs.declared.message.WireFault.TheVariants.{BadLength, BadType, BadKind, BadPlace, BadValue, BadHello, BadCount}
 use Rattle.links.specs.declared.ends.LinkEnd.{LinkEnd}
 use Rattle.links.specs.declared.ends.LinkEnd.TheVariants as cause
+use Rattle.running.specs.Callers.{caller_text}
+use Rattle.running.specs.declared.callers.Caller.{Caller}
+use Rattle.running.specs.declared.refusals.Refusal.{Refusal}
+use Rattle.running.specs.declared.refusals.Refusal.TheVariants as refusal
+use Rattle.running.specs.declared.refusals.RefusalCount.{RefusalCount}
 use Rattle.running.specs.declared.events.LogEvent.{LogEvent}
 use Rattle.running.specs.declared.events.LogEvent.TheVariants.{Ready, LinkUp, LinkDown, LinkUpTo, LinkUpAhead, LinkDownTo, Refused, Decided, Stopped, Missed, End}
 
@@ -42,6 +47,24 @@ abbrev pub bit_number : Bool → ℕ
 bit_number false = 0
 bit_number true = 1
 
+-- who it said it was, if it said so
+abbrev pub said_text : Option Caller → List ℕ
+said_text None = []
+said_text (Some caller) = caller_text caller
+
+-- how often it came, behind what came
+abbrev pub times_text : ℕ → List ℕ
+times_text count = if nat_lt 1 count then codes ", x" ++ decimal count else []
+
+-- a refusal, who was refused last, and how often
+abbrev pub refused_text : Refusal → Option Caller → ℕ → List ℕ
+refused_text (refusal.From host end) caller count =
+    codes "refused from " ++ (ip_text host ++ (codes " " ++ (cause_text end ++ (said_text caller ++ times_text count))))
+refused_text (refusal.By peer) caller count = codes "link-to " ++ (decimal peer ++ (codes " refused" ++ times_text count))
+
+abbrev pub refusal_text : RefusalCount → List ℕ
+refusal_text refused = refused_text refused.refusal refused.caller refused.count
+
 -- an event's line, without its end
 abbrev pub log_text : LogEvent → List ℕ
 log_text (Ready me) = codes "ready member " ++ decimal me
@@ -50,7 +73,7 @@ log_text (LinkDown peer end) = codes "link-down from " ++ (decimal peer ++ (code
 log_text (LinkUpTo peer version) = codes "link-up to " ++ (decimal peer ++ version_text version)
 log_text (LinkUpAhead peer count version) = codes "link-up to " ++ (decimal peer ++ (codes " ahead " ++ (decimal count ++ version_text version)))
 log_text (LinkDownTo peer end) = codes "link-down to " ++ (decimal peer ++ (codes " " ++ cause_text end))
-log_text (Refused host end) = codes "refused from " ++ (ip_text host ++ (codes " " ++ cause_text end))
+log_text (Refused refused) = refusal_text refused
 log_text (Decided question bit) = codes "decided " ++ (decimal question ++ (codes " " ++ decimal (bit_number bit)))
 log_text Stopped = codes "stopped"
 log_text (Missed count) = codes "missed " ++ decimal count

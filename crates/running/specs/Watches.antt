@@ -1,7 +1,7 @@
 -- What a log is told of a member's book.
 use Rattle.std.specs.Prelude.{ℕ, zero, suc, ◌≡◌, ◌<◌, ◌≤◌, Bool, true, false, not, ◌&&◌, ◌||◌, List, [], ◌∷◌, ◌++◌, Option, Some, None, is_some, if◌then◌else◌, slice_get, slice_index_or, option_map}
 use Rattle.std.specs.Option.{option_to_list}
-use Rattle.vocabulary.specs.Terms.{Record}
+use Rattle.terms_prelude.specs.Terms.{Record}
 use Rattle.member.specs.Answers.{verdict_of}
 use Rattle.running.specs.declared.events.LogEvent.{LogEvent}
 use Rattle.running.specs.declared.events.LogEvent.TheVariants.{Decided, Stopped}

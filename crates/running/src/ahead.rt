@@ -1,7 +1,7 @@
 //! Which members have heard more of this one than its journal holds.
 
 ghost use Rattle.std.specs.Prelude.{◌≡◌, ◌<◌, nat_lt, false};
-ghost use Rattle.vocabulary.specs.Terms.{One, count_below, value_is};
+ghost use Rattle.terms_prelude.specs.Terms.{One, count_below, value_is};
 ghost use Rattle.votes.specs.Votes.{value_of, with_vote};
 
 use terms::{Size, Value};
@@ -26,7 +26,7 @@ impl Ahead {
     }
 
     /// That member says so. A number that is no member's changes nothing but the answer to `is_forgotten`.
-    pub(crate) fn note(&mut self, size: Size, member: u8)
+    pub(crate) fn add(&mut self, size: Size, member: u8)
         ensures noted { member < size.n → self.new.votes ≡ with_vote self.old.votes member One }
         ensures more { self.new.is_forgotten ≡
             nat_lt size.t (count_below size.n (λ m. value_is (value_of false self.new.votes m) One)) }

@@ -1,13 +1,58 @@
 //! The threads of the desk.
 
+ghost use Rattle.links.specs.Net.{told_net, is_closed_net};
+
 use crate::machine::Machine;
 use crate::shared::{Chair, Shared};
+use crate::slots::Slots;
 use crate::sockets::client_stream;
 use desk::{DeskEnd, serve};
 use disk::Disk;
+use links::{NetStream, Stream, StreamFault};
+use member::Sealed;
 use node::{Board, Naming};
 use std::net::TcpListener;
+use std::sync::{Mutex, Wait};
 use std::thread;
+
+/// The stream of a client in a slot. Each read that gives bytes is a hearing of it.
+#[derive(Drop)]
+struct Client<'a, R> {
+    rt: &'a R,
+    stream: NetStream,
+    slots: &'a Mutex<Slots>,
+    slot: u8,
+}
+
+impl<R: Wait> Stream for Client<'_, R> {
+    ghost told = { λ client. told_net client.stream };
+
+    ghost is_closed = { λ client. is_closed_net client.stream };
+
+    fn read(&mut self, buf: &mut [u8]) -> Result<usize, StreamFault> {
+        match self.stream.read(buf) {
+            Ok(count) => {
+                if count > 0 {
+                    self.slots.lock(self.rt).hear(self.slot);
+                }
+                Ok(count)
+            }
+            Err(fault) => Err(fault),
+        }
+    }
+
+    fn write(&mut self, bytes: &[u8]) -> Result<usize, StreamFault> {
+        self.stream.write(bytes)
+    }
+
+    fn note_sent(&mut self, items: &[Sealed]) {
+        self.stream.note_sent(items);
+    }
+
+    fn close(&mut self) {
+        self.stream.close();
+    }
+}
 
 /// Answers the client in a chair; none where there is no memory for its pass, or its socket can't be set up.
 fn serve_chair<D: Disk, J: Naming, R: Machine>(
@@ -16,14 +61,21 @@ fn serve_chair<D: Disk, J: Naming, R: Machine>(
     chair: Chair,
 ) -> Option<DeskEnd> {
     let tosser = it.desk_tossers.get(usize::from(chair.slot))?;
-    let socket = it.sockets.lock(rt).copy(chair.place)?;
-    let Ok(mut client) = client_stream(socket) else {
+    let copy = it.sockets.lock(rt).copy(chair.socket)?;
+    let Ok(stream) = client_stream(copy) else {
         return None;
+    };
+    let mut client = Client {
+        rt,
+        stream,
+        slots: &it.slots,
+        slot: chair.slot,
     };
     let board: &Board = it.hub.board();
     let Ok(mut pass) = board.pass() else {
         return None;
     };
+    // Where another client is being closed for this one, its session has the tosser until it ends.
     let mut tosser = tosser.lock(rt);
     Some(serve(rt, &it.hub, &mut pass, &mut *tosser, &mut client))
 }

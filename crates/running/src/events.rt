@@ -3,9 +3,9 @@
 ghost use Rattle.std.specs.Prelude.{◌≡◌};
 ghost use Rattle.running.specs.Events.{cause_text, fault_text, version_text};
 
+use crate::refusals::{Refusal, RefusalCount};
 use links::LinkEnd;
 use std::fmt;
-use std::net::IpAddr;
 use wire::{Version, WireFault};
 
 /// What happens to a member that runs. The text of each is its line in a log, without the line's end.
@@ -24,8 +24,9 @@ pub enum LogEvent {
     LinkUpAhead(u8, u64, Version),
     /// A link to this member isn't written any more, for this cause.
     LinkDownTo(u8, LinkEnd),
-    /// A connection from this host to the links' address was closed for this cause, before it became a link.
-    Refused(IpAddr, LinkEnd),
+    /// Connections to the links' address were closed before they became links, or a peer closed links to it before it
+    /// welcomed them.
+    Refused(RefusalCount),
     /// A question was decided for this bit.
     Decided(u16, bool),
     /// The member is stopped from now on.
@@ -101,11 +102,49 @@ impl fmt::Display for LogEvent {
                 )
             }
             LogEvent::LinkDownTo(peer, end) => write!(f, "link-down to {peer} {}", cause_text(end)),
-            LogEvent::Refused(host, end) => write!(f, "refused from {host} {}", cause_text(end)),
+            LogEvent::Refused(refused) => write!(f, "{refused}"),
             LogEvent::Decided(question, bit) => write!(f, "decided {question} {}", u8::from(bit)),
             LogEvent::Stopped => f.write_str("stopped"),
             LogEvent::Missed(count) => write!(f, "missed {count}"),
             LogEvent::End => f.write_str("end"),
+        }
+    }
+}
+
+/// How often it came, behind what came; nothing where it came once.
+#[derive(Clone, Copy)]
+struct Times(u64);
+
+impl fmt::Display for Times {
+    ghost use Rattle.std.specs.Prelude.{Some};
+    ghost use Rattle.running.specs.Events.{times_text};
+
+    ghost output = { λ times. Some (times_text times.0) };
+
+    fn fmt<W: fmt::Write>(&self, f: &mut fmt::Formatter<W>) -> fmt::Result {
+        if self.0 > 1 {
+            return write!(f, ", x{}", self.0);
+        }
+        Ok(())
+    }
+}
+
+impl fmt::Display for RefusalCount {
+    ghost use Rattle.std.specs.Prelude.{Some};
+    ghost use Rattle.running.specs.Events.{refusal_text};
+
+    ghost output = { λ refused. Some (refusal_text refused) };
+
+    fn fmt<W: fmt::Write>(&self, f: &mut fmt::Formatter<W>) -> fmt::Result {
+        let times = Times(self.count);
+        match (self.refusal, self.caller) {
+            (Refusal::From(host, end), Some(caller)) => {
+                write!(f, "refused from {host} {}{caller}{times}", cause_text(end))
+            }
+            (Refusal::From(host, end), None) => {
+                write!(f, "refused from {host} {}{times}", cause_text(end))
+            }
+            (Refusal::By(peer), _) => write!(f, "link-to {peer} refused{times}"),
         }
     }
 }

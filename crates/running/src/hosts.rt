@@ -69,7 +69,7 @@ fn host_of(addresses: &[SocketAddr], peer: u8) -> Option<IpAddr>
 }
 
 /// Whether a link that names this member in its Hello may come from the host.
-fn may_speak(peers: &Peers, peer: u8, host: IpAddr) -> bool
+pub(crate) fn may_speak(peers: &Peers, peer: u8, host: IpAddr) -> bool
     ensures { IsTrue result ↔ MaySpeak peers.now.addresses.items peers.now.hosts peer host }
 {
     match peers.hosts {

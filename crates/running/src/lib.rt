@@ -5,15 +5,18 @@
 #![tactic(auto)]
 
 mod ahead;
+mod callers;
 mod clients;
 mod events;
 mod fault;
 mod hosts;
+mod incoming;
 mod linking;
 mod log;
 mod machine;
 mod outgoing;
-mod places;
+mod quota;
+mod refusals;
 mod run;
 mod shared;
 mod slots;
@@ -21,14 +24,16 @@ mod sockets;
 mod tossers;
 mod watch;
 
+pub use callers::{Caller, Difference};
 pub use events::LogEvent;
 pub use fault::RunFault;
 pub use hosts::Hosts;
 pub use log::{Log, Queue};
 pub use machine::Machine;
 pub use outgoing::Standing;
-pub use places::Places;
+pub use quota::Quota;
+pub use refusals::{KeptRefusal, Refusal, RefusalCount, Refusals};
 pub use run::{Addresses, Operator, run_member};
-pub use slots::Slots;
+pub use slots::{GivenSlot, Slots};
 pub use sockets::client_stream;
 pub use tossers::{Tossers, tosser_for, tossers_of};

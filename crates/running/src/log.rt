@@ -60,7 +60,7 @@ impl Queue {
     }
 
     /// What waits, in order, and how many came since that don't. Nothing waits any more.
-    pub fn take(&mut self, alloc: Global) -> (Vec<LogEvent>, u64)
+    pub fn drain(&mut self, alloc: Global) -> (Vec<LogEvent>, u64)
         ensures taken { (result.0.items ≡ self.old.events) × (result.1 ≡ self.old.missed) }
         ensures none { self.new ≡ none }
     {

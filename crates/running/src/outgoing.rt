@@ -117,14 +117,14 @@ impl<'a, R: Wait> Outgoing<'a, R> {
     }
 
     /// The link is up: its event is to be told, and a peer that is ahead is noted.
-    fn note_up(&self) {
+    fn log_up(&self) {
         let excess = self.excess();
         let mut event = LogEvent::LinkUpTo(self.peer.number, self.peer.version);
         if excess > 0 {
             event = LogEvent::LinkUpAhead(self.peer.number, excess, self.peer.version);
             self.ahead
                 .lock(self.rt)
-                .note(self.peer.size, self.peer.number);
+                .add(self.peer.size, self.peer.number);
         }
         if let Some(telling) = &mut *self.telling.lock(self.rt) {
             telling.queue.put(event);
@@ -132,7 +132,7 @@ impl<'a, R: Wait> Outgoing<'a, R> {
     }
 
     /// Bytes were read. Until the link is up they are those of the Welcome.
-    fn note_read(&mut self, bytes: &[u8])
+    fn stand_after_read(&mut self, bytes: &[u8])
         ensures { self.new.stream ≡ self.old.stream }
     {
         let _unread = self.feeder.feed(bytes, &mut self.read).is_err();
@@ -140,11 +140,11 @@ impl<'a, R: Wait> Outgoing<'a, R> {
     }
 
     /// A write took bytes. Where the link is up by that its event is to be told.
-    fn note_written(&mut self)
+    fn stand_after_write(&mut self)
         ensures { self.new ≡ record self.old { standing = after_written self.old.standing } }
     {
         if self.standing.comes_up() {
-            self.note_up();
+            self.log_up();
         }
         self.standing = self.standing.written();
     }
@@ -160,7 +160,7 @@ impl<R: Wait> Stream for Outgoing<'_, R> {
             Ok(count) => {
                 if let Some(bytes) = buf.get(..count) {
                     if count > 0 {
-                        self.note_read(bytes);
+                        self.stand_after_read(bytes);
                     }
                 }
                 Ok(count)
@@ -173,7 +173,7 @@ impl<R: Wait> Stream for Outgoing<'_, R> {
         match self.stream.write(bytes) {
             Ok(count) => {
                 if count > 0 {
-                    self.note_written();
+                    self.stand_after_write();
                 }
                 Ok(count)
             }

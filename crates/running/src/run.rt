@@ -1,4 +1,4 @@
-//! The life of a member, from its opening to its end.
+//! The life of a member, from its opening to its end: begin at `run_member`, last.
 
 ghost use Rattle.std.specs.Prelude.{◌≡◌, ◌*◌, ◌+◌, ◌<◌, ◌^◌, [], false, length, IfOk};
 ghost use Rattle.std.specs.Arc.{arc_value};
@@ -14,7 +14,7 @@ use crate::hosts::{Hosts, Peers};
 use crate::linking::{accept_links, dial_all};
 use crate::log::Log;
 use crate::machine::Machine;
-use crate::places::Places;
+use crate::quota::Quota;
 use crate::shared::Shared;
 use crate::slots::Slots;
 use crate::sockets::{Door, Sockets};
@@ -32,7 +32,7 @@ use std::sync::{Arc, Condvar, Mutex, Wait};
 use std::{io, thread};
 use terms::Memory;
 
-/// Where the members listen.
+/// Where the members listen, and who is let in.
 #[derive(Drop)]
 pub struct Addresses {
     /// The link address of each member, by its number. The own one is listened at and, like the others, dialled.
@@ -41,6 +41,8 @@ pub struct Addresses {
     pub hosts: Hosts,
     /// The own address for clients.
     pub desk: SocketAddr,
+    /// How many clients are let in at once, 1 to 32. Another number counts as the nearer of these.
+    pub clients: u8,
 }
 
 /// Who starts a member and says when it ends.
@@ -88,22 +90,37 @@ fn lock_tossers<D: Disk, O: Operator>(
     Ok((locked(alloc, links)?, locked(alloc, desk)?))
 }
 
-/// What the threads of a member share that was just opened.
-fn share<D: Disk + Drop, J: Naming, O: Operator>(
+/// A member that was just opened, and what its run begins with: its board, its peers, how many clients it lets in, and the seed
+/// of its tosses.
+struct Opened<D: Disk> {
     alloc: Global,
     member: Member<D>,
     board: Arc<Board>,
     peers: Peers,
+    clients: u8,
     seed: [u8; 32],
+}
+
+/// What the threads of a member share that was just opened.
+fn share<D: Disk + Drop, J: Naming, O: Operator>(
+    opened: Opened<D>,
     operator: &O,
 ) -> Result<Shared<D, J>, Memory>
-    requires seed { O.may_toss_from operator.now seed }
-    requires sound { IsSound D.Disk member }
-    requires fresh { member_is_stopped member ≡ false → MemberStandsFor member (member_saved member) [] }
-    requires header { member_header member ≡ J.header }
-    requires board { arc_value board ≡ J.names }
-    requires cells { length (arc_value board) ≡ (member_header member).size.questions }
+    requires seed { O.may_toss_from operator.now opened.seed }
+    requires sound { IsSound D.Disk opened.member }
+    requires fresh { member_is_stopped opened.member ≡ false → MemberStandsFor opened.member (member_saved opened.member) [] }
+    requires header { member_header opened.member ≡ J.header }
+    requires board { arc_value opened.board ≡ J.names }
+    requires cells { length (arc_value opened.board) ≡ (member_header opened.member).size.questions }
 {
+    let Opened {
+        alloc,
+        member,
+        board,
+        peers,
+        clients,
+        seed,
+    } = opened;
     let tossers = tossers_of(alloc, seed, &member)?;
     let (link_tossers, desk_tossers) = lock_tossers(alloc, operator, seed, &member, tossers)?;
     let (hub, seats) = Hub::<D, J>::open(alloc, member, board)?;
@@ -114,8 +131,8 @@ fn share<D: Disk + Drop, J: Naming, O: Operator>(
         rack: Rack::new(seats),
         link_tossers,
         desk_tossers,
-        slots: Mutex::new(Slots::new()),
-        greetings: Mutex::new(Places::new()),
+        slots: Mutex::new(Slots::new(clients)),
+        greetings: Mutex::new(Quota::new()),
         sockets: Mutex::new(Sockets::new(alloc)),
         ahead: Mutex::new(Ahead::nobody()),
         closing: AtomicBool::new(false),
@@ -127,14 +144,15 @@ fn share<D: Disk + Drop, J: Naming, O: Operator>(
 
 /// From now on what happens is to be told, and first that the member is ready.
 fn begin_telling<D: Disk, J: Naming, R: Machine>(rt: &R, it: &Shared<D, J>) -> Result<(), Memory> {
-    // No thread of a link or of a client runs yet, which could want the bell.
-    let telling = Telling::new(it.alloc, &it.hub.lock(rt))?;
+    let book = it.hub.lock(rt);
+    let telling = Telling::new(it.alloc, &book)?;
     *it.telling.lock(rt) = Some(telling);
-    it.note(rt, LogEvent::Ready(it.hub.header().me()));
+    it.log(rt, LogEvent::Ready(it.hub.header().me()));
     Ok(())
 }
 
-/// Runs all threads until the operator ends the member.
+/// Runs all threads until the operator ends the member. Where the system refuses the one that serves the line, links serve it
+/// themselves.
 fn run_threads<D: Disk + Send, J: Naming + Send + Sync, O: Operator, R: Machine>(
     rt: &R,
     operator: &mut O,
@@ -143,6 +161,7 @@ fn run_threads<D: Disk + Send, J: Naming + Send + Sync, O: Operator, R: Machine>
 ) -> Result<(), RunFault> {
     thread::scope(thread::scope_env(), rt, |scope| -> Result<(), RunFault> {
         let dials = scope.spawn(move || dial_all(rt, it)).is_ok();
+        let _served = scope.spawn(move || it.serve_on(rt)).is_ok();
         run_doors(rt, operator, it, doors, dials)
     })
 }
@@ -223,29 +242,26 @@ fn run_named<
     R: Machine,
 >(
     rt: &R,
-    alloc: Global,
-    member: Member<D>,
-    board: Arc<Board>,
-    peers: Peers,
-    seed: [u8; 32],
+    opened: Opened<D>,
     doors: Doors,
     operator: &mut O,
     log: Option<&Mutex<L>>,
 ) -> Result<(), RunFault>
-    requires seed { O.may_toss_from operator.old seed }
-    requires sound { IsSound D.Disk member }
-    requires fresh { member_is_stopped member ≡ false → MemberStandsFor member (member_saved member) [] }
-    requires header { member_header member ≡ J.header }
-    requires board { arc_value board ≡ J.names }
-    requires cells { length (arc_value board) ≡ (member_header member).size.questions }
+    requires seed { O.may_toss_from operator.old opened.seed }
+    requires sound { IsSound D.Disk opened.member }
+    requires fresh { member_is_stopped opened.member ≡ false → MemberStandsFor opened.member (member_saved opened.member) [] }
+    requires header { member_header opened.member ≡ J.header }
+    requires board { arc_value opened.board ≡ J.names }
+    requires cells { length (arc_value opened.board) ≡ (member_header opened.member).size.questions }
 {
-    let shared = share::<D, J, O>(alloc, member, board, peers, seed, operator)?;
+    let shared = share::<D, J, O>(opened, operator)?;
     run_shared(rt, operator, log, &shared, &doors)
 }
 
 /// Tells what is left to tell when all threads have ended, and the end.
 fn tell_end<D: Disk, J: Naming, L: Log, R: Machine>(rt: &R, it: &Shared<D, J>, log: &Mutex<L>) {
-    it.note_book(rt);
+    it.log_book(rt);
+    it.log_due(rt, u64::MAX);
     it.tell(rt, log);
     log.lock(rt).tell(&LogEvent::End);
 }
@@ -281,9 +297,9 @@ fn listen<O: Operator, R: Machine>(
 
 /// Runs a member that was just opened, over any disk, until its operator ends it.
 ///
-/// It listens at its own two addresses, tells the operator that it is ready, and then starts its threads: a clock, a
-/// dialler for each member, one that takes links in and one that takes clients in, and one for each of these. At the end
-/// all of them end, and with them every connection.
+/// It listens at its own two addresses, tells the operator that it is ready, and then starts its threads: a clock, one that
+/// has the book hear what links hand in, a dialler for each member, one that takes links in and one that takes clients in, and
+/// one for each of these. At the end all of them end, and with them every connection.
 ///
 /// Where there is a log one thread more tells it the member's events, so that no other waits for it. Past 1,024 events that
 /// wait to be told the next ones are counted and not kept. The last event is the end, when all threads have ended.
@@ -311,7 +327,12 @@ pub fn run_member<D: Disk + Drop + Send, O: Operator, L: Log + Send, R: Machine>
     requires sound { IsSound D.Disk member }
     requires fresh { member_is_stopped member ≡ false → MemberStandsFor member (member_saved member) [] }
 {
-    let Addresses { peers, hosts, desk } = addresses;
+    let Addresses {
+        peers,
+        hosts,
+        desk,
+        clients,
+    } = addresses;
     let header = member.header();
     let Some(own) = peers.get(usize::from(header.me())) else {
         return Err(RunFault::Listen);
@@ -325,18 +346,17 @@ pub fn run_member<D: Disk + Drop + Send, O: Operator, L: Log + Send, R: Machine>
         Ok(board) => board,
         Err(_) => return Err(RunFault::Memory),
     };
-    run_named::<D, Brand, O, L, R>(
-        rt,
+    let peers = Peers {
+        addresses: peers,
+        hosts,
+    };
+    let opened = Opened {
         alloc,
         member,
         board,
-        Peers {
-            addresses: peers,
-            hosts,
-        },
+        peers,
+        clients,
         seed,
-        doors,
-        operator,
-        log,
-    )
+    };
+    run_named::<D, Brand, O, L, R>(rt, opened, doors, operator, log)
 }

@@ -1,12 +1,14 @@
-//! What the threads of a member share.
+//! What the threads of a member share. Begin at the struct; its methods stand after what they call.
 
 use crate::ahead::Ahead;
+use crate::callers::Caller;
 use crate::events::LogEvent;
 use crate::hosts::Peers;
 use crate::log::Log;
 use crate::machine::Machine;
-use crate::places::Places;
-use crate::slots::Slots;
+use crate::quota::Quota;
+use crate::refusals::Refusal;
+use crate::slots::{GivenSlot, Slots};
 use crate::sockets::Sockets;
 use crate::watch::Telling;
 use disk::Disk;
@@ -36,7 +38,7 @@ pub(crate) struct Shared<D: Disk, J: Naming> {
     /// The tosser of each slot of the desk, for the whole life.
     pub(crate) desk_tossers: Vec<Mutex<ChaChaTosser>>,
     pub(crate) slots: Mutex<Slots>,
-    pub(crate) greetings: Mutex<Places<GREETINGS>>,
+    pub(crate) greetings: Mutex<Quota<GREETINGS>>,
     pub(crate) sockets: Mutex<Sockets>,
     /// Which members have heard more of this one than its journal holds.
     pub(crate) ahead: Mutex<Ahead>,
@@ -48,18 +50,18 @@ pub(crate) struct Shared<D: Disk, J: Naming> {
     pub(crate) telling: Mutex<Option<Telling>>,
 }
 
-/// A peer that is to greet: the place of its socket, and the host from which it comes.
+/// A peer that is to greet: the number of its socket, and the host from which it comes.
 #[derive(Clone, Copy, Drop)]
 pub(crate) struct Guest {
-    pub(crate) place: usize,
+    pub(crate) socket: usize,
     pub(crate) host: IpAddr,
 }
 
-/// The slot of a client at the desk, and the place of its socket.
+/// The slot of a client at the desk, and the number of its socket.
 #[derive(Clone, Copy, Drop)]
 pub(crate) struct Chair {
     pub(crate) slot: u8,
-    pub(crate) place: usize,
+    pub(crate) socket: usize,
 }
 
 impl<D: Disk, J: Naming> Shared<D, J> {
@@ -77,31 +79,51 @@ impl<D: Disk, J: Naming> Shared<D, J> {
     }
 
     /// The event is to be told, if the member has a log.
-    pub(crate) fn note<R: Machine>(&self, rt: &R, event: LogEvent) {
+    pub(crate) fn log<R: Machine>(&self, rt: &R, event: LogEvent) {
         if let Some(telling) = &mut *self.telling.lock(rt) {
             telling.queue.put(event);
         }
     }
 
     /// The same of an event of links. What the member's own end does to them isn't told.
-    pub(crate) fn note_link<R: Machine>(&self, rt: &R, event: LogEvent) {
+    pub(crate) fn log_link<R: Machine>(&self, rt: &R, event: LogEvent) {
         if !self.is_closing() {
-            self.note(rt, event);
+            self.log(rt, event);
+        }
+    }
+
+    /// A refusal is to be told, if the member has a log: the first of its kind at once, the others once a minute. What the
+    /// member's own end does to links isn't told.
+    pub(crate) fn log_refusal<R: Machine>(&self, rt: &R, refusal: Refusal, caller: Option<Caller>) {
+        if self.is_closing() {
+            return;
+        }
+        let now = self.second(rt);
+        if let Some(telling) = &mut *self.telling.lock(rt) {
+            telling.count_refusal(now, refusal, caller);
+        }
+    }
+
+    /// How often refusals came that weren't told yet, and of which no line is younger than a minute at that second, is to be
+    /// told, if the member has a log.
+    pub(crate) fn log_due<R: Machine>(&self, rt: &R, now: u64) {
+        if let Some(telling) = &mut *self.telling.lock(rt) {
+            telling.tell_due(now);
         }
     }
 
     /// What the book has that wasn't told is to be told, if the member has a log.
-    pub(crate) fn note_book<R: Machine>(&self, rt: &R) {
+    pub(crate) fn log_book<R: Machine>(&self, rt: &R) {
         if self.telling.lock(rt).is_none() {
             return;
         }
-        self.look(rt, &self.hub.lock(rt));
-        self.hub.ring_if_wanted(rt);
+        let book = self.hub.lock(rt);
+        self.look(rt, &book);
     }
 
     /// The same, but where another thread has the book for longer than a tenth of a second, as while its disk stalls, nothing:
     /// the clock waits for no book.
-    fn try_note_book<R: Machine>(&self, rt: &R) {
+    fn try_log_book<R: Machine>(&self, rt: &R) {
         if self.telling.lock(rt).is_none() {
             return;
         }
@@ -115,13 +137,13 @@ impl<D: Disk, J: Naming> Shared<D, J> {
 
     /// What the book has that wasn't told is to be told, if no other thread has the book; false where one has.
     fn try_look<R: Machine>(&self, rt: &R) -> bool {
-        let Some(book) = self.hub.try_lock() else {
-            return false;
-        };
-        self.look(rt, &book);
-        drop(book);
-        self.hub.ring_if_wanted(rt);
-        true
+        match self.hub.try_lock() {
+            Some(book) => {
+                self.look(rt, &book);
+                true
+            }
+            None => false,
+        }
     }
 
     /// What a book has that wasn't told is to be told.
@@ -133,7 +155,7 @@ impl<D: Disk, J: Naming> Shared<D, J> {
 
     /// Tells what waits to be told.
     pub(crate) fn tell<L: Log, R: Machine>(&self, rt: &R, log: &Mutex<L>) {
-        let (events, missed) = self.take_events(rt);
+        let (events, missed) = self.drain_events(rt);
         let mut log = log.lock(rt);
         for event in &events {
             log.tell(event);
@@ -144,9 +166,9 @@ impl<D: Disk, J: Naming> Shared<D, J> {
     }
 
     /// What waits to be told, and how many events came too fast.
-    fn take_events<R: Machine>(&self, rt: &R) -> (Vec<LogEvent>, u64) {
+    fn drain_events<R: Machine>(&self, rt: &R) -> (Vec<LogEvent>, u64) {
         match &mut *self.telling.lock(rt) {
-            Some(telling) => telling.queue.take(self.alloc),
+            Some(telling) => telling.queue.drain(self.alloc),
             None => (Vec::new(self.alloc), 0),
         }
     }
@@ -168,6 +190,11 @@ impl<D: Disk, J: Naming> Shared<D, J> {
         let mut ticks = self.ticks.lock(rt);
         *ticks = ticks.wrapping_add(1);
         self.ticked.notify_all();
+    }
+
+    /// How many ticks there were.
+    pub(crate) fn second<R: Machine>(&self, rt: &R) -> u64 {
+        *self.ticks.lock(rt)
     }
 
     /// Waits for the next tick.
@@ -203,8 +230,14 @@ impl<D: Disk, J: Naming> Shared<D, J> {
     fn stop_if_forgotten<R: Machine>(&self, rt: &R) {
         if self.is_forgotten(rt) {
             self.hub.lock(rt).stop();
-            self.hub.ring_if_wanted(rt);
         }
+    }
+
+    /// Has the book hear what waits in the line, group after group, until the end. It waits a tenth of a millisecond before
+    /// each, so that what others read at that moment is heard with it, and saved by the same two syncs.
+    pub(crate) fn serve_on<R: Machine>(&self, rt: &R) {
+        self.hub
+            .serve_on(rt, || thread::sleep(rt, Duration::from_micros(100)));
     }
 
     /// Ticks and rings the bell about once a second, and gives peers up that don't greet, until the end.
@@ -215,9 +248,10 @@ impl<D: Disk, J: Naming> Shared<D, J> {
             }
             self.tick(rt);
             self.sockets.lock(rt).tick();
+            self.log_due(rt, self.second(rt));
             self.hub.ring(rt);
             self.stop_if_forgotten(rt);
-            self.try_note_book(rt);
+            self.try_log_book(rt);
         }
         unreachable!()
     }
@@ -258,16 +292,16 @@ impl<D: Disk, J: Naming> Shared<D, J> {
         host: IpAddr,
     ) -> Option<Guest> {
         let Some(first) = self.peers.first_of(host) else {
-            self.note_link(rt, LogEvent::Refused(host, LinkEnd::Stranger));
+            self.log_refusal(rt, Refusal::From(host, LinkEnd::Stranger), None);
             return None;
         };
-        if !self.greetings.lock(rt).take() {
+        if !self.greetings.lock(rt).enter() {
             return None;
         }
         let share = self.peers.share_of(GREETINGS as usize);
-        let place = self.sockets.lock(rt).enter_to_greet(socket, first, share);
-        match place {
-            Some(place) => Some(Guest { place, host }),
+        let entered = self.sockets.lock(rt).enter_to_greet(socket, first, share);
+        match entered {
+            Some(socket) => Some(Guest { socket, host }),
             None => {
                 self.greetings.lock(rt).leave();
                 None
@@ -275,17 +309,33 @@ impl<D: Disk, J: Naming> Shared<D, J> {
         }
     }
 
-    /// Ends the session of a peer that no thread can be made for.
-    pub(crate) fn turn_away<R: Machine>(&self, rt: &R, place: usize) {
+    /// The peer at that socket has greeted, or is gone: another may greet in its place, and ticks don't end its session.
+    pub(crate) fn end_greeting<R: Machine>(&self, rt: &R, socket: usize) {
+        self.sockets.lock(rt).greeted(socket);
         self.greetings.lock(rt).leave();
-        self.sockets.lock(rt).leave(place);
     }
 
-    /// Takes in the socket of a client, and gives it a chair. It is closed where all 32 slots are taken.
+    /// Ends the session of a peer that no thread can be made for.
+    pub(crate) fn turn_away<R: Machine>(&self, rt: &R, socket: usize) {
+        self.greetings.lock(rt).leave();
+        self.sockets.lock(rt).leave(socket);
+    }
+
+    /// Takes in the socket of a client, and gives it a chair. Where as many clients are in as may be, the one that has been silent
+    /// longest is closed for it, and the new one is answered once that one's session has ended. It is closed itself only where
+    /// each of them is being closed for another already.
     pub(crate) fn admit_client<R: Machine>(&self, rt: &R, socket: TcpStream) -> Option<Chair> {
-        let slot = self.slots.lock(rt).take()?;
-        match self.sockets.lock(rt).enter(socket) {
-            Some(place) => Some(Chair { slot, place }),
+        let given = self.slots.lock(rt).take()?;
+        let slot = match given {
+            GivenSlot::Free(slot) => slot,
+            GivenSlot::InPlaceOf(slot) => {
+                self.sockets.lock(rt).shut_client(slot);
+                slot
+            }
+        };
+        let entered = self.sockets.lock(rt).enter_client(socket, slot);
+        match entered {
+            Some(socket) => Some(Chair { slot, socket }),
             None => {
                 self.slots.lock(rt).put(slot);
                 None
@@ -293,9 +343,9 @@ impl<D: Disk, J: Naming> Shared<D, J> {
         }
     }
 
-    /// Ends a client's session: its slot is free, and its socket closed.
+    /// Ends a client's session: its slot is given back, and its socket closed.
     pub(crate) fn leave_chair<R: Machine>(&self, rt: &R, chair: Chair) {
         self.slots.lock(rt).put(chair.slot);
-        self.sockets.lock(rt).leave(chair.place);
+        self.sockets.lock(rt).leave(chair.socket);
     }
 }

@@ -1,4 +1,4 @@
-//! The sockets of a member, which its end shuts down.
+//! The sockets of a member, which its end shuts down: begin at `Sockets`. Each has a number while its session is under way.
 
 use links::NetStream;
 use std::alloc::Global;
@@ -20,13 +20,15 @@ struct OpenSocket {
     to: Option<u8>,
     /// The first member of the host from which a peer dialled.
     from: Option<u8>,
+    /// The slot of a client.
+    slot: Option<u8>,
 }
 
 /// The sockets of the sessions that are under way. A session has a copy of its socket, so that a shutdown here ends a read
 /// or write in which its thread waits.
 #[derive(Drop)]
 pub(crate) struct Sockets {
-    held: Vec<Option<OpenSocket>>,
+    open: Vec<Option<OpenSocket>>,
     closed: bool,
 }
 
@@ -34,36 +36,48 @@ impl Sockets {
     /// No sockets. It takes no memory yet.
     pub(crate) fn new(alloc: Global) -> Sockets {
         Sockets {
-            held: Vec::new(alloc),
+            open: Vec::new(alloc),
             closed: false,
         }
     }
 
-    /// Takes a socket in, and gives its place. It is closed, and has none, where memory is refused or all were shut down.
-    pub(crate) fn enter(&mut self, socket: TcpStream) -> Option<usize> {
-        self.hold(OpenSocket {
+    /// Takes in the socket of the client in that slot, and gives its number. It is closed, and has none, where memory is refused
+    /// or all were shut down.
+    pub(crate) fn enter_client(&mut self, socket: TcpStream, slot: u8) -> Option<usize> {
+        self.enter(OpenSocket {
             socket,
             patience: None,
             to: None,
             from: None,
+            slot: Some(slot),
         })
     }
 
-    /// Takes in the socket of a link to that member, like `enter`.
+    /// Shuts down the sockets of clients in that slot, whose sessions end then.
+    pub(crate) fn shut_client(&self, slot: u8) {
+        for open in &self.open {
+            if let Some(open) = open {
+                open.shut_if_of(slot);
+            }
+        }
+    }
+
+    /// Takes in the socket of a link to that member, like `enter_client`.
     pub(crate) fn enter_to(&mut self, socket: TcpStream, peer: u8) -> Option<usize> {
-        self.hold(OpenSocket {
+        self.enter(OpenSocket {
             socket,
             patience: None,
             to: Some(peer),
             from: None,
+            slot: None,
         })
     }
 
     /// Shuts down the sockets of links to that member, whose sessions end then.
     pub(crate) fn shut_to(&self, peer: u8) {
-        for held in &self.held {
-            if let Some(held) = held {
-                held.shut_if_to(peer);
+        for open in &self.open {
+            if let Some(open) = open {
+                open.shut_if_to(peer);
             }
         }
     }
@@ -71,9 +85,9 @@ impl Sockets {
     /// How many peers from that member's host are to greet.
     fn greeting_from(&self, first: u8) -> usize {
         let mut count = 0usize;
-        for held in &self.held {
-            if let Some(held) = held {
-                if held.patience.is_some() && held.from == Some(first) {
+        for open in &self.open {
+            if let Some(open) = open {
+                if open.patience.is_some() && open.from == Some(first) {
                     count = count.saturating_add(1);
                 }
             }
@@ -81,8 +95,8 @@ impl Sockets {
         count
     }
 
-    /// Takes in the socket of a peer from that member's host that is to greet within ten ticks, like `enter`; it is closed too where
-    /// as many peers from there as its share are to greet already.
+    /// Takes in the socket of a peer from that member's host that is to greet within ten ticks, like `enter_client`; it is closed
+    /// too where as many peers from there as its share are to greet already.
     pub(crate) fn enter_to_greet(
         &mut self,
         socket: TcpStream,
@@ -92,49 +106,51 @@ impl Sockets {
         if self.greeting_from(first) >= share {
             return None;
         }
-        self.hold(OpenSocket {
+        self.enter(OpenSocket {
             socket,
             patience: Some(GREETING_TICKS),
             to: None,
             from: Some(first),
+            slot: None,
         })
     }
 
-    fn hold(&mut self, held: OpenSocket) -> Option<usize> {
+    /// Takes in a socket, by the lowest number that is free.
+    fn enter(&mut self, socket: OpenSocket) -> Option<usize> {
         if self.closed {
             return None;
         }
-        if let Some(free) = self.held.iter().position(|held| held.is_none()) {
-            self.held[free] = Some(held);
+        if let Some(free) = self.open.iter().position(|open| open.is_none()) {
+            self.open[free] = Some(socket);
             return Some(free);
         }
-        let last = self.held.len();
-        if self.held.push(Some(held)).is_err() {
+        let last = self.open.len();
+        if self.open.push(Some(socket)).is_err() {
             return None;
         }
         Some(last)
     }
 
-    /// The peer at a place has greeted: ticks don't end its session any more.
-    pub(crate) fn greeted(&mut self, place: usize) {
-        if let Some(Some(held)) = self.held.get_mut(place) {
-            held.patience = None;
+    /// The peer at the socket of that number has greeted: ticks don't end its session any more.
+    pub(crate) fn greeted(&mut self, number: usize) {
+        if let Some(Some(open)) = self.open.get_mut(number) {
+            open.patience = None;
         }
     }
 
     /// Counts a tick: a socket whose peer has had ten ticks for its greeting is shut down.
     pub(crate) fn tick(&mut self) {
-        for held in self.held.iter_mut() {
-            if let Some(held) = held {
-                held.tick();
+        for open in self.open.iter_mut() {
+            if let Some(open) = open {
+                open.tick();
             }
         }
     }
 
-    /// A copy of the socket at a place, if there is one.
-    pub(crate) fn copy(&self, place: usize) -> Option<TcpStream> {
-        match self.held.get(place) {
-            Some(Some(held)) => match held.socket.try_clone() {
+    /// A copy of the socket of that number, if there is one.
+    pub(crate) fn copy(&self, number: usize) -> Option<TcpStream> {
+        match self.open.get(number) {
+            Some(Some(open)) => match open.socket.try_clone() {
                 Ok(copy) => Some(copy),
                 Err(_) => None,
             },
@@ -142,11 +158,11 @@ impl Sockets {
         }
     }
 
-    /// Shuts the socket at a place down, and frees the place.
-    pub(crate) fn leave(&mut self, place: usize) {
-        if place < self.held.len() {
-            if let Some(held) = self.held[place].take() {
-                shut(&held.socket);
+    /// Shuts the socket of that number down, and frees the number.
+    pub(crate) fn leave(&mut self, number: usize) {
+        if number < self.open.len() {
+            if let Some(open) = self.open[number].take() {
+                shut(&open.socket);
             }
         }
     }
@@ -154,9 +170,9 @@ impl Sockets {
     /// Shuts all sockets down. None is taken in from now on.
     pub(crate) fn close(&mut self) {
         self.closed = true;
-        for held in &self.held {
-            if let Some(held) = held {
-                shut(&held.socket);
+        for open in &self.open {
+            if let Some(open) = open {
+                shut(&open.socket);
             }
         }
     }
@@ -168,6 +184,13 @@ impl OpenSocket {
             Some(left) if left > 1 => self.patience = Some(left - 1),
             Some(_) => shut(&self.socket),
             None => {}
+        }
+    }
+
+    /// Is shut down if it is that of a client in that slot.
+    fn shut_if_of(&self, slot: u8) {
+        if self.slot == Some(slot) {
+            shut(&self.socket);
         }
     }
 

@@ -1,14 +1,18 @@
 //! What of a member's book was told.
 
-ghost use Rattle.std.specs.Prelude.{◌≡◌, ◌+◌, ◌++◌, ◌||◌, false, IfOk, IsOk, is_some, slice_set};
+ghost use Rattle.std.specs.Prelude.{◌≡◌, ◌+◌, ◌++◌, ◌||◌, false, Option, IfOk, IsOk, is_some, slice_set};
 ghost use Rattle.std.specs.Option.{option_to_list};
 ghost use Rattle.member.specs.Answers.{verdict_of};
 ghost use Rattle.member.specs.Readers.{member_header, member_saved, member_is_stopped};
 ghost use Rattle.running.specs.Queues.{HaveCome, none};
+ghost use Rattle.running.specs.Refusals.{IsNoted, counted_by, dues, empty, events_of, held};
+ghost use Rattle.running.specs.declared.refusals.RefusalCount.{RefusalCount};
 ghost use Rattle.running.specs.Watches.{AreTold, decided_list, decision_of, decisions_below, is_told, stop_of};
 
+use crate::callers::Caller;
 use crate::events::LogEvent;
 use crate::log::Queue;
+use crate::refusals::{Refusal, Refusals, put_line};
 use disk::Disk;
 use node::{Book, Naming};
 use std::alloc::Global;
@@ -85,6 +89,7 @@ impl Watch {
 #[derive(Drop)]
 pub(crate) struct Telling {
     watch: Watch,
+    refusals: Refusals,
     pub(crate) queue: Queue,
 }
 
@@ -98,10 +103,12 @@ impl Telling {
         ensures told { IfOk result (λ telling.
             telling.watch.told ≡ decided_list (member_saved book.now.member) (member_header book.now.member).size.questions) }
         ensures stopped { IfOk result (λ telling. telling.watch.stopped ≡ false) }
+        ensures refusals { IfOk result (λ telling. telling.refusals ≡ empty) }
     {
         let watch = Watch::new(alloc, book)?;
         Ok(Telling {
             watch,
+            refusals: Refusals::new(),
             queue: Queue::new(alloc),
         })
     }
@@ -114,6 +121,24 @@ impl Telling {
         if let Some(event) = event {
             self.queue.put(event);
         }
+    }
+
+    /// A refusal came, at that second, and what the table of refusals says of it is to be told.
+    pub(crate) fn count_refusal(&mut self, now: u64, refusal: Refusal, caller: Option<Caller>)
+        ensures { (left line : Option RefusalCount) × IsNoted now refusal caller self.old.refusals self.new.refusals left line
+            × HaveCome self.old.queue (events_of (option_to_list left ++ option_to_list line)) self.new.queue }
+    {
+        let (left, line) = self.refusals.count(now, refusal, caller);
+        put_line(&mut self.queue, left);
+        put_line(&mut self.queue, line);
+    }
+
+    /// How often refusals came that are held back, and whose last line is a minute old at that second, is to be told.
+    pub(crate) fn tell_due(&mut self, now: u64)
+        ensures events { HaveCome self.old.queue (events_of (dues now self.old.refusals)) self.new.queue }
+        ensures counts { held self.new.refusals + counted_by (dues now self.old.refusals) ≡ held self.old.refusals }
+    {
+        self.refusals.tell_due(now, &mut self.queue);
     }
 
     /// What the book has that wasn't told is to be told: first its decisions, by their questions, and then its stop.

@@ -1,7 +1,7 @@
 //! What the tests begin with: a member on a new disk, its board and its seats, and statements.
 ghost use Rattle.std.specs.Prelude.{◌≡◌, ◌<◌, length, IfOk, []};
 ghost use Rattle.std.specs.Arc.{arc_value};
-ghost use Rattle.vocabulary.specs.Terms.{new_header, new_size};
+ghost use Rattle.terms_prelude.specs.Terms.{new_header, new_size};
 ghost use Rattle.member.specs.Sound.{IsSound};
 ghost use Rattle.member.specs.Readers.{member_header, member_saved, MemberStandsFor};
 

@@ -1,10 +1,9 @@
-//! Worked rows of a book, over a disk in memory and a file.
+//! A book over a file, and one that several threads use. What a book answers over a disk in memory is played by rows.
 ghost use Rattle.std.specs.Prelude.{◌≡◌, ◌<◌, length};
 ghost use Rattle.std.specs.Arc.{arc_value};
-ghost use Rattle.vocabulary.specs.Terms.{new_header, new_size};
+ghost use Rattle.terms_prelude.specs.Terms.{new_header, new_size};
 
-mod bits;
-mod groups;
+mod lines;
 
 use crate::beginnings::{at, board, header, open, take};
 use Told::{Counts, Foreign, Have, Repeat, Says};
@@ -22,7 +21,7 @@ use std::thread::{Threads, join};
 use std::time::{Clock, Duration};
 use std::{fs, thread};
 use terms::Kind::{Echo, Initial};
-use terms::Value::{One, Zero};
+use terms::Value::One;
 use terms::{Kind, Memory, Record, Statement, Value};
 
 /// A statement at question 0, origin 0, round 1 and step 1.
@@ -100,93 +99,6 @@ fn pull<D: Disk, J: Naming, R: Wait>(
 /// Closes the hub, and says whether the seats fit it.
 pub(crate) fn closes<D: Disk + Drop, J: Naming>(hub: Hub<D, J>, seats: Vec<Seat>) -> bool {
     close(hub, seats).is_ok()
-}
-
-/// The first Initial is echoed, and another is a repeat. A book that is refused memory, as under
-/// `rt try --test --fail-alloc N`, is stopped and notes nothing, and the answer is false.
-fn hears_an_initial<J: Naming, R: Wait + Abort>(
-    rt: &R,
-    hub: &Hub<MemDisk, J>,
-    seat: &mut Seat,
-) -> Result<bool, Fail> {
-    let (first, other, echo) = (of(Initial, One)?, of(Initial, Zero)?, of(Echo, One)?);
-    let answer = hear(rt, hub, seat, &first);
-    if answer == Err(MemberFault::Memory) {
-        assert!(rt; status(rt, hub).is_none() && event(rt, hub, 0).is_none());
-        assert!(rt; seat.next() == 0);
-        return Ok(false);
-    }
-    assert!(rt; answer? == Says(echo));
-    assert!(rt; hear(rt, hub, seat, &other)? == Repeat);
-    assert!(rt; seat.peer() == 0 && seat.next() == 2);
-    Ok(true)
-}
-
-/// The book has the Initial as its one entry, and the Echo in its outbox.
-fn has_the_initial<J: Naming, R: Wait + Abort>(rt: &R, hub: &Hub<MemDisk, J>) -> Result<(), Fail> {
-    let noted = Entry::Heard {
-        from: 0,
-        statement: of(Initial, One)?,
-        toss: Toss(0),
-    };
-    assert!(rt; event(rt, hub, 0) == Some(noted) && event(rt, hub, 1).is_none());
-    assert!(rt; status(rt, hub) == Some((1, 0)) && verdict(rt, hub).is_none());
-    assert!(rt; pull(rt, hub, 0)?.len() == 1 && pull(rt, hub, 1)?.is_empty());
-    Ok(())
-}
-
-/// An Initial of member 0 that comes from member 2, whose seat is kept.
-fn hears_of_another<J: Naming, R: Wait + Abort>(
-    rt: &R,
-    hub: &Hub<MemDisk, J>,
-    rack: &Rack,
-) -> Result<(), Fail> {
-    let said = of(Initial, One)?;
-    let mut other = take(rt, rack, 2)?;
-    let answer = hear(rt, hub, &mut other, &said)?;
-    assert!(rt; answer == Foreign && other.next() == 1);
-    Ok(())
-}
-
-/// What came before or is another's leaves no entry. Whether there was memory.
-fn hears_two_peers<J: Naming, R: Wait + Abort>(
-    rt: &R,
-    hub: &Hub<MemDisk, J>,
-    rack: &Rack,
-) -> Result<bool, Fail> {
-    let mut seat = take(rt, rack, 0)?;
-    let heard = hears_an_initial(rt, hub, &mut seat)?;
-    rack.put(rt, seat);
-    if heard {
-        has_the_initial(rt, hub)?;
-        hears_of_another(rt, hub, rack)?;
-    }
-    Ok(heard)
-}
-
-/// A hub isn't closed without all seats.
-fn hears_a_peer<J: Naming, R: Wait + Abort + AllocGlobal>(
-    rt: &R,
-    board: Arc<Board>,
-) -> Result<(), Fail>
-    requires names { arc_value board ≡ J.names }
-    requires header { J.header ≡ new_header 7 (new_size 4 1 1) 1 }
-    requires cells { length (arc_value board) ≡ 1 }
-{
-    let header = header(4, 1, 1, 1)?;
-    let disk = MemDisk::new(rt.alloc());
-    let (hub, rack) = open::<MemDisk, J>(rt.alloc(), disk, &header, false, board)?;
-    if hears_two_peers(rt, &hub, &rack)? {
-        // The other seat is missing.
-        assert!(rt; !closes(hub, rack.into_seats()));
-    }
-    Ok(())
-}
-
-#[test]
-fn a_statement_is_heard_once(rt: HostRuntime) -> Result<(), Fail> {
-    node::laws::links();
-    hears_a_peer::<Brand, _>(&rt, board(&rt, 1)?)
 }
 
 /// The statement of that number in the outbox.
@@ -300,11 +212,6 @@ fn settles<D: Disk + Drop, J: Naming, R: Wait + Abort + AllocGlobal>(
     proposes_and_settles(rt, &hub, &rack)?;
     assert!(rt; closes(hub, rack.into_seats()));
     Ok(())
-}
-
-#[test]
-fn a_member_by_itself_settles_its_question(rt: HostRuntime) -> Result<(), Fail> {
-    settles::<MemDisk, Brand, _>(&rt, MemDisk::new(rt.alloc()), board(&rt, 1)?)
 }
 
 #[test]

@@ -1,12 +1,10 @@
-//! Tests of members that run, of their books, links and desks, which use only what these offer.
+//! Tests of members that run, of their books and links, which use only what these offer.
 #![tactic(auto)]
 
 #[cfg(test)]
 mod beginnings;
 #[cfg(test)]
 mod books;
-#[cfg(test)]
-mod desks;
 #[cfg(test)]
 mod members;
 #[cfg(test)]

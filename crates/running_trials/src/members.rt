@@ -4,9 +4,11 @@ ghost use Rattle.member.specs.Memory.{memory_disk};
 ghost use Rattle.member.specs.Sound.{IsSound};
 ghost use Rattle.member.specs.Readers.{member_saved, member_is_stopped, MemberStandsFor};
 
+mod crowded;
 mod forgotten;
 mod shares;
 mod silent;
+mod turned_away;
 mod versions;
 
 use disk::MemDisk;
@@ -14,8 +16,8 @@ use links::LinkEnd;
 use member::Member;
 use rounds::{ChaChaTosser, Tosser};
 use running::{
-    Addresses, Hosts, Log, LogEvent, Machine, Operator, Places, Queue, RunFault, Slots, Standing,
-    run_member, tosser_for, tossers_of,
+    Addresses, Caller, Difference, Hosts, Log, LogEvent, Machine, Operator, Refusal, RefusalCount,
+    RunFault, run_member,
 };
 use std::alloc::Global;
 use std::io::{ErrorKind, Read, Write};
@@ -28,11 +30,34 @@ use std::test::Fail;
 use std::time::{Clock, Duration, Instant};
 use std::{io, thread};
 use terms::{Header, Memory, Size};
-use wire::{Version, WireFault};
+use wire::Version;
 
 /// The host on which these tests run.
 fn here() -> IpAddr {
     IpAddr::V4(Ipv4Addr::new(127, 0, 0, 1))
+}
+
+/// Connections from here were refused for this cause so many times, the last one from this caller.
+fn refused(end: LinkEnd, caller: Option<Caller>, count: u64) -> LogEvent {
+    LogEvent::Refused(RefusalCount {
+        refusal: Refusal::From(here(), end),
+        caller,
+        count,
+    })
+}
+
+/// This member refused links so many times.
+fn refused_by(peer: u8, count: u64) -> LogEvent {
+    LogEvent::Refused(RefusalCount {
+        refusal: Refusal::By(peer),
+        caller: None,
+        count,
+    })
+}
+
+/// Who says that it is this member, and in what that differs.
+fn caller(member: u8, differs: Option<Difference>) -> Option<Caller> {
+    Some(Caller { member, differs })
 }
 
 /// A cluster on this machine: how many members it has and how many of them may lie, and the port of member 0's links. The
@@ -70,6 +95,7 @@ impl Cluster {
             peers,
             hosts: self.elsewhere.unwrap_or(Hosts::OfMembers),
             desk: self.desk(me),
+            clients: 32,
         })
     }
 
@@ -472,14 +498,13 @@ fn seat_clients<R: Machine + Abort>(
     Ok(())
 }
 
-/// At most 32 clients are seated, and a place that one leaves is given to the next.
+/// 32 clients are seated, and a place that one leaves is given to the next.
 fn fill_the_desk<R: Machine + Abort>(
     rt: &R,
     desk: SocketAddr,
     seated: &mut Vec<TcpStream>,
 ) -> Result<(), Fail> {
     seat_clients(rt, desk, seated, 32)?;
-    assert!(rt; is_turned_away(rt, desk)?);
     drop(seated.pop());
     assert!(rt; comes_to(rt, desk, b"ASK 0\n", b"DECIDED 1\n"));
     Ok(())
@@ -568,8 +593,12 @@ enum Visitor {
     Dialling,
     /// Who dials in a peer's name.
     Impostor,
-    /// More strangers than a log that is busy has places for.
+    /// A peer that comes and goes more often than a log that is busy has places for.
     Crowd,
+    /// Strangers, each with something of its own that differs.
+    Strangers,
+    /// A peer that is dialled and closes each link.
+    Closed(TcpListener),
     /// A peer that is dialled and dials, and then says nothing more.
     Silent(TcpListener),
     /// A peer that is dialled and knows version 1 alone.
@@ -590,7 +619,9 @@ impl Visitor {
             Visitor::Dialled(listener) => is_dialled(rt, listener, log),
             Visitor::Dialling => dials(rt, cluster, log),
             Visitor::Impostor => dials_for_another(rt, cluster, log),
-            Visitor::Crowd => crowd_of_strangers(rt, cluster, log),
+            Visitor::Crowd => comes_and_goes(rt, cluster, log),
+            Visitor::Strangers => turned_away::come_as_strangers(rt, cluster, log),
+            Visitor::Closed(listener) => turned_away::closes(rt, cluster, listener, log),
             Visitor::Silent(listener) => silent::falls_silent(rt, cluster, listener, log),
             Visitor::Older(listener) => versions::is_dialled_as_older(rt, cluster, listener, log),
             Visitor::Renewed => versions::dials_in_both(rt, cluster, log),
@@ -657,7 +688,11 @@ fn alone<R: Machine + Abort>(rt: &R, alloc: Global) -> Result<(), Fail> {
     };
     let want = [
         LogEvent::Ready(0),
-        LogEvent::Refused(here(), LinkEnd::Stranger),
+        refused(
+            LinkEnd::Stranger,
+            caller(0, Some(Difference::Cluster(8))),
+            1,
+        ),
         LogEvent::Decided(0, true),
         LogEvent::End,
     ];
@@ -787,7 +822,7 @@ fn peer_comes<R: Machine + Abort>(rt: &R, alloc: Global) -> Result<(), Fail> {
     let want = [
         LogEvent::Ready(0),
         LogEvent::LinkUp(1, Version::Two),
-        LogEvent::Refused(here(), LinkEnd::Busy),
+        refused(LinkEnd::Busy, caller(1, None), 1),
         LogEvent::LinkDown(1, LinkEnd::Ended),
         LogEvent::End,
     ];
@@ -798,126 +833,6 @@ fn peer_comes<R: Machine + Abort>(rt: &R, alloc: Global) -> Result<(), Fail> {
 fn a_log_tells_of_links_from_peers(rt: HostRuntime) -> Result<(), Fail> {
     let _types = no_sockets();
     peer_comes(&rt, rt.alloc())
-}
-
-#[test]
-fn a_link_is_up_once_it_is_written_behind_a_read(rt: HostRuntime) -> Result<(), Fail> {
-    let hello = Standing::Greeting.written();
-    assert!(&rt; hello == Standing::Greeting && !hello.comes_up());
-    let answered = hello.read().read();
-    assert!(&rt; answered == Standing::Answered && answered.comes_up());
-    let up = answered.written();
-    assert!(&rt; up == Standing::Up && !up.comes_up());
-    assert!(&rt; up.read() == Standing::Up && up.written() == Standing::Up);
-    Ok(())
-}
-
-/// Whether that is the event's line.
-fn is_line(alloc: Global, event: &LogEvent, want: &str) -> bool {
-    match format!(in alloc; "{event}") {
-        Ok(text) => text.as_str() == want,
-        Err(_) => false,
-    }
-}
-
-#[test]
-fn events_are_lines(rt: HostRuntime) {
-    for (event, want) in [
-        (LogEvent::Ready(1), "ready member 1"),
-        (LogEvent::LinkUp(2, Version::Two), "link-up from 2"),
-        (
-            LogEvent::LinkUp(2, Version::One),
-            "link-up from 2 version 1",
-        ),
-        (
-            LogEvent::LinkUpAhead(2, 5, Version::Two),
-            "link-up to 2 ahead 5",
-        ),
-        (
-            LogEvent::LinkUpAhead(2, 5, Version::One),
-            "link-up to 2 ahead 5 version 1",
-        ),
-        (
-            LogEvent::LinkDown(31, LinkEnd::Lost),
-            "link-down from 31 lost",
-        ),
-        (
-            LogEvent::LinkDown(2, LinkEnd::Broken(WireFault::BadValue)),
-            "link-down from 2 broken BadValue",
-        ),
-        (
-            LogEvent::LinkDown(0, LinkEnd::OutOfOrder),
-            "link-down from 0 out-of-order",
-        ),
-        (
-            LogEvent::LinkDown(3, LinkEnd::Stopped),
-            "link-down from 3 stopped",
-        ),
-        (
-            LogEvent::LinkDown(3, LinkEnd::Memory),
-            "link-down from 3 memory",
-        ),
-        (LogEvent::LinkUpTo(2, Version::Two), "link-up to 2"),
-        (
-            LogEvent::LinkUpTo(2, Version::One),
-            "link-up to 2 version 1",
-        ),
-        (
-            LogEvent::LinkDown(2, LinkEnd::Broken(WireFault::BadCount)),
-            "link-down from 2 broken BadCount",
-        ),
-        (
-            LogEvent::LinkDownTo(31, LinkEnd::Lost),
-            "link-down to 31 lost",
-        ),
-        (
-            LogEvent::LinkDownTo(0, LinkEnd::Memory),
-            "link-down to 0 memory",
-        ),
-        (
-            LogEvent::Refused(IpAddr::from([10, 0, 0, 255]), LinkEnd::Stranger),
-            "refused from 10.0.0.255 stranger",
-        ),
-        (
-            LogEvent::Refused(here(), LinkEnd::Busy),
-            "refused from 127.0.0.1 busy",
-        ),
-        (
-            LogEvent::Refused(here(), LinkEnd::Ended),
-            "refused from 127.0.0.1 ended",
-        ),
-        (LogEvent::Decided(17, true), "decided 17 1"),
-        (LogEvent::Decided(255, false), "decided 255 0"),
-        (LogEvent::Stopped, "stopped"),
-        (LogEvent::Missed(3), "missed 3"),
-        (LogEvent::End, "end"),
-    ] {
-        assert!(&rt; is_line(rt.alloc(), &event, want), "{want}");
-    }
-}
-
-/// Whether the queue is empty, and isn't once so many decisions are put in.
-fn takes_decisions(queue: &mut Queue, count: u16) -> bool {
-    let was_empty = queue.is_empty();
-    for question in 0..count {
-        queue.put(LogEvent::Decided(question, true));
-    }
-    was_empty && !queue.is_empty()
-}
-
-/// Whether the queue gives the first 1024 decisions, says that two are missed, and is empty then.
-fn gives_the_first(alloc: Global, queue: &mut Queue) -> bool {
-    let (events, missed) = queue.take(alloc);
-    (events.len(), missed) == (1024, 2)
-        && events.first() == Some(&LogEvent::Decided(0, true))
-        && events.last() == Some(&LogEvent::Decided(1023, true))
-        && queue.is_empty()
-}
-
-#[test]
-fn a_queue_has_an_end(rt: HostRuntime) {
-    let mut queue = Queue::new(rt.alloc());
-    assert!(&rt; takes_decisions(&mut queue, 1026) && gives_the_first(rt.alloc(), &mut queue));
 }
 
 /// Whether the other side closed the connection, within that time.
@@ -993,70 +908,41 @@ fn a_greeting_has_ten_seconds(rt: HostRuntime) -> Result<(), Fail> {
     slow_peer(&rt, rt.alloc())
 }
 
-#[test]
-fn places_and_slots_are_given_once(rt: HostRuntime) -> Result<(), Fail> {
-    let mut places = Places::<2>::new();
-    assert!(&rt; places.take() && places.take() && !places.take());
-    places.leave();
-    assert!(&rt; places.take() && !places.take());
-    let mut slots = Slots::new();
-    for slot in 0..32u8 {
-        assert!(&rt; slots.take() == Some(slot));
-    }
-    assert!(&rt; slots.take().is_none());
-    slots.put(7);
-    assert!(&rt; slots.take() == Some(7));
-    Ok(())
+/// A link of a peer that is welcomed, and leaves; false where the one before hasn't left yet.
+fn comes_once<R: Machine>(rt: &R, cluster: Cluster) -> io::Result<bool> {
+    let mut link = connect(rt, cluster.address(0))?;
+    link.write_all(&HELLO)?;
+    let mut welcome = [0u8; 11];
+    Ok(link.read_exact(&mut welcome).is_ok())
 }
 
-/// Whether there are so many tossers, the last of which tosses as that stream of the seed.
-fn last_tosses_as(tossers: &mut [ChaChaTosser], count: usize, stream: u64) -> bool {
-    let wanted = ChaChaTosser::from_seed([5; 32], stream).toss();
-    tossers.len() == count
-        && match tossers.last_mut() {
-            Some(last) => last.toss() == wanted,
-            None => false,
-        }
-}
-
-#[test]
-fn tosses_are_of_the_place(rt: HostRuntime) -> Result<(), Fail> {
-    let cluster = Cluster {
-        n: 4,
-        t: 1,
-        port: 0,
-        elsewhere: None,
-    };
-    let member = cluster.member(rt.alloc(), 1, None).ok_or("a member")?;
-    let mut tossers = tossers_of(rt.alloc(), [5; 32], &member)?;
-    assert!(&rt; last_tosses_as(&mut tossers.links, 4, 3));
-    assert!(&rt; last_tosses_as(&mut tossers.desk, 32, 159));
-    // The nineteenth record's life, of the link from member 3.
-    let mut later = tosser_for([5; 32], 19, 3);
-    assert!(&rt; later.toss() == ChaChaTosser::from_seed([5; 32], 4867).toss());
-    Ok(())
-}
-
-/// Strangers are refused while the log is busy: more than the 1,024 events that may be on their way to it and the 1,024 that
-/// may wait.
-fn crowd_of_strangers<R: Machine + Abort>(
+/// A peer comes and goes while the log is busy, with two events each time: more than the 1,024 that may be on their way to it
+/// and the 1,024 that may wait.
+fn comes_and_goes<R: Machine + Abort>(
     rt: &R,
     cluster: Cluster,
     log: &Mutex<Kept>,
 ) -> Result<(), Fail> {
     let busy = log.lock(rt);
-    for _ in 0..2200u32 {
-        assert!(rt; is_refused(rt, cluster.address(0), &hello(8))?);
+    let mut times = 0u32;
+    for _ in 0..20_000u32 {
+        if comes_once(rt, cluster)? {
+            times = times.saturating_add(1);
+        }
+        if times == 1100 {
+            break;
+        }
     }
     drop(busy);
+    assert!(rt; times == 1100, "came {times} times");
     Ok(())
 }
 
-/// A member by itself whose log is busy, and then tells how many events it missed.
+/// A member whose log is busy, and then tells how many events it missed.
 fn misses_some<R: Machine + Abort>(rt: &R, alloc: Global) -> Result<(), Fail> {
     let cluster = Cluster {
-        n: 1,
-        t: 0,
+        n: 4,
+        t: 1,
         port: 7270,
         elsewhere: None,
     };
@@ -1424,12 +1310,12 @@ fn impostor_comes<R: Machine + Abort>(
 #[test]
 fn a_link_comes_from_its_members_host(rt: HostRuntime) -> Result<(), Fail> {
     let _types = no_sockets();
-    let refused = [
+    let turned_away = [
         LogEvent::Ready(0),
-        LogEvent::Refused(here(), LinkEnd::Stranger),
+        refused(LinkEnd::Stranger, caller(1, Some(Difference::Host)), 1),
         LogEvent::End,
     ];
-    impostor_comes(&rt, rt.alloc(), Hosts::OfMembers, 7310, &refused)?;
+    impostor_comes(&rt, rt.alloc(), Hosts::OfMembers, 7310, &turned_away)?;
     let taken = [
         LogEvent::Ready(0),
         LogEvent::LinkUp(1, Version::Two),

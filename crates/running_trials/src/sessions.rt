@@ -1,12 +1,11 @@
-//! Worked rows over streams in memory, and over TCP on this machine.
+//! Sessions in several threads over streams in memory, and over TCP on this machine. Others are rows.
 ghost use Rattle.std.specs.Prelude.{◌≡◌, length, []};
 ghost use Rattle.std.specs.Arc.{arc_value};
-ghost use Rattle.vocabulary.specs.Terms.{new_header, new_size};
+ghost use Rattle.terms_prelude.specs.Terms.{new_header, new_size};
 ghost use Rattle.links.specs.Mem.{told_by, is_closed_mem};
 
 mod groups;
 mod stalls;
-mod versions;
 
 use crate::beginnings::{Counting, at, board, entry, goes_on_with, header, open, take};
 use crate::books::closes;
@@ -29,10 +28,10 @@ use std::test::Fail;
 use std::thread;
 use std::thread::{Threads, join};
 use std::time::{Clock, Duration};
-use terms::Kind::{Echo, Initial, Ready};
+use terms::Kind::{Echo, Ready};
 use terms::Value::One;
 use terms::{Kind, Size, Statement};
-use wire::{Message, Version, WireFault, encode};
+use wire::{Message, Version, encode};
 
 /// A statement with the value One at question 0, origin 0, round 1 and step 1.
 fn of(kind: Kind) -> Result<Statement, Fail> {
@@ -46,317 +45,15 @@ fn frame(alloc: Global, message: &Message) -> Result<Vec<u8>, Fail> {
     Ok(bytes)
 }
 
-/// The frames of messages, one after another.
-fn frames(alloc: Global, messages: &[Message]) -> Result<Vec<u8>, Fail> {
-    let mut bytes = Vec::new(alloc);
-    for message in messages {
-        encode(message, &mut bytes)?;
-    }
-    Ok(bytes)
-}
-
-/// A stream that gives these bytes at once.
-fn of_bytes(alloc: Global, bytes: &[u8]) -> Result<MemStream, Fail> {
-    let mut stream = MemStream::new(alloc);
-    stream.give(bytes)?;
-    Ok(stream)
-}
-
-/// A stream that gives these bytes one by one.
-fn in_single_bytes(alloc: Global, bytes: &[u8]) -> Result<MemStream, Fail> {
-    let mut stream = MemStream::new(alloc);
-    for byte in bytes {
-        stream.give(&[*byte])?;
-    }
-    Ok(stream)
-}
-
-/// The Hello of a member to another, for a session of version 1.
-fn hello(cluster: u64, n: u8, from: u8, to: u8) -> Result<Message, Fail> {
+/// The Hello of a member of four to another, for a session of version 1.
+fn hello(from: u8, to: u8) -> Result<Message, Fail> {
     Ok(Message::Hello {
         version: Version::One,
-        cluster,
-        size: Size::new(n, 1, 1)?,
+        cluster: 7,
+        size: Size::new(4, 1, 1)?,
         from,
         to,
     })
-}
-
-/// Whether a greeting ends so, which writes nothing and closes a stream that it refuses.
-fn ends_so(
-    alloc: Global,
-    stream: &mut MemStream,
-    wanted: Result<(u8, Version), LinkEnd>,
-) -> Result<bool, Fail> {
-    let header = header(4, 1, 1, 1)?;
-    let end = greet(alloc, stream, &header);
-    Ok(end == wanted && stream.output().is_empty() && stream.is_closed() == wanted.is_err())
-}
-
-/// Whether a greeting with these bytes ends so, all at once and byte by byte.
-fn greets(
-    alloc: Global,
-    bytes: &[u8],
-    wanted: Result<(u8, Version), LinkEnd>,
-) -> Result<bool, Fail> {
-    let at_once = ends_so(alloc, &mut of_bytes(alloc, bytes)?, wanted)?;
-    Ok(at_once && ends_so(alloc, &mut in_single_bytes(alloc, bytes)?, wanted)?)
-}
-
-/// Whether these are the bytes of the message's frame.
-fn is_frame_of(alloc: Global, message: &Message, bytes: &[u8]) -> Result<bool, Fail> {
-    Ok(frame(alloc, message)?.as_slice() == bytes)
-}
-
-/// Whether a greeting with this message ends so.
-fn greets_with(
-    alloc: Global,
-    message: &Message,
-    wanted: Result<(u8, Version), LinkEnd>,
-) -> Result<bool, Fail> {
-    let bytes = frame(alloc, message)?;
-    greets(alloc, &bytes, wanted)
-}
-
-/// A Hello, a beginning of it, and what begins no frame.
-fn greet_with_bytes(rt: &(impl Abort + AllocGlobal)) -> Result<(), Fail> {
-    let alloc = rt.alloc();
-    let row = [0, 16, 1, 1, 0, 0, 0, 0, 0, 0, 0, 7, 4, 1, 0, 1, 0, 1];
-    assert!(rt; is_frame_of(alloc, &hello(7, 4, 0, 1)?, &row)?);
-    assert!(rt; greets(alloc, &row[..9], Err(LinkEnd::Ended))?);
-    assert!(rt; greets(alloc, &[], Err(LinkEnd::Ended))?);
-    assert!(rt; greets(alloc, &[0, 2], Err(LinkEnd::Broken(WireFault::BadLength)))?);
-    Ok(())
-}
-
-#[test]
-fn greetings(rt: HostRuntime) -> Result<(), Fail> {
-    let rows = [
-        (hello(7, 4, 0, 1)?, Ok((0, Version::One))),
-        (Message::Idle, Err(LinkEnd::OutOfOrder)),
-        (Message::Welcome { next: 3 }, Err(LinkEnd::OutOfOrder)),
-        (Message::Statement(of(Echo)?), Err(LinkEnd::OutOfOrder)),
-        (hello(8, 4, 0, 1)?, Err(LinkEnd::Stranger)),
-        (hello(7, 4, 0, 2)?, Err(LinkEnd::Stranger)),
-        (
-            hello(7, 5, 0, 1)?,
-            Err(LinkEnd::Broken(WireFault::BadHello)),
-        ),
-    ];
-    for (row, (message, wanted)) in rows.into_iter().enumerate() {
-        assert!(&rt; greets_with(rt.alloc(), &message, wanted)?, "row {row}");
-    }
-    greet_with_bytes(&rt)
-}
-
-/// What stands behind the Hello is not read.
-#[test]
-fn a_greeting_reads_eighteen_bytes(rt: HostRuntime) -> Result<(), Fail> {
-    let alloc = rt.alloc();
-    let header = header(4, 1, 1, 1)?;
-    let hello = hello(7, 4, 2, 1)?;
-    let mut stream = of_bytes(alloc, &frames(alloc, &[hello, Message::Idle])?)?;
-    let greeted = greet(alloc, &mut stream, &header);
-    assert!(&rt; (greeted, stream.left().len()) == (Ok((2, Version::One)), 3));
-    Ok(())
-}
-
-/// Whether a greeting ends so over a stream that gives these bytes and fails at the call, once and for good.
-fn greets_until(
-    alloc: Global,
-    bytes: &[u8],
-    call: u64,
-    wanted: Result<(u8, Version), LinkEnd>,
-) -> Result<bool, Fail> {
-    let header = header(4, 1, 1, 1)?;
-    let once = greet(alloc, &mut failing(alloc, bytes, call, true)?, &header);
-    let for_good = greet(alloc, &mut failing(alloc, bytes, call, false)?, &header);
-    Ok((once, for_good) == (wanted, wanted))
-}
-
-/// A stream that fails at the k-th call, for each k, once and for good.
-#[test]
-fn a_greeting_is_lost_where_the_stream_fails(rt: HostRuntime) -> Result<(), Fail> {
-    let alloc = rt.alloc();
-    let bytes = frame(alloc, &hello(7, 4, 2, 1)?)?;
-    for call in 0..19u64 {
-        let wanted = if call < 18 {
-            Err(LinkEnd::Lost)
-        } else {
-            Ok((2, Version::One))
-        };
-        assert!(&rt; greets_until(alloc, &bytes, call, wanted)?, "call {call}");
-    }
-    Ok(())
-}
-
-/// Whether a session of the link from a peer, which gives these bytes, ends so, the seat's next number being this one. It
-/// writes a Welcome. The tosses count on from a hundred times the peer's number. The seat is put back.
-fn session<J: Naming, R: Wait + AllocGlobal>(
-    rt: &R,
-    hub: &Hub<MemDisk, J>,
-    rack: &Rack,
-    peer: u8,
-    version: Version,
-    bytes: &[u8],
-    ends: (LinkEnd, u64),
-) -> Result<bool, Fail> {
-    let mut stream = of_bytes(rt.alloc(), bytes)?;
-    let seat = take(rt, rack, peer)?;
-    let mut tosser = Counting {
-        last: u64::from(peer) * 100,
-    };
-    let (seat, end) = read_link(
-        rt,
-        rt.alloc(),
-        hub,
-        seat,
-        &mut stream,
-        version,
-        &Open,
-        &mut tosser,
-    );
-    let next = seat.next();
-    rack.put(rt, seat);
-    let welcome = [0, 9, 2, 0, 0, 0, 0, 0, 0, 0, 0];
-    Ok((end, next) == ends && stream.is_closed() && stream.output() == welcome.as_slice())
-}
-
-/// Whether a session of version 1 of the link from a peer, which gives the frames of these messages, ends so.
-fn session_of<J: Naming, R: Wait + AllocGlobal>(
-    rt: &R,
-    hub: &Hub<MemDisk, J>,
-    rack: &Rack,
-    peer: u8,
-    messages: &[Message],
-    ends: (LinkEnd, u64),
-) -> Result<bool, Fail> {
-    let bytes = frames(rt.alloc(), messages)?;
-    session(rt, hub, rack, peer, Version::One, &bytes, ends)
-}
-
-/// Links of member 1 hand in what makes it say an Echo and a Ready.
-fn hears_of_an_origin<J: Naming, R: Wait + Abort + AllocGlobal>(
-    rt: &R,
-    hub: &Hub<MemDisk, J>,
-    rack: &Rack,
-) -> Result<(), Fail> {
-    let ready = of(Ready)?;
-    let heard = [Message::Idle, Message::Statement(of(Initial)?)];
-    assert!(rt; session_of(rt, hub, rack, 0, &heard, (LinkEnd::Ended, 1))?);
-    let heard = [Message::Statement(ready)];
-    assert!(rt; session_of(rt, hub, rack, 2, &heard, (LinkEnd::Ended, 1))?);
-    // A frame that is cut short is lost, and a message out of place ends the session.
-    let cut = [0, 8, 3, 3, 0, 0, 0, 1, 1];
-    assert!(rt; session(rt, hub, rack, 3, Version::One, &cut, (LinkEnd::Ended, 0))?);
-    let astray = [
-        Message::Statement(ready),
-        Message::Welcome { next: 0 },
-        Message::Statement(of(Echo)?),
-    ];
-    assert!(rt; session_of(rt, hub, rack, 3, &astray, (LinkEnd::OutOfOrder, 1))?);
-    assert!(rt; hub.lock(rt).status() == Some((2, 0)));
-    let noted = [
-        entry(0, of(Initial)?, 1),
-        entry(2, of(Ready)?, 201),
-        entry(3, of(Ready)?, 301),
-    ];
-    assert!(rt; goes_on_with(&*hub.lock(rt), 0, &noted));
-    Ok(())
-}
-
-/// What member 1 writes to member 2 first: its Hello, and one statement.
-fn hello_and(alloc: Global, kind: Kind) -> Result<Vec<u8>, Fail> {
-    frames(alloc, &[hello(7, 4, 1, 2)?, Message::Statement(of(kind)?)])
-}
-
-/// Whether a session of the link to member 2 ends so, having written this.
-fn writer_ends<J: Naming, R: Wait + AllocGlobal>(
-    rt: &R,
-    hub: &Hub<MemDisk, J>,
-    stream: &mut MemStream,
-    wanted: LinkEnd,
-    written: &[u8],
-) -> bool {
-    let (end, _) = write_link(rt, rt.alloc(), hub, 2, stream, Version::One, &Open);
-    end == wanted && stream.is_closed() && stream.output() == written
-}
-
-/// The stream takes a byte a call, and fails in the second frame: 18 calls for the Hello, a read, 13 bytes.
-fn stops_in_the_second_frame<J: Naming, R: Wait + Abort + AllocGlobal>(
-    rt: &R,
-    hub: &Hub<MemDisk, J>,
-) -> Result<(), Fail> {
-    let alloc = rt.alloc();
-    let mut wanted = hello_and(alloc, Echo)?;
-    wanted.extend_from_slice(&[0, 8, 3])?;
-    let mut stream = of_bytes(alloc, &frame(alloc, &Message::Welcome { next: 0 })?)?;
-    stream.take_at_most(1);
-    stream.fail_from(32);
-    assert!(rt; writer_ends(rt, hub, &mut stream, LinkEnd::Lost, &wanted));
-    Ok(())
-}
-
-/// The next session goes on where the Welcome says, and ends since the hub is shut.
-fn goes_on_at_the_welcome<J: Naming, R: Wait + Abort + AllocGlobal>(
-    rt: &R,
-    hub: &Hub<MemDisk, J>,
-) -> Result<(), Fail> {
-    let alloc = rt.alloc();
-    let wanted = hello_and(alloc, Ready)?;
-    let mut stream = of_bytes(alloc, &frame(alloc, &Message::Welcome { next: 1 })?)?;
-    assert!(rt; writer_ends(rt, hub, &mut stream, LinkEnd::Ended, &wanted));
-    Ok(())
-}
-
-/// Member 1 sends its Echo and its Ready over a stream that fails in the second frame, and then over another.
-fn sends<J: Naming, R: Wait + Abort + AllocGlobal>(
-    rt: &R,
-    hub: &Hub<MemDisk, J>,
-    rack: &Rack,
-) -> Result<(), Fail> {
-    hears_of_an_origin(rt, hub, rack)?;
-    stops_in_the_second_frame(rt, hub)?;
-    hub.shut(rt);
-    goes_on_at_the_welcome(rt, hub)
-}
-
-/// What is tried with member 1 of four.
-#[derive(Clone, Copy)]
-enum Trial {
-    /// It sends what it says.
-    Sends,
-    /// Its streams fail.
-    Fails,
-    /// It is flooded.
-    Flood,
-}
-
-/// Tries member 1 of four on a new disk, whose seats are all put back.
-fn tries<J: Naming, R: Wait + Abort + AllocGlobal>(
-    rt: &R,
-    board: Arc<Board>,
-    trial: Trial,
-) -> Result<(), Fail>
-    requires names { arc_value board ≡ J.names }
-    requires header { J.header ≡ new_header 7 (new_size 4 1 1) 1 }
-    requires cells { length (arc_value board) ≡ 1 }
-{
-    let alloc = rt.alloc();
-    let header = header(4, 1, 1, 1)?;
-    let (hub, rack) = open::<MemDisk, J>(alloc, MemDisk::new(alloc), &header, false, board)?;
-    match trial {
-        Trial::Sends => sends(rt, &hub, &rack)?,
-        Trial::Fails => fail_at_each_call(rt, &hub, &rack)?,
-        Trial::Flood => is_flooded(rt, &hub, &rack)?,
-    }
-    assert!(rt; closes(hub, rack.into_seats()));
-    Ok(())
-}
-
-#[test]
-fn a_writer_stops_in_the_second_frame(rt: HostRuntime) -> Result<(), Fail> {
-    tries::<Brand, _>(&rt, board(&rt, 1)?, Trial::Sends)
 }
 
 /// Both ends of a connection on this machine: that of who dialled, and that of who took it.
@@ -378,7 +75,7 @@ fn greets_over_tcp(rt: HostRuntime) -> Result<(), Fail> {
     let mut listens = NetStream::with_limit(accepted, Duration::from_millis(50)).map_err(
         |_| "a limit",
     )?;
-    let bytes = frame(alloc, &hello(7, 4, 3, 1)?)?;
+    let bytes = frame(alloc, &hello(3, 1)?)?;
     assert!(&rt; write_all(&mut dialler, &bytes).is_ok());
     assert!(&rt; greet(alloc, &mut listens, &header(4, 1, 1, 1)?) == Ok((3, Version::One)));
     // The next greeting doesn't come in time.
@@ -572,174 +269,6 @@ fn links_and_an_asker_run_at_once(rt: HostRuntime) -> Result<(), Fail> {
     at_once::<Brand, _>(&rt, board(&rt, 1)?)
 }
 
-/// A stream that gives these bytes one by one, takes one a call, and fails at a call: once, or from then on.
-fn failing(alloc: Global, bytes: &[u8], call: u64, once: bool) -> Result<MemStream, Fail> {
-    let mut stream = in_single_bytes(alloc, bytes)?;
-    stream.take_at_most(1);
-    if once {
-        stream.fail_at(call)?;
-    } else {
-        stream.fail_from(call);
-    }
-    Ok(stream)
-}
-
-/// A reader whose stream fails at the call: what was read whole before it is handed in. Gives its seat back.
-fn reads_until_it_fails<J: Naming, R: Wait + Abort + AllocGlobal>(
-    rt: &R,
-    hub: &Hub<MemDisk, J>,
-    seat: Seat,
-    stream: &mut MemStream,
-    call: u64,
-) -> Seat {
-    let before = seat.next();
-    let mut tosser = Counting { last: call };
-    let (seat, end) = read_link(
-        rt,
-        rt.alloc(),
-        hub,
-        seat,
-        stream,
-        Version::One,
-        &Open,
-        &mut tosser,
-    );
-    // Eleven calls write the Welcome, twenty read the frames, and the next meets the end.
-    let wanted = if call < 32 {
-        LinkEnd::Lost
-    } else {
-        LinkEnd::Ended
-    };
-    let handed = call.saturating_sub(11).min(20) / 10;
-    let found = (end, seat.next(), stream.output().len() as u64);
-    assert!(rt;
-        found == (wanted, before.wrapping_add(handed), call.min(11)),
-        "call {call}"
-    );
-    seat
-}
-
-/// Readers whose stream fails at the k-th call, for each k.
-fn read_until_they_fail<J: Naming, R: Wait + Abort + AllocGlobal>(
-    rt: &R,
-    hub: &Hub<MemDisk, J>,
-    rack: &Rack,
-    peer: u8,
-    once: bool,
-) -> Result<(), Fail> {
-    let alloc = rt.alloc();
-    let initial = Message::Statement(of(Initial)?);
-    let bytes = frames(alloc, &[initial, Message::Statement(of(Ready)?)])?;
-    for call in 0..34u64 {
-        let mut stream = failing(alloc, &bytes, call, once)?;
-        let seat = take(rt, rack, peer)?;
-        rack.put(rt, reads_until_it_fails(rt, hub, seat, &mut stream, call));
-    }
-    Ok(())
-}
-
-/// Whether a writer that is welcomed so, and whose stream fails at the call, wrote a beginning of the whole.
-fn writes_until<J: Naming, R: Wait + AllocGlobal>(
-    rt: &R,
-    hub: &Hub<MemDisk, J>,
-    welcome: &[u8],
-    call: usize,
-    once: bool,
-    whole: &[u8],
-) -> Result<bool, Fail> {
-    let mut stream = failing(rt.alloc(), welcome, call as u64, once)?;
-    // Eighteen calls write the Hello, eleven read the Welcome, and twenty write the frames.
-    let written = call.min(18) + call.saturating_sub(29).min(20);
-    let end = if call < 49 {
-        LinkEnd::Lost
-    } else {
-        LinkEnd::Ended
-    };
-    let written = &whole[..written.min(whole.len())];
-    Ok(writer_ends(rt, hub, &mut stream, end, written))
-}
-
-/// Writers whose stream fails at the k-th call, for each k: a beginning of the whole was written.
-fn writes_until_it_fails<J: Naming, R: Wait + Abort + AllocGlobal>(
-    rt: &R,
-    hub: &Hub<MemDisk, J>,
-    once: bool,
-) -> Result<(), Fail> {
-    let alloc = rt.alloc();
-    let welcome = frame(alloc, &Message::Welcome { next: 0 })?;
-    let echo = Message::Statement(of(Echo)?);
-    let ready = Message::Statement(of(Ready)?);
-    let wanted = frames(alloc, &[hello(7, 4, 1, 2)?, echo, ready])?;
-    for call in 0..51usize {
-        let is_so = writes_until(rt, hub, &welcome, call, once, &wanted)?;
-        assert!(rt; is_so, "call {call}");
-    }
-    Ok(())
-}
-
-/// A stream that takes nothing is lost.
-fn takes_nothing<J: Naming, R: Wait + Abort + AllocGlobal>(rt: &R, hub: &Hub<MemDisk, J>) {
-    let mut stream = MemStream::new(rt.alloc());
-    stream.take_at_most(0);
-    assert!(rt; writer_ends(rt, hub, &mut stream, LinkEnd::Lost, &[]));
-}
-
-/// Readers first, and writers once the hub is shut.
-fn fail_at_each_call<J: Naming, R: Wait + Abort + AllocGlobal>(
-    rt: &R,
-    hub: &Hub<MemDisk, J>,
-    rack: &Rack,
-) -> Result<(), Fail> {
-    read_until_they_fail(rt, hub, rack, 0, true)?;
-    read_until_they_fail(rt, hub, rack, 2, false)?;
-    // Each was whole for the first time where the call behind it failed.
-    let noted = [
-        entry(0, of(Initial)?, 22),
-        entry(0, of(Ready)?, 33),
-        entry(2, of(Ready)?, 33),
-    ];
-    assert!(rt; goes_on_with(&*hub.lock(rt), 0, &noted));
-    hub.shut(rt);
-    writes_until_it_fails(rt, hub, true)?;
-    writes_until_it_fails(rt, hub, false)?;
-    takes_nothing(rt, hub);
-    Ok(())
-}
-
-#[test]
-fn sessions_fail_at_each_call(rt: HostRuntime) -> Result<(), Fail> {
-    tries::<Brand, _>(&rt, board(&rt, 1)?, Trial::Fails)
-}
-
-/// The frame of one Initial 10,000 times.
-fn flood(alloc: Global) -> Result<Vec<u8>, Fail> {
-    let initial = frame(alloc, &Message::Statement(of(Initial)?))?;
-    let mut bytes = Vec::new(alloc);
-    for _ in 0..10_000u32 {
-        bytes.extend_from_slice(&initial)?;
-    }
-    Ok(bytes)
-}
-
-/// Each statement of a flood is handed in, and the first alone is kept.
-fn is_flooded<J: Naming, R: Wait + Abort + AllocGlobal>(
-    rt: &R,
-    hub: &Hub<MemDisk, J>,
-    rack: &Rack,
-) -> Result<(), Fail> {
-    let bytes = flood(rt.alloc())?;
-    let ends = (LinkEnd::Ended, 10_000);
-    assert!(rt; session(rt, hub, rack, 0, Version::One, &bytes, ends)?);
-    assert!(rt; goes_on_with(&*hub.lock(rt), 0, &[entry(0, of(Initial)?, 1)]));
-    assert!(rt; hub.lock(rt).records().len() == 1);
-    Ok(())
-}
-
-#[test]
-fn a_flood_is_one_entry(rt: HostRuntime) -> Result<(), Fail> {
-    tries::<Brand, _>(&rt, board(&rt, 1)?, Trial::Flood)
-}
-
 /// How many writes there were, for two threads to see.
 #[derive(Drop)]
 struct Writes {
@@ -873,7 +402,7 @@ fn behind_the_greeting(
     output: Option<Vec<u8>>,
 ) -> Result<Vec<u8>, Fail> {
     let output = output.ok_or("memory")?;
-    let greeting = frame(rt.alloc(), &hello(7, 4, 1, 0)?)?;
+    let greeting = frame(rt.alloc(), &hello(1, 0)?)?;
     assert!(rt; output.starts_with(greeting.as_slice()) && output.len() > 18);
     Ok(Vec::from_slice(rt.alloc(), &output.as_slice()[18..])?)
 }

@@ -1,6 +1,6 @@
 -- What orders stand for, and how many events that is.
 use Rattle.std.proofs.Common.{ℕ, ◌≡◌, ◌+◌, ◌*◌, ◌-◌, ◌<◌, ◌≤◌, ◌^◌, min, refl, sym, ap, ◌∙◌, subst, arith, inl, inr, ◌⊎◌, List, [], ◌∷◌, ◌++◌, length, drop, Result, Ok, Err, IfOk}
-use Rattle.vocabulary.specs.Terms.{Size}
+use Rattle.terms_prelude.specs.Terms.{Size}
 use Rattle.sim.specs.declared.TheConstants.{MOST_EVENTS}
 use Rattle.script.specs.Words.{ScriptFault, Line, Order, words_of, ScriptStep, SaysStep, Once, Rounds, Random, Made, after_step, how_many, LeadsBy, BreakBy, numbered, order_step, made_by}
 use Rattle.script.specs.declared.fault.ScriptFault.TheVariants as faults

@@ -5,7 +5,7 @@ use Rattle.std.proofs.Math.Seq.{drop-cons}
 use Rattle.sim.specs.declared.events.Which.TheVariants.{Next}
 use Rattle.script.specs.Words.{Deliver, Act, Made, add, add_drawn, adds, draws, row, round, times}
 use Rattle.std.specs.List.{flat_map}
-use Rattle.vocabulary.specs.Terms.{Size}
+use Rattle.terms_prelude.specs.Terms.{Size}
 
 pub length-add : (act : Act) (made : Made) → length (add act made).events ≡ length made.events + 1
 unfolding add

@@ -1,10 +1,10 @@
 -- A text has one script or one first fault, and not both.
 use Rattle.std.proofs.Common.{ℕ, ◌≡◌, sym, ap, ◌∙◌, subst, arith, inl, inr, Option, Some, None, List, [], ◌∷◌, length, drop, map, codes}
-use Rattle.vocabulary.specs.Terms.{Size, SizeFault}
-use Rattle.script.specs.Words.{ScriptFault, Script, words_of, IsCount, IsLong, AreMembers, Page, page_from, HasLine, tossed_act, ScriptStep, Made, after_step, correct_below, LeadsBy, LeadTo, BreaksAt, BreakBy, IsNamed, AreListedLiars, IsSeed, MakeSize, at_start, IsScript, FailsOr, SizeFailsOr, IsFirstFault}
+use Rattle.terms_prelude.specs.Terms.{Size, SizeFault}
+use Rattle.script.specs.Words.{ScriptFault, Script, words_of, IsCount, IsLong, AreMembers, Page, page_from, HasLine, tossed_act, ScriptStep, Made, after_step, correct_below, LeadsBy, LeadTo, BreaksAt, BreakBy, IsNumberNamed, AreListedLiars, IsSeed, MakeSize, at_start, IsScript, FailsOr, SizeFailsOr, IsFirstFault}
 use Rattle.script.proofs.Exact.{IsExact, one_below, one_members, one_step}
 
-one_named : (name : List ℕ) → IsExact (IsNamed name)
+one_named : (name : List ℕ) → IsExact (IsNumberNamed name)
 one_named name ws x y (v, e, h) (w, f, g) =
     let p : name ∷ v ∷ [] ≡ name ∷ w ∷ [] = sym e ∙ f in
     let q : v ≡ w = cc in
@@ -124,17 +124,17 @@ abbrev pub BehindQuestions : Page → ℕ → ℕ → ℕ → ScriptFault → Ty
 BehindQuestions page n t = λ questions. SizeFailsOr n t questions (BehindSize page)
 
 abbrev pub BehindT : Page → ℕ → ℕ → ScriptFault → Type 0
-BehindT page n = λ t. FailsOr page 2 (IsNamed (codes "questions")) (BehindQuestions page n t)
+BehindT page n = λ t. FailsOr page 2 (IsNumberNamed (codes "questions")) (BehindQuestions page n t)
 
 abbrev pub BehindN : Page → ℕ → ScriptFault → Type 0
-BehindN page = λ n. FailsOr page 1 (IsNamed (codes "t")) (BehindT page n)
+BehindN page = λ n. FailsOr page 1 (IsNumberNamed (codes "t")) (BehindT page n)
 
 pub one_first_fault : (text : List ℕ) (f g : ScriptFault) → IsFirstFault text f → IsFirstFault text g → f ≡ g
 one_first_fault text f g =
     let page = page_from text in
-    one_failing page 0 (IsNamed (codes "n")) (BehindN page) f g (one_named (codes "n")) (λ n.
-    one_failing page 1 (IsNamed (codes "t")) (BehindT page n) f g (one_named (codes "t")) (λ t.
-    one_failing page 2 (IsNamed (codes "questions")) (BehindQuestions page n t) f g (one_named (codes "questions")) (λ questions.
+    one_failing page 0 (IsNumberNamed (codes "n")) (BehindN page) f g (one_named (codes "n")) (λ n.
+    one_failing page 1 (IsNumberNamed (codes "t")) (BehindT page n) f g (one_named (codes "t")) (λ t.
+    one_failing page 2 (IsNumberNamed (codes "questions")) (BehindQuestions page n t) f g (one_named (codes "questions")) (λ questions.
     one_size_failing n t questions (BehindSize page) f g (λ size.
     one_failing page 3 AreListedLiars (BehindLiars page size) f g one_liars (λ liars.
     one_failing page 4 IsSeed (BehindSeed page size liars) f g one_seed (λ seed.
@@ -144,9 +144,9 @@ pub script_or_fault : (text : List ℕ) (script : Script) (fault : ScriptFault) 
 script_or_fault text script fault s f =
     let page = page_from text in
     let h = s.head in
-    let a = later page 0 (IsNamed (codes "n")) (BehindN page) fault (one_named (codes "n")) h.n h.n_is f in
-    let b = later page 1 (IsNamed (codes "t")) (BehindT page h.n) fault (one_named (codes "t")) h.t h.t_is a in
-    let c = later page 2 (IsNamed (codes "questions")) (BehindQuestions page h.n h.t) fault (one_named (codes "questions")) h.questions h.questions_is b in
+    let a = later page 0 (IsNumberNamed (codes "n")) (BehindN page) fault (one_named (codes "n")) h.n h.n_is f in
+    let b = later page 1 (IsNumberNamed (codes "t")) (BehindT page h.n) fault (one_named (codes "t")) h.t h.t_is a in
+    let c = later page 2 (IsNumberNamed (codes "questions")) (BehindQuestions page h.n h.t) fault (one_named (codes "questions")) h.questions h.questions_is b in
     let d = later_size h.n h.t h.questions (BehindSize page) fault script.size h.size_is c in
     let e = later page 3 AreListedLiars (BehindLiars page script.size) fault one_liars script.liars.items h.liars_are d in
     let g = later page 4 IsSeed (BehindSeed page script.size script.liars.items) fault one_seed s.seed h.seed_is e in
@@ -158,9 +158,9 @@ one_script text a b s t =
     let page = page_from text in
     let h = s.head in
     let g = t.head in
-    let n = one_line page 0 (IsNamed (codes "n")) (one_named (codes "n")) h.n g.n h.n_is g.n_is in
-    let m = one_line page 1 (IsNamed (codes "t")) (one_named (codes "t")) h.t g.t h.t_is g.t_is in
-    let q = one_line page 2 (IsNamed (codes "questions")) (one_named (codes "questions")) h.questions g.questions h.questions_is g.questions_is in
+    let n = one_line page 0 (IsNumberNamed (codes "n")) (one_named (codes "n")) h.n g.n h.n_is g.n_is in
+    let m = one_line page 1 (IsNumberNamed (codes "t")) (one_named (codes "t")) h.t g.t h.t_is g.t_is in
+    let q = one_line page 2 (IsNumberNamed (codes "questions")) (one_named (codes "questions")) h.questions g.questions h.questions_is g.questions_is in
     let l = one_line page 3 AreListedLiars one_liars a.liars.items b.liars.items h.liars_are g.liars_are in
     let d = one_line page 4 IsSeed one_seed s.seed t.seed h.seed_is g.seed_is in
     let z : a.size ≡ b.size = same_size h.n g.n h.t g.t h.questions g.questions a.size b.size n m q h.size_is g.size_is in

@@ -4,7 +4,7 @@ use Rattle.disk.specs.declared.Pick.TheVariants.{Kept, Lost, Fill}
 use Rattle.sim.specs.declared.events.Which.TheVariants.{Next, At}
 use Rattle.script.specs.Words.{Verb, IsMember, IsCount, IsLong, IsGroupSize, IsBit, IsWhich, IsFuse, ArePick, AreMembers, ScriptStep, verb_name, One, Two, Three, SaysBehind, SaysStep}
 use Rattle.script.specs.declared.step.Verb.TheVariants as verb
-use Rattle.words.specs.Numbers.{IsNumber, IsBelow, IsHexOf}
+use Rattle.numerals.specs.Numbers.{IsNumber, IsBelow, IsHexOf}
 
 -- a form that a thing has at most once
 abbrev pub IsExact : {A B : Type 0} → (A → B → Type 0) → Type 0

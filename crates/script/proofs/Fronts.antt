@@ -1,7 +1,7 @@
 -- What is made is the same whatever was made before.
 use Rattle.std.proofs.Common.{ℕ, zero, suc, ◌≡◌, refl, sym, ap, ◌∙◌, List, [], ◌∷◌, ◌++◌, append_assoc, append-nil}
 use Rattle.rand_chacha.specs.ChaCha.{ChaCha}
-use Rattle.vocabulary.specs.Terms.{Size}
+use Rattle.terms_prelude.specs.Terms.{Size}
 use Rattle.script.specs.Words.{Act, TossedAct, drawn, tossed, ScriptStep, Once, Rounds, Random, Made, add, add_drawn, adds, draws, round, times, after_step, after_steps, events_of}
 
 -- with these events in front

@@ -1,10 +1,10 @@
 -- Lines of the head.
 use Rattle.std.proofs.Common.{ℕ, ◌≡◌, sym, ap, ◌∙◌, subst, ◌+◌, ◌<◌, ◌≤◌, append-nil, refl, inl, inr, ◌⊎◌, codes, Option, Some, List, [], ◌∷◌, ◌++◌, length, drop, get_or, Bor, append_assoc, slice_get}
-use Rattle.script.specs.Words.{IsMember, AreMembers, words_of, texts, ScriptFault, Page, page_from, HasLine, number_or, IsNamed, AreListedLiars, IsSeed, MakeSize, IsHead, IsHeadFault, HeadFailsOr, IsFirstFault, LacksLine, at_start, Made, correct_below, BreakBy}
+use Rattle.script.specs.Words.{IsMember, AreMembers, words_of, texts, ScriptFault, Page, page_from, HasLine, number_or, IsNumberNamed, AreListedLiars, IsSeed, MakeSize, IsHead, IsHeadFault, HeadFailsOr, IsFirstFault, LacksLine, at_start, Made, correct_below, BreakBy}
 use Rattle.std.proofs.lemmas.List.{drop_all}
 use Rattle.script.proofs.Counting.{next_of}
 use Rattle.script.specs.declared.fault.ScriptFault.TheVariants as faults
-use Rattle.vocabulary.specs.Terms.{Size, SizeFault, size_fault}
+use Rattle.terms_prelude.specs.Terms.{Size, SizeFault, size_fault}
 
 -- a line whose words aren't of the form
 pub lacks : {A : Type 0} (page : Page) (place : ℕ) (Form : List (List ℕ) → A → Type 0) (fault : ScriptFault) (number : ℕ) (text : List ℕ) (words : List (List ℕ))
@@ -51,20 +51,20 @@ all_listed words i items most l =
 
 -- the first fault is in the size
 pub of_size : (page : Page) (n t questions : ℕ) (wrong : SizeFault)
-    → HasLine page 0 (IsNamed (codes "n")) n → HasLine page 1 (IsNamed (codes "t")) t → HasLine page 2 (IsNamed (codes "questions")) questions
+    → HasLine page 0 (IsNumberNamed (codes "n")) n → HasLine page 1 (IsNumberNamed (codes "t")) t → HasLine page 2 (IsNumberNamed (codes "questions")) questions
     → size_fault n t questions ≡ Some wrong → IsHeadFault page (faults.Size wrong)
 of_size page n t questions wrong a b c e = inr (n, a, inr (t, b, inr (questions, c, inl (wrong, e, refl))))
 
 -- it is in the line of liars, or memory was refused there
 pub of_liars : (page : Page) (n t questions : ℕ) (size : Size) (fault : ScriptFault)
-    → HasLine page 0 (IsNamed (codes "n")) n → HasLine page 1 (IsNamed (codes "t")) t → HasLine page 2 (IsNamed (codes "questions")) questions
+    → HasLine page 0 (IsNumberNamed (codes "n")) n → HasLine page 1 (IsNumberNamed (codes "t")) t → HasLine page 2 (IsNumberNamed (codes "questions")) questions
     → MakeSize n t questions size → (fault ≡ faults.Memory) ⊎ LacksLine page 3 AreListedLiars fault → (fault ≡ faults.Memory) ⊎ IsHeadFault page fault
 of_liars page n t questions size fault a b c s (inl e) = inl e
 of_liars page n t questions size fault a b c s (inr l) = inr (inr (n, a, inr (t, b, inr (questions, c, inr (size, s, inl l)))))
 
 -- it is in the line of the seed, or memory was refused there
 pub of_seed : (page : Page) (n t questions : ℕ) (size : Size) (liars : List ℕ) (fault : ScriptFault)
-    → HasLine page 0 (IsNamed (codes "n")) n → HasLine page 1 (IsNamed (codes "t")) t → HasLine page 2 (IsNamed (codes "questions")) questions
+    → HasLine page 0 (IsNumberNamed (codes "n")) n → HasLine page 1 (IsNumberNamed (codes "t")) t → HasLine page 2 (IsNumberNamed (codes "questions")) questions
     → MakeSize n t questions size → HasLine page 3 AreListedLiars liars
     → (fault ≡ faults.Memory) ⊎ LacksLine page 4 IsSeed fault → (fault ≡ faults.Memory) ⊎ IsHeadFault page fault
 of_seed page n t questions size liars fault a b c s l (inl e) = inl e

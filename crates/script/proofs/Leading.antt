@@ -1,7 +1,7 @@
 -- Lines of events, in turn.
 use Rattle.std.proofs.Common.{ℕ, zero, suc, ◌∙◌, ◌-◌, take, take_all, length-drop, arith, ◌≡◌, ◌+◌, ◌<◌, ◌≤◌, refl, sym, ap, subst, inl, inr, ◌⊎◌, List, [], ◌∷◌, length, drop, get_or}
 use Rattle.std.proofs.lemmas.List.{drop_all}
-use Rattle.vocabulary.specs.Terms.{Size}
+use Rattle.terms_prelude.specs.Terms.{Size}
 use Rattle.script.specs.Words.{ScriptFault, Line, Made, LeadsBy, LeadTo, BreaksAt, BreakBy, numbered}
 use Rattle.script.specs.declared.fault.ScriptFault.TheVariants as faults
 use Rattle.script.proofs.Counting.{next_of}

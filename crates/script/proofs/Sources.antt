@@ -1,7 +1,7 @@
 -- A script whose events are made as they are asked for.
 use Rattle.std.proofs.Common.{ℕ, ◌≡◌, refl, arith, List, [], ◌∷◌, ◌++◌, length, map}
 use Rattle.rand_chacha.specs.ChaCha.{ChaCha}
-use Rattle.vocabulary.specs.Terms.{Size}
+use Rattle.terms_prelude.specs.Terms.{Size}
 use Rattle.script.specs.Words.{Order, Made, after_step, order_step, left_of}
 use Rattle.script.proofs.Fronts.{first_events}
 

@@ -3,7 +3,7 @@ use Rattle.std.proofs.Common.{ℕ, suc, ◌≡◌, ◌+◌, ◌-◌, ◌≤◌, 
 use mir.Val.{bool_byte}
 use Rattle.std.specs.List.{slice_split, onto_first}
 use Rattle.script.specs.Words.{Page, is_comment, said_from, page_from, texts, is_empty, ends_empty}
-use Rattle.words.specs.Lines.{onto_line, lines_of}
+use Rattle.numerals.specs.Lines.{onto_line, lines_of}
 
 -- all but an empty last one
 abbrev pub without_last : List (List ℕ) → List (List ℕ)

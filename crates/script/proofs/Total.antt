@@ -4,16 +4,16 @@ use Rattle.std.specs.Str.Parse.{AllDigits, digits_value}
 use Rattle.std.specs.Char.{digit_value}
 use Rattle.hex.specs.Hex.{decode_of}
 use Rattle.hex.specs.declared.error.FromHexError.{FromHexError}
-use Rattle.vocabulary.specs.Terms.{Size, SizeFault, new_size, size_fault}
+use Rattle.terms_prelude.specs.Terms.{Size, SizeFault, new_size, size_fault}
 use Rattle.disk.specs.declared.Pick.{Pick}
 use Rattle.disk.specs.declared.Pick.TheVariants.{Kept, Lost, Fill}
 use Rattle.sim.specs.declared.events.Which.{Which}
 use Rattle.sim.specs.declared.events.Which.TheVariants.{Next, At}
-use Rattle.script.specs.Words.{ScriptFault, Verb, words_of, IsMember, IsCount, IsLong, IsGroupSize, IsBit, IsWhich, IsFuse, ArePick, AreMembers, Page, page_from, HasLine, line_number, TossedAct, Propose, Deliver, DeliverAll, Lie, Fuse, Crash, Restart, Reset, ScriptStep, verb_name, One, Two, Three, SaysBehind, SaysStep, Once, Rounds, Random, Made, after_step, correct_below, LeadTo, BreakBy, IsNamed, AreListedLiars, IsSeed, MakeSize, IsTold, at_start, LacksLine, IsFirstFault}
+use Rattle.script.specs.Words.{ScriptFault, Verb, words_of, IsMember, IsCount, IsLong, IsGroupSize, IsBit, IsWhich, IsFuse, ArePick, AreMembers, Page, page_from, HasLine, line_number, TossedAct, Propose, Deliver, DeliverAll, Lie, Fuse, Crash, Restart, Reset, ScriptStep, verb_name, One, Two, Three, SaysBehind, SaysStep, Once, Rounds, Random, Made, after_step, correct_below, LeadTo, BreakBy, IsNumberNamed, AreListedLiars, IsSeed, MakeSize, SaysCluster, at_start, LacksLine, IsFirstFault}
 use Rattle.script.specs.declared.fault.ScriptFault.TheVariants as faults
 use Rattle.script.specs.declared.step.Verb.TheVariants as verb
 use Rattle.sim.specs.declared.TheConstants.{MOST_EVENTS}
-use Rattle.words.specs.Numbers.{IsNumber, IsBelow, IsHexOf}
+use Rattle.numerals.specs.Numbers.{IsNumber, IsBelow, IsHexOf}
 use Rattle.script.proofs.Exact.{one_number, one_bytes, one_verb}
 
 -- a form that a thing has, or has not
@@ -420,14 +420,14 @@ has_line {A} page place Form decide = step (slice_get page.said place) refl
       fault_is = refl;
     })
 
-named : (name : List ℕ) → Decides (IsNamed name)
+named : (name : List ℕ) → Decides (IsNumberNamed name)
 named name [] = inr (λ x h. let e = h.1 in cc)
 named name (v ∷ []) = inr (λ x h. let e = h.1 in cc)
 named name (v ∷ w ∷ u ∷ ws) = inr (λ x h. let e = h.1 in cc)
 named name (v ∷ w ∷ []) = step (same_list v name) (below 16 w)
   where
     step : (v ≡ name) ⊎ (v ≡ name → ⊥) → ((n : ℕ) × IsCount w n) ⊎ ((n : ℕ) → IsCount w n → ⊥)
-        → ((n : ℕ) × IsNamed name (v ∷ w ∷ []) n) ⊎ ((n : ℕ) → IsNamed name (v ∷ w ∷ []) n → ⊥)
+        → ((n : ℕ) × IsNumberNamed name (v ∷ w ∷ []) n) ⊎ ((n : ℕ) → IsNumberNamed name (v ∷ w ∷ []) n → ⊥)
     step (inl e) (inl (n, h)) = inl (n, (w, ap (λ (x : List ℕ). x ∷ w ∷ []) e, h))
     step (inr isnt) r = inr (λ n (x, f, g). let e : v ≡ name = cc in isnt e)
     step (inl e) (inr isnt) = inr (λ n (x, f, g). let e : w ≡ x = cc in isnt n (subst (λ (y : List ℕ). IsCount y n) (sym e) g))
@@ -463,15 +463,15 @@ sized n t questions = step (size_fault n t questions) refl
     step (Some wrong) e = inr (wrong, e)
 
 -- each text says something, or has a first fault
-pub told_or_fault : (text : List ℕ) → ((size : Size) × (ls : List ℕ) × (events : List TossedAct) × IsTold text size ls events) ⊎ ((fault : ScriptFault) × IsFirstFault text fault)
+pub told_or_fault : (text : List ℕ) → ((size : Size) × (ls : List ℕ) × (events : List TossedAct) × SaysCluster text size ls events) ⊎ ((fault : ScriptFault) × IsFirstFault text fault)
 told_or_fault text =
-    elim (has_line (page_from text) 0 (IsNamed (codes "n")) (named (codes "n"))) [
+    elim (has_line (page_from text) 0 (IsNumberNamed (codes "n")) (named (codes "n"))) [
       | inr k ↦ inr (_, inl k)
       | inl (n, a) ↦
-          elim (has_line (page_from text) 1 (IsNamed (codes "t")) (named (codes "t"))) [
+          elim (has_line (page_from text) 1 (IsNumberNamed (codes "t")) (named (codes "t"))) [
             | inr k ↦ inr (_, inr (n, a, inl k))
             | inl (t, b) ↦
-                elim (has_line (page_from text) 2 (IsNamed (codes "questions")) (named (codes "questions"))) [
+                elim (has_line (page_from text) 2 (IsNumberNamed (codes "questions")) (named (codes "questions"))) [
                   | inr k ↦ inr (_, inr (n, a, inr (t, b, inl k)))
                   | inl (q, c) ↦
                       elim (sized n t q) [

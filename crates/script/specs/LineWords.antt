@@ -1,8 +1,8 @@
 -- What the words of a line write.
 use Rattle.std.specs.Prelude.{ℕ, ◌≡◌, ◌≤◌, ◌==◌, Bool, Option, Some, None, List, [], ◌∷◌, codes}
 use Rattle.std.specs.List.{slice_split}
-use Rattle.words.specs.Numbers.{IsNumber, IsBelow, IsHexOf}
-use Rattle.words.specs.Sentences.{bit_digit}
+use Rattle.numerals.specs.Numbers.{IsNumber, IsBelow, IsHexOf}
+use Rattle.numerals.specs.Sentences.{bit_digit}
 use Rattle.disk.specs.declared.Pick.{Pick}
 use Rattle.disk.specs.declared.Pick.TheVariants.{Kept, Lost, Fill}
 use Rattle.sim.specs.declared.events.Which.{Which}

@@ -1,6 +1,6 @@
 -- Which lines of a text say something.
 use Rattle.std.specs.Prelude.{ℕ, ◌+◌, ◌≡◌, ◌==◌, Bool, true, if◌then◌else◌, Option, Some, None, List, [], ◌∷◌, length, slice_get}
-use Rattle.words.specs.Lines.{lines_of}
+use Rattle.numerals.specs.Lines.{lines_of}
 use Rattle.script.specs.LineWords.{words_of}
 
 -- an empty line is skipped, and one that begins with `#`

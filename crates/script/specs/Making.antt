@@ -2,7 +2,7 @@
 use Rattle.std.specs.Prelude.{ℕ, zero, suc, ◌≡◌, ◌<◌, ◌≤◌, ◌*◌, ◌⊎◌, if◌then◌else◌, List, [], ◌∷◌, ◌++◌, length, map}
 use Rattle.std.specs.List.{flat_map}
 use Rattle.rand_chacha.specs.ChaCha.{ChaCha}
-use Rattle.vocabulary.specs.Terms.{Size}
+use Rattle.terms_prelude.specs.Terms.{Size}
 use Rattle.sim.specs.declared.events.Which.TheVariants.{Next}
 use Rattle.sim.specs.Outcomes.{among}
 use Rattle.script.specs.declared.fault.ScriptFault.{ScriptFault}

@@ -1,6 +1,6 @@
 -- What orders and lines in the code stand for.
 use Rattle.std.specs.Prelude.{ℕ, Bool, true, false, List, [], ◌∷◌, map}
-use Rattle.vocabulary.specs.Terms.{Size}
+use Rattle.terms_prelude.specs.Terms.{Size}
 use Rattle.script.specs.declared.step.Order.{Order}
 use Rattle.script.specs.declared.step.Order.TheVariants as order
 use Rattle.script.specs.declared.lines.Line.{Line}
@@ -8,7 +8,7 @@ use Rattle.script.specs.Acts.{act_of}
 use Rattle.script.specs.Steps.{ScriptStep}
 use Rattle.script.specs.Steps.ScriptStep.{Once, Rounds, Random}
 use Rattle.script.specs.Making.{Made, after_steps}
-pub use Rattle.words.specs.Sentences.{texts}
+pub use Rattle.numerals.specs.Sentences.{texts}
 
 -- what a line's order is
 abbrev pub order_step : Order → ScriptStep

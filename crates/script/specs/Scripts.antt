@@ -1,6 +1,6 @@
 -- Which script a text says, or which fault is its first.
 use Rattle.std.specs.Prelude.{ℕ, ◌≡◌, ◌⊎◌, Some, None, List, [], ◌∷◌, codes, drop, map}
-use Rattle.vocabulary.specs.Terms.{Size, new_size, size_fault, SizeFault}
+use Rattle.terms_prelude.specs.Terms.{Size, new_size, size_fault, SizeFault}
 use Rattle.script.specs.declared.fault.ScriptFault.{ScriptFault}
 use Rattle.script.specs.declared.fault.ScriptFault.TheVariants as faults
 use Rattle.script.specs.declared.Script.{Script}
@@ -11,8 +11,8 @@ use Rattle.script.specs.Drawing.{stream_of_seed}
 use Rattle.script.specs.Making.{Made, correct_below, LeadTo, BreakBy}
 
 -- a name, and a number below 2^16
-abbrev pub IsNamed : List ℕ → List (List ℕ) → ℕ → Type 0
-IsNamed name words number = (word : List ℕ) × (words ≡ name ∷ word ∷ []) × IsCount word number
+abbrev pub IsNumberNamed : List ℕ → List (List ℕ) → ℕ → Type 0
+IsNumberNamed name words number = (word : List ℕ) × (words ≡ name ∷ word ∷ []) × IsCount word number
 
 -- `liars`, and members
 abbrev pub AreListedLiars : List (List ℕ) → List ℕ → Type 0
@@ -32,9 +32,9 @@ pub record IsHead (page : Page) (size : Size) (liars : List ℕ) (seed : ℕ) : 
   pub n : ℕ
   pub t : ℕ
   pub questions : ℕ
-  pub n_is : HasLine page 0 (IsNamed (codes "n")) n
-  pub t_is : HasLine page 1 (IsNamed (codes "t")) t
-  pub questions_is : HasLine page 2 (IsNamed (codes "questions")) questions
+  pub n_is : HasLine page 0 (IsNumberNamed (codes "n")) n
+  pub t_is : HasLine page 1 (IsNumberNamed (codes "t")) t
+  pub questions_is : HasLine page 2 (IsNumberNamed (codes "questions")) questions
   pub size_is : MakeSize n t questions size
   pub liars_are : HasLine page 3 AreListedLiars liars
   pub seed_is : HasLine page 4 IsSeed seed
@@ -45,7 +45,7 @@ at_start seed = record { events = []; stream = stream_of_seed seed }
 
 -- the text says a cluster of that size, in which these members lie, and these events: its first five lines the head, all
 -- others the events
-pub record IsTold (text : List ℕ) (size : Size) (liars : List ℕ) (events : List TossedAct) : Type 0 where
+pub record SaysCluster (text : List ℕ) (size : Size) (liars : List ℕ) (events : List TossedAct) : Type 0 where
   pub seed : ℕ
   pub last : Made
   pub head : IsHead (page_from text) size liars seed
@@ -54,7 +54,7 @@ pub record IsTold (text : List ℕ) (size : Size) (liars : List ℕ) (events : L
 
 -- the text says the script
 abbrev pub IsScript : List ℕ → Script → Type 0
-IsScript text script = IsTold text script.size script.liars.items (map tossed_act script.events.items)
+IsScript text script = SaysCluster text script.size script.liars.items (map tossed_act script.events.items)
 
 -- there is no line at that place of that form, and the fault names it
 pub record LacksLine {A : Type 0} (page : Page) (place : ℕ) (Form : List (List ℕ) → A → Type 0) (fault : ScriptFault) : Type 0 where
@@ -75,9 +75,9 @@ SizeFailsOr n t questions Later fault =
 -- the fault is the first of the first five lines, or they are those of a head and the fault is a later one
 abbrev pub HeadFailsOr : Page → (Size → List ℕ → ℕ → ScriptFault → Type 0) → ScriptFault → Type 0
 HeadFailsOr page Later =
-    FailsOr page 0 (IsNamed (codes "n")) (λ n.
-    FailsOr page 1 (IsNamed (codes "t")) (λ t.
-    FailsOr page 2 (IsNamed (codes "questions")) (λ questions.
+    FailsOr page 0 (IsNumberNamed (codes "n")) (λ n.
+    FailsOr page 1 (IsNumberNamed (codes "t")) (λ t.
+    FailsOr page 2 (IsNumberNamed (codes "questions")) (λ questions.
     SizeFailsOr n t questions (λ size.
     FailsOr page 3 AreListedLiars (λ liars.
     FailsOr page 4 IsSeed (λ seed. Later size liars seed))))))

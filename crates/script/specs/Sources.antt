@@ -1,7 +1,7 @@
 -- A script whose events are made as they are asked for.
 use Rattle.std.specs.Prelude.{ℕ, suc, ◌+◌, List, [], ◌∷◌, map}
 use Rattle.rand_chacha.specs.ChaCha.{ChaCha}
-use Rattle.vocabulary.specs.Terms.{Size}
+use Rattle.terms_prelude.specs.Terms.{Size}
 use Rattle.script.specs.declared.step.Order.{Order}
 use Rattle.script.specs.Acts.{TossedAct}
 use Rattle.script.specs.Steps.{ScriptStep}

@@ -5,7 +5,7 @@ use Rattle.sim.specs.declared.events.Which.{Which}
 use Rattle.script.specs.declared.step.Verb.{Verb}
 use Rattle.script.specs.declared.step.Verb.TheVariants as verb
 use Rattle.script.specs.LineWords.{IsMember, IsCount, IsLong, IsGroupSize, IsBit, IsWhich, IsFuse, ArePick}
-use Rattle.words.specs.Numbers.{IsHexOf}
+use Rattle.numerals.specs.Numbers.{IsHexOf}
 use Rattle.script.specs.Acts.{Act}
 use Rattle.script.specs.Acts.Act.{Propose, Deliver, DeliverAll, Lie, Fuse, Crash, Restart, Reset}
 

@@ -2,7 +2,7 @@
 
 ghost use Rattle.std.specs.Prelude.{◌≡◌, ◌<◌, ◌≤◌, IfOk};
 ghost use Rattle.rand_chacha.specs.ChaCha.{ChaCha};
-ghost use Rattle.vocabulary.specs.Terms.{FitsStep, IsPlain, IsOfThird};
+ghost use Rattle.terms_prelude.specs.Terms.{FitsStep, IsPlain, IsOfThird};
 ghost use Rattle.script.specs.Acts.{act_of, tossed_act};
 ghost use Rattle.script.specs.Drawing as drawing;
 
@@ -57,7 +57,7 @@ impl Draw {
 
     /// The toss of two words, the first the low half.
     #[tactic(auto, unfolding(crate::specs::Drawing::toss))]
-    fn toss(&mut self) -> Toss
+    pub fn toss(&mut self) -> Toss
         ensures { (result.0, self.new) ≡ drawing.toss self.old }
     {
         Toss(utils::next_u64_via_u32(&mut self.rng))
@@ -291,56 +291,16 @@ impl Draw {
         self.of_kind(alloc, size, kind)
     }
 
-    /// The event with its toss, which is drawn where it takes one.
-    pub fn tossed(&mut self, event: Event) -> Event
-        ensures { (tossed_act result, self.new) ≡ drawing.tossed (act_of event) self.old }
+    /// Draws the event's toss, where it takes one.
+    pub fn toss_into(&mut self, event: &mut Event)
+        ensures { (tossed_act event.new, self.new) ≡ drawing.tossed (act_of event.old) self.old }
     {
         match event {
-            Event::Propose {
-                member,
-                question,
-                bit,
-                toss: _,
-            } => Event::Propose {
-                member,
-                question,
-                bit,
-                toss: self.toss(),
-            },
-            Event::Deliver {
-                from,
-                to,
-                which,
-                toss: _,
-            } => Event::Deliver {
-                from,
-                to,
-                which,
-                toss: self.toss(),
-            },
-            Event::DeliverAll {
-                from,
-                to,
-                count,
-                toss: _,
-            } => Event::DeliverAll {
-                from,
-                to,
-                count,
-                toss: self.toss(),
-            },
-            Event::LieBytes {
-                liar,
-                to,
-                bytes,
-                toss: _,
-            } => Event::LieBytes {
-                liar,
-                to,
-                bytes,
-                toss: self.toss(),
-            },
-            untossed => untossed,
+            Event::Propose { toss, .. } => *toss = self.toss(),
+            Event::Deliver { toss, .. } => *toss = self.toss(),
+            Event::DeliverAll { toss, .. } => *toss = self.toss(),
+            Event::LieBytes { toss, .. } => *toss = self.toss(),
+            _ => {}
         }
     }
 }

@@ -2,20 +2,20 @@
 
 ghost use Rattle.std.specs.Prelude.{ℕ, List, ◌≡◌, ◌⊎◌, ◌<◌, ◌^◌, Some, IfOk, IfErr, IfSome, MatchOption};
 ghost use Rattle.script.specs.LineWords.{AreMembers};
-ghost use Rattle.script.specs.Scripts.{IsNamed, AreListedLiars, IsSeed, IsHead, IsHeadFault, LacksLine};
+ghost use Rattle.script.specs.Scripts.{IsNumberNamed, AreListedLiars, IsSeed, IsHead, IsHeadFault, LacksLine};
 ghost use Rattle.script.specs.Lines.{HasLine};
 ghost use Rattle.script.specs.Orders.{texts};
 
 use crate::fault::ScriptFault;
 use crate::lines::Lines;
+use numerals::{is, number, number8, number16, size_from};
 use std::alloc::{AllocError, Global};
 use terms::{Size, SizeFault};
-use words::{is, number, number8, number16, size_from};
 
 /// The number below 2^16 behind this name.
 fn named(words: &[&[u8]], name: &str) -> Option<u16>
-    ensures some { IfSome result (IsNamed name.now (texts words.now)) }
-    ensures exact { (number : ℕ) → IsNamed name.now (texts words.now) number → result ≡ Some number }
+    ensures some { IfSome result (IsNumberNamed name.now (texts words.now)) }
+    ensures exact { (number : ℕ) → IsNumberNamed name.now (texts words.now) number → result ≡ Some number }
 {
     match words {
         [first, word] if is(first, name) => number16(word),
@@ -25,8 +25,8 @@ fn named(words: &[&[u8]], name: &str) -> Option<u16>
 
 /// The number below 2^16 behind this name on the line of that place.
 fn named_at(alloc: Global, lines: &Lines, place: usize, name: &str) -> Result<u16, ScriptFault>
-    ensures ok { IfOk result (HasLine lines.now place (IsNamed name.now)) }
-    ensures err { IfErr result (λ fault. (fault ≡ ScriptFault.Memory) ⊎ LacksLine lines.now place (IsNamed name.now) fault) }
+    ensures ok { IfOk result (HasLine lines.now place (IsNumberNamed name.now)) }
+    ensures err { IfErr result (λ fault. (fault ≡ ScriptFault.Memory) ⊎ LacksLine lines.now place (IsNumberNamed name.now) fault) }
 {
     let line = lines.at(place)?;
     let words = line.words(alloc)?;

@@ -3,12 +3,12 @@
 //! Each function does nothing: its contract is a law over the definitions that the contract of `read` cites.
 
 ghost use Rattle.std.specs.Prelude.{ℕ, List, ◌≡◌, ◌⊎◌, map};
-ghost use Rattle.vocabulary.specs.Terms.{Size};
+ghost use Rattle.terms_prelude.specs.Terms.{Size};
 ghost use Rattle.script.specs.declared.Script.{Script};
 ghost use Rattle.script.specs.declared.fault.ScriptFault.{ScriptFault};
 ghost use Rattle.script.specs.Acts.{TossedAct, tossed_act};
 ghost use Rattle.script.specs.Steps.{ScriptStep, SaysStep};
-ghost use Rattle.script.specs.Scripts.{IsTold, IsScript, IsFirstFault};
+ghost use Rattle.script.specs.Scripts.{SaysCluster, IsScript, IsFirstFault};
 
 /// No line says two things.
 pub fn no_line_says_two_things()
@@ -33,6 +33,6 @@ pub fn no_script_has_a_fault()
 
 /// Each text says a cluster and its events, or has a first fault.
 pub fn each_text_says_something_or_has_a_fault()
-    ensures { (text : List ℕ) → ((size : Size) × (liars : List ℕ) × (events : List TossedAct) × IsTold text size liars events)
+    ensures { (text : List ℕ) → ((size : Size) × (liars : List ℕ) × (events : List TossedAct) × SaysCluster text size liars events)
         ⊎ ((fault : ScriptFault) × IsFirstFault text fault) }
 {}

@@ -1,12 +1,14 @@
 //! The events that a script's lines stand for.
 
 ghost use Rattle.std.specs.Prelude.{ℕ, List, ◌≡◌, ◌⊎◌, ◌<◌, ◌++◌, [], map, OnOk, IfOk, IfErr};
-ghost use Rattle.vocabulary.specs.Terms.{Size};
+ghost use Rattle.terms_prelude.specs.Terms.{Size};
+ghost use Rattle.sim.specs.declared.events.Which.TheVariants.{Next};
 ghost use Rattle.script.specs.Acts.{act_of, tossed_act};
+ghost use Rattle.script.specs.Acts.Act.{Deliver};
 ghost use Rattle.script.specs.Orders.{order_step};
 ghost use Rattle.script.specs.Making.{Made, add, add_drawn, adds, draws, row, round, times, turns, after_step};
 
-use crate::draw::{Draw, UNDRAWN};
+use crate::draw::Draw;
 use crate::fault::ScriptFault;
 use crate::step::Order;
 use sim::{Event, Which};
@@ -49,7 +51,8 @@ impl Making {
         ensures ok { OnOk result (self.new ≡ add (act_of event) self.old) }
         ensures err { IfErr result (λ fault. fault ≡ ScriptFault.Memory) }
     {
-        let event = self.draw.tossed(event);
+        let mut event = event;
+        self.draw.toss_into(&mut event);
         self.events.push(event)?;
         Ok(())
     }
@@ -60,9 +63,26 @@ impl Making {
         ensures ok { OnOk result (self.new ≡ add_drawn size self.old) }
         ensures err { IfErr result (λ fault. fault ≡ ScriptFault.Memory) }
     {
-        let event = self.draw.event(alloc, size)?;
-        let event = self.draw.tossed(event);
+        let mut event = self.draw.event(alloc, size)?;
+        self.draw.toss_into(&mut event);
         self.events.push(event)?;
+        Ok(())
+    }
+
+    /// Adds a delivery of the sender's next statement to this one.
+    #[tactic(auto, unfolding(crate::specs::Making::add))]
+    fn add_next(&mut self, from: u8, to: u8) -> Result<(), ScriptFault>
+        ensures ok { OnOk result (self.new ≡ add (Deliver from to Next) self.old) }
+        ensures err { IfErr result (λ fault. fault ≡ ScriptFault.Memory) }
+    {
+        let which = Which::Next;
+        let toss = self.draw.toss();
+        self.events.push(Event::Deliver {
+            from,
+            to,
+            which,
+            toss,
+        })?;
         Ok(())
     }
 
@@ -73,13 +93,7 @@ impl Making {
         ensures err { IfErr result (λ fault. fault ≡ ScriptFault.Memory) }
     {
         for to in members {
-            let which = Which::Next;
-            self.add(Event::Deliver {
-                from,
-                to: *to,
-                which,
-                toss: UNDRAWN,
-            })?;
+            self.add_next(from, *to)?;
         }
         Ok(())
     }
@@ -107,7 +121,7 @@ impl Making {
     }
 
     /// Adds one of so many rounds, and gives the order of those behind it. Without members there is nothing to add.
-    fn take_round(&mut self, count: u64, members: &[u8]) -> Result<Order, ScriptFault>
+    fn order_round(&mut self, count: u64, members: &[u8]) -> Result<Order, ScriptFault>
         ensures ok { IfOk result (λ rest.
             (size : Size) → after_step size members.now (order_step rest) self.new ≡ adds (times count (round members.now)) self.old) }
         ensures fewer { IfOk result (λ rest. (count ≡ 0) ⊎ (turns (order_step rest) < count)) }
@@ -124,7 +138,7 @@ impl Making {
     }
 
     /// Adds some of so many drawn events, and gives the order of those behind them.
-    fn take_drawn(&mut self, alloc: Global, size: Size, count: u64) -> Result<Order, ScriptFault>
+    fn order_drawn(&mut self, alloc: Global, size: Size, count: u64) -> Result<Order, ScriptFault>
         ensures ok { IfOk result (λ rest.
             (correct : List ℕ) → after_step size correct (order_step rest) self.new ≡ draws size count self.old) }
         ensures fewer { IfOk result (λ rest. (count ≡ 0) ⊎ (turns (order_step rest) < count)) }
@@ -162,8 +176,8 @@ impl Making {
     {
         match order {
             Order::Once(event) => self.take_one(event),
-            Order::Rounds(count) => self.take_round(count, correct),
-            Order::Random(count) => self.take_drawn(alloc, size, count),
+            Order::Rounds(count) => self.order_round(count, correct),
+            Order::Random(count) => self.order_drawn(alloc, size, count),
         }
     }
 

@@ -2,7 +2,7 @@
 
 ghost use Rattle.std.specs.Prelude.{ℕ, ◌≡◌, ◌<◌, ◌≤◌, ◌+◌, ◌*◌, ◌-◌, ◌^◌, [], length, min, IfOk, IfErr, ◌⊎◌};
 ghost use Rattle.sim.specs.declared.TheConstants.{MOST_EVENTS};
-ghost use Rattle.vocabulary.specs.Terms.{Size};
+ghost use Rattle.terms_prelude.specs.Terms.{Size};
 ghost use Rattle.script.specs.Steps.{ScriptStep, SaysStep};
 ghost use Rattle.script.specs.LineWords.{words_of};
 ghost use Rattle.script.specs.Orders.{order_step, numbered, made_by};

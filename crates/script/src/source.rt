@@ -5,7 +5,7 @@ ghost use Rattle.sim.specs.declared.TheConstants.{MOST_EVENTS};
 ghost use Rattle.script.specs.Acts.{tossed_act};
 ghost use Rattle.script.specs.Making.{turns};
 ghost use Rattle.script.specs.Orders.{order_step};
-ghost use Rattle.script.specs.Scripts.{IsTold, IsFirstFault};
+ghost use Rattle.script.specs.Scripts.{SaysCluster, IsFirstFault};
 
 use crate::fault::ScriptFault;
 use crate::head::{HEAD_LINES, Head};
@@ -60,7 +60,7 @@ impl Source {
     ///
     /// The first fault from the top, as [`read`](crate::read) has it. [`ScriptFault::Memory`] where memory was refused.
     pub fn of(alloc: Global, text: &[u8]) -> Result<Source, ScriptFault>
-        ensures says { IfOk result (λ source. IsTold text.now source.size source.liars source.left) }
+        ensures says { IfOk result (λ source. SaysCluster text.now source.size source.liars source.left) }
         ensures none { IfOk result (λ source. source.batch ≡ []) }
         ensures few { IfOk result (λ source. length source.left ≤ MOST_EVENTS) }
         ensures fault { IfErr result (λ fault. (fault ≡ ScriptFault.Memory) ⊎ IsFirstFault text.now fault) }

@@ -10,10 +10,10 @@ ghost use Rattle.script.specs.Orders.{order_step, texts};
 use crate::draw::UNDRAWN;
 use crate::values::{bit, fuse, group_size, which};
 use disk::Pick;
+use numerals::{byte, bytes, is, number, number8, number16};
 use sim::Event;
 use std::alloc::Global;
 use terms::Memory;
-use words::{byte, bytes, is, number, number8, number16};
 
 /// The word that a line of events begins with.
 #[derive(Clone, Copy, Debug, PartialEq, Eq)]

@@ -4,8 +4,8 @@ ghost use Rattle.std.specs.Prelude.{◌≡◌, ℕ, Bool, Option, Some, IfSome};
 ghost use Rattle.script.specs.LineWords.{IsBit, IsWhich, IsGroupSize, IsFuse};
 ghost use Rattle.sim.specs.declared.events.Which.{Which};
 
+use numerals::{is, number, number16};
 use sim::{MOST_IN_GROUP, Which};
-use words::{is, number, number16};
 
 /// The bit that the word writes, `0` or `1`, leading zeros taken.
 pub fn bit(word: &[u8]) -> Option<bool>

@@ -2,7 +2,7 @@
 use Rattle.std.proofs.Common.{◌≡◌, ◌<◌, ◌≤◌, refl, sym, subst, arith, Bool, true, false, cond, ◌==◌, nat_lt, Option, Some, None, Result, Ok, Err, IfErr, length, ◌⊎◌, inl, inr, string_bytes, eq-eqb}
 use Rattle.std.proofs.lemmas.Bool.Decides.{nat_tests}
 use Rattle.toml.specs.Data.{Members}
-use Rattle.vocabulary.specs.Terms.{size_fault, SizeFault}
+use Rattle.terms_prelude.specs.Terms.{size_fault, SizeFault}
 use Rattle.settings.specs.Words.{Entries, Me, Peers, Settings, SettingsFault, AllSuit, HasNumbers, IsOfMany, IsFault, SaysEntries, unfit, misfit, size_or}
 use Rattle.settings.specs.declared.fault.SettingsFault.TheVariants as fault
 

@@ -3,3 +3,5 @@ pub mod Members
 pub mod First
 pub mod Fitting
 pub mod Single
+pub mod Linking
+pub mod Liking

@@ -2,7 +2,7 @@
 use Rattle.std.proofs.Common.{ℕ, pos, ◌≡◌, refl, sym, ap, ◌∙◌, subst, arith, Option, Some, None, Result, Ok, Err, IfOk, IfErr, List, [], ◌∷◌, ◌++◌, length, ◌⊎◌, inl, inr, string_bytes, rules}
 use Rattle.std.specs.List.{AllByRecursion}
 use Rattle.toml.specs.Data.{Data, Members, Items, integer, array, item, no_items}
-use Rattle.vocabulary.specs.Terms.{size_fault, SizeFault}
+use Rattle.terms_prelude.specs.Terms.{size_fault, SizeFault}
 use Rattle.settings.specs.Words.{Address, Key, Cluster, N, T, Questions, Me, Journal, Peers, Desk, Seed, Settings, SettingsFault, Entries, SaysEntries, FitsEntries, unfit, IsOfFirst, Suits, AllSuit, HasNumber, AreAddresses, HasAddresses, HasNumbers, IsFirstBad, IsBadSize, IsOfMany, IsMisfit, IsFault, GivesSettings, IsSettings}
 use Rattle.settings.specs.declared.fault.SettingsFault.TheVariants as fault
 

@@ -1,6 +1,6 @@
 -- Texts HOST:PORT.
 use Rattle.std.specs.Prelude.{ℕ, ◌≡◌, ◌≤◌, ◌⊎◌, List, [], ◌∷◌, ◌++◌, codes}
-use Rattle.words.specs.Numbers.{IsBelow}
+use Rattle.numerals.specs.Numbers.{IsBelow}
 use Rattle.settings.specs.declared.address.Address.{Address}
 
 -- decimal digits that write a number of one byte

@@ -1,6 +1,6 @@
 -- What the keys say, each by itself.
 use Rattle.std.specs.Prelude.{ℕ, ◌≡◌, ◌⊎◌, ◌==◌, nat_lt, Option, Some, None, length, if◌then◌else◌, string_bytes}
-use Rattle.vocabulary.specs.Terms.{new_size, size_fault, new_header, SizeFault}
+use Rattle.terms_prelude.specs.Terms.{new_size, size_fault, new_header, SizeFault}
 use Rattle.settings.specs.declared.document.Settings.{Settings}
 use Rattle.toml.specs.Data.{Members}
 use Rattle.settings.specs.declared.keys.Key.{Key}

@@ -4,3 +4,5 @@ pub mod Keys
 pub mod Settings
 pub mod Entries
 pub mod Words
+pub mod Texts
+pub mod Clusters

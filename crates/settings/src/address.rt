@@ -4,7 +4,7 @@ ghost use Rattle.std.specs.Prelude.{ℕ, List, ◌≡◌, ◌<◌, ◌∷◌, �
 ghost use Rattle.settings.specs.Addresses.{IsOctet, IsPort, IsHost, AreDotted};
 ghost use Rattle.settings.specs.Marks.{LacksMark};
 
-use words::{number8, number16};
+use numerals::{number8, number16};
 
 /// A host of the internet and a port of it.
 #[derive(Clone, Copy, Debug, PartialEq, Eq)]
@@ -67,7 +67,7 @@ fn dotted(text: &str) -> Option<[u8; 4]>
 }
 
 /// The four octets of the host: those of `localhost`, or the ones that are written.
-fn octets(host: &str) -> Option<[u8; 4]>
+pub(crate) fn octets(host: &str) -> Option<[u8; 4]>
     ensures some { IfSome result (IsHost host.now) }
     ensures exact { (octets : List ℕ) → IsHost host.now octets → result ≡ Some octets }
 {

@@ -6,17 +6,17 @@ ghost use Rattle.toml.specs.View.{view, table_view, items_view};
 ghost use Rattle.settings.specs.Keys.{key_text};
 ghost use Rattle.settings.specs.Settings.{HasNumber, HasSmall, HasPath, HasAddress, HasAddresses, IsAddressText, AreAddresses, HasSeed};
 ghost use Rattle.settings.specs.Entries.{IsLack, IsLackOrMemory};
-ghost use Rattle.vocabulary.specs.Terms.{new_header};
+ghost use Rattle.terms_prelude.specs.Terms.{new_header};
 
 use crate::address::Address;
 use crate::document::Settings;
 use crate::fault::SettingsFault;
 use crate::keys::Key;
 use hex::FromHex;
+use numerals::size_from;
 use std::alloc::{AllocError, Global};
 use terms::{Header, Size};
 use toml::{Table, Value};
-use words::size_from;
 
 /// The value at a key, if the table has the key.
 fn value_at(table: &Table, key: Key) -> Option<&Value>

@@ -2,7 +2,7 @@
 use Rattle.std.proofs.Common.{◌≡◌, ◌<◌, ◌+◌, ℕ, Bool, true, false, eqb, eq-eqb, Option, Result, Ok, Err, IfOk, List, [], ◌∷◌, ◌++◌, length, get_or, set, get_or-set_same, get_or-set_other, refl, sym, ap, subst, ◌∙◌, arith, is_some, eqb-true}
 use Rattle.std.specs.List.{AllByRecursion}
 use Rattle.std.proofs.lemmas.Bool.{eqb-false}
-use Rattle.vocabulary.specs.Terms.{Size, Statement, IsWellFormed, Hearing, Proposal}
+use Rattle.terms_prelude.specs.Terms.{Size, Statement, IsWellFormed, Hearing, Proposal}
 use Rattle.rounds.specs.declared.tosses.Toss.{Toss}
 use Rattle.disk.specs.declared.crash.Pick.{Pick}
 use Rattle.wire.specs.declared.message.Message.{Message}
@@ -12,7 +12,7 @@ use Rattle.wire.proofs.Whole.{joins}
 use Rattle.world.specs.Words.{World, Step, after, after_all, Lie}
 use Rattle.world.specs.World.Step.{Crash as CrashStep}
 use Rattle.world.proofs.Runs.{put-here}
-use Rattle.sim.specs.Words.{Mark, Done, Failed, Skipped, Reason, Nothing, Link, Post, Presence, statements_in, is_broken_at, Takes, IsSeatAt, IsMove, Answers, AnswersGroup, hearings_from, AreLies, GoesOn, Reopens, is_liar, mine, Scene, Does, HearsLies, group_of, put_at, cleared, IsPost, IsLink, IsNewLink, IsDone, CanBeDone}
+use Rattle.sim.specs.Words.{Mark, Done, Failed, Skipped, Reason, Nothing, Link, Post, Presence, statements_in, is_broken_at, ReadsBytes, IsSeatAt, IsMove, Answers, AnswersGroup, hearings_from, AreLies, GoesOn, Reopens, is_liar, mine, Scene, Does, HearsLies, group_of, put_at, cleared, IsPost, IsLink, IsNewLink, IsDone, CanBeDone}
 use Rattle.sim.specs.declared.tasks.Instruction.TheVariants as task
 use Rattle.sim.proofs.Reading.{all_formed}
 
@@ -318,18 +318,18 @@ module _ (size : Size) (liars : ℕ → Bool) (c : Scene) (p : ℕ) (old : Post)
   -- bytes of a liar over a link that isn't broken
   module _ (liar : ℕ) (toss : Toss) (bytes : List ℕ) (i : ℕ) (len : length old.incoming.items ≡ size.n) (lies : liars liar ≡ true) (member : liar < size.n) (ei : i ≡ liar) (link now : Link)
       (at : link ≡ get_or old.incoming.items i link) (whole : is_broken_at link.end ≡ false) (statements : List Statement) (place_is : now.place ≡ link.place) (size_is : now.size ≡ link.size)
-      (takes : Takes link.size link.end bytes statements now.end) where
+      (takes : ReadsBytes link.size link.end bytes statements now.end) where
     first : IsLink size (liars liar) (c.place liar p) (c.fed liar p) link
     first = subst (λ (y : Link). IsLink size (liars liar) (c.place liar p) (c.fed liar p) y)
         (sym (at ∙ ap (λ (j : ℕ). get_or old.incoming.items j link) ei)) (post.links liar link member)
 
-    taken : Takes size link.end bytes statements now.end
-    taken = subst (λ (x : Size). Takes x link.end bytes statements now.end) first.size_is takes
+    taken : ReadsBytes size link.end bytes statements now.end
+    taken = subst (λ (x : Size). ReadsBytes x link.end bytes statements now.end) first.size_is takes
 
     pub lies_formed : AllByRecursion (IsWellFormed size) statements
     lies_formed = go link.end whole taken
       where
-        go : (e : End) → is_broken_at e ≡ false → Takes size e bytes statements now.end → AllByRecursion (IsWellFormed size) statements
+        go : (e : End) → is_broken_at e ≡ false → ReadsBytes size e bytes statements now.end → AllByRecursion (IsWellFormed size) statements
         go (Broken fault) h t = cc
         go (Rest rest) h t = subst (λ (l : List Statement). AllByRecursion (IsWellFormed size) l) (sym (t.2 ∙ ap statements_in t.1.2)) (all_formed size t.1.0 t.1.1.each)
 
@@ -363,7 +363,7 @@ module _ (size : Size) (liars : ℕ → Bool) (c : Scene) (p : ℕ) (old : Post)
         does_rest k steps rest e more reads are =
             (first.messages, Rest rest, subst (λ (x : End). ReadsMessages size (c.fed liar p) first.messages x) e first.read, (more, now.end, reads, are))
 
-        go : (e : End) → link.end ≡ e → is_broken_at e ≡ false → Takes size e bytes statements now.end → (k : Mark) → IsMove size liars p c.world (AreLies size p c.world (c.fused p) liar toss.0 statements k) new.seat
+        go : (e : End) → link.end ≡ e → is_broken_at e ≡ false → ReadsBytes size e bytes statements now.end → (k : Mark) → IsMove size liars p c.world (AreLies size p c.world (c.fused p) liar toss.0 statements k) new.seat
             → IsDone size liars c p (task.Lie liar toss) bytes k new
         go (Broken fault) e w t k m = cc
         go (Rest rest) e w t (Skipped reason) m = absurd (never_skipped size p c.world (c.fused p) liar toss.0 statements reason m.steps m.is)

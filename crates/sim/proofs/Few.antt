@@ -4,7 +4,7 @@ use Rattle.std.specs.List.{AllByRecursion, IsDistinct, list_any}
 use Rattle.std.proofs.lemmas.Bool.{or_cases, and_from}
 use Rattle.std.proofs.lemmas.List.{length-map}
 use Rattle.std.proofs.lemmas.Map.Steps.{length-le_from_distinct_below}
-use Rattle.vocabulary.specs.Terms.{Kind, Initial, Echo, Ready, Place, Value, Size, Statement, Record, Said, Decided, IsSize, FitsStep, sayings, decisions, kind_code, is_about, IsWellFormed}
+use Rattle.terms_prelude.specs.Terms.{Kind, Initial, Echo, Ready, Place, Value, Size, Statement, Record, Said, Decided, IsSize, FitsStep, sayings, decisions, kind_code, is_about, IsWellFormed}
 use Rattle.terms.proofs.Same.{is_about-same}
 use Rattle.world.specs.Laws.{IsWellFormedRecord, AreWellFormedRecords}
 

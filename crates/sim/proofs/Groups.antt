@@ -3,7 +3,7 @@ use Rattle.std.proofs.Common.{◌≡◌, ◌<◌, ◌≤◌, ◌+◌, ◌||◌, 
 use Rattle.std.specs.List.{AllByRecursion}
 use Rattle.std.proofs.Math.Nat.{zero-add}
 use Rattle.std.proofs.Math.Seq.{drop-nil}
-use Rattle.vocabulary.specs.Terms.{Size, Statement, Record, Said, Decided, has_said, statement_eq, IsWellFormed}
+use Rattle.terms_prelude.specs.Terms.{Size, Statement, Record, Said, Decided, has_said, statement_eq, IsWellFormed}
 use Rattle.terms.proofs.Same.{statement_eq-same}
 use Rattle.rounds.specs.declared.tosses.Toss.{Toss}
 use Rattle.wire.specs.Reading.{End, Rest}

@@ -3,7 +3,7 @@ use Rattle.std.proofs.Common.{◌≡◌, ◌<◌, ◌+◌, ℕ, Bool, true, None
 use Rattle.std.specs.List.{AllByRecursion}
 use Rattle.std.proofs.Math.Seq.{drop-cons}
 use Rattle.std.proofs.lemmas.Bool.{and_from}
-use Rattle.vocabulary.specs.Terms.{Size, Statement, Record, IsWellFormed, records_of, Hearing, Proposal, statement_eq}
+use Rattle.terms_prelude.specs.Terms.{Size, Statement, Record, IsWellFormed, records_of, Hearing, Proposal, statement_eq}
 use Rattle.terms.specs.Reply.{Event as Happening}
 use Rattle.terms.proofs.Same.{statement_eq-same}
 use Rattle.world.specs.Words.{World, Step, IsCorrect, IsRun, has_sent, after, after_all, Lie}

@@ -1,7 +1,7 @@
 -- A script as a run of the world.
 use Rattle.std.proofs.Common.{◌≡◌, ◌≤◌, ℕ, Bool, List, [], ◌∷◌, ◌++◌, refl, sym, ap, subst, ◌∙◌, append-nil, append_assoc}
 use Rattle.std.specs.Global.{Vec}
-use Rattle.vocabulary.specs.Terms.{Size, Record, IsSize, count_below}
+use Rattle.terms_prelude.specs.Terms.{Size, Record, IsSize, count_below}
 use Rattle.world.specs.World.{World, Step, IsRun, start, after_all}
 use Rattle.world.proofs.Runs.{IsRun-append, after_all-append}
 use Rattle.world.proofs.Keeps.{reached_ok}

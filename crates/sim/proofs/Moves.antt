@@ -1,6 +1,6 @@
 -- What a member does, as steps of the world.
 use Rattle.std.proofs.Common.{◌≡◌, ℕ, ◌⊎◌, inl, inr, Bool, true, false, Option, Some, Result, Ok, Err, IfOk, List, [], ◌∷◌, ◌++◌, refl, sym, ap, subst, ◌∙◌, append_assoc}
-use Rattle.vocabulary.specs.Terms.{Size, Record, Statement, Header, records_of, records_of_all, without_tosses}
+use Rattle.terms_prelude.specs.Terms.{Size, Record, Statement, Header, records_of, records_of_all, without_tosses}
 use Rattle.std.specs.Global.{Vec}
 use Rattle.terms.specs.Reply.{Event as Happening}
 use Rattle.disk.specs.declared.memory.MemDisk.{MemDisk}

@@ -1,7 +1,7 @@
 -- Statements by their numbers.
 use Rattle.std.proofs.Common.{◌≡◌, ◌+◌, ◌<◌, ◌≤◌, ℕ, zero, suc, Some, None, List, [], ◌∷◌, length, get_or, drop, refl, sym, ap, ◌∙◌, arith}
 use Rattle.std.proofs.Math.Seq.{drop-cons}
-use Rattle.vocabulary.specs.Terms.{Statement, Record, Said, Decided}
+use Rattle.terms_prelude.specs.Terms.{Statement, Record, Said, Decided}
 use Rattle.member.specs.declared.sealed.Sealed.{Sealed}
 use Rattle.member.specs.Sealed.{sealed_from}
 use Rattle.sim.specs.Seats.{nth_said}

@@ -5,7 +5,7 @@ use Rattle.std.proofs.lemmas.List.{get_or_default}
 use Rattle.disk.specs.declared.memory.MemDisk.{MemDisk}
 use Rattle.disk.specs.Memory.{fuse_left}
 use Rattle.sim.specs.Words.{Post, HasFuse, among, fused_in, Link, mine, is_liar, opening, OpensPost, IsReady, IsCreated, IsOpenedPost, IsNewLink, IsLink, IsPost}
-use Rattle.vocabulary.specs.Terms.{Size, Header}
+use Rattle.terms_prelude.specs.Terms.{Size, Header}
 use Rattle.sim.proofs.Done.{link_new}
 
 module _ (initial posts : List Post) (i : ℕ) (x new : Post) (l : i < length posts) (at : x ≡ get_or posts i x) (one : OpensPost x new)

@@ -1,13 +1,13 @@
 -- What the tests of a plan say.
 use Rattle.std.proofs.Common.{◌≡◌, ◌<◌, ◌+◌, ℕ, zero, suc, [], ◌∷◌, subst, Bool, true, false, not, cond, nat_lt, Option, Some, None, Result, Ok, Err, IfOk, List, length, get_or, refl, sym, ap, ◌∙◌, arith, ◌⊎◌, inl, inr}
 use Rattle.std.proofs.lemmas.Bool.Decides.{nat_tests}
-use Rattle.vocabulary.specs.Terms.{Size, Record, Said, Decided, Statement, has_said, statement_eq, is_none, IsWellFormed}
+use Rattle.terms_prelude.specs.Terms.{Size, Record, Said, Decided, Statement, has_said, statement_eq, is_none, IsWellFormed}
 use Rattle.terms.proofs.Same.{statement_eq-same}
 use Rattle.rounds.specs.declared.tosses.Toss.{Toss}
 use Rattle.wire.specs.Reading.{Rest}
 use Rattle.world.specs.World.{World, has_sent}
 use Rattle.member.specs.Readers.{member_is_stopped}
-use Rattle.sim.specs.Words.{Which, Next, At, Event, Reason, Link, Delivery, Post, Instruction, Presence, Here, Down, Liar, IsSeatAt, is_up, saved_in, nth_said, group_from, mine, Scene, plan_of, for_link, to_deliver, delivery_of, group_of, to_group, IsPost, IsCluster, CanBeDone, Brings, AreSaid, IsSteady}
+use Rattle.sim.specs.Words.{Which, Next, At, Event, Reason, Link, Delivery, Post, Instruction, Presence, Here, Down, Liar, IsSeatAt, is_up, saved_in, nth_said, group_from, mine, Scene, plan_of, for_link, to_deliver, delivery_of, group_of, to_group, IsPost, IsCluster, CanBeDone, IsGroupFor, AreSaid, IsSteady}
 use Rattle.sim.specs.declared.events.Event.TheVariants as events
 use Rattle.sim.specs.declared.events.Reason.TheVariants as reasons
 use Rattle.sim.specs.declared.tasks.Instruction.TheVariants as tasks
@@ -123,7 +123,7 @@ pub brought_is : (size : Size) (liars : ℕ → Bool) (s : Scene) (posts : List 
     → i ≡ p → receiver ≡ get_or posts i receiver → j ≡ from → sender ≡ get_or posts j sender → ((d : Link) → place ≡ (get_or receiver.incoming.items from d).place)
     → IfOk result (λ group. group.statements.items ≡ group_from (saved_in sender.seat) place count)
     → IfOk result (λ group. group.place ≡ place + length group.statements.items)
-    → IfOk result (Brings s p (tasks.DeliverAll from count toss))
+    → IfOk result (IsGroupFor s p (tasks.DeliverAll from count toss))
 brought_is size liars s posts p from count toss i j place receiver sender (Err e) cluster below fits ei ri ej sj at statements behind = tt
 brought_is size liars s posts p from count toss i j place receiver sender (Ok group) cluster below fits ei ri ej sj at statements behind =
     let to_post = post_at size liars s posts i p receiver ei ri below cluster in

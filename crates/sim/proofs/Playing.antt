@@ -3,7 +3,7 @@ use Rattle.std.proofs.Common.{◌≡◌, ◌<◌, ◌≤◌, ◌^◌, ℕ, zero,
 use Rattle.std.specs.List.{slice_get}
 use Rattle.std.proofs.lemmas.Option.{slice_get_past}
 use Rattle.std.specs.Global.{Vec}
-use Rattle.vocabulary.specs.Terms.{Size, Record, IsSize}
+use Rattle.terms_prelude.specs.Terms.{Size, Record, IsSize}
 use Rattle.sim.specs.Words.{Event, Mark, Post, SimFault, Scene, opening, IsCluster, AreLiars, IsSimulation, HaveOneBit, AreUnanimous, Verdict, among, verdicts_of, IsTurn, IsSteady, saved_in, ClusterFields, Played, ClusterStandsFor, unplayed, and_then, saved_behind, saved_among, last_saved}
 use Rattle.world.specs.Words.{EveryRun, Agree, Unanimous}
 use Rattle.sim.specs.declared.faults.SimFault.TheVariants as faults

@@ -1,6 +1,6 @@
 -- The bits that a script proposes are those that the world was handed.
 use Rattle.std.proofs.Common.{◌≡◌, ◌+◌, ℕ, Option, Some, None, Bool, true, false, cond, ◌&&◌, ◌||◌, ◌==◌, ◌⊎◌, inl, inr, Result, Ok, Err, List, [], ◌∷◌, ◌++◌, refl, sym, ap, subst, ◌∙◌, nat_lt, eqb-true}
-use Rattle.vocabulary.specs.Terms.{is_none, Size, Statement, Record, records_of, Hearing, Proposal}
+use Rattle.terms_prelude.specs.Terms.{is_none, Size, Statement, Record, records_of, Hearing, Proposal}
 use Rattle.rounds.specs.declared.tosses.Toss.{Toss}
 use Rattle.std.specs.Bool.{beq}
 use Rattle.std.specs.List.{AllByRecursion}

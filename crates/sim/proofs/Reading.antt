@@ -3,7 +3,7 @@ use Rattle.std.proofs.Common.{◌≡◌, ◌≤◌, ◌+◌, ◌<◌, ℕ, List,
 use Rattle.std.specs.List.{AllByRecursion}
 use Rattle.std.proofs.lemmas.List.{take_more}
 use Rattle.std.proofs.lemmas.Grind.{flat_map-append}
-use Rattle.vocabulary.specs.Terms.{Size, Statement, IsSize, IsWellFormed}
+use Rattle.terms_prelude.specs.Terms.{Size, Statement, IsSize, IsWellFormed}
 use Rattle.wire.specs.declared.message.Message.{Message}
 use Rattle.wire.specs.declared.message.Message.TheVariants as message
 use Rattle.wire.specs.Words.{frame_bytes, Fits, End, Rest, Feeds}

@@ -1,7 +1,7 @@
 -- Numbers that rise, and how many of all numbers they are.
 use Rattle.std.proofs.Common.{◌≡◌, ◌<◌, ◌≤◌, ◌+◌, ℕ, zero, suc, Bool, true, false, cond, ◌||◌, List, [], ◌∷◌, length, get_or, drop, refl, sym, subst, arith, add-one, nat_eq, eqb-true}
 use Rattle.std.proofs.Math.Seq.{drop-cons}
-use Rattle.vocabulary.specs.Terms.{count_below}
+use Rattle.terms_prelude.specs.Terms.{count_below}
 use Rattle.sim.specs.Outcomes.{RiseFrom, among}
 
 pub head_rises : (least n i : ℕ) (xs : List ℕ) → i < length xs → RiseFrom least n (drop i xs)

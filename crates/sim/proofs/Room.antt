@@ -1,6 +1,6 @@
 -- A member's journal always has room.
 use Rattle.std.proofs.Common.{◌≡◌, ◌+◌, ◌*◌, ◌^◌, ◌<◌, ◌≤◌, ◌⊎◌, inl, inr, ℕ, Bool, true, false, None, Result, Ok, Err, IsErrOf, List, [], ◌∷◌, ◌++◌, length, length-append, sym, ap, subst, ◌∙◌, arith}
-use Rattle.vocabulary.specs.Terms.{Size, Statement, Header, Record, past_of, IsReply, AreReplies, records_of, records_of_all, without_tosses, Hearing, Proposal}
+use Rattle.terms_prelude.specs.Terms.{Size, Statement, Header, Record, past_of, IsReply, AreReplies, records_of, records_of_all, without_tosses, Hearing, Proposal}
 use Rattle.terms.specs.Reply.{Event as Happening}
 use Rattle.disk.specs.declared.memory.MemDisk.{MemDisk}
 use Rattle.journal.specs.Texts.{batch_records as records_in}

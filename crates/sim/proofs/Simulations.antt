@@ -1,7 +1,7 @@
 -- What a simulation promises.
 use Rattle.std.proofs.Common.{◌≤◌, ℕ, Bool, List, sym, subst, arith}
 use Rattle.std.specs.Global.{Vec}
-use Rattle.vocabulary.specs.Terms.{Size, Record, IsSize, count_below}
+use Rattle.terms_prelude.specs.Terms.{Size, Record, IsSize, count_below}
 use Rattle.world.specs.Words.{World, EveryRun, Agree, Unanimous}
 use Rattle.sim.specs.Words.{Event, Mark, opening, AreLiars, IsSimulation, HaveOneBit, AreUnanimous, Verdict, among}
 use Rattle.sim.proofs.Rising.{few_among}

@@ -2,7 +2,7 @@
 use Rattle.std.proofs.Common.{◌≡◌, ◌<◌, ℕ, Bool, true, false, cond, eqb, Result, Ok, Err, List, [], ◌∷◌, ◌++◌, length, drop, append-nil, append_assoc, get_or, set, get_or-set_same, get_or-set_other, refl, sym, ap, subst, ◌∙◌, arith, eqb-true}
 use Rattle.std.proofs.lemmas.Bool.{eqb-false}
 use Rattle.std.proofs.Math.Seq.{drop-append_seam}
-use Rattle.vocabulary.specs.Terms.{Size, Statement, Record, records_of, records_of_all, without_tosses, Hearing, Proposal, IsSize}
+use Rattle.terms_prelude.specs.Terms.{Size, Statement, Record, records_of, records_of_all, without_tosses, Hearing, Proposal, IsSize}
 use Rattle.terms.specs.Reply.{Event as Happening}
 use Rattle.wire.specs.declared.message.Message.{Message}
 use Rattle.sim.specs.Words.{Reason, Mark, Done, Failed, Skipped, Post, Presence, Here, Down, Liar, Instruction, IsSeatAt, Answers, AnswersGroup, hearings_from, AreLies, GoesOn, is_liar, saved_in, mine, Scene, Does, HearsLies, group_of, moved, scene_after, plan_of, bytes_in, IsPost, IsDone, IsCluster, CanBeDone, IsTurn, IsPlanned, Event}

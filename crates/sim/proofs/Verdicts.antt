@@ -1,6 +1,6 @@
 -- The verdicts are those of the world.
 use Rattle.std.proofs.Common.{◌≡◌, ◌<◌, ◌+◌, ℕ, zero, suc, Bool, true, false, cond, List, [], ◌∷◌, ◌++◌, refl, sym, ap, subst, ◌∙◌, add-one, append-nil, append_assoc, length, drop, get_or, ◌&&◌, ◌||◌, ◌==◌, ◌⊎◌, Option, Some, None, eq-eqb}
-use Rattle.vocabulary.specs.Terms.{Size, Header, Record, Statement, Said, Decided, decided, has_decided}
+use Rattle.terms_prelude.specs.Terms.{Size, Header, Record, Statement, Said, Decided, decided, has_decided}
 use Rattle.sim.specs.Words.{Post, Presence, Here, Down, Liar, is_liar, saved_in, Scene, IsPost, Verdict, verdict_in, verdicts_below, verdicts_of_below, verdicts_of, HaveOneBit}
 use Rattle.std.specs.Bool.{beq}
 use Rattle.std.specs.List.{Contains}

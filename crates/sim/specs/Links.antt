@@ -1,7 +1,7 @@
 -- What a link reads.
 use Rattle.std.specs.Prelude.{ℕ, ◌≡◌, Bool, true, false, List, [], ◌∷◌}
 use Rattle.std.specs.List.{flat_map}
-use Rattle.vocabulary.specs.Terms.{Size, Statement}
+use Rattle.terms_prelude.specs.Terms.{Size, Statement}
 use Rattle.wire.specs.declared.message.Message.{Message}
 use Rattle.wire.specs.declared.message.Message.TheVariants as message
 use Rattle.wire.specs.Reading.{End, Rest, Broken}
@@ -37,6 +37,6 @@ message_of (s ∷ []) = message.Statement s
 message_of (s ∷ next ∷ more) = message.Statements (s ∷ next ∷ more)
 
 -- the bytes, behind what a link holds, are these statements, with other messages between them, and end so
-abbrev pub Takes : Size → End → List ℕ → List Statement → End → Type 0
-Takes size end bytes statements last =
+abbrev pub ReadsBytes : Size → End → List ℕ → List Statement → End → Type 0
+ReadsBytes size end bytes statements last =
     (messages : List Message) × Feeds size end bytes [] messages last × (statements ≡ statements_in messages)

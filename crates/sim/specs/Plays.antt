@@ -1,7 +1,7 @@
 -- What is played on a cluster.
 use Rattle.std.specs.Prelude.{ℕ, ◌≡◌, ◌≤◌, Bool, Option, Some, None, List, [], ◌∷◌, ◌++◌, drop, slice_get}
 use Rattle.std.specs.Global.{Vec}
-use Rattle.vocabulary.specs.Terms.{Size, Record, IsSize, count_below}
+use Rattle.terms_prelude.specs.Terms.{Size, Record, IsSize, count_below}
 use Rattle.sim.specs.declared.events.Event.{Event}
 use Rattle.sim.specs.declared.events.Mark.{Mark}
 use Rattle.sim.specs.declared.posts.Post.{Post}

@@ -1,7 +1,7 @@
 -- What a post has of the scene, and what a task does to it.
 use Rattle.std.specs.Prelude.{ℕ, ◌≡◌, ◌<◌, ◌+◌, Bool, true, false, Option, Some, None, List, [], length, get_or}
 use Rattle.std.specs.List.{AllByRecursion}
-use Rattle.vocabulary.specs.Terms.{Size, Record, Statement, Header, IsWellFormed}
+use Rattle.terms_prelude.specs.Terms.{Size, Record, Statement, Header, IsWellFormed}
 use Rattle.wire.specs.declared.message.Message.{Message}
 use Rattle.wire.specs.Reading.{Rest, ReadsMessages}
 use Rattle.world.specs.World.{Step, IsRun, has_sent, start, after_all}
@@ -74,10 +74,10 @@ CanBeDone size liars c p task.Restart = (liars p ≡ false) × ((batch : List Re
 CanBeDone size liars c p (task.Reset from) = from < size.n
 
 -- the group is what the task at that number brings, with the link's place behind it
-abbrev pub Brings : Scene → ℕ → Instruction → Delivery → Type 0
-Brings c p (task.DeliverAll from count toss) group =
+abbrev pub IsGroupFor : Scene → ℕ → Instruction → Delivery → Type 0
+IsGroupFor c p (task.DeliverAll from count toss) group =
     (group.statements.items ≡ group_of c from p count) × (group.place ≡ c.place from p + length (group_of c from p count))
-Brings c p told group = Unit {0}
+IsGroupFor c p told group = Unit {0}
 
 -- the task with that mark is some steps of the world, after which the post is what the scene has of its number
 pub record IsDone (size : Size) (liars : ℕ → Bool) (c : Scene) (p : ℕ) (told : Instruction) (bytes : List ℕ) (mark : Mark) (post : Post) : Type 0 where

@@ -1,7 +1,7 @@
 -- A script and its marks as a run of the world.
 use Rattle.std.specs.Prelude.{ℕ, ◌≡◌, Bool, true, Result, Ok, Err, List, [], ◌∷◌, ◌++◌}
 use Rattle.std.specs.Global.{Vec}
-use Rattle.vocabulary.specs.Terms.{Size, Statement, Record, has_said, IsWellFormed}
+use Rattle.terms_prelude.specs.Terms.{Size, Statement, Record, has_said, IsWellFormed}
 use Rattle.world.specs.World.{Step, IsCorrect, IsRun, has_sent, after_all}
 use Rattle.sim.specs.declared.events.Event.{Event}
 use Rattle.sim.specs.declared.events.Mark.{Mark}

@@ -1,6 +1,6 @@
 -- Which runs of the world a script and its marks are.
 use Rattle.std.specs.Prelude.{ℕ, ◌≡◌, ◌+◌, Bool, false, cond, ◌==◌, nat_lt, is_some, Option, Some, None, Result, Ok, Err, List, [], ◌∷◌, ◌++◌, length}
-use Rattle.vocabulary.specs.Terms.{Size, Statement, Record, is_none, Hearing, Proposal}
+use Rattle.terms_prelude.specs.Terms.{Size, Statement, Record, is_none, Hearing, Proposal}
 use Rattle.wire.specs.declared.message.Message.{Message}
 use Rattle.wire.specs.Reading.{End, Rest, Broken, ReadsMessages}
 use Rattle.rounds.specs.declared.tosses.Toss.{Toss}

@@ -1,7 +1,7 @@
 -- Where a member is, and what it does in the world.
 use Rattle.std.specs.Prelude.{ℕ, zero, suc, ◌≡◌, Bool, true, false, not, Option, Some, None, Result, Ok, Err, List, [], ◌∷◌, ◌++◌, drop, map, min, take}
 use Rattle.std.specs.Global.{Vec}
-use Rattle.vocabulary.specs.Terms.{Size, Statement, Record, Said, Decided, Header, new_header, Reply, records_of, records_of_all, without_tosses, Hearing}
+use Rattle.terms_prelude.specs.Terms.{Size, Statement, Record, Said, Decided, Header, new_header, Reply, records_of, records_of_all, without_tosses, Hearing}
 use Rattle.terms.specs.Reply.{Event as Happening}
 use Rattle.disk.specs.declared.memory.MemDisk.{MemDisk}
 use Rattle.disk.specs.declared.crash.Pick.{Pick}

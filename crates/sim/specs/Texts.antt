@@ -2,7 +2,7 @@
 use Rattle.std.specs.Prelude.{ℕ, ◌/◌, ◌%◌, false, Option, Some, None, List, [], ◌∷◌, codes}
 use Rattle.std.specs.List.{flat_map}
 use Rattle.std.specs.Fmt.{decimal, digit_glyph}
-use Rattle.words.specs.Sentences.{sentence, bit_digit}
+use Rattle.numerals.specs.Sentences.{sentence, bit_digit}
 use Rattle.disk.specs.declared.crash.Pick.{Pick}
 use Rattle.disk.specs.declared.crash.Pick.TheVariants.{Kept, Lost, Fill}
 use Rattle.sim.specs.declared.events.Event.{Event}

@@ -2,9 +2,9 @@
 
 ghost use Rattle.std.specs.Prelude.{◌≡◌, ◌++◌, ◌<◌, ◌≤◌, ◌^◌, ℕ, Bool, List, length, drop, get_or, false, true, IfOk, IfErr, OnOk, IsErrOf, IsTrue, Err, option_map, ◌↔◌, ◌≢◌};
 ghost use Rattle.std.specs.Global.{Vec};
-ghost use Rattle.vocabulary.specs.Terms.{Size, Record, IsSize, count_below, decided};
-ghost use Rattle.sim.specs.Scene.{Scene, opening};
-ghost use Rattle.sim.specs.Posts.{IsCluster, AreReady, IsReady, IsCreated, IsOfRun, IsOfOpening, OpensPost};
+ghost use Rattle.terms_prelude.specs.Terms.{Size, Record, IsSize, count_below, decided};
+ghost use Rattle.sim.specs.Scene.{Scene, opening, plan_of};
+ghost use Rattle.sim.specs.Posts.{IsCluster, AreReady, IsReady, IsCreated, HasSender, IsOfRun, IsOfOpening, OpensPost};
 ghost use Rattle.sim.specs.Outcomes.{AreLiars, AreDisks, HasFuse, IsSimulation, HaveOneBit, AreUnanimous, among, fused_in, verdicts_below, verdicts_of};
 ghost use Rattle.sim.specs.declared.faults.SimFault.TheVariants as faults;
 ghost use Rattle.sim.specs.declared.posts.Post.{Post};
@@ -13,8 +13,8 @@ ghost use Rattle.sim.specs.Runs.{IsTurn, IsSteady};
 ghost use Rattle.sim.specs.Plays.{Played, ClusterStandsFor, played, unplayed, and_then, last_saved, saved_among, saved_behind};
 
 use crate::posts::Post;
-use crate::tasks::{brought, bytes_in, plan};
-use crate::{Event, Mark, SimFault};
+use crate::tasks::{Instruction, brought, bytes_in, delivery, plan};
+use crate::{Event, Mark, Reason, SimFault};
 use disk::MemDisk;
 use std::alloc::Global;
 use std::marker::Model;
@@ -298,6 +298,7 @@ fn follow(
 }
 
 /// Carries one event out: its mark, and where it wasn't skipped its member, and how many records that had saved before.
+/// Most events are deliveries of one statement, for which nothing else is asked.
 fn step(
     alloc: Global,
     size: Size,
@@ -313,7 +314,44 @@ fn step(
     ensures memory { (liars : ℕ → Bool) (c : Scene) → IsSize size → IsSteady size liars c → IsCluster size liars c posts.old →
         IfErr result (λ fault. fault ≡ faults.Memory) }
 {
-    match plan(size, posts, event) {
+    match event {
+        Event::Deliver {
+            from,
+            to,
+            which,
+            toss,
+        } => {
+            let planned = delivery(size, posts, *from, *to, *which, *toss);
+            carry_out(alloc, size, posts, event, planned)
+        }
+        _ => {
+            let planned = plan(size, posts, event);
+            carry_out(alloc, size, posts, event, planned)
+        }
+    }
+}
+
+/// Carries out what is planned for an event.
+#[inline(always)]
+fn carry_out(
+    alloc: Global,
+    size: Size,
+    posts: &mut [Post],
+    event: &Event,
+    planned: Result<(u8, Instruction), Reason>,
+) -> Result<(Mark, Option<(u8, usize)>), SimFault>
+    requires ready { AreReady size posts.old }
+    requires within { IfOk planned (λ to. (to.0 < size.n) × HasSender size.n to.1) }
+    ensures ready { AreReady size posts.new }
+    ensures only { IfErr result IsOfRun }
+    ensures turn { (liars : ℕ → Bool) (c : Scene) → IsSize size → IsSteady size liars c → IsCluster size liars c posts.old →
+        planned ≡ plan_of size liars c event.now →
+        IfOk result (λ done. IsTurn size liars c event.now done.0 (saved_among posts.new done.1) posts.new) }
+    ensures room { IfOk result (λ done. length (saved_among posts.new done.1) < 2 ^ 63) }
+    ensures memory { (liars : ℕ → Bool) (c : Scene) → IsSize size → IsSteady size liars c → IsCluster size liars c posts.old →
+        planned ≡ plan_of size liars c event.now → IfErr result (λ fault. fault ≡ faults.Memory) }
+{
+    match planned {
         Ok((to, task)) => {
             let group = brought(alloc, size, posts, to, &task)?;
             let post = &mut posts[usize::from(to)];

@@ -2,18 +2,18 @@
 
 ghost use Rattle.std.specs.Prelude.{◌≡◌, ◌≤◌, ◌+◌, ◌++◌, List, [], ◌∷◌, Some, IfOk, OnOk, OnErr, length, map};
 ghost use Rattle.std.specs.List.{AllByRecursion};
-ghost use Rattle.vocabulary.specs.Terms.{Statement, IsSize, IsWellFormed};
+ghost use Rattle.terms_prelude.specs.Terms.{Statement, IsSize, IsWellFormed};
 ghost use Rattle.wire.specs.declared.message.Message.TheVariants as variants;
 ghost use Rattle.wire.specs.Feeding.{Feeds};
 ghost use Rattle.wire.specs.Reading.{End, Rest};
-ghost use Rattle.sim.specs.Links.{statements_in, statements_of, message_of, is_broken_at, Takes};
+ghost use Rattle.sim.specs.Links.{statements_in, statements_of, message_of, is_broken_at, ReadsBytes};
 
 use rounds::Toss;
 use std::alloc::Global;
 use std::marker::Model;
 use std::slice::from_ref;
 use terms::{Memory, Size, Statement};
-use wire::{Fed, Feeder, MOST_STATEMENTS, Many, Message, encode};
+use wire::{Fed, Feeder, MOST_STATEMENTS, Many, Message, encode, encode_alone};
 
 /// A link, as its receiver has it. In contracts it is its place, its size, and how the bytes ended that it was fed.
 #[derive(Drop)]
@@ -21,7 +21,7 @@ pub(crate) struct Link {
     place: u64,
     feeder: Feeder,
     broken: bool,
-    /// The frame that was carried last. Its memory serves the next.
+    /// The frame of a group that was carried last. Its memory serves the next.
     frame: Vec<u8>,
     /// What was read last. Its memory serves what is read next.
     messages: Vec<Message>,
@@ -91,7 +91,7 @@ impl Link {
     /// Reads the next bytes, and gives the statements that they complete.
     pub(crate) fn take(&mut self, alloc: Global, bytes: &[u8]) -> Result<Vec<Statement>, Memory>
         ensures takes { IfOk result (λ statements.
-            Takes self.old.size self.old.end bytes.now statements.items self.new.end) }
+            ReadsBytes self.old.size self.old.end bytes.now statements.items self.new.end) }
         ensures place { self.new.place ≡ self.old.place }
         ensures size { self.new.size ≡ self.old.size }
     {
@@ -108,9 +108,11 @@ impl Link {
         ensures place { self.new.place ≡ self.old.place }
         ensures size { self.new.size ≡ self.old.size }
     {
-        self.frame.clear();
-        encode(&Message::Statement(*statement), &mut self.frame)?;
-        self.broken = read(&mut self.feeder, &self.frame, &mut self.messages)?;
+        let frame = encode_alone(statement);
+        if let Some(arrived) = self.feeder.read_alone(&frame) {
+            return Ok(Some(arrived));
+        }
+        self.broken = read(&mut self.feeder, &frame, &mut self.messages)?;
         Ok(statement_alone(&self.messages))
     }
 

@@ -1,7 +1,7 @@
 //! A member of a simulated cluster, with all that comes to it.
 
 ghost use Rattle.std.specs.Prelude.{◌≡◌, ◌<◌, ◌≤◌, ◌+◌, ◌^◌, ℕ, Bool, true, false, Some, None, List, [], length, get_or, is_some, IfOk, IfErr, IfSome, OnOk, IsErrOf};
-ghost use Rattle.vocabulary.specs.Terms.{Size, Header, IsSize};
+ghost use Rattle.terms_prelude.specs.Terms.{Size, Header, IsSize};
 ghost use Rattle.world.specs.World.{start};
 ghost use Rattle.disk.specs.declared.memory.MemDisk.{MemDisk};
 ghost use Rattle.disk.specs.Memory.{fuse_left};
@@ -12,7 +12,7 @@ ghost use Rattle.sim.specs.declared.faults.SimFault.TheVariants as faults;
 ghost use Rattle.sim.specs.declared.links.Link.{Link};
 ghost use Rattle.sim.specs.Seats.{is_liar, is_up, saved_in, nth_said, group_from, disk_in, HasDiskFuse, HasCrashed, IsFreshSeat, IsSeatAt, MayCome, mine};
 ghost use Rattle.sim.specs.Scene.{Scene};
-ghost use Rattle.sim.specs.Posts.{IsPost, IsReady, IsDone, Brings, IsNewLink, CanBeDone, HasSender, IsCreated, IsOpenedPost, IsOfOpening, IsOfRun, DoesToDisk};
+ghost use Rattle.sim.specs.Posts.{IsPost, IsReady, IsDone, IsGroupFor, IsNewLink, CanBeDone, HasSender, IsCreated, IsOpenedPost, IsOfOpening, IsOfRun, DoesToDisk};
 
 use crate::links::Link;
 use crate::seats::Presence;
@@ -158,6 +158,7 @@ impl Post {
     }
 
     /// Carries a task out; the bytes are for a lie, the statements for a group.
+    #[inline(always)]
     pub(crate) fn carry(
         &mut self,
         alloc: Global,
@@ -173,10 +174,10 @@ impl Post {
         ensures only { IfErr result IsOfRun }
         ensures disk { OnOk result (DoesToDisk task (disk_in self.old.seat) (disk_in self.new.seat)) }
         ensures done { (size : Size) (liars : ℕ → Bool) (c : Scene) (p : ℕ) → IsSize size → p < size.n →
-            IsPost size liars c p self.old → CanBeDone size liars c p task → Brings c p task group.now →
+            IsPost size liars c p self.old → CanBeDone size liars c p task → IsGroupFor c p task group.now →
             IfOk result (λ mark. IsDone size liars c p task bytes.now mark self.new) }
         ensures memory { (size : Size) (liars : ℕ → Bool) (c : Scene) (p : ℕ) → IsSize size → p < size.n →
-            IsPost size liars c p self.old → CanBeDone size liars c p task → Brings c p task group.now → MayCome size liars c.world →
+            IsPost size liars c p self.old → CanBeDone size liars c p task → IsGroupFor c p task group.now → MayCome size liars c.world →
             IfErr result (λ fault. fault ≡ faults.Memory) }
     {
         match task {
@@ -253,11 +254,11 @@ impl Post {
         ensures only { IfErr result IsOfRun }
         ensures done { (size : Size) (liars : ℕ → Bool) (c : Scene) (p count : ℕ) → IsSize size → p < size.n →
             IsPost size liars c p self.old → CanBeDone size liars c p (tasks.DeliverAll from count toss) →
-            Brings c p (tasks.DeliverAll from count toss) group.now → (bytes : List ℕ) →
+            IsGroupFor c p (tasks.DeliverAll from count toss) group.now → (bytes : List ℕ) →
             IfOk result (λ mark. IsDone size liars c p (tasks.DeliverAll from count toss) bytes mark self.new) }
         ensures memory { (size : Size) (liars : ℕ → Bool) (c : Scene) (p count : ℕ) → IsSize size → p < size.n →
             IsPost size liars c p self.old → CanBeDone size liars c p (tasks.DeliverAll from count toss) →
-            Brings c p (tasks.DeliverAll from count toss) group.now → MayCome size liars c.world →
+            IsGroupFor c p (tasks.DeliverAll from count toss) group.now → MayCome size liars c.world →
             IfErr result (λ fault. fault ≡ faults.Memory) }
     {
         let link = &mut self.incoming[usize::from(from)];

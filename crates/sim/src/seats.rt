@@ -2,7 +2,7 @@
 
 ghost use Rattle.std.specs.Prelude.{◌≡◌, ◌<◌, ◌≤◌, ◌+◌, ◌^◌, length, ℕ, Bool, true, false, None, Some, List, [], IfOk, IfErr, IfSome, OnOk, IsErrOf, MatchOption};
 ghost use Rattle.std.specs.List.{AllByRecursion};
-ghost use Rattle.vocabulary.specs.Terms.{Header, Size, Record, Hearing, Proposal, IsWellFormed};
+ghost use Rattle.terms_prelude.specs.Terms.{Header, Size, Record, Hearing, Proposal, IsWellFormed};
 ghost use Rattle.world.specs.World.{World, IsCorrect, has_sent, after};
 ghost use Rattle.world.specs.World.Step.{Crash};
 ghost use Rattle.sim.specs.Posts.{IsOfRun};

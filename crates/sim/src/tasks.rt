@@ -2,7 +2,7 @@
 
 ghost use Rattle.std.specs.Prelude.{◌≡◌, ◌<◌, ◌≤◌, ℕ, Bool, List, Ok, IfOk, IfErr, length};
 ghost use Rattle.sim.specs.Scene.{Scene, plan_of, lie_plan, delivery_of, to_group, for_correct, for_running, for_link, bytes_in};
-ghost use Rattle.sim.specs.Posts.{IsCluster, AreReady, IsReady, HasSender, CanBeDone, Brings};
+ghost use Rattle.sim.specs.Posts.{IsCluster, AreReady, IsReady, HasSender, CanBeDone, IsGroupFor};
 ghost use Rattle.sim.specs.Seats.{saved_in, group_from};
 ghost use Rattle.sim.specs.declared.faults.SimFault.TheVariants as faults;
 ghost use Rattle.sim.specs.declared.events.Event.TheVariants as events;
@@ -147,6 +147,7 @@ fn for_running(
 
 /// The place of the link from a correct member to one that is correct and runs, or the first reason why nothing comes over
 /// it.
+#[inline(always)]
 fn link_place(size: Size, posts: &[Post], from: u8, to: u8) -> Result<u64, Reason>
     requires ready { AreReady size posts.now }
     ensures place { (liars : ℕ → Bool) (c : Scene) → IsCluster size liars c posts.now →
@@ -167,7 +168,8 @@ fn link_place(size: Size, posts: &[Post], from: u8, to: u8) -> Result<u64, Reaso
 }
 
 /// A statement of a correct member for a correct member.
-fn delivery(
+#[inline(always)]
+pub(crate) fn delivery(
     size: Size,
     posts: &[Post],
     from: u8,
@@ -228,6 +230,7 @@ fn outgoing_group(
 }
 
 /// One of a sender's statements, over a link that is at that place.
+#[inline(always)]
 fn outgoing(
     sender: &Post,
     place: u64,
@@ -299,6 +302,7 @@ fn restart(size: Size, posts: &[Post], member: u8) -> Result<(u8, Instruction), 
 }
 
 /// The statements that a task brings, which are those of a group.
+#[inline(always)]
 pub(crate) fn brought(
     alloc: Global,
     size: Size,
@@ -309,7 +313,7 @@ pub(crate) fn brought(
     requires ready { AreReady size posts.now }
     requires within { (to < size.n) × HasSender size.n task.now }
     ensures brings { (liars : ℕ → Bool) (c : Scene) → IsCluster size liars c posts.now → CanBeDone size liars c to task.now →
-        IfOk result (Brings c to task.now) }
+        IfOk result (IsGroupFor c to task.now) }
     ensures few { IfOk result (λ group. length group.statements.items ≤ 256) }
     ensures only { IfErr result (λ fault. fault ≡ faults.Memory) }
 {
@@ -326,6 +330,7 @@ pub(crate) fn brought(
 }
 
 /// The bytes that a liar's event brings.
+#[inline(always)]
 pub(crate) fn bytes_in(event: &Event) -> &[u8]
     ensures { result.now ≡ bytes_in event.now }
 {

@@ -5,10 +5,10 @@ use Rattle.std.specs.List.{All}
 use Rattle.std.proofs.lemmas.Fmt.{decimal_injective, decimal_is_IsNumeral}
 use Rattle.std.proofs.lemmas.List.{length-map}
 use Rattle.std.proofs.lemmas.List.Elements.{All-append}
-use Rattle.vocabulary.specs.Terms.{Initial, Zero, Statement, Size, IsSize, IsWellFormed, new_place, new_statement}
-use Rattle.words.proofs.Cuts.{digits_spaceless, one_cut}
-use Rattle.words.specs.Lines.{lines_of}
-use Rattle.words.specs.Spaces.{NoSpace}
+use Rattle.terms_prelude.specs.Terms.{Initial, Zero, Statement, Size, IsSize, IsWellFormed, new_place, new_statement}
+use Rattle.numerals.proofs.Cuts.{digits_spaceless, one_cut}
+use Rattle.numerals.specs.Lines.{lines_of}
+use Rattle.numerals.specs.Spaces.{NoSpace}
 use Rattle.transcripts.specs.Lines.{bit_words, head_line, pair_line}
 use Rattle.transcripts.specs.Reading.{FitsPair, FitsSize, Shown, lines_shown, Begins, IsNone, IsBadAt, IsBadNext}
 use Rattle.transcripts.specs.Rests.{IsNoPair, IsBadRest, EndsAt}

@@ -2,8 +2,8 @@
 use Rattle.std.proofs.Common.{ℕ, zero, suc, ◌≡◌, ◌+◌, ◌<◌, ◌≤◌, ◌⊎◌, inl, inr, Bool, true, false, refl, sym, ap, subst, ◌∙◌, arith, List, [], ◌∷◌, ◌++◌, length, map, length-append, append_assoc, append-nil}
 use Rattle.std.specs.List.{All}
 use Rattle.std.proofs.lemmas.List.Elements.{All-append}
-use Rattle.vocabulary.specs.Terms.{Statement, Size}
-use Rattle.words.specs.Lines.{lines_of, onto_line}
+use Rattle.terms_prelude.specs.Terms.{Statement, Size}
+use Rattle.numerals.specs.Lines.{lines_of, onto_line}
 use Rattle.transcripts.specs.Lines.{pair_line}
 use Rattle.transcripts.specs.Reading.{FitsPair, is_end}
 use Rattle.transcripts.specs.Rests.{IsNoPair, IsBadRest, EndsAt}

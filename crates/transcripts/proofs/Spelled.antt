@@ -7,12 +7,12 @@ use Rattle.hex.specs.Hex.{IsBytes, decode_of, decode_sized, encode_lower}
 use Rattle.hex.specs.declared.error.FromHexError.{FromHexError}
 use Rattle.hex.proofs.HexLemmas.{decode_of-encode_lower, decode_sized-twice, length-encode_with}
 use Rattle.hex.specs.Hex.{lower_digits}
-use Rattle.vocabulary.specs.Terms.{Kind, Initial, Echo, Ready, Value, Zero, One, SureZero, SureOne, Unsure, Statement, Size, IsSize, IsWellFormed, FitsStep, value_code}
-use Rattle.spelling.specs.Statements.{kind_byte}
-use Rattle.words.proofs.Cuts.{one_cut}
-use Rattle.words.specs.Lines.{lines_of, onto_line}
-use Rattle.words.specs.Numbers.{IsBelow}
-use Rattle.words.specs.Spaces.{NoSpace}
+use Rattle.terms_prelude.specs.Terms.{Kind, Initial, Echo, Ready, Value, Zero, One, SureZero, SureOne, Unsure, Statement, Size, IsSize, IsWellFormed, FitsStep, value_code}
+use Rattle.statement_codec.specs.Statements.{kind_byte}
+use Rattle.numerals.proofs.Cuts.{one_cut}
+use Rattle.numerals.specs.Lines.{lines_of, onto_line}
+use Rattle.numerals.specs.Numbers.{IsBelow}
+use Rattle.numerals.specs.Spaces.{NoSpace}
 use Rattle.wire.specs.Texts.{frame_bytes}
 use Rattle.wire.specs.declared.message.Message.TheVariants as message
 use Rattle.transcripts.specs.Lines.{bit_words}

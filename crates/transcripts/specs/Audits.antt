@@ -1,8 +1,8 @@
 -- What `audit` answers.
 use Rattle.std.specs.Prelude.{ℕ, ◌≡◌, ◌⊎◌, Option, List, codes}
 use Rattle.std.specs.Io.KnownBytes.{Appends}
-use Rattle.vocabulary.specs.Terms.{Size}
-use Rattle.words.specs.Lines.{line}
+use Rattle.terms_prelude.specs.Terms.{Size}
+use Rattle.numerals.specs.Lines.{line}
 use Rattle.questions.specs.Audits.{IsProof}
 use Rattle.transcripts.specs.Reading.{Shown, Reads}
 

@@ -1,8 +1,8 @@
 -- What a text of lines says.
 use Rattle.std.specs.Prelude.{ℕ, ◌≡◌, ◌==◌, ◌+◌, ◌<◌, ◌^◌, Bool, List, [], ◌∷◌, ◌++◌, length}
 use Rattle.std.specs.List.{All}
-use Rattle.vocabulary.specs.Terms.{Statement, Size, IsWellFormed}
-use Rattle.words.specs.Lines.{lines_of}
+use Rattle.terms_prelude.specs.Terms.{Statement, Size, IsWellFormed}
+use Rattle.numerals.specs.Lines.{lines_of}
 use Rattle.transcripts.specs.Lines.{transcript_lines}
 
 -- a byte that ends a line

@@ -1,8 +1,8 @@
 -- What ends the reading of a transcript behind its first line.
 use Rattle.std.specs.Prelude.{ℕ, ◌≡◌, ◌+◌, ◌<◌, ◌≤◌, ◌⊎◌, List, [], ◌∷◌, ◌++◌, length, map}
 use Rattle.std.specs.List.{All}
-use Rattle.vocabulary.specs.Terms.{Statement, Size}
-use Rattle.words.specs.Lines.{lines_of}
+use Rattle.terms_prelude.specs.Terms.{Statement, Size}
+use Rattle.numerals.specs.Lines.{lines_of}
 use Rattle.transcripts.specs.Lines.{pair_line}
 use Rattle.transcripts.specs.Reading.{FitsPair}
 

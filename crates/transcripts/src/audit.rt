@@ -3,7 +3,7 @@
 ghost use Rattle.std.specs.Prelude.{ℕ, ◌≡◌, ◌+◌, ◌<◌, ◌↔◌, IsTrue, Err, length, map, IfOk};
 ghost use Rattle.std.specs.List.{All};
 ghost use Rattle.std.specs.Io.KnownBytes.{Keeps};
-ghost use Rattle.words.specs.Lines.{lines_of};
+ghost use Rattle.numerals.specs.Lines.{lines_of};
 ghost use Rattle.questions.specs.Audits.{IsProof};
 ghost use Rattle.transcripts.specs.Audits.{IsAudited};
 ghost use Rattle.transcripts.specs.Lines.{pair_line};

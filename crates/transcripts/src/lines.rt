@@ -3,7 +3,7 @@
 ghost use Rattle.std.specs.Prelude.{◌≡◌, ◌+◌, ◌≤◌, ◌++◌, length};
 ghost use Rattle.arrayvec.specs.ArrayVec.{array_vec_len};
 ghost use Rattle.hex.specs.Hex.{encode_lower};
-ghost use Rattle.words.specs.Lines.{line};
+ghost use Rattle.numerals.specs.Lines.{line};
 ghost use Rattle.wire.specs.Texts.{frame_bytes};
 ghost use Rattle.wire.specs.declared.message.Message.TheVariants as message;
 ghost use Rattle.transcripts.specs.Lines.{bit_words, head_line, pair_line};
@@ -11,7 +11,7 @@ ghost use Rattle.transcripts.specs.Lines.{bit_words, head_line, pair_line};
 use arrayvec::ArrayVec;
 use hex::encode_to_slice;
 use itoa::Buffer;
-use spelling::statement_bytes;
+use statement_codec::statement_bytes;
 use terms::Statement;
 
 /// Room for lines, which takes no memory: at most 4,096 bytes.

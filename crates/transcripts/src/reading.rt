@@ -4,8 +4,8 @@
 ghost use Rattle.std.specs.Prelude.{ℕ, ◌≡◌, ◌<◌, ◌^◌, ◌∷◌, ◌++◌, List, Bool, Some, length, IfSome, IsTrue, ◌↔◌, MatchOption};
 ghost use Rattle.std.specs.List.{position_from};
 ghost use Rattle.hex.specs.Hex.{IsBytes, encode_lower};
-ghost use Rattle.vocabulary.specs.Terms.{Statement, IsWellFormed};
-ghost use Rattle.words.specs.Lines.{lines_of};
+ghost use Rattle.terms_prelude.specs.Terms.{Statement, IsWellFormed};
+ghost use Rattle.numerals.specs.Lines.{lines_of};
 ghost use Rattle.wire.specs.Texts.{frame_bytes};
 ghost use Rattle.wire.specs.declared.message.Message.TheVariants as message;
 ghost use Rattle.transcripts.specs.Lines.{bit_words, head_line, pair_line};
@@ -14,9 +14,9 @@ ghost use Rattle.transcripts.specs.declared.reading.Head.{Head};
 
 use crate::lines::{Block, put_first_words, put_words};
 use hex::decode_to_slice;
-use spelling::{kind_of, value_of};
+use numerals::{behind, number, number8, number16, split_at_space};
+use statement_codec::{kind_of, value_of};
 use terms::{Place, Size, Statement};
-use words::{behind, number, number8, number16, split_at_space};
 
 /// What the first line says.
 #[derive(Clone, Copy, Debug, PartialEq, Eq)]

@@ -1,12 +1,11 @@
-//! A journal that is made, appended to and stopped. Openings of whole, cut and changed files stand in `rows`.
+//! A journal that is appended to and stopped. How it is made, and openings of whole, cut and changed files, are rows.
 //!
 //! Where `rt try --test --fail-alloc N` refuses an allocation, a row that comes out otherwise is played again, and is
 //! then to come out as with ample memory. A journal that was refused memory itself appends the same batch at once.
 ghost use Rattle.std.specs.Prelude.{◌≡◌, IfOk};
-ghost use Rattle.vocabulary.specs.Terms.{Echo, One, Record, Said, Header, new_place, new_statement, new_size, new_header};
+ghost use Rattle.terms_prelude.specs.Terms.{Echo, One, Record, Said, Header, new_place, new_statement, new_size, new_header};
 
-use crate::texts::prints;
-use disk::{Disk, MemDisk, Pick};
+use disk::{Disk, MemDisk};
 use journal::{Journal, JournalFault, create};
 use std::alloc::Global;
 use std::test::Fail;
@@ -70,58 +69,6 @@ fn count_of(
     opening(alloc, header, bytes).map(|records| records.len())
 }
 
-/// The answer to a creation that some calls of the device pass of, how many records an opening finds after a crash, and
-/// the answer to another creation then.
-type Created = (
-    Result<(), JournalFault>,
-    Result<usize, JournalFault>,
-    Result<(), JournalFault>,
-);
-
-fn created_under(
-    alloc: Global,
-    header: Header,
-    calls: u64,
-    pick: Pick,
-) -> Result<Created, JournalFault> {
-    let mut disk = MemDisk::new(alloc);
-    disk.fuse(Some(calls));
-    let answer = create(&mut disk, &header);
-    let mut left = disk.crash(pick)?;
-    let bytes = content(alloc, &mut left)?;
-    let count = opening(alloc, header, &bytes).map(|records| records.len());
-    Ok((answer, count, create(&mut left, &header)))
-}
-
-#[test]
-fn a_stop_at_each_call_of_create(rt: HostRuntime) -> Result<(), Fail> {
-    let device = Err(JournalFault::Device);
-    let no_header = Err(JournalFault::BadHeader);
-    let there = Err(JournalFault::NotEmpty);
-    let rows = [
-        (0, Pick::Kept, (device, no_header, Ok(()))),
-        (0, Pick::Lost, (device, no_header, Ok(()))),
-        (0, Pick::Fill(0), (device, no_header, Ok(()))),
-        (1, Pick::Kept, (device, no_header, Ok(()))),
-        (1, Pick::Lost, (device, no_header, Ok(()))),
-        (1, Pick::Fill(0), (device, no_header, Ok(()))),
-        (2, Pick::Kept, (device, Ok(0), there)),
-        (2, Pick::Lost, (device, no_header, Ok(()))),
-        (2, Pick::Fill(0), (device, no_header, there)),
-        (3, Pick::Lost, (Ok(()), Ok(0), there)),
-        (3, Pick::Fill(0), (Ok(()), Ok(0), there)),
-    ];
-    let header = header(1)?;
-    for (calls, pick, wanted) in rows {
-        let mut row = created_under(rt.alloc(), header, calls, pick);
-        if row != Ok(wanted) {
-            row = created_under(rt.alloc(), header, calls, pick);
-        }
-        assert!(rt; row == Ok(wanted), "{calls} calls, {pick:?}");
-    }
-    Ok(())
-}
-
 /// The answers to appends of no record and of the echo where no call of the device passes, and then to one of the echo
 /// where all pass.
 type Answers = (
@@ -145,20 +92,19 @@ fn stopped(alloc: Global, header: Header, echo: Record) -> Result<Answers, Journ
     Ok((empty, answer, journal.append(&[echo])))
 }
 
-#[test]
-fn a_stopped_journal_stays_so(rt: HostRuntime) -> Result<(), Fail> {
+/// Whether a journal whose disk has failed stays stopped, though that answers again.
+fn stays_stopped(alloc: Global) -> Result<bool, Fail> {
     let (header, echo) = (header(1)?, echo()?);
     let wanted = Ok((
         Ok(()),
         Err(JournalFault::Device),
         Err(JournalFault::Stopped),
     ));
-    let mut answers = stopped(rt.alloc(), header, echo);
+    let mut answers = stopped(alloc, header, echo);
     if answers != wanted {
-        answers = stopped(rt.alloc(), header, echo);
+        answers = stopped(alloc, header, echo);
     }
-    assert!(rt; answers == wanted);
-    Ok(())
+    Ok(answers == wanted)
 }
 
 /// The file after a creation and an append of the echo. Memory that the journal itself is refused leaves it as it was.
@@ -183,17 +129,15 @@ fn one_echo_file(alloc: Global, header: Header, echo: Record) -> Result<Vec<u8>,
     content(alloc, &mut disk)
 }
 
-#[test]
-fn one_echo(rt: HostRuntime) -> Result<(), Fail> {
+/// Whether a batch of one is the file that it has to be, and is found there.
+fn adds_one_echo(alloc: Global) -> Result<bool, Fail> {
     let (header, echo) = (header(1)?, echo()?);
-    let bytes = match one_echo_file(rt.alloc(), header, echo) {
+    let bytes = match one_echo_file(alloc, header, echo) {
         Ok(bytes) => bytes,
-        Err(_) => one_echo_file(rt.alloc(), header, echo)?,
+        Err(_) => one_echo_file(alloc, header, echo)?,
     };
-    assert_eq!(rt; bytes.as_slice(), ONE_ECHO.as_slice());
-    let count = count_of(rt.alloc(), header, &ONE_ECHO, Ok(1));
-    assert!(rt; count == Ok(1));
-    Ok(())
+    let count = count_of(alloc, header, &ONE_ECHO, Ok(1));
+    Ok(bytes.as_slice() == ONE_ECHO.as_slice() && count == Ok(1))
 }
 
 /// How many records there are after a batch of two. It is played once: with ample memory nothing is refused.
@@ -207,28 +151,17 @@ fn two_at_once(alloc: Global, header: Header, echo: Record) -> Result<usize, Jou
     Ok(records.len())
 }
 
-#[test]
-fn a_batch_of_two(rt: HostRuntime) -> Result<(), Fail> {
+/// Whether a batch of two has both records.
+fn adds_two_at_once(alloc: Global) -> Result<bool, Fail> {
     let (header, echo) = (header(1)?, echo()?);
-    assert!(rt; two_at_once(rt.alloc(), header, echo) == Ok(2));
-    Ok(())
+    Ok(two_at_once(alloc, header, echo) == Ok(2))
 }
 
 #[test]
-fn names_of_faults(rt: HostRuntime) -> Result<(), Fail> {
-    let rows = [
-        (JournalFault::NotEmpty, "NotEmpty"),
-        (JournalFault::BadHeader, "BadHeader"),
-        (JournalFault::OtherHeader, "OtherHeader"),
-        (JournalFault::BadRecord, "BadRecord"),
-        (JournalFault::CutShort, "CutShort"),
-        (JournalFault::Device, "Device"),
-        (JournalFault::Memory, "Memory"),
-        (JournalFault::Stopped, "Stopped"),
-        (JournalFault::Full, "Full"),
-    ];
-    for (fault, name) in rows {
-        assert!(rt; prints(rt.alloc(), &fault, name)?, "{fault} for {name}");
-    }
+fn a_journal_adds_batches_until_it_is_stopped(rt: HostRuntime) -> Result<(), Fail> {
+    let alloc = rt.alloc();
+    assert!(rt; adds_one_echo(alloc)?);
+    assert!(rt; adds_two_at_once(alloc)?);
+    assert!(rt; stays_stopped(alloc)?);
     Ok(())
 }

@@ -1,27 +1,9 @@
-//! Tests of the libraries that use only what these offer. Here a library isn't proved a second time for them.
+//! Tests of a journal by itself, and of disks that are files. What else libraries up to the member do is played by `rows`.
 #![tactic(auto)]
 
 #[cfg(test)]
-mod answers;
-#[cfg(test)]
-mod broadcasts;
-#[cfg(test)]
-mod counts;
-#[cfg(test)]
-mod decisions;
-#[cfg(test)]
-mod documents;
-#[cfg(test)]
-mod frames;
+mod files;
 #[cfg(test)]
 mod journals;
 #[cfg(test)]
-mod members;
-#[cfg(test)]
-mod pieces;
-#[cfg(test)]
-mod sizes;
-#[cfg(test)]
-mod texts;
-#[cfg(test)]
-mod validation;
+mod order;

@@ -3,7 +3,7 @@ use Rattle.std.proofs.Common.{ℕ, zero, suc, ◌≡◌, ◌+◌, ◌-◌, ◌%�
 use Rattle.std.proofs.lemmas.Nat.Bits.{bit_at_and, bit_at_or, bit_at_xor, bit_at-lt, bit_at-zero}
 use Rattle.std.proofs.lemmas.Bool.{false≢true}
 use Rattle.std.specs.Int.{bit_at}
-use Rattle.vocabulary.specs.Terms.{Value, Zero, One, SureZero, SureOne, Unsure, count_below, keep_or, given, value_is}
+use Rattle.terms_prelude.specs.Terms.{Value, Zero, One, SureZero, SureOne, Unsure, count_below, keep_or, given, value_is}
 use Rattle.terms.proofs.Count.{count-ext}
 use Rattle.votes.specs.declared.Votes.{Votes}
 use Rattle.votes.specs.Votes.{has_bit, with_bit, one_value, fits, value_at, value_of, no_votes, with_vote}

@@ -2,7 +2,7 @@
 -- the masks.
 use Rattle.std.specs.Prelude.{ℕ, ◌*◌, ◌%◌, ◌^◌, Bool, true, false, cond, ◌&&◌, ◌==◌, Option, Some, None, bit_or}
 use Rattle.std.specs.Int.{bit_at}
-use Rattle.vocabulary.specs.Terms.{Value, Zero, One, SureZero, SureOne, Unsure}
+use Rattle.terms_prelude.specs.Terms.{Value, Zero, One, SureZero, SureOne, Unsure}
 use Rattle.votes.specs.declared.Votes.{Votes}
 
 -- the member's bit is set

@@ -7,7 +7,7 @@
 #![tactic(auto)]
 
 ghost use Rattle.std.specs.Prelude.{◌≡◌, ◌<◌, ◌==◌, ◌^◌, ◌-◌, ℕ, Bool, true, None};
-ghost use Rattle.vocabulary.specs.Terms.{count_below, value_is, keep_or, given};
+ghost use Rattle.terms_prelude.specs.Terms.{count_below, value_is, keep_or, given};
 ghost use Rattle.votes.specs.Votes.{has_bit, zero_value, one_value, fits, value_of, no_votes, with_vote};
 
 use terms::{Size, Value};

@@ -1,7 +1,7 @@
 -- What the readers of a welcome and a hello answer is true of the bytes.
 use Rattle.std.proofs.Common.{ℕ, zero, suc, ◌≡◌, ◌-◌, ◌/◌, ◌%◌, ◌<◌, ◌≤◌, List, [], ◌∷◌, ◌++◌, length, drop, Result, refl, sym, ap, subst, ◌∙◌, append_assoc, arith, append-nil, drop_at}
 use Rattle.std.specs.Int.{w64, to_be_bytes, from_be_bytes}
-use Rattle.vocabulary.specs.Terms.{Size, IsSize}
+use Rattle.terms_prelude.specs.Terms.{Size, IsSize}
 use Rattle.wire.specs.Words.{Message, Stop, Version, BadHello, frame_bytes, Fits, version_byte, AreBytes, BeginsFrame, IsPartial, ◌>>=◌, byte_at, version_from, welcome_at, hello_at}
 use Rattle.wire.specs.declared.message.Message.TheVariants as message
 use Rattle.wire.specs.declared.message.Version.TheVariants as version

@@ -7,7 +7,7 @@ use denote.Enum.Bare.{sameb}
 use denote.Enum.Declared.{tag_of}
 use Rattle.terms.specs.contracts.Kind as kind_contract
 use Rattle.terms.specs.contracts.Value as value_contract
-use Rattle.vocabulary.specs.Terms.{Kind, Initial, Echo, Ready, Value, Zero, One, SureZero, SureOne, Unsure, Statement, statement_eq, kind_eq, value_eq, place_eq, kind_code, value_code}
+use Rattle.terms_prelude.specs.Terms.{Kind, Initial, Echo, Ready, Value, Zero, One, SureZero, SureOne, Unsure, Statement, statement_eq, kind_eq, value_eq, place_eq, kind_code, value_code}
 
 kind_tag : (k : Kind) → tag_of kind_contract.the_type k ≡ kind_code k
 kind_tag Initial = refl

@@ -5,8 +5,8 @@ use Rattle.std.proofs.lemmas.Bool.{and_parts, and_from, or_cases, eq-eqb, ne_eqb
 use Rattle.std.proofs.lemmas.List.{length-replicate, append_cancel_left}
 use Rattle.std.proofs.lemmas.List.Concat.{flat_map-append}
 use Rattle.std.specs.List.{AllByRecursion}
-use Rattle.vocabulary.specs.Terms.{Size, Statement, IsSize, IsWellFormed}
-use Rattle.spelling.specs.Statements.{statement_bytes}
+use Rattle.terms_prelude.specs.Terms.{Size, Statement, IsSize, IsWellFormed}
+use Rattle.statement_codec.specs.Statements.{statement_bytes}
 use Rattle.wire.specs.Words.{Message, IsCount, FitMany, Fits, frame_bytes, frame_body, statements_bytes, AreBytes, IsPartial, PrecedesStatement, statement_fault, and_more, head_bytes, is_length, is_type, many_at, spelled_at, within}
 use Rattle.wire.specs.declared.message.Message.TheVariants as message
 use Rattle.wire.specs.declared.message.Head.TheVariants as head

@@ -1,8 +1,8 @@
 -- The frame of several statements, as it is written.
 use Rattle.std.proofs.Common.{ℕ, suc, ◌≡◌, ◌+◌, ◌<◌, List, [], ◌++◌, length, get_or, drop, refl, sym, ap, ◌∙◌, append_assoc, append-nil, arith}
 use Rattle.std.proofs.Math.Seq.{drop-cons}
-use Rattle.vocabulary.specs.Terms.{Statement}
-use Rattle.spelling.specs.Statements.{statement_bytes}
+use Rattle.terms_prelude.specs.Terms.{Statement}
+use Rattle.statement_codec.specs.Statements.{statement_bytes}
 use Rattle.wire.specs.Words.{frame_bytes, head_bytes, statements_bytes}
 use Rattle.wire.specs.declared.message.Message.TheVariants as message
 use Rattle.wire.specs.declared.message.Head.TheVariants as head

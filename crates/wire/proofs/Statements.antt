@@ -2,9 +2,9 @@
 use Rattle.std.proofs.Common.{ℕ, zero, suc, ◌≡◌, ◌+◌, ◌-◌, ◌*◌, ◌/◌, ◌%◌, ◌<◌, ◌≤◌, true, false, cond, eqb, List, [], ◌∷◌, ◌++◌, length, get_or, take, drop, Result, refl, sym, ap, subst, ◌∙◌, append_assoc, arith, take-append-drop, eqb-true}
 use Rattle.std.proofs.Math.Seq.{drop-cons}
 use Rattle.std.proofs.lemmas.Bool.{cond_both, eqb-false}
-use Rattle.vocabulary.specs.Terms.{Kind, Initial, Echo, Ready, Value, Zero, One, SureZero, SureOne, Unsure, Size, Statement, IsSize, FitsStep, value_code, new_place, new_statement, IsWellFormed}
+use Rattle.terms_prelude.specs.Terms.{Kind, Initial, Echo, Ready, Value, Zero, One, SureZero, SureOne, Unsure, Size, Statement, IsSize, FitsStep, value_code, new_place, new_statement, IsWellFormed}
 use Rattle.wire.specs.Words.{Stop, WireFault, BadKind, BadPlace, BadValue, AreBytes, BeginsFrame, IsPartial, PrecedesStatement, statement_fault, ◌>>=◌, byte_at, most_low, least_value, most_value, spelled_at}
-use Rattle.spelling.specs.Statements.{kind_byte, statement_bytes, kind_from, value_from}
+use Rattle.statement_codec.specs.Statements.{kind_byte, statement_bytes, kind_from, value_from}
 use Rattle.wire.proofs.Values.{value_fits}
 use Rattle.wire.proofs.Telling.{TellsOf, In, step}
 

@@ -6,7 +6,7 @@ use Rattle.std.specs.Cmp.{IsEquivalence, decided}
 use Rattle.std.specs.Cmp.Lexicographic.{pointwise}
 use Rattle.std.proofs.lemmas.Cmp.{lists_equiv}
 use Rattle.std.proofs.lemmas.Slice.Eq.{slice_eq-Decides}
-use Rattle.vocabulary.specs.Terms.{Statement, statement_eq}
+use Rattle.terms_prelude.specs.Terms.{Statement, statement_eq}
 use Rattle.terms.proofs.Same.{statement_eq-true, statement_eq-same}
 
 abbrev pub same_statements : List Statement → List Statement → Bool

@@ -20,7 +20,7 @@ pub struct Many {
 
 impl Model for Many {
     ghost use Rattle.std.specs.Prelude.{List, length};
-    ghost use Rattle.vocabulary.specs.Terms.{Statement};
+    ghost use Rattle.terms_prelude.specs.Terms.{Statement};
     ghost use Rattle.wire.specs.Count.{IsCount};
 
     ghost Value = { List Statement };

@@ -8,6 +8,7 @@ mod steps;
 use super::*;
 use std::io::{Read, Write};
 use std::net::{IpAddr, Ipv4Addr, SocketAddr};
+use std::os::unix::fs::PermissionsExt;
 use std::process::{Child, Command, Output, Stdio};
 use std::test::Fail;
 use std::time::Duration;
@@ -289,7 +290,7 @@ fn faults_of_words_and_files(rt: HostRuntime) -> Result<(), Fail> {
         Prints("--version", "bracha 0.2.0\nstatus 0\n"),
         Ends("ask 127.0.0.1 0", "address", 1),
         Ends("status localhost", "address", 1),
-        Ends("status 127.0.0.1:47199", "no answer", 1),
+        Ends("status 127.0.0.1:27199", "no answer", 1),
         Ends("dump --count bracha_tests_none.journal", "file", 1),
         // A file that isn't there isn't made.
         Lacks("bracha_tests_none.journal"),
@@ -390,8 +391,8 @@ fn a_second_line_names_the_thing(rt: HostRuntime) -> Result<(), Fail> {
             "bracha: line 1\nbracha_tests_more_lines.script:1: \"n 4\\r\"\n",
         ),
         Names(
-            "status 127.0.0.1:47199",
-            "bracha: no answer\n127.0.0.1:47199: connect: Connection refused (os error 111)\n",
+            "status 127.0.0.1:27199",
+            "bracha: no answer\n127.0.0.1:27199: connect: Connection refused (os error 111)\n",
         ),
         Names(
             "status localhost",
@@ -447,10 +448,11 @@ const ONE: [u8; 34] =
 
 #[test]
 fn a_second_line_shows_the_front_of_a_journal(rt: HostRuntime) -> Result<(), Fail> {
-    let (path, other, journal) = (
+    let (path, other, journal, odd) = (
         "bracha_tests_front.toml",
         "bracha_tests_front_other.toml",
         "bracha_tests_front.journal",
+        "bracha_tests_\"\\.journal",
     );
     let steps = [
         PutSettings(path, journal, 7),
@@ -473,11 +475,32 @@ fn a_second_line_shows_the_front_of_a_journal(rt: HostRuntime) -> Result<(), Fai
             "init bracha_tests_front.toml",
             "bracha: journal NotEmpty\nbracha_tests_front.journal: the journal of member 1 of cluster 7 with 1 record\n",
         ),
+        Prints(
+            "dump --json bracha_tests_front.journal",
+            "{\"cluster\":7,\"n\":4,\"t\":1,\"questions\":1,\"me\":1}\n{\"kind\":\"echo\",\"question\":0,\"origin\":0,\"round\":1,\"step\":1,\"value\":\"one\"}\nstatus 0\n",
+        ),
+        Prints(
+            "dump --count --json bracha_tests_front.journal",
+            "{\"records\":1}\nstatus 0\n",
+        ),
+        Prints(
+            "check --json bracha_tests_front.toml",
+            "{\"cluster\":7,\"n\":4,\"t\":1,\"questions\":1,\"me\":1,\"journal\":\"bracha_tests_front.journal\",\"peers\":[\"127.0.0.1:27120\",\"127.0.0.1:27121\",\"127.0.0.1:27122\",\"127.0.0.1:27123\"],\"desk\":\"127.0.0.1:27131\",\"records\":1}\nstatus 0\n",
+        ),
+        Omits("check --json bracha_tests_front_other.toml", "{"),
+        // A path with signs that stand for themselves only behind another.
+        PutSettings(path, odd, 7),
+        Put(odd, &ONE),
+        Prints(
+            "check --json bracha_tests_front.toml",
+            ",\"journal\":\"bracha_tests_\\\"\\\\.journal\",",
+        ),
         Put(journal, &ALONE),
         Names(
             "check bracha_tests_front_other.toml",
             "bracha: journal OtherHeader\nbracha_tests_front.journal: of cluster 7 n 1 t 0 questions 1 member 0, and not of cluster 8 n 4 t 1 questions 1 member 1: cluster n t member\n",
         ),
+        PutSettings(path, journal, 7),
         Put(journal, b"no journal\n"),
         Names(
             "init bracha_tests_front.toml",
@@ -485,7 +508,7 @@ fn a_second_line_shows_the_front_of_a_journal(rt: HostRuntime) -> Result<(), Fai
         ),
     ];
     play(&rt, &steps)?;
-    remove(&rt, &[path, other, journal])
+    remove(&rt, &[path, other, journal, odd])
 }
 
 /// The same of version 1.
@@ -553,14 +576,80 @@ fn a_journal_of_version_1_is_brought_over(rt: HostRuntime) -> Result<(), Fail> {
 #[test]
 fn a_second_line_reads_no_device(rt: HostRuntime) -> Result<(), Fail> {
     let path = "bracha_tests_device.toml";
-    let lines = "bracha: journal BadHeader\n/dev/zero: journal BadHeader\n";
+    let lines = "bracha: file\n/dev/zero: open: no regular file\n";
     let steps = [
         PutSettings(path, "/dev/zero", 7),
         Names("dump /dev/zero", lines),
         Names("check bracha_tests_device.toml", lines),
+        Names("init bracha_tests_device.toml", lines),
+        Names("run bracha_tests_device.toml", lines),
+        Names("migrate /dev/zero bracha_tests_device.new", lines),
+        Lacks("bracha_tests_device.new"),
     ];
     play(&rt, &steps)?;
     remove(&rt, &[path])
+}
+
+/// Nobody writes into the pipe, and a journal that is one is refused at once all the same.
+#[test]
+fn a_journal_that_is_a_pipe_is_refused(rt: HostRuntime) -> Result<(), Fail> {
+    let script =
+        "rm -f bracha_tests_pipe; mkfifo bracha_tests_pipe; exec \"$0\" tests::processes::a_process";
+    let said = said_beside(&rt, "dump bracha_tests_pipe", script)?;
+    let lines = "bracha: file\nbracha_tests_pipe: open: no regular file\n";
+    assert!(rt; said.as_str().contains(lines), "{said}");
+    remove(&rt, &["bracha_tests_pipe"])
+}
+
+/// The settings of a member of two, which have one address.
+const TWINS: &str =
+    "cluster = 7\nn = 2\nt = 0\nquestions = 1\nme = 1\njournal = 'bracha_tests_twins.journal'\npeers = ['127.0.0.1:27138', '127.0.0.1:27138']\ndesk = '127.0.0.1:27139'\nseed = '0000000000000000000000000000000000000000000000000000000000000001'\n";
+
+/// `check` says of settings whose desk and links are at one address what `run` says of them, and of two members at one address
+/// what the second one would say.
+#[test]
+fn check_finds_a_desk_at_the_links(rt: HostRuntime) -> Result<(), Fail> {
+    let (path, journal) = ("bracha_tests_clash.toml", "bracha_tests_clash.journal");
+    let settings = settings_alone(&rt, journal, 27139)?;
+    put(&rt, path, settings.as_str().as_bytes())?;
+    let steps = [
+        Put(journal, &ALONE),
+        Prints("check bracha_tests_clash.toml", "records 0\n"),
+        Names(
+            "check bracha_tests_clash.toml",
+            "bracha: listen\n127.0.0.1:27139: listen: the desk has the address of the links\n",
+        ),
+        Put("bracha_tests_twins.toml", TWINS.as_bytes()),
+        Prints("init bracha_tests_twins.toml", "status 0\n"),
+        Names(
+            "check bracha_tests_twins.toml",
+            "bracha: listen\n127.0.0.1:27138: listen: members 0 and 1 have this address\n",
+        ),
+    ];
+    play(&rt, &steps)?;
+    remove(
+        &rt,
+        &[
+            path,
+            journal,
+            "bracha_tests_twins.toml",
+            "bracha_tests_twins.journal",
+        ],
+    )
+}
+
+/// A script may come by the standard input.
+#[test]
+fn a_script_comes_by_the_input(rt: HostRuntime) -> Result<(), Fail> {
+    let steps = [
+        Hears("simulate -", ONE_PROPOSAL, "events 1 skipped 0\nstatus 0"),
+        Hears(
+            "simulate --trace - -",
+            ONE_PROPOSAL,
+            "1 propose 0 0 1: done: initial 0 0 1 1 one\n",
+        ),
+    ];
+    play(&rt, &steps)
 }
 
 /// Settings of which a second line tells: their numbers, their peers, what stands behind them, and both lines.
@@ -675,21 +764,223 @@ fn piped(rt: &HostRuntime, words: &str, input: Stdio) -> Result<Child, Fail> {
     Ok(command.spawn(rt)?)
 }
 
+/// What a client of the desk prints and says that gets this reply, behind which the connection ends.
+fn told_by(
+    rt: &HostRuntime,
+    desk: &TcpListener,
+    child: Child,
+    reply: &str,
+) -> Result<(String, String), Fail> {
+    let (mut client, _) = desk.accept()?;
+    client.write_all(reply.as_bytes())?;
+    drop(client);
+    texts(child.wait_with_output(rt.alloc())?)
+}
+
 #[test]
 fn a_desk_that_hangs_up_is_no_answer(rt: HostRuntime) -> Result<(), Fail> {
-    let address = SocketAddr::new(IpAddr::V4(Ipv4Addr::new(127, 0, 0, 1)), 47137);
+    let address = SocketAddr::new(IpAddr::V4(Ipv4Addr::new(127, 0, 0, 1)), 27137);
     let desk = TcpListener::bind(&rt, address)?;
-    let child = piped(&rt, "status 127.0.0.1:47137", Stdio::null())?;
-    let (mut client, _) = desk.accept()?;
-    // What isn't a whole line is no reply.
-    client.write_all(b"UP 3 0")?;
-    drop(client);
-    let (printed, said) = texts(child.wait_with_output(rt.alloc())?)?;
+    let child = piped(&rt, "status 127.0.0.1:27137", Stdio::null())?;
+    let lines = "bracha: no answer\n127.0.0.1:27137: connected, but no reply came\n";
+    let (printed, said) = told_by(&rt, &desk, child, "UP 3 0")?;
     assert!(rt; !printed.as_str().contains("UP"), "{printed}");
     assert!(rt; printed.as_str().contains("status 1\n"), "{printed}");
-    let lines = "bracha: no answer\n127.0.0.1:47137: connected, but no whole reply came\n";
+    assert!(rt; said.as_str().contains(lines), "{said}");
+    // Nor is a line with a count of words that no reply has.
+    let child = piped(&rt, "status --json 127.0.0.1:27137", Stdio::null())?;
+    let (printed, said) = told_by(&rt, &desk, child, "UP 1\n")?;
+    assert!(rt; !printed.as_str().contains("UP"), "{printed}");
     assert!(rt; said.as_str().contains(lines), "{said}");
     Ok(())
+}
+
+/// Takes a client of the desk, and answers its line.
+fn answer_one(desk: &TcpListener, reply: &str) -> Result<(), Fail> {
+    let (mut client, _) = desk.accept()?;
+    let mut line = [0; 6];
+    client.read_exact(&mut line)?;
+    want(line == *b"ASK 5\n", "the line that asks")?;
+    client.write_all(reply.as_bytes())?;
+    Ok(())
+}
+
+/// A client that waits asks until there is a decision.
+#[test]
+fn a_decision_is_waited_for(rt: HostRuntime) -> Result<(), Fail> {
+    let address = SocketAddr::new(IpAddr::V4(Ipv4Addr::new(127, 0, 0, 1)), 7141);
+    let desk = TcpListener::bind(&rt, address)?;
+    let child = piped(&rt, "ask --wait 127.0.0.1:7141 5", Stdio::null())?;
+    for reply in ["UNDECIDED\n", "UNDECIDED\n", "DECIDED 0\n"] {
+        answer_one(&desk, reply)?;
+    }
+    let (printed, said) = texts(child.wait_with_output(rt.alloc())?)?;
+    assert!(rt;
+        printed.as_str().contains("DECIDED 0\nstatus 0\n"),
+        "{printed} {said}"
+    );
+    assert!(rt; !printed.as_str().contains("UNDECIDED"), "{printed}");
+    Ok(())
+}
+
+/// It waits no longer than it is told, and for nothing but a decision.
+#[test]
+fn a_wait_has_an_end(rt: HostRuntime) -> Result<(), Fail> {
+    let address = SocketAddr::new(IpAddr::V4(Ipv4Addr::new(127, 0, 0, 1)), 7142);
+    let desk = TcpListener::bind(&rt, address)?;
+    let child = piped(&rt, "ask --wait 127.0.0.1:7142 5", Stdio::null())?;
+    answer_one(&desk, "ERR 2 question\n")?;
+    let (printed, _) = texts(child.wait_with_output(rt.alloc())?)?;
+    assert!(rt;
+        printed.as_str().contains("ERR 2 question\nstatus 1\n"),
+        "{printed}"
+    );
+    // There is no time at all, so it is asked once.
+    let child = piped(
+        &rt,
+        "ask --wait --timeout 0 127.0.0.1:7142 5",
+        Stdio::null(),
+    )?;
+    answer_one(&desk, "UNDECIDED\n")?;
+    let (printed, _) = texts(child.wait_with_output(rt.alloc())?)?;
+    assert!(rt;
+        printed.as_str().contains("UNDECIDED\nstatus 1\n"),
+        "{printed}"
+    );
+    Ok(())
+}
+
+/// A client that is told how long waits so long for a reply, and not half a minute.
+#[test]
+fn a_client_waits_as_long_as_it_is_told(rt: HostRuntime) -> Result<(), Fail> {
+    let address = SocketAddr::new(IpAddr::V4(Ipv4Addr::new(127, 0, 0, 1)), 7143);
+    let _desk = TcpListener::bind(&rt, address)?;
+    let mut child = piped(
+        &rt,
+        "ask --wait --timeout 1 127.0.0.1:7143 5",
+        Stdio::null(),
+    )?;
+    let is_over = is_over(&rt, &mut child, 150)?;
+    let (_, said) = texts(child.wait_with_output(rt.alloc())?)?;
+    assert!(rt; is_over, "a client waits longer than it is told");
+    assert!(rt; said.as_str().contains("bracha: no answer\n"), "{said}");
+    Ok(())
+}
+
+/// Each member is told of, also one whose desk nobody knows, and one that doesn't answer.
+#[test]
+fn a_proposal_goes_to_all_that_are_known(rt: HostRuntime) -> Result<(), Fail> {
+    let path = "bracha_tests_all.toml";
+    let steps = [
+        PutSettings(path, "bracha_tests_all.journal", 7),
+        Prints(
+            "propose --all bracha_tests_all.toml 0 1",
+            "member 0 unknown\nmember 1 no answer\nmember 2 unknown\nmember 3 unknown\nstatus 1\n",
+        ),
+    ];
+    play(&rt, &steps)?;
+    remove(&rt, &[path])
+}
+
+/// The folder of a new cluster.
+const NEW: &str = "bracha_tests_new";
+
+/// The mode of the file.
+fn mode_of(rt: &HostRuntime, path: &str) -> Result<u32, Fail> {
+    Ok(fs::metadata(rt, path)?.permissions().mode() & 0o777)
+}
+
+/// The last line of the file, which is the seed.
+fn seed_in(rt: &HostRuntime, path: &str) -> Result<String, Fail> {
+    let text = fs::read_to_string(rt, path)?;
+    let line = text.as_str().lines().last().ok_or("a line")?;
+    Ok(String::from_str(rt.alloc(), line)?)
+}
+
+/// The settings of member 2, up to the seed.
+const OF_MEMBER_2: &str =
+    "cluster = 9\nn = 4\nt = 1\nquestions = 16\nme = 2\njournal = \"member-2.journal\"\npeers = [\n    \"127.0.0.1:7100\",\n    \"127.0.0.1:7101\",\n    \"127.0.0.1:7102\",\n    \"127.0.0.1:7103\",\n]\ndesk = \"127.0.0.1:7112\"\n";
+
+#[test]
+fn a_new_cluster_has_settings_of_its_own(rt: HostRuntime) -> Result<(), Fail> {
+    let _there = fs::create_dir(&rt, NEW).is_err();
+    let words = "new-cluster --n 4 --t 1 --questions 16 --cluster 9 bracha_tests_new";
+    let third = "bracha_tests_new/member-2.toml";
+    let steps = [
+        Clear("bracha_tests_new/member-0.toml"),
+        Clear("bracha_tests_new/member-1.toml"),
+        Clear(third),
+        Clear("bracha_tests_new/member-3.toml"),
+        Ends(
+            "new-cluster --n 4 --t 2 --questions 16 --cluster 9 bracha_tests_new",
+            "size TooManyLiars",
+            1,
+        ),
+        Lacks("bracha_tests_new/member-0.toml"),
+        Prints(
+            words,
+            "bracha_tests_new/member-3.toml: member 3 at 127.0.0.1:7103\n",
+        ),
+        Begins(third, OF_MEMBER_2.as_bytes()),
+        Says(
+            "check bracha_tests_new/member-2.toml",
+            "bracha: file\nmember-2.journal: open",
+        ),
+        Prints(
+            "check bracha_tests_new/member-2.toml",
+            "cluster 9 n 4 t 1 questions 16 me 2\njournal member-2.journal\npeer 127.0.0.1:7100\n",
+        ),
+        // Nothing is overwritten, and nothing is left half.
+        Clear("bracha_tests_new/member-0.toml"),
+        Names(
+            words,
+            "bracha: file\nbracha_tests_new/member-1.toml: write: there is such a file, and nothing was written\n",
+        ),
+        Lacks("bracha_tests_new/member-0.toml"),
+        Begins(third, OF_MEMBER_2.as_bytes()),
+    ];
+    play(&rt, &steps)?;
+    assert!(rt; mode_of(&rt, third)? == 0o600);
+    let seeds = (
+        seed_in(&rt, third)?,
+        seed_in(&rt, "bracha_tests_new/member-3.toml")?,
+    );
+    assert!(rt; seeds.0.as_str() != seeds.1.as_str());
+    Ok(())
+}
+
+#[test]
+fn a_new_cluster_takes_hosts(rt: HostRuntime) -> Result<(), Fail> {
+    let _there = fs::create_dir(&rt, "bracha_tests_hosts").is_err();
+    let words = "new-cluster --n 2 --t 0 --questions 1 --cluster 0 bracha_tests_hosts";
+    let steps = [
+        Clear("bracha_tests_hosts/member-0.toml"),
+        Clear("bracha_tests_hosts/member-1.toml"),
+        Names(
+            "new-cluster --n 2 --t 0 --questions 1 --cluster 0 bracha_tests_hosts 10.0.0.1",
+            "bracha: hosts\n10.0.0.1: there are 1 hosts, and must be 2\n",
+        ),
+        Names(
+            "new-cluster --n 2 --t 0 --questions 1 --cluster 0 bracha_tests_hosts 10.0.0.1,10.0.0.256",
+            "bracha: hosts\n10.0.0.1,10.0.0.256: each must be `localhost` or four numbers with points between them\n",
+        ),
+        Ends(
+            "new-cluster --n 2 --t 0 --questions 1 --cluster 0 bracha_tests_no_folder",
+            "file",
+            1,
+        ),
+        Lacks("bracha_tests_hosts/member-0.toml"),
+        Prints(
+            "new-cluster --n 2 --t 0 --questions 1 --cluster 0 bracha_tests_hosts 10.0.0.1,localhost",
+            "bracha_tests_hosts/member-1.toml: member 1 at 127.0.0.1:7101\n",
+        ),
+        Begins(
+            "bracha_tests_hosts/member-0.toml",
+            b"cluster = 0\nn = 2\nt = 0\nquestions = 1\nme = 0\njournal = \"member-0.journal\"\npeers = [\n    \"10.0.0.1:7100\",\n    \"127.0.0.1:7101\",\n]\ndesk = \"10.0.0.1:7110\"\n",
+        ),
+        Ends(words, "file", 1),
+    ];
+    play(&rt, &steps)
 }
 
 /// Connections to the desk, until no more are made before it takes one.
@@ -716,10 +1007,10 @@ fn last_taken(desk: &TcpListener, others: usize) -> Result<TcpStream, Fail> {
 /// A client waits longer than half a second until its connection is made, and then for the reply.
 #[test]
 fn a_slow_desk_is_waited_for(rt: HostRuntime) -> Result<(), Fail> {
-    let address = SocketAddr::new(IpAddr::V4(Ipv4Addr::new(127, 0, 0, 1)), 47135);
+    let address = SocketAddr::new(IpAddr::V4(Ipv4Addr::new(127, 0, 0, 1)), 27135);
     let desk = TcpListener::bind(&rt, address)?;
     let queue = queue_up(&rt, &address)?;
-    let mut child = piped(&rt, "status 127.0.0.1:47135", Stdio::null())?;
+    let mut child = piped(&rt, "status 127.0.0.1:27135", Stdio::null())?;
     thread::sleep(&rt, Duration::from_millis(500));
     assert!(rt; child.try_wait()?.is_none(), "no connection, and no wait");
     let mut client = last_taken(&desk, queue.len())?;
@@ -737,7 +1028,7 @@ fn a_slow_desk_is_waited_for(rt: HostRuntime) -> Result<(), Fail> {
 fn held_streams(rt: &HostRuntime) -> Result<String, Fail> {
     let script =
         "\"$0\" tests::processes::a_process <&- >&- 2>&- & sleep 1; for n in 0 1 2; do readlink /proc/$!/fd/$n; done; kill $!";
-    let words = "bracha status 127.0.0.1:47134";
+    let words = "bracha status 127.0.0.1:27134";
     let (printed, _) = told_with(rt, shell(rt, script)?, WORDS, words)?;
     Ok(printed)
 }
@@ -746,9 +1037,9 @@ fn held_streams(rt: &HostRuntime) -> Result<String, Fail> {
 /// of a standard stream.
 #[test]
 fn a_silent_desk_is_given_up(rt: HostRuntime) -> Result<(), Fail> {
-    let address = SocketAddr::new(IpAddr::V4(Ipv4Addr::new(127, 0, 0, 1)), 47134);
+    let address = SocketAddr::new(IpAddr::V4(Ipv4Addr::new(127, 0, 0, 1)), 27134);
     let _desk = TcpListener::bind(&rt, address)?;
-    let mut child = piped(&rt, "status 127.0.0.1:47134", Stdio::null())?;
+    let mut child = piped(&rt, "status 127.0.0.1:27134", Stdio::null())?;
     let held = held_streams(&rt)?;
     assert!(rt;
         held.as_str() == "/dev/null\n/dev/null\n/dev/null\n",
@@ -775,14 +1066,14 @@ fn a_journal_that_another_has_is_named(rt: HostRuntime) -> Result<(), Fail> {
 /// The settings of member 1 of four, one question, of a cluster of this number.
 fn settings_of_four(rt: &HostRuntime, journal: &str, cluster: u8) -> Result<String, Fail> {
     Ok(format!(in rt.alloc();
-        "cluster = {cluster}\nn = 4\nt = 1\nquestions = 1\nme = 1\njournal = '{journal}'\npeers = ['127.0.0.1:47120', '127.0.0.1:47121', '127.0.0.1:47122', '127.0.0.1:47123']\ndesk = '127.0.0.1:47131'\nseed = '0000000000000000000000000000000000000000000000000000000000000001'\n"
+        "cluster = {cluster}\nn = 4\nt = 1\nquestions = 1\nme = 1\njournal = '{journal}'\npeers = ['127.0.0.1:27120', '127.0.0.1:27121', '127.0.0.1:27122', '127.0.0.1:27123']\ndesk = '127.0.0.1:27131'\nseed = '0000000000000000000000000000000000000000000000000000000000000001'\n"
     )?)
 }
 
 /// The settings of a member by itself, cluster 7, one question.
 fn settings_alone(rt: &HostRuntime, journal: &str, port: u16) -> Result<String, Fail> {
     Ok(format!(in rt.alloc();
-        "cluster = 7\nn = 1\nt = 0\nquestions = 1\nme = 0\njournal = '{journal}'\npeers = ['127.0.0.1:{port}']\ndesk = '127.0.0.1:47139'\nseed = '0000000000000000000000000000000000000000000000000000000000000001'\n"
+        "cluster = 7\nn = 1\nt = 0\nquestions = 1\nme = 0\njournal = '{journal}'\npeers = ['127.0.0.1:{port}']\ndesk = '127.0.0.1:27139'\nseed = '0000000000000000000000000000000000000000000000000000000000000001'\n"
     )?)
 }
 
@@ -803,24 +1094,38 @@ fn said_in_a_life(rt: &HostRuntime) -> Result<String, Fail> {
     // What comes in doesn't end the member; only that no more comes does.
     child.stdin.as_mut().ok_or("an input")?.write_all(b"x\n")?;
     thread::sleep(rt, Duration::from_millis(500));
-    let proposed = is_proposed(rt, "propose 127.0.0.1:47139 0 1")?;
+    let proposed = is_proposed(rt, "propose 127.0.0.1:27139 0 1")?;
     want(proposed, "a proposal that is taken")?;
     // What the desk refuses is printed, with status 1.
     for (words, said) in [
-        ("propose 127.0.0.1:47139 0 2", "ERR 3 bit\nstatus 1\n"),
-        ("propose 127.0.0.1:47139 1 1", "ERR 2 question\nstatus 1\n"),
-        ("ask 127.0.0.1:47139 1", "ERR 2 question\nstatus 1\n"),
-        ("propose 127.0.0.1:47139 0 0", "HAVE 1\nstatus 0\n"),
+        ("propose 127.0.0.1:27139 0 2", "ERR 3 bit\nstatus 1\n"),
+        ("propose 127.0.0.1:27139 1 1", "ERR 2 question\nstatus 1\n"),
+        ("ask 127.0.0.1:27139 1", "ERR 2 question\nstatus 1\n"),
+        (
+            "ask --json 127.0.0.1:27139 1",
+            "{\"error\":2,\"name\":\"question\"}\nstatus 1\n",
+        ),
+        ("propose 127.0.0.1:27139 0 0", "HAVE 1\nstatus 0\n"),
     ] {
         want(prints(rt, words, said)?, "what the desk refuses")?;
     }
     thread::sleep(rt, Duration::from_millis(2500));
     let last = "\n0 00080303000000020303\nstatus 0\n";
-    let shown = prints(rt, "transcript 127.0.0.1:47139 0", last)?;
+    let shown = prints(rt, "transcript 127.0.0.1:27139 0", last)?;
     want(shown, "a transcript to its last line")?;
-    let refused = "ERR 2 question\nstatus 1\n";
-    let shown = prints(rt, "transcript 127.0.0.1:47139 1", refused)?;
-    want(shown, "no transcript, and status 1")?;
+    for (words, said) in [
+        ("transcript 127.0.0.1:27139 1", "ERR 2 question\nstatus 1\n"),
+        (
+            "ask --json 127.0.0.1:27139 0",
+            "{\"decided\":1}\nstatus 0\n",
+        ),
+        (
+            "status --json 127.0.0.1:27139",
+            ",\"decided\":1}\nstatus 0\n",
+        ),
+    ] {
+        want(prints(rt, words, said)?, "what the desk says then")?;
+    }
     let (_, said) = texts(child.wait_with_output(rt.alloc())?)?;
     Ok(said)
 }
@@ -829,7 +1134,7 @@ fn said_in_a_life(rt: &HostRuntime) -> Result<String, Fail> {
 fn a_member_alone_tells_its_life(rt: HostRuntime) -> Result<(), Fail> {
     let (path, journal) = ("bracha_tests_alone.toml", "bracha_tests_alone.journal");
     let _ = fs::remove_file(&rt, journal);
-    let settings = settings_alone(&rt, journal, 47138)?;
+    let settings = settings_alone(&rt, journal, 27138)?;
     put(&rt, path, settings.as_str().as_bytes())?;
     assert!(rt; prints(&rt, "init bracha_tests_alone.toml", "status 0\n")?);
     let said = said_in_a_life(&rt)?;
@@ -841,6 +1146,58 @@ fn a_member_alone_tells_its_life(rt: HostRuntime) -> Result<(), Fail> {
     let warning = "bracha: --any-host is unsafe: any host may speak for any member\n";
     let warned = Says("run --any-host bracha_tests_alone.toml", warning);
     play(&rt, &[warned])?;
+    // So is that fewer files may be open than its links and a client want.
+    let script = "ulimit -n 14; exec \"$0\" tests::processes::a_process < /dev/null";
+    let said = said_beside(&rt, "run bracha_tests_alone.toml", script)?;
+    let few = "bracha: 14 open files are too few: the links want 13, and each client 2\n";
+    assert!(rt; said.as_str().contains(few), "{said}");
+    remove(&rt, &[path, journal])
+}
+
+/// A member by itself that a shell starts behind these words, and to which it sends SIGTERM once it is ready: what it prints
+/// from then on, and says.
+fn called_off(rt: &HostRuntime, front: &str, words: &str) -> Result<(String, String), Fail> {
+    let script = format!(in rt.alloc(); "exec {front} \"$0\" {NAME}")?;
+    let words = format!(in rt.alloc(); "bracha {words}")?;
+    let mut command = shell(rt, script.as_str())?;
+    command.env(WORDS, words.as_str())?;
+    command
+        .stdin(Stdio::piped())
+        .stdout(Stdio::piped())
+        .stderr(Stdio::piped());
+    let mut child = command.spawn(rt)?;
+    want(is_ready(&mut child, 0, rt)?, "a member that is ready")?;
+    let kill = format!(in rt.alloc(); "kill -TERM {}", child.id())?;
+    let _sent = shell(rt, kill.as_str())?.output(rt)?;
+    want(is_over(rt, &mut child, 50)?, "a member that ends")?;
+    texts(child.wait_with_output(rt.alloc())?)
+}
+
+/// A signal that is blocked ends a member as the end of its input does, and another cuts it off.
+#[test]
+fn a_signal_ends_a_member(rt: HostRuntime) -> Result<(), Fail> {
+    let (path, journal) = ("bracha_tests_signal.toml", "bracha_tests_signal.journal");
+    let settings = settings_alone(&rt, journal, 27145)?;
+    put(&rt, path, settings.as_str().as_bytes())?;
+    put(&rt, journal, &ALONE)?;
+    for (front, words, is_clean) in [
+        (
+            "env --block-signal=TERM,INT",
+            "run --stay --log bracha_tests_signal.toml",
+            true,
+        ),
+        (
+            "env --block-signal=TERM,INT",
+            "run --log bracha_tests_signal.toml",
+            true,
+        ),
+        ("env", "run --stay --log bracha_tests_signal.toml", false),
+    ] {
+        let (printed, said) = called_off(&rt, front, words)?;
+        let ended = said.as_str().contains("ready member 0\nend\n");
+        let well = printed.as_str().contains("status 0\n");
+        assert!(rt; ended == is_clean && well == is_clean, "{printed} {said}");
+    }
     remove(&rt, &[path, journal])
 }
 
@@ -867,8 +1224,8 @@ const ALONE: [u8; 25] = *b"BRACHAJ2\0\0\0\0\0\0\0\x07\x01\0\0\x01\0\0\0\0\0";
 /// A member whose journal is missing says who may make one; a second member at a port that is taken says so.
 fn takes_no_port_twice(rt: &HostRuntime) -> Result<(), Fail> {
     let (path, journal) = ("bracha_tests_taken.toml", "bracha_tests_taken.journal");
-    let settings = settings_alone(rt, journal, 47136)?;
-    let line = "bracha: listen\n127.0.0.1:47136: listen: Address already in use (os error 98)\n";
+    let settings = settings_alone(rt, journal, 27136)?;
+    let line = "bracha: listen\n127.0.0.1:27136: listen: Address already in use (os error 98)\n";
     let missing =
         "bracha: file\nbracha_tests_taken.journal: open: no such file: `bracha init` makes one for a new member, and for no other\n";
     put(rt, path, settings.as_str().as_bytes())?;
@@ -881,12 +1238,12 @@ fn takes_no_port_twice(rt: &HostRuntime) -> Result<(), Fail> {
 #[test]
 fn a_member_that_stays_outlives_its_input(rt: HostRuntime) -> Result<(), Fail> {
     let (path, journal) = ("bracha_tests_stay.toml", "bracha_tests_stay.journal");
-    let settings = settings_alone(&rt, journal, 47136)?;
+    let settings = settings_alone(&rt, journal, 27136)?;
     put(&rt, path, settings.as_str().as_bytes())?;
     put(&rt, journal, &ALONE)?;
     let words = "run --stay --log bracha_tests_stay.toml";
     let mut child = piped(&rt, words, Stdio::null())?;
-    wait_ready(&mut child, 0, &rt)?;
+    want(is_ready(&mut child, 0, &rt)?, "a member that is ready")?;
     thread::sleep(&rt, Duration::from_millis(2000));
     assert!(rt; child.try_wait()?.is_none(), "the member has ended");
     takes_no_port_twice(&rt)?;
@@ -900,7 +1257,7 @@ fn a_member_that_stays_outlives_its_input(rt: HostRuntime) -> Result<(), Fail> {
 /// The settings of member 0 of two, none of whom may lie.
 fn settings_of_two(rt: &HostRuntime, journal: &str) -> Result<String, Fail> {
     Ok(format!(in rt.alloc();
-        "cluster = 7\nn = 2\nt = 0\nquestions = 1\nme = 0\njournal = '{journal}'\npeers = ['127.0.0.1:47132', '127.0.0.1:47133']\ndesk = '127.0.0.1:47134'\nseed = '0000000000000000000000000000000000000000000000000000000000000001'\n"
+        "cluster = 7\nn = 2\nt = 0\nquestions = 1\nme = 0\njournal = '{journal}'\npeers = ['127.0.0.1:27132', '127.0.0.1:27133']\ndesk = '127.0.0.1:27134'\nseed = '0000000000000000000000000000000000000000000000000000000000000001'\n"
     )?)
 }
 
@@ -936,7 +1293,7 @@ fn a_member_that_stays_ends_once_it_is_stopped(rt: HostRuntime) -> Result<(), Fa
         settings_of_two(&rt, journal)?.as_str().as_bytes(),
     )?;
     assert!(rt; prints(&rt, "init bracha_tests_two.toml", "status 0\n")?);
-    let address = SocketAddr::new(IpAddr::V4(Ipv4Addr::new(127, 0, 0, 1)), 47133);
+    let address = SocketAddr::new(IpAddr::V4(Ipv4Addr::new(127, 0, 0, 1)), 27133);
     let peer = TcpListener::bind(&rt, address)?;
     let mut child = piped(&rt, "run --stay bracha_tests_two.toml", Stdio::null())?;
     let _link = welcome_ahead(&peer)?;
@@ -958,7 +1315,7 @@ fn check_makes_no_journal(rt: HostRuntime) -> Result<(), Fail> {
         Ends(words, "file", 1),
         Prints(
             words,
-            "cluster 7 n 4 t 1 questions 1 me 1\njournal bracha_tests_check.journal\npeer 127.0.0.1:47120\npeer 127.0.0.1:47121\npeer 127.0.0.1:47122\npeer 127.0.0.1:47123\ndesk 127.0.0.1:47131\n",
+            "cluster 7 n 4 t 1 questions 1 me 1\njournal bracha_tests_check.journal\npeer 127.0.0.1:27120\npeer 127.0.0.1:27121\npeer 127.0.0.1:27122\npeer 127.0.0.1:27123\ndesk 127.0.0.1:27131\n",
         ),
         Lacks(journal),
         // Nor does `run` make one.
@@ -990,7 +1347,7 @@ fn check_leaves_a_journal_as_it_is(rt: HostRuntime) -> Result<(), Fail> {
     let steps = [
         Prints(
             words,
-            "cluster 7 n 4 t 1 questions 1 me 1\njournal bracha_tests_leaves.journal\npeer 127.0.0.1:47120\npeer 127.0.0.1:47121\npeer 127.0.0.1:47122\npeer 127.0.0.1:47123\ndesk 127.0.0.1:47131\nrecords 0\nstatus 0\n",
+            "cluster 7 n 4 t 1 questions 1 me 1\njournal bracha_tests_leaves.journal\npeer 127.0.0.1:27120\npeer 127.0.0.1:27121\npeer 127.0.0.1:27122\npeer 127.0.0.1:27123\ndesk 127.0.0.1:27131\nrecords 0\nstatus 0\n",
         ),
         Has(journal, &EMPTY),
     ];
@@ -1220,7 +1577,16 @@ fn shows_its_use(rt: &HostRuntime, name: &str) -> Result<bool, Fail> {
 #[test]
 fn help_shows_what_is_taken(rt: HostRuntime) -> Result<(), Fail> {
     for name in [
-        "init", "check", "run", "propose", "ask", "status", "dump", "simulate", "hear",
+        "new-cluster",
+        "init",
+        "check",
+        "run",
+        "propose",
+        "ask",
+        "status",
+        "dump",
+        "simulate",
+        "hear",
     ] {
         assert!(rt; shows_its_use(&rt, name)?, "the help of {name}");
     }
@@ -1230,44 +1596,55 @@ fn help_shows_what_is_taken(rt: HostRuntime) -> Result<(), Fail> {
 /// The folder of the cluster's files.
 const FOLDER: &str = "bracha_tests_cluster";
 
+/// The first digits of the ports of a cluster: peers at 47100 to 47103, desks at 47110 to 47113. The system gives such ports
+/// to connections that go out, too. Where one has a port that a member wants, the cluster lives at 27100 on, which the system
+/// gives to nobody.
+const FRONTS: [u16; 2] = [471, 271];
+
 /// The settings of a member of the cluster, in its file.
-fn write_settings(rt: &HostRuntime, member: u8) -> Result<(), Fail> {
+fn write_settings(rt: &HostRuntime, front: u16, member: u8) -> Result<(), Fail> {
     let text = format!(in rt.alloc();
-        "cluster = 7\nn = 4\nt = 1\nquestions = 2\nme = {member}\njournal = '{FOLDER}/{member}.journal'\npeers = ['127.0.0.1:47100', '127.0.0.1:47101', '127.0.0.1:47102', '127.0.0.1:47103']\ndesk = '127.0.0.1:4711{member}'\nseed = '000000000000000000000000000000000000000000000000000000000000000{member}'\n"
+        "cluster = 7\nn = 4\nt = 1\nquestions = 2\nme = {member}\njournal = '{FOLDER}/{member}.journal'\npeers = ['127.0.0.1:{front}00', '127.0.0.1:{front}01', '127.0.0.1:{front}02', '127.0.0.1:{front}03']\ndesk = '127.0.0.1:{front}1{member}'\nseed = '000000000000000000000000000000000000000000000000000000000000000{member}'\n"
     )?;
     let path = format!(in rt.alloc(); "{FOLDER}/{member}.toml")?;
     fs::write(rt, path.as_str(), text.as_str())?;
     Ok(())
 }
 
-/// Reads what the process prints until it is ready.
-fn wait_ready(child: &mut Child, member: u8, rt: &HostRuntime) -> Result<(), Fail> {
+/// Reads what the process prints until it is ready, and tells whether it ever is.
+fn is_ready(child: &mut Child, member: u8, rt: &HostRuntime) -> Result<bool, Fail> {
     let output = child.stdout.as_mut().ok_or("an output")?;
     let line = format!(in rt.alloc(); "member {member} ready\n")?;
     let mut seen = Vec::new(rt.alloc());
     for _ in 0..4096u32 {
         let mut byte = [0];
         if output.read(&mut byte)? == 0 {
-            return Err("a member that ended")?;
+            return Ok(false);
         }
         seen.push(byte[0])?;
         if seen.as_slice().ends_with(line.as_bytes()) {
-            return Ok(());
+            return Ok(true);
         }
     }
     Err("a line")?
 }
 
-/// Starts a member, and waits until it is ready. Its input ends where this process does.
-fn start(rt: &HostRuntime, member: u8) -> Result<Child, Fail> {
+/// Starts a member, and waits until it is ready; none where another has its port. Its input ends where this process does.
+fn start(rt: &HostRuntime, member: u8) -> Result<Option<Child>, Fail> {
     let words = format!(in rt.alloc(); "run {FOLDER}/{member}.toml")?;
     let mut command = program(rt, words.as_str())?;
     let mut child = command
         .stdin(Stdio::piped())
         .stdout(Stdio::piped())
+        .stderr(Stdio::piped())
         .spawn(rt)?;
-    wait_ready(&mut child, member, rt)?;
-    Ok(child)
+    if is_ready(&mut child, member, rt)? {
+        return Ok(Some(child));
+    }
+    let (_, said) = texts(child.wait_with_output(rt.alloc())?)?;
+    let taken = said.as_str().contains("bracha: listen\n");
+    want(taken, "a member that ended")?;
+    Ok(None)
 }
 
 /// Ends a member's input, and gives what it printed since it was ready.
@@ -1277,8 +1654,8 @@ fn end_of(child: Child, rt: &HostRuntime) -> Result<String, Fail> {
 }
 
 /// Asks a member until it has decided the question, at most 600 times.
-fn decision(rt: &HostRuntime, member: u8, question: u16) -> Result<String, Fail> {
-    let words = format!(in rt.alloc(); "ask 127.0.0.1:4711{member} {question}")?;
+fn decision(rt: &HostRuntime, front: u16, member: u8, question: u16) -> Result<String, Fail> {
+    let words = format!(in rt.alloc(); "ask 127.0.0.1:{front}1{member} {question}")?;
     for _ in 0..600u32 {
         let text = ended(rt, words.as_str())?;
         if !text.as_str().contains("UNDECIDED") {
@@ -1290,14 +1667,14 @@ fn decision(rt: &HostRuntime, member: u8, question: u16) -> Result<String, Fail>
 }
 
 /// Proposes the bit on the question to each member, and asks each for its decision.
-fn settle(rt: &HostRuntime, question: u16, bit: u8) -> Result<(), Fail> {
+fn settle(rt: &HostRuntime, front: u16, question: u16, bit: u8) -> Result<(), Fail> {
     for member in 0..4u8 {
-        let words = format!(in rt.alloc(); "propose 127.0.0.1:4711{member} {question} {bit}")?;
+        let words = format!(in rt.alloc(); "propose 127.0.0.1:{front}1{member} {question} {bit}")?;
         let taken = prints(rt, words.as_str(), "OK\nstatus 0\n")?;
         want(taken, "a proposal that is taken")?;
     }
     for member in 0..4u8 {
-        let text = decision(rt, member, question)?;
+        let text = decision(rt, front, member, question)?;
         let line = format!(in rt.alloc(); "DECIDED {bit}\nstatus 0\n")?;
         want(
             text.as_str().contains(line.as_str()),
@@ -1308,8 +1685,8 @@ fn settle(rt: &HostRuntime, question: u16, bit: u8) -> Result<(), Fail> {
 }
 
 /// Whether the member says that it is up, and has decided so many questions.
-fn is_up(rt: &HostRuntime, member: u8, decided: u8) -> Result<bool, Fail> {
-    let words = format!(in rt.alloc(); "status 127.0.0.1:4711{member}")?;
+fn is_up(rt: &HostRuntime, front: u16, member: u8, decided: u8) -> Result<bool, Fail> {
+    let words = format!(in rt.alloc(); "status 127.0.0.1:{front}1{member}")?;
     let text = ended(rt, words.as_str())?;
     let end = format!(in rt.alloc(); " {decided}\nstatus 0\n")?;
     Ok(text.as_str().contains("UP ") && text.as_str().contains(end.as_str()))
@@ -1342,9 +1719,9 @@ fn decisions(rt: &HostRuntime, member: u8) -> Result<Vec<String>, Fail> {
 }
 
 /// Makes the settings and the journal of each member.
-fn init_all(rt: &HostRuntime) -> Result<(), Fail> {
+fn init_all(rt: &HostRuntime, front: u16) -> Result<(), Fail> {
     for member in 0..4u8 {
-        write_settings(rt, member)?;
+        write_settings(rt, front, member)?;
         let words = format!(in rt.alloc(); "init {FOLDER}/{member}.toml")?;
         want(prints(rt, words.as_str(), "status 0\n")?, "the end of init")?;
     }
@@ -1352,18 +1729,23 @@ fn init_all(rt: &HostRuntime) -> Result<(), Fail> {
 }
 
 /// Member 2 settles question 0 with the others, ends with its input, is started again, and still knows. Then it is killed.
-fn settle_and_be_killed(rt: &HostRuntime) -> Result<(), Fail> {
-    let second = start(rt, 2)?;
-    settle(rt, 0, 0)?;
+/// False where another has its port.
+fn settle_and_be_killed(rt: &HostRuntime, front: u16) -> Result<bool, Fail> {
+    let Some(second) = start(rt, 2)? else {
+        return Ok(false);
+    };
+    settle(rt, front, 0, 0)?;
     let text = end_of(second, rt)?;
     want(text.as_str().contains("status 0\n"), "the end of member 2")?;
-    let mut again = start(rt, 2)?;
-    let text = decision(rt, 2, 0)?;
+    let Some(mut again) = start(rt, 2)? else {
+        return Ok(false);
+    };
+    let text = decision(rt, front, 2, 0)?;
     let known = text.as_str().contains("DECIDED 0\nstatus 0\n");
     want(known, "a decision that member 2 knows")?;
     again.kill()?;
     again.wait()?;
-    Ok(())
+    Ok(true)
 }
 
 /// The member's journal has two decisions, for 0 and then for 1, and as many records as are counted.
@@ -1377,27 +1759,50 @@ fn has_decided_twice(rt: &HostRuntime, member: u8) -> Result<(), Fail> {
     Ok(())
 }
 
-#[test]
-fn four_processes_decide(rt: HostRuntime) -> Result<(), Fail> {
-    let _ = fs::remove_dir_all(&rt, FOLDER);
-    fs::create_dir(&rt, FOLDER)?;
-    init_all(&rt)?;
+/// The members 0, 1 and 3, in that order, as far as nobody has their ports.
+fn start_three(rt: &HostRuntime) -> Result<Vec<Child>, Fail> {
     let mut children = Vec::new(rt.alloc());
     for member in [0, 1, 3] {
-        children.push(start(&rt, member)?)?;
+        if let Some(child) = start(rt, member)? {
+            children.push(child)?;
+        }
     }
-    settle_and_be_killed(&rt)?;
+    Ok(children)
+}
+
+/// Four members decide two questions at these ports. False where another has a port of theirs.
+fn four_decide(rt: &HostRuntime, front: u16) -> Result<bool, Fail> {
+    let _ = fs::remove_dir_all(rt, FOLDER);
+    fs::create_dir(rt, FOLDER)?;
+    init_all(rt, front)?;
+    let mut children = start_three(rt)?;
+    if children.len() < 3 || !settle_and_be_killed(rt, front)? {
+        return Ok(false);
+    }
     // Started once more it goes on with the others.
-    children.push(start(&rt, 2)?)?;
-    settle(&rt, 1, 1)?;
-    assert!(rt; is_up(&rt, 2, 2)?, "the status of member 2");
+    let Some(second) = start(rt, 2)? else {
+        return Ok(false);
+    };
+    children.push(second)?;
+    settle(rt, front, 1, 1)?;
+    want(is_up(rt, front, 2, 2)?, "the status of member 2")?;
     for child in children {
-        let text = end_of(child, &rt)?;
-        assert!(rt; text.as_str().contains("status 0\n"), "the end of a member");
+        let text = end_of(child, rt)?;
+        want(text.as_str().contains("status 0\n"), "the end of a member")?;
     }
     for member in 0..4u8 {
-        has_decided_twice(&rt, member)?;
+        has_decided_twice(rt, member)?;
     }
-    fs::remove_dir_all(&rt, FOLDER)?;
-    Ok(())
+    fs::remove_dir_all(rt, FOLDER)?;
+    Ok(true)
+}
+
+#[test]
+fn four_processes_decide(rt: HostRuntime) -> Result<(), Fail> {
+    for front in FRONTS {
+        if four_decide(&rt, front)? {
+            return Ok(());
+        }
+    }
+    Err("ports that nobody has")?
 }

@@ -3,8 +3,10 @@ ghost use Rattle.std.specs.Prelude.{◌≡◌, ◌≤◌, length};
 
 use crate::DeviceFault;
 use crate::account::{Account, SystemCall};
+use crate::file::folder_of;
 use crate::named::NamedFile;
 use crate::system::SystemFile;
+use ghost_record::GhostRecord;
 use std::io::{self, ErrorKind};
 
 /// No file of these tests is longer.
@@ -21,7 +23,7 @@ struct Faulty {
     fails_at: u32,
     kind: ErrorKind,
     syncs: u32,
-    account: Account,
+    account: GhostRecord<Account>,
 }
 
 /// Copies as many bytes as there are in both, at most so many, and answers how many.
@@ -45,7 +47,7 @@ impl Faulty {
             fails_at,
             kind,
             syncs: 0,
-            account: Account::new(),
+            account: GhostRecord::new(),
         }
     }
 
@@ -62,7 +64,7 @@ impl Faulty {
 }
 
 impl SystemFile for Faulty {
-    ghost done = { λ faulty. faulty.account.done };
+    ghost done = { λ faulty. faulty.account.value };
 
     fn len(&mut self) -> io::Result<usize> {
         self.call()?;
@@ -149,8 +151,12 @@ fn a_call_that_fails_is_a_fault(rt: HostRuntime) {
     }
 }
 
+/// Which folder that is, and that it is synced until that once succeeds.
 #[test]
-fn the_folder_is_synced_until_that_succeeds(rt: HostRuntime) {
+fn the_folder_of_a_file_is_synced(rt: HostRuntime) {
+    for (path, folder) in [("a/b", "a"), ("b", "."), ("/b", "/"), ("a/b/c", "a/b")] {
+        assert!(&rt; folder_of(path).to_str() == Some(folder), "at {path:?}");
+    }
     let folder = Faulty::new(ROOM, 1, ErrorKind::Other);
     let mut disk = open(Faulty::new(ROOM, 3, ErrorKind::Other), folder);
     // The folder fails, then none, then the file, then none.

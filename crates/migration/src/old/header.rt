@@ -1,6 +1,6 @@
 //! A header of version 1, in bytes.
 ghost use Rattle.std.specs.Prelude.{◌≡◌, ◌↔◌, ◌≤◌, IsTrue, IfSome, IsNone};
-ghost use Rattle.vocabulary.specs.Terms.{Header};
+ghost use Rattle.terms_prelude.specs.Terms.{Header};
 ghost use Rattle.migration.specs.Old.{old_header_text, IsOldHeader};
 
 use terms::{Header, Size};

@@ -1,6 +1,6 @@
 //! Reading the batches behind a header of version 1.
 ghost use Rattle.std.specs.Prelude.{◌≡◌, ◌⊎◌, ◌*◌, ◌++◌, ℕ, List, length, IfOk, IfErr, OnOk, MatchResult};
-ghost use Rattle.vocabulary.specs.Terms.{Record};
+ghost use Rattle.terms_prelude.specs.Terms.{Record};
 ghost use Rattle.journal.specs.Reading.{ReadsIn, AreTextIn, HasOddIn};
 ghost use Rattle.migration.specs.declared.fault.MigrateFault.TheVariants.{BadRecord, Memory};
 ghost use Rattle.migration.specs.Old.{BreaksOld, version_1};

@@ -1,6 +1,6 @@
 //! A record of version 1, in bytes.
 ghost use Rattle.std.specs.Prelude.{◌≡◌, ◌≢◌, IfSome, IsNone};
-ghost use Rattle.vocabulary.specs.Terms.{Record};
+ghost use Rattle.terms_prelude.specs.Terms.{Record};
 ghost use Rattle.journal.specs.WellFormed.{IsWellFormedFor};
 ghost use Rattle.migration.specs.Old.{old_record_bytes};
 

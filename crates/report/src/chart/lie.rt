@@ -2,7 +2,7 @@
 
 ghost use Rattle.std.specs.Prelude.{◌≡◌, None, Some, IfOk, IfSome, slice_get, string_bytes};
 ghost use Rattle.wire.specs.declared.message.Message.TheVariants as message;
-ghost use Rattle.vocabulary.specs.Terms.{Statement};
+ghost use Rattle.terms_prelude.specs.Terms.{Statement};
 ghost use Rattle.report.specs.Charts.{bytes_label, IsFrameOf, IsLieLabel};
 
 use crate::records::statement_text;

@@ -1,6 +1,8 @@
 //! Peers of the older version, and of both.
 
-use super::{Cluster, HELLO, IDLE, Kept, Visitor, answers, connect, no_sockets, tells, wait_for};
+use super::{
+    Cluster, HELLO, IDLE, Kept, Visitor, answers, connect, no_sockets, refused_by, tells, wait_for,
+};
 use links::LinkEnd;
 use running::{LogEvent, Machine};
 use std::alloc::Global;
@@ -57,8 +59,8 @@ fn carries(link: &mut TcpStream, frames: &[[u8; 10]]) -> io::Result<bool> {
     Ok(true)
 }
 
-/// A peer that takes the Hello of version 2 for no frame, and closes. The next one is of version 1: it is welcomed, and two
-/// statements come in a frame each. So is the one after it.
+/// A peer that takes the Hello of version 2 for no frame, and closes, which isn't told. The next one is of version 1: it is
+/// welcomed, and two statements come in a frame each. So is the one after it, and where that is closed it was refused.
 pub(super) fn is_dialled_as_older<R: Machine + Abort>(
     rt: &R,
     cluster: Cluster,
@@ -75,6 +77,7 @@ pub(super) fn is_dialled_as_older<R: Machine + Abort>(
     drop(link);
     wait_for(rt, log, 3);
     assert!(rt; is_dialled_with(listener, 1)?.is_some());
+    wait_for(rt, log, 4);
     Ok(())
 }
 
@@ -90,6 +93,7 @@ fn peer_is_older<R: Machine + Abort>(rt: &R, alloc: Global) -> Result<(), Fail> 
         LogEvent::Ready(0),
         LogEvent::LinkUpTo(1, Version::One),
         LogEvent::LinkDownTo(1, LinkEnd::Lost),
+        refused_by(1, 1),
         LogEvent::End,
     ];
     let listener = TcpListener::bind(rt, cluster.address(1))?;

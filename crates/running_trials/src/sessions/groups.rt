@@ -1,7 +1,7 @@
 //! The statements of a read, handed in as one group.
 ghost use Rattle.std.specs.Prelude.{◌≡◌, length};
 ghost use Rattle.std.specs.Arc.{arc_value};
-ghost use Rattle.vocabulary.specs.Terms.{new_header, new_size};
+ghost use Rattle.terms_prelude.specs.Terms.{new_header, new_size};
 
 use super::frame;
 use crate::beginnings::{Counting, at, board, entry, goes_on_with, header, open, take};
@@ -85,15 +85,14 @@ fn behind_an_idle(alloc: Global, bytes: &[u8]) -> Result<MemStream, Memory> {
     Ok(stream)
 }
 
-/// Waits for the bell until the hub is shut, and counts how often it was woken.
+/// Waits for the bell until the hub is shut, and counts how often it was woken. Nothing that it waits for ever comes.
 fn counts_wakes<J: Naming, R: Wait>(rt: &R, hub: &Hub<MemDisk, J>, seen: &Seen) {
-    let mut watch = hub.watch(rt);
     seen.waits.store(true, Ordering::SeqCst);
     for _ in 0..100u32 {
-        if hub.is_shut() {
+        let woken = matches!(hub.next(rt, u64::MAX, 1), Ok(Some(_)));
+        if !woken || hub.is_shut() {
             return;
         }
-        watch = hub.wait(rt, watch);
         seen.wakes.fetch_add(1, Ordering::SeqCst);
     }
 }
@@ -142,6 +141,8 @@ fn reads_and_shuts<J: Naming, R: Wait + Clock + AllocGlobal>(
     bytes: &[u8],
 ) -> (Seat, LinkEnd, usize) {
     let waiting = waits_until(rt, seen, 0);
+    // The other thread is about to wait.
+    thread::sleep(rt, Duration::from_millis(100));
     let (seat, end) = reads(rt, hub, seat, seen, bytes);
     let woken = waiting && waits_until(rt, seen, 1);
     thread::sleep(rt, Duration::from_millis(20));

@@ -1,7 +1,7 @@
 //! A writer while another thread has the book, as one whose disk stalls has.
 ghost use Rattle.std.specs.Prelude.{◌≡◌, length};
 ghost use Rattle.std.specs.Arc.{arc_value};
-ghost use Rattle.vocabulary.specs.Terms.{new_header, new_size};
+ghost use Rattle.terms_prelude.specs.Terms.{new_header, new_size};
 
 use super::{Writes, behind_idles, behind_the_greeting, frame, has_two, rings_until, writes_on};
 use crate::beginnings::{at, board, header, open, take};
@@ -32,8 +32,8 @@ fn waits_until<R: Clock>(rt: &R, writes: &Writes, wanted: usize) -> bool {
     false
 }
 
-/// Keeps the book while the bell rings, until three Idles were written behind the Hello, hands a statement of two origins in,
-/// and gives the book back with a ring for those that wanted it. Says whether the writer then wrote with no other ring.
+/// Keeps the book while the bell rings, until three Idles were written behind the Hello, hands a statement of two members in,
+/// shows what the member says of it, and gives the book back. Says whether the writer then wrote with no other ring.
 fn keeps_the_book<J: Naming, R: Wait + Clock>(
     rt: &R,
     hub: &Hub<MemDisk, J>,
@@ -50,8 +50,8 @@ fn keeps_the_book<J: Naming, R: Wait + Clock>(
     let third = book.apply(&mut three, said, Toss(0)).is_ok();
     thread::sleep(rt, Duration::from_millis(50));
     let now = writes.count.load(Ordering::SeqCst);
+    hub.post(rt, &book);
     drop(book);
-    hub.ring_if_wanted(rt);
     let written = waits_until(rt, writes, now.saturating_add(1));
     hub.shut(rt);
     idles && second && third && written

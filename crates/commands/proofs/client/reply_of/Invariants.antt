@@ -1,5 +1,5 @@
 use Rattle.std.specs.Io.KnownBytes.{Consumes}
-use Rattle.words.specs.Lines.{NoEnd}
+use Rattle.numerals.specs.Lines.{NoEnd}
 use Rattle.commands.proofs.client.reply_of.Given as goal
 
 -- so far these bytes were read, and none ends a line

@@ -1,5 +1,5 @@
 use Rattle.std.proofs.Common.{ap, ◌∙◌}
-use Rattle.vocabulary.specs.Terms.{Size}
+use Rattle.terms_prelude.specs.Terms.{Size}
 use Rattle.commands.proofs.Dumping.{header_pieces}
 use Rattle.report.proofs.Wording.{written_as}
 use Rattle.commands.proofs.dump.header_line.Goals as goal

@@ -1,5 +1,5 @@
 use Rattle.std.proofs.Common.{ℕ, ◌==◌, ap, ap₂, ◌∙◌, codes}
-use Rattle.vocabulary.specs.Terms.{Size}
+use Rattle.terms_prelude.specs.Terms.{Size}
 use Rattle.commands.specs.Owners.{unless}
 use Rattle.commands.proofs.Owning.{differing}
 use Rattle.report.proofs.Wording.{written_as}

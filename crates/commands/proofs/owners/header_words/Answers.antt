@@ -1,5 +1,5 @@
 use Rattle.std.proofs.Common.{ap, ◌∙◌}
-use Rattle.vocabulary.specs.Terms.{Size}
+use Rattle.terms_prelude.specs.Terms.{Size}
 use Rattle.commands.proofs.Owning.{header_pieces}
 use Rattle.report.proofs.Wording.{written_as}
 use Rattle.commands.proofs.owners.header_words.Goals as goal

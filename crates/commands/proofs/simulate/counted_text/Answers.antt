@@ -1,6 +1,6 @@
 use Rattle.std.proofs.Common.{◌≡◌, ◌<◌, ◌^◌, ◌++◌, ◌∙◌, ℕ, Bool, false, List, length, string_bytes, sym, ap, subst, arith}
 use Rattle.std.specs.List.{flat_map}
-use Rattle.vocabulary.specs.Terms.{Size}
+use Rattle.terms_prelude.specs.Terms.{Size}
 use Rattle.sim.specs.declared.cluster.Cluster.{Cluster}
 use Rattle.sim.specs.Words.{AreLiars, AreDisks, Verdict, among, fused_in, ClusterStandsFor, played, unplayed}
 use Rattle.commands.specs.Simulations.{verdict_line, line_of_counts}

@@ -1,5 +1,5 @@
 use Rattle.std.proofs.Common.{ℕ, ◌+◌, ◌≤◌, false, List, length}
-use Rattle.vocabulary.specs.Terms.{Size}
+use Rattle.terms_prelude.specs.Terms.{Size}
 use Rattle.sim.specs.declared.TheConstants.{MOST_EVENTS}
 use Rattle.sim.specs.Words.{ClusterStandsFor, unplayed, among}
 use Rattle.commands.specs.Counts.{CountsPlayed}

@@ -3,7 +3,7 @@ use Rattle.std.proofs.lemmas.Result.{err_from_is_err_and}
 use Rattle.sim.specs.declared.events.Event.{Event}
 use Rattle.script.specs.Acts.{tossed_act}
 use Rattle.script.proofs.Counting.{next_of}
-use Rattle.words.specs.Sentences.{bit_digit}
+use Rattle.numerals.specs.Sentences.{bit_digit}
 use Rattle.report.specs.Traces.{is_skipped}
 use Rattle.report.proofs.Wording.{bit_of}
 use Rattle.commands.specs.Counts.{CountsPlayed}

@@ -1,5 +1,5 @@
 use Rattle.std.proofs.Common.{ℕ, ◌≡◌, ◌+◌, ◌≤◌, List, ◌++◌, drop, map}
-use Rattle.vocabulary.specs.Terms.{Size}
+use Rattle.terms_prelude.specs.Terms.{Size}
 use Rattle.script.specs.Acts.{TossedAct, tossed_act}
 use Rattle.commands.specs.Counts.{CountsPlayed}
 use Rattle.commands.proofs.simulate.play_batch.Given as goal

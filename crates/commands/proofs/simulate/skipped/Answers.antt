@@ -1,5 +1,5 @@
 use Rattle.std.proofs.Common.{◌∙◌, ap, arith, ◌≤◌}
-use Rattle.words.specs.Sentences.{bit_digit}
+use Rattle.numerals.specs.Sentences.{bit_digit}
 use Rattle.report.proofs.Wording.{bit_of}
 use Rattle.commands.proofs.Simulating.{bit_small, skipped_more, skipped_below}
 use Rattle.commands.proofs.simulate.skipped.Goals as goal

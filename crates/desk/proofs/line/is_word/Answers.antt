@@ -1,5 +1,5 @@
 use Rattle.std.proofs.Common.{◌≡◌, ℕ, Option, Some, None, sym, ◌∙◌, rules}
-use Rattle.words.proofs.Cuts.{spaceless, no_position}
+use Rattle.numerals.proofs.Cuts.{spaceless, no_position}
 use Rattle.desk.proofs.line.is_word.Goals as goal
 
 pub returns-in-Some : goal.returns-in-Some

@@ -1,8 +1,8 @@
 use Rattle.std.proofs.Common.{rules, ◌≡◌, ◌∙◌, ◌+◌, ◌<◌, ◌∷◌, ◌++◌, ℕ, List, [], length, take, drop, get_or, take_all, take-append-drop, append-nil, refl, sym, ap, arith}
 use Rattle.std.proofs.lemmas.List.{take_more}
 use Rattle.std.proofs.lemmas.Result.{on_ok_weaker, IfErr-weaker}
-use Rattle.vocabulary.specs.Terms.{Statement}
-use Rattle.words.specs.Lines.{line}
+use Rattle.terms_prelude.specs.Terms.{Statement}
+use Rattle.numerals.specs.Lines.{line}
 use Rattle.transcripts.specs.Lines.{head_line}
 use Rattle.desk.proofs.Blocks.{all_out, breaks_within, puts_one, puts_out, shown_next}
 use Rattle.desk.proofs.writing.write_transcript.Goals as goal

@@ -1,5 +1,5 @@
 use Rattle.std.proofs.Common.{◌≡◌, length, take}
-use Rattle.words.specs.Lines.{line}
+use Rattle.numerals.specs.Lines.{line}
 use Rattle.transcripts.specs.Lines.{head_line}
 use Rattle.desk.proofs.Blocks.{Puts}
 use Rattle.desk.proofs.writing.write_transcript.Given as goal

@@ -1,9 +1,9 @@
 use Rattle.std.proofs.Common.{◌≡◌, refl, sym, ap, ◌∙◌, subst, ℕ, Bool, Option, Some, List, Result, Ok, Err, length, arith, IfSome}
-use Rattle.vocabulary.specs.Terms.{Size}
+use Rattle.terms_prelude.specs.Terms.{Size}
 use Rattle.hearing.specs.declared.fault.HearFault.{HearFault}
 use Rattle.hearing.specs.declared.fault.HearFault.TheVariants as fault
 use Rattle.hearing.specs.Pieces.{IsNoPiece}
-use Rattle.hearing.specs.Replies.{AnswersLine}
+use Rattle.hearing.specs.Replies.{AnswersInput}
 use Rattle.hearing.specs.Keeping.{IsWhole}
 use Rattle.hearing.specs.Hears.{WritesReplies}
 use Rattle.hearing.proofs.Lines.{nothing_heard, ended, bad_line, one_line, was_read, AreHeard}
@@ -72,5 +72,5 @@ loop-number-preserved g c =
           len c.if-branch-eq0.false c.without_end.ensures.ended c.without_end.ensures.last
           (λ h at.
           let a = answer.answers yes h at in
-          (a.0, a.1, subst (λ (z : Size). AnswersLine z h c.without_end.result.now a.0 a.1) sound.size_is a.2, a.3, a.4)),
+          (a.0, a.1, subst (λ (z : Size). AnswersInput z h c.without_end.result.now a.0 a.1) sound.size_is a.2, a.3, a.4)),
     )

@@ -1,4 +1,4 @@
-use Rattle.vocabulary.specs.Terms.{IsWellFormed}
+use Rattle.terms_prelude.specs.Terms.{IsWellFormed}
 use Rattle.hearing.specs.Replies.{AnswersOne}
 use Rattle.hearing.proofs.Turns.{turn, turn_has}
 use Rattle.hearing.proofs.session.hear_each.Goals as goal

@@ -1,5 +1,5 @@
 use Rattle.std.proofs.Common.{ap, ◌∙◌}
-use Rattle.vocabulary.specs.Terms.{Place}
+use Rattle.terms_prelude.specs.Terms.{Place}
 use Rattle.hearing.proofs.Turns.{statement_heard, statement_has}
 use Rattle.hearing.proofs.session.hear_one.Goals as goal
 

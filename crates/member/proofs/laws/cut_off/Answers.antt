@@ -1,5 +1,5 @@
-use Rattle.std.proofs.Common.{◌⊎◌, ⊎_elim}
-use Rattle.vocabulary.specs.Terms.{records_of, records_of_all, without_tosses}
+use Rattle.std.proofs.Common.{⊎_elim}
+use Rattle.terms_prelude.specs.Terms.{records_of, records_of_all, without_tosses}
 use Rattle.disk.specs.Memory.{memory_state}
 use Rattle.member.proofs.Cuts.{left_over, left_in, left_in_all}
 use Rattle.member.proofs.laws.cut_off.Goals as goal

@@ -1,6 +1,6 @@
 use Rattle.std.proofs.Common.{◌≡◌, refl, sym, ◌∙◌, subst, arith}
 use Rattle.std.proofs.lemmas.Result.{err_from_is_err_and}
-use Rattle.vocabulary.specs.Terms.{Header}
+use Rattle.terms_prelude.specs.Terms.{Header}
 use Rattle.migration.specs.Words.{HasOldHeader}
 use Rattle.journal.proofs.Headers.{same_by, by_same}
 use Rattle.migration.proofs.OldOpened.{front_of, header_long, begins_with, held_from, read_good, refused_from, broken_so}

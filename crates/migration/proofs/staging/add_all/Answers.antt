@@ -1,7 +1,7 @@
 use Rattle.std.proofs.Common.{◌≡◌, ℕ, min, List, [], ◌∷◌, ◌++◌, length, Err, sym, ◌∙◌, ap, subst, rules}
 use Rattle.std.proofs.lemmas.Result.{err_from_is_err_and}
 use Rattle.std.specs.Slice.Iter.{chunks_rest}
-use Rattle.vocabulary.specs.Terms.{Record, Header}
+use Rattle.terms_prelude.specs.Terms.{Record, Header}
 use Rattle.migration.specs.Words.{AreWellFormedFor, IsWellFormedFor, Batch, draft_header, new_batch, HasGrown}
 use Rattle.migration.proofs.Growing.{all_parts, all_done, grown_none, grown_more, stopped_at, one_more}
 use Rattle.migration.proofs.staging.add_all.Goals as goal

@@ -1,5 +1,5 @@
 use Rattle.std.proofs.Common.{List, subst, sym}
-use Rattle.vocabulary.specs.Terms.{Header, Record}
+use Rattle.terms_prelude.specs.Terms.{Header, Record}
 use Rattle.questions.specs.Replay.{Entry, IsReplay}
 use Rattle.questions.specs.Words.{reply_of}
 use Rattle.member.specs.Words.{replies_of, member_header, member_saved}

@@ -1,5 +1,5 @@
 use Rattle.std.proofs.Common.{rules, sym, ap, ◌∙◌, ◌++◌, ◌+◌, drop, [], List}
-use Rattle.vocabulary.specs.Terms.{Statement}
+use Rattle.terms_prelude.specs.Terms.{Statement}
 use Rattle.questions.specs.Replay.{link_part}
 use Rattle.node.specs.Words.{same_statements}
 use Rattle.node.specs.Histories.{joined}

@@ -24,8 +24,8 @@ loop-index-preserved c few =
     let room : c.loop-index.scene.rows < MOST_EVENTS = omega (arith, far.few, inside.0, few) in
     let event : c.event-item.result ≡ get_or events i c.event-item.result =
     c.event-item.is ∙ get_or-take c.min-count.result events i c.event-item.result inside.3 in
-    far_on c.args.size c.args.liars.now events marks saved i c.loop-index.scene c.pass.new.self c.event-item.result _ c.index-saved-index.result c.deref.result.now
-    c.deref.ensures.value far (c.in_ok-pass.ensures room) (next_is events i c.event-item.result c.event-item.result inside.0 event)
+    far_on c.args.size c.args.liars.now events marks saved i c.loop-index.scene c.draw_unless_skipped.new.self c.event-item.result _ c.index-saved-index.result c.deref.result.now
+    c.deref.ensures.value far (c.in_ok-draw_unless_skipped.ensures room) (next_is events i c.event-item.result c.event-item.result inside.0 event)
     (next_is marks i _ _ inside.1 refl) (next_is saved i c.index-saved-index.result c.index-saved-index.result inside.2 c.index-saved-index.is)
 
 pub returns-clause-chart : goal.returns-clause-chart

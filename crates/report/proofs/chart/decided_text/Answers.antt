@@ -1,5 +1,5 @@
 use Rattle.std.proofs.Common.{rules, ◌++◌, ◌∷◌, [], take, List, ℕ, sym, ap, ◌∙◌, codes, string_bytes, append-nil}
-use Rattle.vocabulary.specs.Terms.{Record}
+use Rattle.terms_prelude.specs.Terms.{Record}
 use Rattle.report.specs.Pictures.{decisions, listed}
 use Rattle.report.proofs.Picturing.{decisions_more, not_decided}
 use Rattle.report.proofs.chart.decided_text.Goals.{in-Decided+in_ok-decision+in_ok-add_part, in_default}

@@ -1,5 +1,5 @@
 use Rattle.std.proofs.Common.{◌++◌, ◌∷◌, []}
-use Rattle.vocabulary.specs.Terms.{Initial, Echo, Ready}
+use Rattle.terms_prelude.specs.Terms.{Initial, Echo, Ready}
 use Rattle.report.specs.Pictures.{said_text, counted}
 use Rattle.report.proofs.Picturing.{kinds_more}
 use Rattle.report.proofs.chart.said_text.Goals as goal

@@ -4,4 +4,4 @@ use Rattle.running.proofs.run.run_member.Given as goal
 
 -- the board that was just made, and the header of the member
 abbrev pub ghosts-run_named : goal.ghosts-run_named
-ghosts-run_named g a = record { names = arc_value a.board; header = member_header a.member }
+ghosts-run_named g a = record { names = arc_value a.opened.board; header = member_header a.opened.member }

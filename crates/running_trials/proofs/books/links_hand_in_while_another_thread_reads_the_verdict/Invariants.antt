@@ -1,5 +1,5 @@
 use Rattle.std.specs.Arc.{arc_value}
-use Rattle.vocabulary.specs.Terms.{new_header, new_size}
+use Rattle.terms_prelude.specs.Terms.{new_header, new_size}
 use Rattle.running_trials.proofs.books.links_hand_in_while_another_thread_reads_the_verdict.Given as goal
 
 -- the board that was just made

@@ -1,5 +1,5 @@
 use Rattle.std.specs.Arc.{arc_value}
-use Rattle.vocabulary.specs.Terms.{new_header, new_size}
+use Rattle.terms_prelude.specs.Terms.{new_header, new_size}
 use Rattle.running_trials.proofs.sessions.a_woken_writer_with_nothing_new_writes_idles.Given as goal
 
 -- the board that was just made

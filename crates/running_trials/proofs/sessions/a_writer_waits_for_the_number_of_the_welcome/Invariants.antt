@@ -1,5 +1,5 @@
 use Rattle.std.specs.Arc.{arc_value}
-use Rattle.vocabulary.specs.Terms.{new_header, new_size}
+use Rattle.terms_prelude.specs.Terms.{new_header, new_size}
 use Rattle.running_trials.proofs.sessions.a_writer_waits_for_the_number_of_the_welcome.Given as goal
 
 -- the board that was just made

@@ -1,5 +1,5 @@
 use Rattle.std.specs.Arc.{arc_value}
-use Rattle.vocabulary.specs.Terms.{new_header, new_size}
+use Rattle.terms_prelude.specs.Terms.{new_header, new_size}
 use Rattle.running_trials.proofs.sessions.links_and_an_asker_run_at_once.Given as goal
 
 -- the board that was just made

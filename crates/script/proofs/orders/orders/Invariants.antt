@@ -1,5 +1,5 @@
 use Rattle.std.proofs.Common.{◌≡◌, ◌≤◌, []}
-use Rattle.vocabulary.specs.Terms.{Size}
+use Rattle.terms_prelude.specs.Terms.{Size}
 use Rattle.sim.specs.declared.TheConstants.{MOST_EVENTS}
 use Rattle.script.specs.Making.{Made}
 use Rattle.script.proofs.Counted.{ReadSoFar}

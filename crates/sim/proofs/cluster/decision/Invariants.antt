@@ -1,5 +1,5 @@
 use Rattle.std.proofs.Common.{◌≡◌, drop}
-use Rattle.vocabulary.specs.Terms.{decided}
+use Rattle.terms_prelude.specs.Terms.{decided}
 use Rattle.sim.proofs.cluster.decision.Given as goal
 
 abbrev pub invariant-loop-item : goal.invariant-loop-item

@@ -1,5 +1,5 @@
 use Rattle.std.proofs.Common.{◌≡◌, ◌++◌, ℕ, drop}
-use Rattle.vocabulary.specs.Terms.{decided}
+use Rattle.terms_prelude.specs.Terms.{decided}
 use Rattle.sim.proofs.cluster.decisions_among.Given as goal
 
 -- with the records that are left they decide what all do

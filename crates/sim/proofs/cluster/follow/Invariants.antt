@@ -1,5 +1,5 @@
 use Rattle.std.proofs.Common.{ℕ, Bool, take}
-use Rattle.vocabulary.specs.Terms.{Size}
+use Rattle.terms_prelude.specs.Terms.{Size}
 use Rattle.sim.specs.Plays.{ClusterStandsFor, played, unplayed}
 use Rattle.sim.proofs.cluster.follow.Given as goal
 

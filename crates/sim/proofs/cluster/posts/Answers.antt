@@ -1,6 +1,6 @@
 use Rattle.std.proofs.Common.{◌≡◌, ◌<◌, ◌++◌, ◌∷◌, [], ℕ, Bool, List, length, get_or, sym, ap, subst, ◌∙◌, arith, length-append, append_assoc, append-nil, rules, false, true, Err, IsErrOf, is_some}
 use Rattle.std.specs.Vec.Iter.{into_iter_items}
-use Rattle.vocabulary.specs.Terms.{Header}
+use Rattle.terms_prelude.specs.Terms.{Header}
 use Rattle.disk.specs.declared.memory.MemDisk.{MemDisk}
 use Rattle.disk.specs.Memory.{fuse_left}
 use Rattle.sim.specs.declared.faults.SimFault.TheVariants as faults

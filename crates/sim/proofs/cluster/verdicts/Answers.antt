@@ -1,5 +1,5 @@
 use Rattle.std.proofs.Common.{◌<◌, ◌++◌, ◌∙◌, ℕ, List, refl, ap, arith}
-use Rattle.vocabulary.specs.Terms.{Record, decided}
+use Rattle.terms_prelude.specs.Terms.{Record, decided}
 use Rattle.sim.specs.Outcomes.{Verdict}
 use Rattle.sim.proofs.Planned.{post_at}
 use Rattle.sim.proofs.Verdicts.{verdicts_more, same_below}

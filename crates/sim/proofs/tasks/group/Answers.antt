@@ -1,5 +1,5 @@
 use Rattle.std.proofs.Common.{ℕ, List, sym, ap, ◌∙◌}
-use Rattle.vocabulary.specs.Terms.{Record}
+use Rattle.terms_prelude.specs.Terms.{Record}
 use Rattle.sim.specs.Words.{to_group, group_from}
 use Rattle.sim.proofs.Planned.{told_of, open_plan, closed_plan}
 use Rattle.sim.proofs.tasks.group.Goals as goal

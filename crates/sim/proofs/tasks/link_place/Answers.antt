@@ -1,5 +1,5 @@
 use Rattle.std.proofs.Common.{◌≡◌, ◌<◌, ℕ, true, false, [], Ok, sym, ap, ◌∙◌, arith}
-use Rattle.vocabulary.specs.Terms.{is_none}
+use Rattle.terms_prelude.specs.Terms.{is_none}
 use Rattle.wire.specs.Reading.{Rest}
 use Rattle.sim.specs.declared.links.Link.{Link}
 use Rattle.sim.proofs.Planned.{post_at, up_is, open_plan}

@@ -1,6 +1,6 @@
 use Rattle.std.proofs.Common.{◌≡◌, ◌∙◌, ◌+◌, ◌<◌, ◌^◌, ◌↔◌, ℕ, Bool, None, Some, Option, Err, List, ◌∷◌, length, map, sym, ap, subst, arith, rules, IsTrue}
-use Rattle.vocabulary.specs.Terms.{Statement}
-use Rattle.words.specs.Lines.{lines_of}
+use Rattle.terms_prelude.specs.Terms.{Statement}
+use Rattle.numerals.specs.Lines.{lines_of}
 use Rattle.questions.specs.Audits.{IsProof}
 use Rattle.transcripts.specs.Lines.{head_line, pair_line}
 use Rattle.transcripts.specs.Reading.{IsBadAt}

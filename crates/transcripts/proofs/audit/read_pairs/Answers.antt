@@ -1,5 +1,5 @@
 use Rattle.std.proofs.Common.{◌≡◌, ◌+◌, ◌<◌, ℕ, Err, List, length, subst, arith, rules}
-use Rattle.vocabulary.specs.Terms.{Statement}
+use Rattle.terms_prelude.specs.Terms.{Statement}
 use Rattle.transcripts.specs.Rests.{EndsAt}
 use Rattle.transcripts.proofs.Rests.{one_read, one_too_many}
 use Rattle.transcripts.proofs.audit.read_pairs.Goals as goal

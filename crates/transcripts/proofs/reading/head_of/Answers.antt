@@ -1,6 +1,6 @@
 use Rattle.std.proofs.Common.{ℕ, Bool, ◌≡◌, ◌∷◌, ◌++◌, List, Some, None, Option, sym, subst, refl, arith, ◌<◌, ◌^◌}
 use Rattle.std.specs.Fmt.{decimal}
-use Rattle.words.proofs.Cuts.{no_cut}
+use Rattle.numerals.proofs.Cuts.{no_cut}
 use Rattle.transcripts.specs.Lines.{bit_words, head_line}
 use Rattle.transcripts.proofs.Spelled.{cut_is, number_below}
 use Rattle.transcripts.proofs.reading.head_of.Goals as goal

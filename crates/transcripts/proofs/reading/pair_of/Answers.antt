@@ -1,8 +1,8 @@
 use Rattle.std.proofs.Common.{ℕ, ◌≡◌, ◌<◌, ◌≤◌, ◌^◌, Some, None, Option, List, sym, ap, subst, ◌∙◌, refl, arith}
 use Rattle.std.specs.Fmt.{decimal}
 use Rattle.hex.specs.Hex.{encode_lower}
-use Rattle.words.proofs.Cuts.{no_cut}
-use Rattle.vocabulary.specs.Terms.{Statement, Size, IsSize}
+use Rattle.numerals.proofs.Cuts.{no_cut}
+use Rattle.terms_prelude.specs.Terms.{Statement, Size, IsSize}
 use Rattle.wire.specs.Texts.{frame_bytes}
 use Rattle.wire.specs.declared.message.Message.TheVariants as message
 use Rattle.transcripts.specs.Reading.{FitsPair}

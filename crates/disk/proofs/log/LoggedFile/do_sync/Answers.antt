@@ -7,4 +7,4 @@ use Rattle.disk.proofs.log.LoggedFile.do_sync.Goals as goal
 
 pub invariant_of-self : goal.invariant_of-self
 invariant_of-self c =
-    replayed c.self.inside.history.past Synced _ _ c.self.invariant c.sync.ensures ∙ ap state_of (sym c.then-self-inside.ensures)
+    replayed c.self.inside.history.value Synced _ _ c.self.invariant c.sync.ensures ∙ ap state_of (sym c.then.ensures)

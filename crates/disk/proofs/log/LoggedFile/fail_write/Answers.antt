@@ -7,4 +7,4 @@ use Rattle.disk.proofs.log.LoggedFile.fail_write.Goals as goal
 
 pub invariant_of-self-2 : goal.invariant_of-self-2
 invariant_of-self-2 c =
-    replayed c.self.inside.history.past (Failed c.args.at c.args.len) _ _ c.self.invariant c.in_ok-fail_write.ensures.ok ∙ ap state_of (sym c.then-self-inside.ensures)
+    replayed c.self.inside.history.value (Failed c.args.at c.args.len) _ _ c.self.invariant c.in_ok-fail_write.ensures.ok ∙ ap state_of (sym c.then.ensures)

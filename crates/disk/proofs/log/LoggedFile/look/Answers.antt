@@ -7,4 +7,4 @@ use Rattle.disk.proofs.log.LoggedFile.look.Goals as goal
 
 pub invariant_of-self : goal.invariant_of-self
 invariant_of-self c =
-    replayed c.self.inside.history.past Still _ _ c.self.invariant refl ∙ ap state_of (sym c.then-self-inside.ensures)
+    replayed c.self.inside.history.value Still _ _ c.self.invariant refl ∙ ap state_of (sym c.then.ensures)

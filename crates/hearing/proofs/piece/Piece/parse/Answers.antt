@@ -1,7 +1,7 @@
 use Rattle.std.proofs.Common.{refl, ◌≡◌, subst, Option, Some, None, IsSome}
-use Rattle.words.specs.Numbers.{IsHexOf}
+use Rattle.numerals.specs.Numbers.{IsHexOf}
 use Rattle.hearing.specs.Pieces.{IsMemberBelow}
-use Rattle.words.proofs.Cuts.{no_cut}
+use Rattle.numerals.proofs.Cuts.{no_cut}
 use Rattle.hearing.proofs.Cuts.{parts_of}
 use Rattle.hearing.proofs.piece.Piece.parse.Goals as goal
 

@@ -1,7 +1,7 @@
 use Rattle.std.proofs.Common.{◌≡◌, ◌≤◌, List, [], ◌++◌, length, refl, sym, ◌∙◌, subst, arith, eqb-true}
 use Rattle.std.proofs.lemmas.Bool.Decides.{nat_tests}
 use Rattle.std.proofs.lemmas.List.{nil_from_length}
-use Rattle.vocabulary.specs.Terms.{Record, Header}
+use Rattle.terms_prelude.specs.Terms.{Record, Header}
 use Rattle.journal.specs.Words.{AreWellFormedFor, IsHeld, IsAtRest, journal_disk, journal_header, journal_gate, journal_is_stopped}
 use Rattle.journal.proofs.Held.{left_holds}
 use Rattle.journal.proofs.Append.{nothing_added, empty_added, all_or_nothing, now_held}

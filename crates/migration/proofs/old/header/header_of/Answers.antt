@@ -1,5 +1,5 @@
 use Rattle.std.proofs.Common.{◌≡◌, ◌≤◌, true, false, refl, sym, ap, ◌∙◌, List, ℕ, get_or, subst}
-use Rattle.vocabulary.specs.Terms.{Size, Header}
+use Rattle.terms_prelude.specs.Terms.{Size, Header}
 use Rattle.journal.proofs.Headers.{same_header}
 use Rattle.migration.proofs.OldHeaders.{version_of, from_renewed, into_renewed}
 use Rattle.migration.proofs.old.header.header_of.Goals.{in_default-via-in-Some+else-is_old_size, in_default-via-in_default}

@@ -1,5 +1,5 @@
 use Rattle.std.proofs.Common.{List, sym, subst}
-use Rattle.vocabulary.specs.Terms.{Record, Header}
+use Rattle.terms_prelude.specs.Terms.{Record, Header}
 use Rattle.migration.specs.Words.{HoldsOld, HandsOldBack, staging_draft}
 use Rattle.migration.proofs.Carrying.{not_read, not_filled}
 use Rattle.migration.proofs.staging.Staging.carry.Goals as goal

@@ -1,5 +1,5 @@
 use Rattle.std.proofs.Common.{rules, ◌≡◌, [], ◌∷◌, codes}
-use Rattle.words.specs.Sentences.{sentence}
+use Rattle.numerals.specs.Sentences.{sentence}
 use Rattle.sim.specs.Texts.{pick_text}
 use Rattle.report.specs.declared.chart.drawing.Sign.TheVariants as sign
 use Rattle.report.specs.declared.chart.drawing.Words.TheVariants as words

@@ -1,6 +1,6 @@
 use Rattle.std.proofs.Common.{rules, ◌≡◌, ◌∙◌, ◌++◌, [], ◌∷◌, ap, codes, ℕ, List, string_bytes}
 use Rattle.std.specs.Fmt.{decimal}
-use Rattle.words.specs.Sentences.{bit_digit}
+use Rattle.numerals.specs.Sentences.{bit_digit}
 use Rattle.report.specs.declared.chart.drawing.Sign.TheVariants as sign
 use Rattle.report.specs.declared.chart.drawing.Words.TheVariants as words
 use Rattle.report.specs.Drawings.{SignAt, words_at}

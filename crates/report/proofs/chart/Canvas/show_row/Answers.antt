@@ -1,6 +1,6 @@
 use Rattle.std.proofs.Common.{rules, ◌≡◌, ◌∙◌, List, ℕ, ap, subst, OnOk}
 use Rattle.std.specs.Fmt.{decimal}
-use Rattle.vocabulary.specs.Terms.{Size}
+use Rattle.terms_prelude.specs.Terms.{Size}
 use Rattle.report.specs.Charts.{member_of}
 use Rattle.report.specs.declared.chart.Canvas.{Canvas}
 use Rattle.report.specs.declared.chart.column.Column.{Column}

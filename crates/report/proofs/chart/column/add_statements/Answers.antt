@@ -1,5 +1,5 @@
 use Rattle.std.proofs.Common.{◌++◌, ◌∷◌, [], take, List, sym, ap, ◌∙◌}
-use Rattle.vocabulary.specs.Terms.{Record, Statement}
+use Rattle.terms_prelude.specs.Terms.{Record, Statement}
 use Rattle.report.specs.Charts.{statements_said}
 use Rattle.report.proofs.Charting.{statements_more, not_said, behind}
 use Rattle.report.proofs.chart.column.add_statements.Goals.{in-Said+in_ok-push, in_default}

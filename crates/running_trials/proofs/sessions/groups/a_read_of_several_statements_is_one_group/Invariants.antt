@@ -1,5 +1,5 @@
 use Rattle.std.specs.Arc.{arc_value}
-use Rattle.vocabulary.specs.Terms.{new_header, new_size}
+use Rattle.terms_prelude.specs.Terms.{new_header, new_size}
 use Rattle.running_trials.proofs.sessions.groups.a_read_of_several_statements_is_one_group.Given as goal
 
 abbrev pub ghosts-is_one_group : goal.ghosts-is_one_group

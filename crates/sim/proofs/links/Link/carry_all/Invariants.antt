@@ -1,6 +1,6 @@
 use Rattle.std.proofs.Common.{◌≡◌, ◌≤◌, ◌+◌, [], length}
 use Rattle.std.specs.List.{AllByRecursion}
-use Rattle.vocabulary.specs.Terms.{IsSize, IsWellFormed}
+use Rattle.terms_prelude.specs.Terms.{IsSize, IsWellFormed}
 use Rattle.wire.specs.Reading.{Rest}
 use Rattle.sim.proofs.Groups.{CarriedSoFar}
 use Rattle.sim.proofs.links.Link.carry_all.Given as goal

@@ -1,6 +1,6 @@
 use Rattle.std.proofs.Common.{◌≡◌, ◌≤◌, ◌++◌, ◌∙◌, sym, ap, subst, List, ℕ, length, arith, map}
 use Rattle.std.specs.List.{AllByRecursion}
-use Rattle.vocabulary.specs.Terms.{Size, Statement, IsSize, IsWellFormed}
+use Rattle.terms_prelude.specs.Terms.{Size, Statement, IsSize, IsWellFormed}
 use Rattle.wire.specs.Words.{frame_bytes}
 use Rattle.sim.specs.Links.{LinkFields}
 use Rattle.sim.proofs.Reading.{part_arrives, together_alone}

@@ -1,5 +1,5 @@
 use Rattle.std.proofs.Common.{◌≡◌, ℕ, [], Some, Option, IfOk, length, get_or, refl, sym, ap, subst, ◌∙◌, true}
-use Rattle.vocabulary.specs.Terms.{Size, Header, Statement, IsSize, IsWellFormed, Hearing}
+use Rattle.terms_prelude.specs.Terms.{Size, Header, Statement, IsSize, IsWellFormed, Hearing}
 use Rattle.wire.specs.Reading.{Rest}
 use Rattle.world.specs.World.{has_sent}
 use Rattle.sim.specs.Words.{Link, IsMove, Answers}

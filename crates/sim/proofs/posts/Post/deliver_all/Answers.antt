@@ -1,6 +1,6 @@
 use Rattle.std.proofs.Common.{◌≡◌, ℕ, [], List, length, get_or, refl, sym, ap, subst, ◌∙◌, map}
 use Rattle.std.specs.List.{AllByRecursion}
-use Rattle.vocabulary.specs.Terms.{Size, Header, Statement, IsSize, IsWellFormed}
+use Rattle.terms_prelude.specs.Terms.{Size, Header, Statement, IsSize, IsWellFormed}
 use Rattle.wire.specs.Reading.{Rest}
 use Rattle.member.specs.Groups.{hearings, AllCome}
 use Rattle.sim.specs.Words.{Link, hearings_from, group_of}

@@ -1,6 +1,6 @@
 use Rattle.std.proofs.Common.{◌≡◌, length, refl, sym, ap, ◌∙◌, false, subst, List, IfOk}
 use Rattle.std.specs.List.{AllByRecursion}
-use Rattle.vocabulary.specs.Terms.{IsWellFormed, Header, Statement}
+use Rattle.terms_prelude.specs.Terms.{IsWellFormed, Header, Statement}
 use Rattle.sim.specs.Words.{is_broken_at, IsMove, AreLies}
 use Rattle.sim.proofs.Done.{mapped, broken, lies_formed, lies_done}
 use Rattle.sim.proofs.posts.Post.hear_lies.Goals as goal

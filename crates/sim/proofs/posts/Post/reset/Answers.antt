@@ -1,5 +1,5 @@
 use Rattle.std.proofs.Common.{◌≡◌, length, refl, ap, ◌∙◌}
-use Rattle.vocabulary.specs.Terms.{Header}
+use Rattle.terms_prelude.specs.Terms.{Header}
 use Rattle.sim.proofs.Done.{reset_done}
 use Rattle.sim.proofs.posts.Post.reset.Goals as goal
 

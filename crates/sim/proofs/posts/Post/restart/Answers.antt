@@ -1,5 +1,5 @@
 use Rattle.std.proofs.Common.{◌≡◌, ◌<◌, length, get_or, refl, sym, ap, ◌∙◌, subst, arith}
-use Rattle.vocabulary.specs.Terms.{Header, Size}
+use Rattle.terms_prelude.specs.Terms.{Header, Size}
 use Rattle.sim.specs.Words.{Presence, is_liar, IsMove, Reopens, IsNewLink}
 use Rattle.sim.proofs.Done.{reopen_done, reopen_failed}
 use Rattle.sim.proofs.posts.Post.restart.Goals as goal

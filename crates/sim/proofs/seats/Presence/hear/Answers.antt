@@ -1,4 +1,4 @@
-use Rattle.vocabulary.specs.Terms.{Hearing}
+use Rattle.terms_prelude.specs.Terms.{Hearing}
 use Rattle.member.specs.Words.{MemberIsAt, memory_disk, IsSound}
 use Rattle.sim.specs.Seats.{mine}
 use Rattle.member.proofs.Outcomes.{full_of}

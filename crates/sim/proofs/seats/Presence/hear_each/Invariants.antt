@@ -1,6 +1,6 @@
 use Rattle.std.proofs.Common.{◌≡◌, ◌<◌, ℕ, Bool, true, None}
 use Rattle.std.specs.List.{AllByRecursion}
-use Rattle.vocabulary.specs.Terms.{Size, IsWellFormed}
+use Rattle.terms_prelude.specs.Terms.{Size, IsWellFormed}
 use Rattle.world.specs.World.{World, IsCorrect}
 use Rattle.sim.specs.Seats.{IsOneSound, IsSeatAt, is_liar, mine}
 use Rattle.sim.proofs.Lies.{HeardSoFar}

@@ -1,6 +1,6 @@
 use Rattle.std.proofs.Common.{◌∙◌, [], sym, subst, ap, refl}
 use Rattle.world.specs.World.{IsCorrect}
-use Rattle.vocabulary.specs.Terms.{Header}
+use Rattle.terms_prelude.specs.Terms.{Header}
 use Rattle.disk.specs.Memory.{memory_state}
 use Rattle.member.specs.Stands.{IsLeft}
 use Rattle.sim.specs.Words.{Presence, IsSeatAt, IsFreshSeat, is_liar, mine}

@@ -1,5 +1,5 @@
 use Rattle.std.proofs.Common.{◌≡◌, ◌<◌, ◌≤◌, Some, List, length, get_or, sym, ap, subst, ◌∙◌}
-use Rattle.vocabulary.specs.Terms.{Statement}
+use Rattle.terms_prelude.specs.Terms.{Statement}
 use Rattle.member.specs.declared.sealed.Sealed.{Sealed}
 use Rattle.member.specs.Words.{sealed_from, member_saved}
 use Rattle.sim.specs.Words.{Presence, nth_said, saved_in}

@@ -1,7 +1,7 @@
 use Rattle.std.proofs.Common.{rules, ◌≡◌, ◌∙◌, ◌+◌, ◌<◌, ◌∷◌, ◌++◌, ℕ, List, codes, get_or, length, take, take_all, refl, sym, ap, subst, arith}
 use Rattle.std.specs.Fmt.{HasWritten, decimal}
 use Rattle.std.proofs.Output.{has_written_append, has_written_of_eq}
-use Rattle.vocabulary.specs.Terms.{Statement}
+use Rattle.terms_prelude.specs.Terms.{Statement}
 use Rattle.transcripts.specs.Lines.{head_line, pair_line}
 use Rattle.transcripts.proofs.Texts.{behind, behind_more}
 use Rattle.transcripts.proofs.text.TranscriptTextDisplay.fmt.Goals as goal

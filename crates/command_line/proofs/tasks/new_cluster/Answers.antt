@@ -1,0 +1,10 @@
+use Rattle.std.proofs.Common.{refl, ◌∙◌, ap}
+use Rattle.command_line.specs.Usage.{as_u32}
+use Rattle.command_line.proofs.tasks.new_cluster.Goals as goal
+
+pub returns : goal.returns
+returns c =
+    let size = c.with_size-command.ensures _ c.named.ensures in
+    let cluster = c.with_arg-command.ensures _ _ size (c.of_u32.ensures ∙ ap as_u32 c.number-cluster.ensures) refl in
+    let folder = c.with_arg-command-2.ensures _ _ cluster c.word-folder.ensures refl in
+    c.with_arg.ensures _ _ folder c.last_word-hosts.ensures refl

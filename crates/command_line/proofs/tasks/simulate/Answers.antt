@@ -1,0 +1,8 @@
+use Rattle.std.proofs.Common.{refl}
+use Rattle.command_line.proofs.tasks.simulate.Goals as goal
+
+pub returns : goal.returns
+returns c =
+    let script = c.with_arg-command.ensures _ _ c.named-command.ensures c.word.ensures refl in
+    let trace = c.with_arg-command-2.ensures _ _ script c.file.ensures refl in
+    c.with_arg.ensures _ _ trace c.file-2.ensures refl

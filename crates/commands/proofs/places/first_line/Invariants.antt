@@ -1,7 +1,0 @@
-use Rattle.std.specs.Prelude.{take}
-use Rattle.commands.specs.Places.{NoLine, SaysKey, texts}
-use Rattle.commands.proofs.places.first_line.Given as goal
-
--- no line so far gives the key a value
-abbrev pub invariant-loop-index : goal.invariant-loop-index
-invariant-loop-index l = NoLine (SaysKey l.name) (take l.index (texts l.lines))

@@ -1,0 +1,131 @@
+//! The replies of a desk: which lines are some, and the objects of JSON that say the same.
+
+ghost use Rattle.std.specs.Prelude.{ℕ, List, ◌≡◌, ◌↔◌, IfOk, IfSome, IsNone, IsTrue, Some, string_bytes};
+ghost use Rattle.commands.specs.Replies.{AreCounts, HasCounts, IsCount, SaysFixed, SaysDone, SaysSame, SaysWhyNot, IsReply, up_object};
+
+use numerals::{behind, is, number, split_at_space};
+use std::alloc::{AllocError, Global};
+
+/// The number that a word of a reply writes: no digit stands before it that could be left out.
+fn count(word: &[u8]) -> Option<u64>
+    ensures some { IfSome result (IsCount word.now) }
+    ensures exact { (n : ℕ) → IsCount word.now n → result ≡ Some n }
+{
+    if word.len() > 1 && word[0] == b'0' {
+        return None;
+    }
+    number(word)
+}
+
+/// The two numbers that the words write.
+fn two_counts(words: &[u8]) -> Option<(u64, u64)>
+    ensures some { IfSome result (λ found. AreCounts words.now found.0 found.1) }
+    ensures exact { (m d : ℕ) → AreCounts words.now m d → result ≡ Some (m, d) }
+{
+    let Some((first, second)) = split_at_space(words) else {
+        return None;
+    };
+    let Some(statements) = count(first) else {
+        return None;
+    };
+    let Some(decided) = count(second) else {
+        return None;
+    };
+    Some((statements, decided))
+}
+
+/// The numbers of statements and of decisions that the reply says, where it is `UP m d`.
+pub fn counts(reply: &[u8]) -> Option<(u64, u64)>
+    ensures some { IfSome result (λ found. HasCounts reply.now found.0 found.1) }
+    ensures exact { (m d : ℕ) → HasCounts reply.now m d → result ≡ Some (m, d) }
+{
+    match behind(reply, "UP ") {
+        Some(words) => two_counts(words),
+        None => None,
+    }
+}
+
+/// The object of a reply that says that it was done, or what was decided.
+fn good_object(reply: &[u8]) -> Option<&'static str>
+    ensures some { IfSome result (λ object. SaysDone reply.now object.now) }
+    ensures none { IsNone result → (object : List ℕ) → SaysDone reply.now object → ⊥ }
+{
+    if is(reply, "OK") {
+        Some("{\"ok\":true}")
+    } else if is(reply, "HAVE 0") {
+        Some("{\"have\":0}")
+    } else if is(reply, "HAVE 1") {
+        Some("{\"have\":1}")
+    } else if is(reply, "DECIDED 0") {
+        Some("{\"decided\":0}")
+    } else if is(reply, "DECIDED 1") {
+        Some("{\"decided\":1}")
+    } else if is(reply, "UNDECIDED") {
+        Some("{\"undecided\":true}")
+    } else {
+        None
+    }
+}
+
+/// The object of a reply that says why not.
+fn other_object(reply: &[u8]) -> Option<&'static str>
+    ensures some { IfSome result (λ object. SaysWhyNot reply.now object.now) }
+    ensures none { IsNone result → (object : List ℕ) → SaysWhyNot reply.now object → ⊥ }
+{
+    if is(reply, "STOPPED") {
+        Some("{\"stopped\":true}")
+    } else if is(reply, "THIN") {
+        Some("{\"thin\":true}")
+    } else if is(reply, "ERR 1 line") {
+        Some("{\"error\":1,\"name\":\"line\"}")
+    } else if is(reply, "ERR 2 question") {
+        Some("{\"error\":2,\"name\":\"question\"}")
+    } else if is(reply, "ERR 3 bit") {
+        Some("{\"error\":3,\"name\":\"bit\"}")
+    } else if is(reply, "ERR 4 memory") {
+        Some("{\"error\":4,\"name\":\"memory\"}")
+    } else {
+        None
+    }
+}
+
+/// The object of a reply that has no numbers but bits and codes.
+fn fixed_object(reply: &[u8]) -> Option<&'static str>
+    ensures some { IfSome result (λ object. SaysFixed reply.now object.now) }
+    ensures none { IsNone result → (object : List ℕ) → SaysFixed reply.now object → ⊥ }
+{
+    match good_object(reply) {
+        Some(object) => Some(object),
+        None => other_object(reply),
+    }
+}
+
+/// The object of `UP m d`.
+fn up_object(alloc: Global, statements: u64, decided: u64) -> Result<String, AllocError>
+    ensures { IfOk result (λ text. string_bytes text ≡ up_object statements decided) }
+{
+    format!(in alloc; "{{\"up\":true,\"statements\":{statements},\"decided\":{decided}}}")
+}
+
+/// The object that says the same as the reply; none where the line is no reply.
+pub fn object_of(alloc: Global, reply: &[u8]) -> Result<Option<String>, AllocError>
+    ensures some { IfOk result (λ found. IfSome found (λ text. SaysSame reply.now (string_bytes text))) }
+    ensures none { IfOk result (λ found. IsNone found → IsReply reply.now → ⊥) }
+{
+    if let Some(object) = fixed_object(reply) {
+        return Ok(Some(String::from_str(alloc, object)?));
+    }
+    match counts(reply) {
+        Some((statements, decided)) => Ok(Some(up_object(alloc, statements, decided)?)),
+        None => Ok(None),
+    }
+}
+
+/// Whether the line is a reply of a desk.
+pub fn is_reply(line: &[u8]) -> bool
+    ensures { IsTrue result ↔ IsReply line.now }
+{
+    let fixed = fixed_object(line);
+    let found = counts(line);
+    fixed.is_some() | found.is_some()
+}

@@ -1,0 +1,91 @@
+//! Where in a text a fault is.
+
+ghost use Rattle.std.specs.Prelude.{◌≡◌, ◌-◌, ◌↔◌, IfOk, IfSome, IsNone, IsSome, IsTrue, None, length, option_map, slice_get, take};
+ghost use Rattle.settings.specs.Keys.{key_text};
+ghost use Rattle.toml.specs.Parse.{parse_document};
+ghost use Rattle.commands.specs.TextLines.{EndsKey, IsFirstLine, IsLineIn, SaysKey, lines_in, texts};
+
+use numerals::is;
+use settings::Key;
+use std::alloc::{AllocError, Global};
+
+/// What stands before, between and behind the bytes 10 of the text.
+pub fn lines_in(alloc: Global, text: &[u8]) -> Result<Vec<&[u8]>, AllocError>
+    ensures { IfOk result (λ lines. texts lines.items ≡ lines_in text.now) }
+{
+    text.split(|byte| *byte == b'\n').collect(alloc)
+}
+
+/// The line of that number, counted from 1, without the byte 10 that ends it.
+pub fn line_at<'a>(
+    alloc: Global,
+    text: &'a [u8],
+    number: usize,
+) -> Result<Option<&'a [u8]>, AllocError>
+    ensures { IfOk result (λ line. option_map (λ line. line.now) line ≡ slice_get (lines_in text.now) (number - 1)) }
+{
+    let lines = lines_in(alloc, text)?;
+    Ok(lines.get(number.saturating_sub(1)).copied())
+}
+
+/// Whether the byte may stand behind a key.
+fn ends_key(byte: u8) -> bool
+    ensures { IsTrue result ↔ EndsKey byte }
+{
+    byte == b' ' || byte == b'='
+}
+
+/// Whether the line gives the key of that name a value: it begins with the name, and a blank or `=` behind it.
+fn says(line: &[u8], name: &str) -> bool
+    ensures { IsTrue result ↔ SaysKey name.now line.now }
+{
+    let end = name.len();
+    match line.get(end) {
+        Some(byte) => ends_key(*byte) && is(&line[..end], name),
+        None => false,
+    }
+}
+
+/// The number of the first line, counted from 1, that gives the key of that name a value; none where no line does.
+fn first_line(lines: &[&[u8]], name: &str) -> Option<usize>
+    ensures { IsFirstLine (SaysKey name.now) (texts lines.now) result }
+{
+    for (index, line) in lines.iter().enumerate() {
+        if says(line, name) {
+            return Some(index + 1);
+        }
+    }
+    None
+}
+
+/// The number of a line, counted from 1, that gives the key a value at its beginning; the first, where there are several,
+/// and none where no line does.
+pub fn line_of_key(alloc: Global, text: &[u8], key: Key) -> Result<Option<usize>, AllocError>
+    ensures { IfOk result (IsFirstLine (SaysKey (key_text key)) (lines_in text.now)) }
+{
+    let lines = lines_in(alloc, text)?;
+    Ok(first_line(&lines, key.text()))
+}
+
+/// The number of the line, counted from 1, in which the byte at this place stands.
+pub fn line_of_byte(alloc: Global, text: &[u8], place: usize) -> Result<usize, AllocError>
+    ensures { IfOk result (λ number. number ≡ length (lines_in (take place text.now))) }
+{
+    let front = &text[..place.min(text.len())];
+    Ok(lines_in(alloc, front)?.len())
+}
+
+/// The line of a text, counted from 1, at which the reader of TOML fails, and why it does; none where the text is TOML.
+pub fn text_fault(alloc: Global, text: &str) -> Result<Option<(usize, String)>, AllocError>
+    ensures none { IfOk result (λ found. IsNone found → IsSome (parse_document text.now)) }
+    ensures some { IfOk result (λ found. IfSome found (λ found. (parse_document text.now ≡ None) × IsLineIn text.now found.0)) }
+{
+    let Err(error) = toml::table_from_str(alloc, text) else {
+        return Ok(None);
+    };
+    let Some(span) = error.span() else {
+        return Err(AllocError);
+    };
+    let line = line_of_byte(alloc, text.as_bytes(), span.start)?;
+    Ok(Some((line, String::from_str(alloc, error.message())?)))
+}

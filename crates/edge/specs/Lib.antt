@@ -1,4 +1,0 @@
-pub mod Faults
-pub mod Troubles
-pub mod Tellings
-pub mod Sockets

@@ -1,0 +1,116 @@
+-- Batches in front of bytes, one after another, and what goes wrong behind them.
+use Rattle.std.proofs.Common.{◌≡◌, ℕ, ◌-◌, List, [], ◌∷◌, ◌++◌, ◌<◌, ◌+◌, length, drop, refl, sym, ◌∙◌, ap, arith, append_assoc, length-append, length-drop, drop-drop, drop_at, take-append-drop}
+use Rattle.std.proofs.lemmas.List.Concat.{flat_map-append}
+use Rattle.std.specs.List.{AllByRecursion}
+use Rattle.terms_prelude.specs.Terms.{Record, Header, IsSize}
+use Rattle.journal.specs.Words.{JournalFault, NotEmpty, BadHeader, OtherHeader, BadRecord, CutShort, Device, Memory, Stopped, Full, OldVersion, version_2, Batch, batch_in, batches_bytes, batch_records, IsBatch, AreBatches, IsBad, IsCut, Stumbles, ReadsBatches, BreaksBatches, TakesBatches, header_text, HasHeader, Holds}
+use Rattle.journal.proofs.Endings.{Ending, Closed, Cut, Bad, EndsIn, one_end, one_text, rest_of_batches}
+use Rattle.journal.proofs.Opened.{front_of}
+use Rattle.journal.proofs.Six.{six}
+
+all-append : {X : Type 0} (P : X → Type 0) (xs ys : List X) → AllByRecursion P xs → AllByRecursion P ys → AllByRecursion P (xs ++ ys)
+all-append P [] ys all more = more
+all-append P (x ∷ xs) ys all more = (all.0, all-append P xs ys all.1 more)
+
+-- no batch at all
+pub takes_nothing : (h : Header) (bytes : List ℕ) → TakesBatches h bytes [] bytes
+takes_nothing h bytes = record { batches = []; good = tt; is = refl; records_are = refl }
+
+-- batches, and then others
+bytes_of_both : (bs cs : List Batch) (bytes rest behind : List ℕ) → bytes ≡ batches_bytes bs ++ rest → rest ≡ batches_bytes cs ++ behind → bytes ≡ batches_bytes (bs ++ cs) ++ behind
+bytes_of_both bs cs bytes rest behind is is' =
+    is ∙ ap (λ (l : List ℕ). batches_bytes bs ++ l) is' ∙ sym (append_assoc (batches_bytes bs) (batches_bytes cs) behind)
+    ∙ ap (λ (l : List ℕ). l ++ behind) (sym (flat_map-append (batch_in version_2) bs cs))
+
+pub takes_more : (h : Header) (bytes rest behind : List ℕ) (records added : List Record) → TakesBatches h bytes records rest → TakesBatches h rest added behind → TakesBatches h bytes (records ++ added) behind
+takes_more h bytes rest behind records added a b = record {
+  batches = a.batches ++ b.batches;
+  good = all-append (IsBatch h) a.batches b.batches a.good b.good;
+  is = bytes_of_both a.batches b.batches bytes rest behind a.is b.is;
+  records_are = (λ i. a.records_are i ++ b.records_are i) ∙ sym (flat_map-append (λ (batch : Batch). batch.records) a.batches b.batches);
+}
+
+-- batches up to a closed gate
+pub takes_all : (h : Header) (bytes rest behind : List ℕ) (records : List Record) → TakesBatches h bytes records rest → rest ≡ 0 ∷ behind → ReadsBatches h bytes (length bytes - length rest) records
+takes_all h bytes rest behind records t shut = record {
+  batches = t.batches;
+  rest = behind;
+  good = t.good;
+  is = t.is ∙ ap (λ (l : List ℕ). batches_bytes t.batches ++ l) shut;
+  gate_is = omega (arith, ap (λ (l : List ℕ). length l) t.is, length-append (batches_bytes t.batches) rest);
+  records_are = t.records_are;
+}
+
+-- what goes wrong behind batches
+stumbles_behind : (h : Header) (bytes rest : List ℕ) (records : List Record) (IsWrong : List ℕ → Type 0) → TakesBatches h bytes records rest → Stumbles h IsWrong rest → Stumbles h IsWrong bytes
+stumbles_behind h bytes rest records IsWrong t s = record {
+  batches = t.batches ++ s.batches;
+  rest = s.rest;
+  good = all-append (IsBatch h) t.batches s.batches t.good s.good;
+  is = bytes_of_both t.batches s.batches bytes rest s.rest t.is s.is;
+  wrong = s.wrong;
+}
+
+pub breaks_behind : (h : Header) (bytes rest : List ℕ) (records : List Record) (fault : JournalFault) → TakesBatches h bytes records rest → BreaksBatches h fault rest → BreaksBatches h fault bytes
+breaks_behind h bytes rest records NotEmpty t breaks = breaks
+breaks_behind h bytes rest records BadHeader t breaks = breaks
+breaks_behind h bytes rest records OtherHeader t breaks = breaks
+breaks_behind h bytes rest records BadRecord t breaks = stumbles_behind h bytes rest records (IsBad h) t breaks
+breaks_behind h bytes rest records CutShort t breaks = stumbles_behind h bytes rest records IsCut t breaks
+breaks_behind h bytes rest records Device t breaks = breaks
+breaks_behind h bytes rest records Memory t breaks = breaks
+breaks_behind h bytes rest records Stopped t breaks = breaks
+breaks_behind h bytes rest records Full t breaks = breaks
+breaks_behind h bytes rest records OldVersion t breaks = breaks
+
+-- Bytes that are batches up to a closed gate: of the first batches of theirs the records are the first.
+pub left_behind : (h : Header) (bytes behind shut : List ℕ) (records added : List Record) → IsSize h.size → TakesBatches h bytes records (0 ∷ shut) → TakesBatches h bytes added behind
+    → (later : List Record) × (records ≡ added ++ later) × TakesBatches h behind later (0 ∷ shut)
+left_behind h bytes behind shut records added size all some =
+    let rest = rest_of_batches version_2 six h all.batches some.batches shut behind size all.good some.good (sym all.is ∙ some.is) in (
+      batch_records rest.0,
+      all.records_are ∙ rest.2 ∙ ap (λ (l : List Record). l ++ batch_records rest.0) (sym some.records_are),
+      record { batches = rest.0; good = rest.1; is = rest.3; records_are = refl },
+    )
+
+-- and none of them goes wrong
+wrong_nowhere : (h : Header) (bytes shut : List ℕ) (records : List Record) (end : Ending) (bs : List Batch) (rest : List ℕ) → IsSize h.size → TakesBatches h bytes records (0 ∷ shut) → AreBatches h bs → bytes ≡ batches_bytes bs ++ rest
+    → EndsIn version_2 h end rest → Closed ≡ end
+wrong_nowhere h bytes shut records end bs rest size all good is ends =
+    one_end version_2 six h all.batches bs (0 ∷ shut) rest Closed end size all.good good (shut, refl) ends (sym all.is ∙ is)
+
+pub breaks_nowhere : (h : Header) (bytes shut : List ℕ) (records : List Record) (fault : JournalFault) → IsSize h.size → TakesBatches h bytes records (0 ∷ shut) → BreaksBatches h fault bytes → fault ≡ Memory
+breaks_nowhere h bytes shut records NotEmpty size all breaks = absurd breaks
+breaks_nowhere h bytes shut records BadHeader size all breaks = absurd breaks
+breaks_nowhere h bytes shut records OtherHeader size all breaks = absurd breaks
+breaks_nowhere h bytes shut records BadRecord size all breaks =
+    let same = wrong_nowhere h bytes shut records Bad breaks.batches breaks.rest size all breaks.good breaks.is breaks.wrong in cc same
+breaks_nowhere h bytes shut records CutShort size all breaks =
+    let same = wrong_nowhere h bytes shut records Cut breaks.batches breaks.rest size all breaks.good breaks.is breaks.wrong in cc same
+breaks_nowhere h bytes shut records Device size all breaks = absurd breaks
+breaks_nowhere h bytes shut records Memory size all breaks = refl
+breaks_nowhere h bytes shut records Stopped size all breaks = absurd breaks
+breaks_nowhere h bytes shut records Full size all breaks = absurd breaks
+breaks_nowhere h bytes shut records OldVersion size all breaks = absurd breaks
+
+-- behind what was taken of the bytes from some place on
+pub rest_at : (bytes taken behind : List ℕ) (at : ℕ) → drop at bytes ≡ taken ++ behind → length behind < length (drop at bytes) → drop (length bytes - length behind) bytes ≡ behind
+rest_at bytes taken behind at is some =
+    let far : length bytes - length behind ≡ at + length taken = omega (arith, length-drop at bytes, ap (λ (l : List ℕ). length l) is, length-append taken behind, some) in
+    ap (λ (n : ℕ). drop n bytes) far ∙ sym (drop-drop (length taken) at bytes) ∙ ap (λ (l : List ℕ). drop (length taken) l) is ∙ drop_at taken behind (length taken) refl
+
+-- a header, and batches up to a closed gate
+pub whole_file : (h : Header) (file behind : List ℕ) (records : List Record) → HasHeader h file → TakesBatches h (drop 24 file) records (0 ∷ behind) → Holds h records file
+whole_file h file behind records has takes = record {
+  lawful = has.lawful;
+  batches = takes.batches;
+  rest = behind;
+  good = takes.good;
+  is = sym (take-append-drop 24 file) ∙ (λ i. front_of h file has i ++ takes.is i) ∙ sym (append_assoc (header_text h) (batches_bytes takes.batches) (0 ∷ behind));
+  records_are = takes.records_are;
+}
+
+-- in front of a closed gate is none of them left
+pub nothing_left : (h : Header) (bytes shut rest : List ℕ) (records : List Record) → IsSize h.size → TakesBatches h bytes records (0 ∷ shut) → bytes ≡ 0 ∷ rest → records ≡ []
+nothing_left h bytes shut rest records size all is =
+    all.records_are ∙ one_text version_2 six h all.batches [] shut rest size all.good tt (sym all.is ∙ is)

@@ -1,0 +1,29 @@
+use Rattle.std.proofs.Common.{rules, ◌≡◌, inr, ◌∙◌, ap, subst}
+use Rattle.terms_prelude.specs.Terms.{Header, IsSize}
+use Rattle.wire.specs.Texts.{frame_bytes}
+use Rattle.wire.specs.declared.message.Message.TheVariants as message
+use Rattle.wire.proofs.Frames.{partial0}
+use Rattle.links.specs.Told.{Told, has_written}
+use Rattle.links.specs.Handing.{ReadsUntil}
+use Rattle.links.proofs.Turning.{nothing_read, waits, so_far_on, so_far_off}
+use Rattle.links.proofs.reader.Reader.read_session.Goals as goal
+
+pub loop-init : goal.loop-init
+loop-init g c =
+    let same : c.size-size.result ≡ c.args.self.now.hub.now.size = c.size-size.ensures ∙ ap (λ (h : Header). h.size) c.header.ensures.hub in
+    nothing_read c.args.self.now.version c.args.self.now.hub.now.size (g.S.Stream.told c.write_message.new.stream) c.new-feeder.result c.args.seat (partial0 c.args.self.now.hub.now.size)
+    (subst IsSize same c.recall-2.ensures) c.recall.ensures (c.new-feeder.ensures.size ∙ same) c.new-feeder.ensures.end
+
+pub returns-in-Err-turn : goal.returns-in-Err-turn
+returns-in-Err-turn g c =
+    let wrote : g.S.Stream.told c.write_message.new.stream ≡ has_written (g.S.Stream.told c.args.stream.now) (frame_bytes (message.Welcome c.args.seat.next)) = search (rules, c.in-Ok.ensures.ok, c.next.ensures) in
+    let w = waits c.args.self.now.version c.args.self.now.hub.now.size (g.S.Stream.told c.write_message.new.stream) (g.S.Stream.told c.loop.stream) c.loop.feeder c.args.seat c.loop.seat c.loop.invariant in
+    inr (subst (λ (t : Told). ReadsUntil c.args.self.now.version c.args.self.now.hub.now.size t (g.S.Stream.told c.turn.new.stream) c.args.seat c.turn.new.seat c.in-Err-turn.why) wrote
+    (so_far_off c.args.self.now.version c.args.self.now.hub.now.size (g.S.Stream.told c.write_message.new.stream) (g.S.Stream.told c.loop.stream) (g.S.Stream.told c.turn.new.stream) c.loop.feeder c.args.seat c.loop.seat c.turn.new.seat c.in-Err-turn.why
+    c.loop.invariant (c.in-Err-turn.ensures.off c.loop.invariant.rest w)))
+
+pub loop-preserved : goal.loop-preserved
+loop-preserved g c =
+    let w = waits c.args.self.now.version c.args.self.now.hub.now.size (g.S.Stream.told c.write_message.new.stream) (g.S.Stream.told c.loop.stream) c.loop.feeder c.args.seat c.loop.seat c.loop.invariant in
+    so_far_on c.args.self.now.version c.args.self.now.hub.now.size (g.S.Stream.told c.write_message.new.stream) (g.S.Stream.told c.loop.stream) (g.S.Stream.told c.turn.new.stream) c.loop.feeder c.turn.new.feeder c.args.seat c.loop.seat c.turn.new.seat
+    c.loop.invariant (c.in_default.ensures.on c.loop.invariant.rest w)

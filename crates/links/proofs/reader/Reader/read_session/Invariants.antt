@@ -1,0 +1,6 @@
+use Rattle.links.proofs.Turning.{SoFar}
+use Rattle.links.proofs.reader.Reader.read_session.Given as goal
+
+abbrev pub invariant-loop : goal.invariant-loop
+invariant-loop g l =
+    SoFar l.fn.self.version l.fn.self.hub.now.size (g.S.Stream.told l.initial.stream) (g.S.Stream.told l.stream) l.feeder l.initial.seat l.seat

@@ -1,0 +1,12 @@
+//! Players of rows on books, sessions of links and clients, and logs. The head of each module says what its rows are.
+#![tactic(auto)]
+
+mod books;
+mod desks;
+mod logs;
+mod sessions;
+mod streams;
+
+pub use desks::Desk;
+pub use logs::Logs;
+pub use sessions::Sessions;

@@ -1,0 +1,270 @@
+//! The line in front of the book: what several links hand in while a batch is on its way to the disk is heard as one group.
+//! Begin at `Line`, and at `hear`, last.
+ghost use Rattle.std.specs.Prelude.{◌≡◌, IfSome, IsTrue};
+ghost use Rattle.member.specs.Groups.{hearings};
+ghost use Rattle.node.specs.Groups.{heard_from};
+ghost use Rattle.node.specs.Lines.{ComesOf, HasCome, are_of, is_of};
+
+use crate::batch::{Batch, Part};
+use crate::book::{Book, Naming};
+use crate::outcome::Outcome;
+use crate::settle::is_same;
+use disk::Disk;
+use member::MemberFault;
+use rounds::Toss;
+use std::alloc::Global;
+use std::marker::{Model, PhantomData};
+use std::mem::replace;
+use terms::{Memory, Statement};
+
+/// A group and what came of it.
+#[derive(Drop)]
+pub(crate) struct Heard<D> {
+    batch: Batch,
+    outcome: Outcome,
+    of: PhantomData<D>,
+}
+
+impl<D> Model for Heard<D> {
+    ghost use Rattle.member.specs.Groups.{hearings};
+    ghost use Rattle.node.specs.Lines.{HasCome};
+
+    ghost Value = { Unit {0} };
+
+    ghost view = { λ _. tt };
+
+    ghost invariant = { λ heard. HasCome D (hearings heard.batch) heard.outcome };
+}
+
+/// What a link handed in, and what came of it.
+#[derive(Drop)]
+struct Answered<D> {
+    events: Vec<(u8, Statement, Toss)>,
+    outcome: Outcome,
+    of: PhantomData<D>,
+}
+
+impl<D> Model for Answered<D> {
+    ghost use Rattle.member.specs.Groups.{hearings};
+    ghost use Rattle.node.specs.Lines.{HasCome};
+
+    ghost Value = { Unit {0} };
+
+    ghost view = { λ _. tt };
+
+    ghost invariant = { λ answered. HasCome D (hearings answered.events.items) answered.outcome };
+}
+
+/// The place of a link in the line.
+#[derive(Drop)]
+enum Slot<D> {
+    /// The link hands nothing in.
+    Free,
+    /// This waits for the book.
+    Waits(Vec<(u8, Statement, Toss)>),
+    /// What waited is on its way through the book.
+    Away,
+    /// The book has answered.
+    Answered(Answered<D>),
+}
+
+/// A place for each link. Who serves the line takes what waits, has the book hear it as one group, and leaves the answers.
+#[derive(Drop)]
+pub(crate) struct Line<D> {
+    slots: Vec<Slot<D>>,
+    /// The place with which the next group begins, so that each link has its turn.
+    first: usize,
+    /// Whether a thread serves the line at this moment.
+    pub(crate) is_busy: bool,
+    /// Whether a thread of its own serves the line. Links then wait for it, and don't serve it themselves.
+    pub(crate) has_server: bool,
+}
+
+impl<D> Line<D> {
+    /// A line of so many links, in which nothing waits.
+    pub(crate) fn new(alloc: Global, links: u8) -> Result<Line<D>, Memory> {
+        let mut slots = Vec::new(alloc);
+        for _ in 0..links {
+            slots.push(Slot::Free)?;
+        }
+        Ok(Line {
+            slots,
+            first: 0,
+            is_busy: false,
+            has_server: false,
+        })
+    }
+
+    /// What this link hands in waits from now on. A link waits for one answer at a time. False where there is no such link.
+    pub(crate) fn enter(&mut self, link: u8, events: Vec<(u8, Statement, Toss)>) -> bool {
+        match self.slots.get_mut(usize::from(link)) {
+            Some(slot) => {
+                *slot = Slot::Waits(events);
+                true
+            }
+            None => false,
+        }
+    }
+
+    /// What came of these statements of the link, if they were answered; its place is free then.
+    pub(crate) fn leave(&mut self, link: u8, events: &[(Statement, Toss)]) -> Option<Outcome>
+        ensures { IfSome result (λ outcome. HasCome D (heard_from link events.now) outcome) }
+    {
+        let slot = self.slots.get_mut(usize::from(link))?;
+        let outcome = slot.outcome_of(link, events)?;
+        *slot = Slot::Free;
+        Some(outcome)
+    }
+
+    /// Whether something waits.
+    pub(crate) fn has_waiting(&self) -> bool {
+        self.slots.iter().any(|slot| slot.waits())
+    }
+
+    /// Takes what waits as one group, link by link: as much of it as the group has room and memory for.
+    pub(crate) fn drain(&mut self, alloc: Global) -> Batch {
+        let mut batch = Batch::new(alloc);
+        let links = self.slots.len();
+        let first = self.first;
+        for step in 0..links {
+            let at = first.wrapping_add(step) % links;
+            if self.move_to(&mut batch, at) {
+                self.first = at + 1;
+            }
+        }
+        batch
+    }
+
+    /// Moves what waits at a place into a group, if it has room; says whether it did.
+    fn move_to(&mut self, batch: &mut Batch, at: usize) -> bool {
+        let Some(slot) = self.slots.get_mut(at) else {
+            return false;
+        };
+        match replace(slot, Slot::Away) {
+            Slot::Waits(events) => match batch.add(at, events) {
+                Ok(()) => true,
+                Err(events) => {
+                    *slot = Slot::Waits(events);
+                    false
+                }
+            },
+            other => {
+                *slot = other;
+                false
+            }
+        }
+    }
+
+    /// Leaves the answers of a group that was heard. What waits for want of memory, so that it is in no group, is refused.
+    pub(crate) fn give(&mut self, heard: Heard<D>) {
+        let Heard {
+            batch,
+            outcome,
+            of: _,
+        } = heard;
+        let Batch { events: _, parts } = batch;
+        if parts.is_empty() {
+            self.refuse();
+        }
+        for part in parts {
+            let Part { at, events } = part;
+            if let Some(slot) = self.slots.get_mut(at) {
+                *slot = Slot::Answered(Answered {
+                    events,
+                    outcome,
+                    of: PhantomData,
+                });
+            }
+        }
+    }
+
+    /// Refuses what waits for want of memory.
+    fn refuse(&mut self) {
+        for slot in self.slots.iter_mut() {
+            slot.refuse();
+        }
+    }
+}
+
+impl<D> Slot<D> {
+    /// Whether something waits there.
+    fn waits(&self) -> bool {
+        matches!(self, Slot::Waits(_))
+    }
+
+    /// What came of these statements of the peer, if they were answered.
+    fn outcome_of(&self, peer: u8, events: &[(Statement, Toss)]) -> Option<Outcome>
+        ensures { IfSome result (λ outcome. HasCome D (heard_from peer events.now) outcome) }
+    {
+        match self {
+            Slot::Answered(answered) => answered.outcome_of(peer, events),
+            _ => None,
+        }
+    }
+
+    /// What waits there is refused for want of memory.
+    fn refuse(&mut self) {
+        match replace(self, Slot::Away) {
+            Slot::Waits(events) => {
+                *self = Slot::Answered(Answered {
+                    events,
+                    outcome: Outcome::Refused(MemberFault::Memory),
+                    of: PhantomData,
+                });
+            }
+            other => *self = other,
+        }
+    }
+}
+
+impl<D> Answered<D> {
+    /// What came of these statements of the peer, if it is these that were answered.
+    fn outcome_of(&self, peer: u8, events: &[(Statement, Toss)]) -> Option<Outcome>
+        ensures { IfSome result (λ outcome. HasCome D (heard_from peer events.now) outcome) }
+    {
+        if are_of(&self.events, peer, events) {
+            Some(self.outcome)
+        } else {
+            None
+        }
+    }
+}
+
+/// Whether these are the statements, each with its toss, as they are heard from the peer.
+fn are_of(heard: &[(u8, Statement, Toss)], peer: u8, events: &[(Statement, Toss)]) -> bool
+    ensures { result ≡ are_of heard.now peer events.now }
+{
+    let mut rest = events;
+    for one in heard {
+        match rest {
+            [first, more @ ..] if is_of(one, peer, first) => rest = more,
+            _ => return false,
+        }
+    }
+    rest.is_empty()
+}
+
+/// Whether this is the statement with its toss, as it is heard from the peer.
+fn is_of(heard: &(u8, Statement, Toss), peer: u8, event: &(Statement, Toss)) -> bool
+    ensures { result ≡ is_of heard.now peer event.now }
+{
+    heard.0 == peer && is_same(&heard.1, &event.0) && heard.2.0 == event.1.0
+}
+
+/// Has the book hear a group, and does nothing else to it.
+pub(crate) fn hear<D: Disk, J: Naming>(book: &mut Book<D, J>, batch: Batch) -> Heard<D>
+    ensures { (outcome : Outcome) × ComesOf book.old (hearings batch) outcome book.new }
+{
+    match book.hear_all(&batch.events) {
+        Ok(_) => Heard {
+            batch,
+            outcome: Outcome::Taken,
+            of: PhantomData,
+        },
+        Err(fault) => Heard {
+            batch,
+            outcome: Outcome::Refused(fault),
+            of: PhantomData,
+        },
+    }
+}

@@ -1,0 +1,311 @@
+//! Refusals, which come again and again, and of which a log is told once a minute: begin at `Refusals::count`, near the end.
+
+ghost use Rattle.std.specs.Prelude.{ℕ, ◌≡◌, ◌+◌, ◌<◌, true, false, Some, None, slice_set, IfSome, IfNone};
+ghost use Rattle.std.specs.Option.{option_to_list};
+ghost use Rattle.running.specs.Refusals.{IsNoted, IsOldest, IsTable, KeepsAt, Lacks, after_due, counted, counted_by, due_of, dues, empty, events_of, held, is_due, is_older, left_of, place_at};
+ghost use Rattle.running.specs.Queues.{HaveCome};
+ghost use Rattle.running.specs.declared.refusals.KeptRefusal.{KeptRefusal};
+
+use crate::callers::Caller;
+use crate::events::LogEvent;
+use crate::log::Queue;
+use links::LinkEnd;
+use std::marker::Model;
+use std::net::IpAddr;
+
+/// How many refusals are told apart.
+const PLACES: usize = 64;
+
+/// How many seconds lie between two lines of the same refusal.
+const MINUTE: u64 = 60;
+
+/// A refusal that may come again.
+#[derive(Clone, Copy, Debug, PartialEq, Eq)]
+pub enum Refusal {
+    /// A connection from this host was closed for this cause, before it became a link.
+    From(IpAddr, LinkEnd),
+    /// This member closed a link to it, before it welcomed it.
+    By(u8),
+}
+
+/// What a line of a log tells of a refusal: how often it came, and who was refused last, if it said who it was.
+#[derive(Clone, Copy, Debug, PartialEq, Eq)]
+pub struct RefusalCount {
+    /// Which refusal.
+    pub refusal: Refusal,
+    /// Who said last that it is a member; none where it said nothing.
+    pub caller: Option<Caller>,
+    /// How often it came since it was told before, at least once.
+    pub count: u64,
+}
+
+/// What is kept of a refusal.
+#[derive(Clone, Copy, Drop)]
+pub struct KeptRefusal {
+    /// Which refusal.
+    pub refusal: Refusal,
+    /// Who was refused last.
+    pub caller: Option<Caller>,
+    /// How often it came since its last line.
+    pub held: u32,
+    /// The second of its last line.
+    pub told: u64,
+}
+
+/// The refusals that were told last, at most 64. Contracts see its places.
+#[derive(Drop)]
+pub struct Refusals {
+    places: [Option<KeptRefusal>; PLACES],
+}
+
+impl Model for Refusals {
+    ghost use Rattle.running.specs.Refusals.{IsTable, Table};
+
+    ghost Value = { Table };
+
+    ghost view = { λ refusals. refusals.places };
+
+    ghost invariant = { λ refusals. IsTable refusals.places };
+}
+
+impl KeptRefusal {
+    /// Whether a minute has passed since its last line, or as many are held back as can be counted.
+    fn is_due(&self, now: u64) -> bool
+        ensures { result ≡ is_due now self.now }
+    {
+        now.saturating_sub(self.told) >= MINUTE || self.held == u32::MAX
+    }
+
+    /// What is kept of it when it comes again, and what is told of it: nothing until it is due.
+    fn come_again(&self, now: u64, caller: Option<Caller>) -> (KeptRefusal, Option<RefusalCount>)
+        ensures soon { is_due now self.now ≡ false →
+            (result.0 ≡ record self.now { caller = caller; held = self.now.held + 1 }) × (result.1 ≡ None) }
+        ensures due { is_due now self.now ≡ true →
+            (result.0 ≡ record self.now { caller = caller; held = 0; told = now })
+            × (result.1 ≡ Some (record { refusal = self.now.refusal; caller = caller; count = self.now.held + 1 })) }
+    {
+        if self.is_due(now) {
+            let line = RefusalCount {
+                refusal: self.refusal,
+                caller,
+                count: u64::from(self.held) + 1,
+            };
+            let after = KeptRefusal {
+                caller,
+                held: 0,
+                told: now,
+                ..*self
+            };
+            return (after, Some(line));
+        }
+        let after = KeptRefusal {
+            caller,
+            held: self.held + 1,
+            ..*self
+        };
+        (after, None)
+    }
+}
+
+/// Where a refusal is kept, and what is kept of it.
+fn find(places: &[Option<KeptRefusal>; PLACES], refusal: Refusal) -> Option<(usize, KeptRefusal)>
+    ensures some { IfSome result (λ found. KeepsAt places.now found.0 found.1 × (found.1.refusal ≡ refusal)) }
+    ensures within { IfSome result (λ found. found.0 < 64) }
+    ensures none { IfNone result (Lacks places.now refusal) }
+{
+    for (at, kept) in places.iter().enumerate() {
+        if let Some(kept) = kept {
+            if kept.refusal == refusal {
+                return Some((at, *kept));
+            }
+        }
+    }
+    None
+}
+
+/// Whether the last line of one is older than that of the other. A free place is older than any.
+fn is_older(one: &Option<KeptRefusal>, other: &Option<KeptRefusal>) -> bool
+    ensures { result ≡ is_older one.now other.now }
+{
+    match (one, other) {
+        (_, None) => false,
+        (None, Some(_)) => true,
+        (Some(one), Some(other)) => one.told < other.told,
+    }
+}
+
+/// The place whose last line is the oldest, or one that is free.
+fn oldest(places: &[Option<KeptRefusal>; PLACES]) -> usize
+    ensures { IsOldest places.now result }
+{
+    let mut oldest = 0;
+    for at in 1..PLACES {
+        if is_older(&places[at], &places[oldest]) {
+            oldest = at;
+        }
+    }
+    oldest
+}
+
+/// What is left to tell of a refusal that gives its place.
+fn left_of(kept: &Option<KeptRefusal>) -> Option<RefusalCount>
+    ensures { result ≡ left_of kept.now }
+{
+    match kept {
+        Some(kept) if kept.held > 0 => Some(RefusalCount {
+            refusal: kept.refusal,
+            caller: kept.caller,
+            count: u64::from(kept.held),
+        }),
+        _ => None,
+    }
+}
+
+/// What is due of what is kept, at that second.
+fn due_of(kept: &Option<KeptRefusal>, now: u64) -> Option<RefusalCount>
+    ensures { result ≡ due_of now kept.now }
+{
+    match kept {
+        Some(it) if it.is_due(now) => left_of(kept),
+        _ => None,
+    }
+}
+
+/// What is kept of it then.
+fn after_due(kept: &Option<KeptRefusal>, now: u64) -> Option<KeptRefusal>
+    ensures { result ≡ after_due now kept.now }
+{
+    match *kept {
+        Some(it) if it.is_due(now) && it.held > 0 => Some(KeptRefusal {
+            held: 0,
+            told: now,
+            ..it
+        }),
+        other => other,
+    }
+}
+
+/// A refusal that is kept at a place comes again.
+fn count_again(
+    places: &mut [Option<KeptRefusal>; PLACES],
+    at: usize,
+    kept: &KeptRefusal,
+    now: u64,
+    caller: Option<Caller>,
+) -> Option<RefusalCount>
+    requires table { IsTable places.old }
+    requires kept { KeepsAt places.old at kept.now }
+    requires within { at < 64 }
+    ensures table { IsTable places.new }
+    ensures noted { IsNoted now kept.now.refusal caller places.old places.new None result }
+{
+    let (after, line) = kept.come_again(now, caller);
+    places[at] = Some(after);
+    line
+}
+
+/// A refusal that isn't kept comes, and takes the place of the one whose last line is the oldest.
+fn count_first(
+    places: &mut [Option<KeptRefusal>; PLACES],
+    now: u64,
+    refusal: Refusal,
+    caller: Option<Caller>,
+) -> (Option<RefusalCount>, Option<RefusalCount>)
+    requires table { IsTable places.old }
+    requires lacks { Lacks places.old refusal }
+    ensures table { IsTable places.new }
+    ensures noted { IsNoted now refusal caller places.old places.new result.0 result.1 }
+{
+    let at = oldest(places);
+    let left = left_of(&places[at]);
+    places[at] = Some(KeptRefusal {
+        refusal,
+        caller,
+        held: 0,
+        told: now,
+    });
+    let line = RefusalCount {
+        refusal,
+        caller,
+        count: 1,
+    };
+    (left, Some(line))
+}
+
+/// What is due at that second of the refusal at a place.
+fn due_at(places: &mut [Option<KeptRefusal>; PLACES], at: usize, now: u64) -> Option<RefusalCount>
+    requires table { IsTable places.old }
+    requires within { at < 64 }
+    ensures table { IsTable places.new }
+    ensures due { result ≡ due_of now (place_at places.old at) }
+    ensures after { places.new ≡ slice_set places.old at (after_due now (place_at places.old at)) }
+{
+    let kept = places[at];
+    places[at] = after_due(&kept, now);
+    due_of(&kept, now)
+}
+
+/// The line is to be told, if it is one.
+pub(crate) fn put_line(queue: &mut Queue, line: Option<RefusalCount>)
+    ensures { HaveCome queue.old (events_of (option_to_list line)) queue.new }
+{
+    if let Some(line) = line {
+        queue.put(LogEvent::Refused(line));
+    }
+}
+
+/// All that is due at that second is to be told.
+fn tell_all_due(places: &mut [Option<KeptRefusal>; PLACES], now: u64, queue: &mut Queue)
+    requires { IsTable places.old }
+    ensures table { IsTable places.new }
+    ensures events { HaveCome queue.old (events_of (dues now places.old)) queue.new }
+    ensures after { (at : ℕ) → at < 64 → place_at places.new at ≡ after_due now (place_at places.old at) }
+    ensures counts { held places.new + counted_by (dues now places.old) ≡ held places.old }
+{
+    for at in 0..PLACES {
+        let line = due_at(places, at, now);
+        put_line(queue, line);
+    }
+}
+
+impl Refusals {
+    /// Nothing was refused.
+    pub fn new() -> Refusals
+        ensures { result ≡ empty }
+    {
+        Refusals {
+            places: [None; PLACES],
+        }
+    }
+
+    /// A refusal came, at that second. What is to be told of it is nothing where its last line is of less than a minute ago,
+    /// else how often it came since, this time included. Before that stands what is left to tell of the refusal that gave its
+    /// place, if one did.
+    pub fn count(
+        &mut self,
+        now: u64,
+        refusal: Refusal,
+        caller: Option<Caller>,
+    ) -> (Option<RefusalCount>, Option<RefusalCount>)
+        ensures { IsNoted now refusal caller self.old self.new result.0 result.1 }
+    {
+        match find(&self.places, refusal) {
+            Some((at, kept)) => {
+                let line = count_again(&mut self.places, at, &kept, now, caller);
+                (None, line)
+            }
+            None => count_first(&mut self.places, now, refusal, caller),
+        }
+    }
+
+    /// What is due at that second is to be told: of each refusal that was held back and whose last line is a minute old, how
+    /// often it came since.
+    pub fn tell_due(&mut self, now: u64, queue: &mut Queue)
+        ensures events { HaveCome queue.old (events_of (dues now self.old)) queue.new }
+        ensures after { (at : ℕ) → at < 64 → place_at self.new at ≡ after_due now (place_at self.old at) }
+        // No count is lost.
+        ensures counts { held self.new + counted_by (dues now self.old) ≡ held self.old }
+    {
+        tell_all_due(&mut self.places, now, queue);
+    }
+}

@@ -1,0 +1,58 @@
+-- The text of settings, as `new-cluster` writes it.
+use Rattle.std.specs.Prelude.{ℕ, ◌≡◌, List, ◌∷◌, ◌++◌, codes, get_or, string_bytes}
+use Rattle.std.specs.List.{flat_map}
+use Rattle.std.specs.Fmt.{decimal}
+use Rattle.hex.specs.Hex.{encode_lower}
+use Rattle.terms_prelude.specs.Terms.{Header}
+use Rattle.settings.specs.Keys.{key_text}
+use Rattle.settings.specs.declared.address.Address.{Address}
+use Rattle.settings.specs.declared.keys.Key.{Key}
+use Rattle.settings.specs.declared.keys.Key.TheVariants.{Cluster, Desk, Journal, Me, N, Questions, Seed, T}
+use Rattle.settings.specs.declared.document.Settings.{Settings}
+
+-- the number of the host at that place
+abbrev pub octet : Address → ℕ → List ℕ
+octet address place = decimal (get_or address.octets place 0)
+
+-- HOST:PORT, four numbers with points between them
+abbrev pub address_text : Address → List ℕ
+address_text address =
+    octet address 0 ++ 46 ∷ (octet address 1 ++ 46 ∷ (octet address 2 ++ 46 ∷ (octet address 3 ++ 58 ∷ decimal address.port)))
+
+-- the line of a peer, an entry of the array
+abbrev pub peer_entry : Address → List ℕ
+peer_entry peer = codes "    \"" ++ (address_text peer ++ codes "\",\n")
+
+-- the line of a key with a number
+abbrev pub number_line : Key → ℕ → List ℕ
+number_line key number = key_text key ++ (codes " = " ++ (decimal number ++ codes "\n"))
+
+-- the line of a key with a text
+abbrev pub text_line : Key → List ℕ → List ℕ
+text_line key value = key_text key ++ (codes " = \"" ++ (value ++ codes "\"\n"))
+
+-- the lines of the header
+abbrev pub head_text : Header → List ℕ
+head_text h =
+    (((number_line Cluster h.cluster ++ number_line N h.size.n) ++ number_line T h.size.t) ++ number_line Questions h.size.questions)
+    ++ number_line Me h.me
+
+-- those of the desk and of the seed
+abbrev pub own_text : Settings → List ℕ
+own_text s =
+    text_line Desk (address_text s.desk)
+    ++ (codes "# Keep it secret: whoever knows the seed knows the member's coins.\n" ++ text_line Seed (encode_lower s.seed))
+
+-- all lines
+abbrev pub toml_text : Settings → List ℕ
+toml_text s =
+    head_text s.header ++ (text_line Journal (string_bytes s.journal)
+    ++ (codes "peers = [\n" ++ (flat_map peer_entry s.peers.items ++ (codes "]\n" ++ own_text s))))
+
+-- settings of the same values
+pub record IsLike (read s : Settings) : Type 0 where
+  pub header : read.header ≡ s.header
+  pub journal : string_bytes read.journal ≡ string_bytes s.journal
+  pub peers : read.peers.items ≡ s.peers.items
+  pub desk : read.desk ≡ s.desk
+  pub seed : read.seed ≡ s.seed

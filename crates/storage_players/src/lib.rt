@@ -1,0 +1,12 @@
+//! Players of rows on disks, journals, migrations and the life of a member. The head of each module says what its rows are.
+#![tactic(auto)]
+
+mod disks;
+mod files;
+mod lives;
+mod migrations;
+
+pub use disks::Disks;
+pub use files::File;
+pub use lives::Life;
+pub use migrations::Migration;

@@ -1,0 +1,4 @@
+mod Listening
+mod Weakening
+pub mod Heads
+pub mod Numbers

@@ -1,0 +1,142 @@
+//! What ends the program before its work is done.
+
+ghost use Rattle.system.specs.declared.fault.Fault.TheVariants as ends;
+ghost use Rattle.system.specs.Faults.{IsMeant, IsFileFault, fault_status, of_journal};
+ghost use Rattle.std.specs.Prelude.{◌≡◌};
+
+use commands::{DumpFault, InitFault, MigrationFault, SimulateFault, TalkFault};
+use hearing::HearFault;
+use journal::JournalFault;
+use running::RunFault;
+use settings::SettingsFault;
+use std::alloc::{AllocError, AllocFailed};
+use std::io;
+use terms::SizeFault;
+use thiserror::Error;
+use transcripts::AuditFault;
+
+/// Why a command ended before its work was done. The program prints the text after `bracha: ` and ends with
+/// status 2 for the faults of the words, [`Fault::Argument`] and [`Fault::SameFile`], and with status 1 for the others.
+/// What was printed before stays printed.
+#[derive(Debug, Drop, Error)]
+pub enum Fault {
+    /// The argument at this place isn't UTF-8. The program's name has place 0.
+    #[error("argument {0} is not UTF-8")]
+    Argument(usize),
+    /// A page would be written over the script, or over the other page: this path names that file.
+    #[error("same file {0}")]
+    SameFile(String),
+    /// The numbers make no size.
+    #[error("size {0}")]
+    Size(#[from] SizeFault),
+    /// A file couldn't be opened or read.
+    #[error("file")]
+    File,
+    /// The settings aren't any.
+    #[error(transparent)]
+    Settings(#[from] SettingsFault),
+    /// What ended `hear`.
+    #[error(transparent)]
+    Hear(#[from] HearFault),
+    /// What ended `init`.
+    #[error(transparent)]
+    Init(#[from] InitFault),
+    /// What ended `dump` or `check`.
+    #[error(transparent)]
+    Dump(#[from] DumpFault),
+    /// What ended `migrate`.
+    #[error(transparent)]
+    Migrate(#[from] MigrationFault),
+    /// The journal of a member that is to run couldn't be opened.
+    #[error("journal {0}")]
+    Journal(JournalFault),
+    /// What ended `run`.
+    #[error(transparent)]
+    Run(#[from] RunFault),
+    /// The hosts of a new cluster aren't any, or not as many as members.
+    #[error("hosts")]
+    Hosts,
+    /// The address of a desk isn't one.
+    #[error("address")]
+    Address,
+    /// What ended `propose`, `ask`, `status` or `transcript`.
+    #[error(transparent)]
+    Talk(#[from] TalkFault),
+    /// What ended `audit`.
+    #[error(transparent)]
+    Audit(#[from] AuditFault),
+    /// What ended `simulate`.
+    #[error(transparent)]
+    Simulate(#[from] SimulateFault),
+    /// The file of a trace couldn't be written.
+    #[error("trace")]
+    Trace,
+    /// The file of a chart couldn't be written.
+    #[error("chart")]
+    Chart,
+    /// A write of the output failed.
+    #[error("stream")]
+    Stream,
+    /// Memory was refused.
+    #[error("memory")]
+    Memory,
+}
+
+impl Fault {
+    /// The status to end with: 2 for a fault of the words, and 1 for any other.
+    pub fn status(&self) -> u8
+        ensures { result ≡ fault_status self.now }
+    {
+        match self {
+            Fault::Argument(_) | Fault::SameFile(_) => 2,
+            _ => 1,
+        }
+    }
+
+    /// The fault of a file that couldn't be opened, read or written: this one, but for want of memory.
+    pub fn of_file(self, error: io::Error) -> Fault
+        ensures meant { IsMeant self result }
+        ensures kind { IsFileFault self error result }
+    {
+        if error.kind() == io::ErrorKind::OutOfMemory {
+            Fault::Memory
+        } else {
+            self
+        }
+    }
+}
+
+impl From<JournalFault> for Fault {
+    ghost from_gives = { λ fault given. given ≡ of_journal fault };
+
+    fn from(fault: JournalFault) -> Fault {
+        match fault {
+            JournalFault::Memory => Fault::Memory,
+            other => Fault::Journal(other),
+        }
+    }
+}
+
+impl From<AllocError> for Fault {
+    ghost from_gives = { λ _ given. given ≡ ends.Memory };
+
+    fn from(_refused: AllocError) -> Fault {
+        Fault::Memory
+    }
+}
+
+impl<T: Drop> From<AllocFailed<T>> for Fault {
+    ghost from_gives = { λ _ given. given ≡ ends.Memory };
+
+    fn from(_refused: AllocFailed<T>) -> Fault {
+        Fault::Memory
+    }
+}
+
+impl From<io::Error> for Fault {
+    ghost from_gives = { λ error given. IsFileFault ends.Stream error given };
+
+    fn from(error: io::Error) -> Fault {
+        Fault::Stream.of_file(error)
+    }
+}

@@ -1,0 +1,498 @@
+//! The commands over the files that their words name, and over the standard streams.
+
+ghost use Rattle.system.specs.Faults.{IsMeant};
+ghost use Rattle.system.specs.Troubles.{IsNamed};
+ghost use Rattle.system.specs.declared.fault.Fault.TheVariants as ends;
+ghost use Rattle.std.specs.Prelude.{◌≡◌, ◌≢◌, IfErr, codes};
+
+use crate::fault::Fault;
+use crate::pages::{fault_at, keep_apart, keep_two_apart, write_page};
+use crate::telling::{
+    journal_failure, not_text, script_failure, settings_failure, transcript_failure,
+};
+use crate::trouble::{Failure, Whereabouts};
+use commands::{
+    DumpFault, InitFault, MigrationFault, Shelf, SimulationEnd, check_journal, dump_count,
+    dump_count_object, dump_lines, dump_objects, init_disk, migrate_disks, print_check,
+    print_settings, show_simulation,
+};
+use disk::{Disk, FileDisk, MemDisk};
+use hearing::hear_lines;
+use journal::JournalFault;
+use migration::MigrateFault;
+use running::RunFault;
+use settings::{Address, Settings, address_text};
+use std::alloc::{AllocError, Global};
+use std::fs::{self, OpenOptions};
+use std::io::{self, BufReader, BufWriter, LineWriter, Read};
+use terms::{Header, Size};
+use transcripts::audit_text;
+
+/// Reads lines from the standard input, and answers each as it comes.
+pub fn hear_input(rt: &HostRuntime, size: Size, me: u8) -> Result<u8, Fault> {
+    let mut input = BufReader::new(rt.alloc(), rt.reader())?;
+    let mut output = LineWriter::new(rt.alloc(), io::writer(rt))?;
+    Ok(hear_lines(rt.alloc(), size, me, &mut input, &mut output)?)
+}
+
+/// Reads the transcript in the file, of a cluster of that size, and prints whether it is proof of its decision. The status
+/// is 0 for `yes` and 1 for `no`.
+pub fn audit_file(rt: &HostRuntime, path: &str, size: Size) -> Result<u8, Failure>
+    ensures named { IfErr result (IsNamed path.now) }
+{
+    let text = read_file(rt, path)?;
+    match audit_text(rt.alloc(), &text, size, &mut io::writer(rt)) {
+        Ok(status) => Ok(status),
+        Err(fault) => Err(transcript_failure(rt.alloc(), path, &text, fault)),
+    }
+}
+
+/// The settings in the file.
+pub fn read_settings(rt: &HostRuntime, path: &str) -> Result<Settings, Failure>
+    ensures named { IfErr result (IsNamed path.now) }
+{
+    let bytes = read_file(rt, path)?;
+    let text = match str::from_utf8(&bytes) {
+        Ok(text) => text,
+        Err(error) => return Err(not_text(rt.alloc(), path, error.valid_up_to())),
+    };
+    match Settings::parse(rt.alloc(), text) {
+        Ok(settings) => Ok(settings),
+        Err(fault) => Err(settings_failure(rt.alloc(), path, text, fault)),
+    }
+}
+
+/// All bytes of the file.
+fn read_file(rt: &HostRuntime, path: &str) -> Result<Vec<u8>, Failure>
+    ensures fault { IfErr result (λ failure. IsMeant ends.File failure.fault) }
+    ensures named { IfErr result (IsNamed path.now) }
+{
+    match fs::read(rt, path) {
+        Ok(bytes) => Ok(bytes),
+        Err(error) => Err(Failure::of_system(
+            rt.alloc(),
+            Fault::File,
+            path,
+            Whereabouts::Read,
+            error,
+        )),
+    }
+}
+
+/// What the file of a journal is opened for.
+#[derive(Clone, Copy, Debug, PartialEq, Eq)]
+pub enum Purpose {
+    /// To make the journal: a missing file is made, empty.
+    Make,
+    /// To look into it.
+    Look,
+    /// To run its member.
+    Run,
+}
+
+/// What is told of a member's journal that is missing: another one would let it say things twice.
+const MISSING: &str = "no such file: `bracha init` makes one for a new member, and for no other";
+
+/// Refuses a device or a pipe, which might be waited for or read without an end. A file is taken, and so is nothing at all, and a
+/// folder, which the system refuses. [`Fault::File`]: it is one.
+fn keep_to_files(rt: &HostRuntime, path: &str) -> Result<(), Failure>
+    ensures fault { IfErr result (λ failure. IsMeant ends.File failure.fault) }
+    ensures named { IfErr result (IsNamed path.now) }
+{
+    match fs::metadata(rt, path) {
+        Ok(known) if !known.is_file() && !known.is_dir() => {
+            let words = "no regular file";
+            Err(Failure::at(rt.alloc(), Fault::File, path, Whereabouts::Open, &words))
+        }
+        _ => Ok(()),
+    }
+}
+
+/// The disk in the file of a journal, which is a regular file.
+pub fn open_disk(rt: &HostRuntime, path: &str, purpose: Purpose) -> Result<FileDisk, Failure>
+    ensures fault { IfErr result (λ failure. IsMeant ends.File failure.fault) }
+    ensures named { IfErr result (IsNamed path.now) }
+{
+    keep_to_files(rt, path)?;
+    match FileDisk::open(rt, path, purpose == Purpose::Make) {
+        Ok(disk) => Ok(disk),
+        // Its lock is held.
+        Err(error) if error.kind() == io::ErrorKind::WouldBlock => {
+            let words = "another process has it";
+            Err(Failure::at(rt.alloc(), Fault::File, path, Whereabouts::Open, &words))
+        }
+        Err(error) if purpose == Purpose::Run && error.kind() == io::ErrorKind::NotFound => {
+            Err(Failure::at(rt.alloc(), Fault::File, path, Whereabouts::Open, &MISSING))
+        }
+        Err(error) => Err(Failure::of_system(
+            rt.alloc(),
+            Fault::File,
+            path,
+            Whereabouts::Open,
+            error,
+        )),
+    }
+}
+
+/// Makes the journal that the settings in the file name.
+pub fn init_file(rt: &HostRuntime, path: &str) -> Result<u8, Failure> {
+    let settings = read_settings(rt, path)?;
+    let journal = settings.journal.as_str();
+    let mut disk = open_disk(rt, journal, Purpose::Make)?;
+    match init_disk(&mut disk, &settings) {
+        Ok(status) => Ok(status),
+        Err(fault) => {
+            let found = match fault {
+                InitFault::NotEmpty => JournalFault::NotEmpty,
+                InitFault::Device => JournalFault::Device,
+            };
+            Err(failure_of_journal(rt, journal, Fault::from(fault), found))
+        }
+    }
+}
+
+/// The most bytes of a file that are read for a second line: those of more than 2,700,000 records.
+const MOST: u64 = 1 << 24;
+
+/// How many bytes of a journal's file the second line of that fault is told from: where the header is wrong, it and one more;
+/// none where the fault isn't the file's.
+fn needed(found: JournalFault) -> u64 {
+    match found {
+        JournalFault::BadHeader | JournalFault::OtherHeader | JournalFault::OldVersion => 25,
+        JournalFault::NotEmpty | JournalFault::BadRecord | JournalFault::CutShort => MOST,
+        JournalFault::Device | JournalFault::Memory | JournalFault::Stopped | JournalFault::Full =>
+            0,
+    }
+}
+
+/// Whether a file with so many bytes is too long to tell where its batches go wrong.
+fn is_too_long(found: JournalFault, length: u64) -> bool {
+    match found {
+        JournalFault::BadRecord | JournalFault::CutShort => length > MOST,
+        _ => false,
+    }
+}
+
+/// The bytes of the file from which the second line of that fault is told; none where it is no regular file, or too long.
+fn read_needed(rt: &HostRuntime, path: &str, found: JournalFault) -> io::Result<Option<Vec<u8>>> {
+    let known = fs::metadata(rt, path)?;
+    let most = needed(found);
+    if most == 0 || !known.is_file() || is_too_long(found, known.len()) {
+        return Ok(None);
+    }
+    Ok(Some(read_unlocked(rt, path, most)?))
+}
+
+/// The failure of the journal in the file, in which that was found, where the one of this header was asked for, if one was.
+/// Its bytes are read anew, as many as are needed.
+pub fn failure_for(
+    rt: &HostRuntime,
+    path: &str,
+    fault: Fault,
+    found: JournalFault,
+    asked: Option<&Header>,
+) -> Failure
+    ensures fault { result.fault ≡ fault }
+    ensures named { IsNamed path.now result }
+{
+    match read_needed(rt, path, found) {
+        Ok(Some(bytes)) => journal_failure(rt.alloc(), path, fault, found, asked, &bytes),
+        _ => Failure::about(rt.alloc(), fault, path),
+    }
+}
+
+/// The failure of the journal in the file, in which that was found.
+fn failure_of_journal(rt: &HostRuntime, path: &str, fault: Fault, found: JournalFault) -> Failure
+    ensures fault { result.fault ≡ fault }
+    ensures named { IsNamed path.now result }
+{
+    failure_for(rt, path, fault, found, None)
+}
+
+/// The failure of a journal that was to be printed, counted or checked; the one of this header, if one was asked for. A write
+/// that failed is not the journal's.
+fn dump_failure(rt: &HostRuntime, path: &str, fault: DumpFault, asked: Option<&Header>) -> Failure
+    ensures fault { result.fault ≡ ends.Dump fault }
+    ensures named { IsNamed path.now result }
+{
+    match fault {
+        DumpFault::Journal(found) => {
+            failure_for(
+                rt,
+                path,
+                Fault::Dump(DumpFault::Journal(found)),
+                found,
+                asked,
+            )
+        }
+        other => Failure::from(Fault::Dump(other)),
+    }
+}
+
+/// The bytes of the file, or so many of them, which is opened for reading and writing as `run` does it. No lock is taken, and
+/// nothing written. A device has no length, so none of it is read; a journal's disk sees it so too.
+fn read_unlocked(rt: &HostRuntime, path: &str, most: u64) -> io::Result<Vec<u8>> {
+    let mut options = OpenOptions::new();
+    let file = options.read(true).write(true).open(rt, path)?;
+    let length = file.metadata()?.len();
+    let mut bytes = Vec::new(rt.alloc());
+    file.take(length.min(most)).read_to_end(&mut bytes)?;
+    Ok(bytes)
+}
+
+/// Refuses settings in which a member's desk is where its links are, as a run of them does.
+///
+/// [`Fault::Run`] with [`RunFault::Listen`]: it is.
+fn keep_ports_apart(rt: &HostRuntime, settings: &Settings) -> Result<(), Failure> {
+    match settings.peers.get(usize::from(settings.header.me())) {
+        Some(own) if *own == settings.desk => {
+            let fault = Fault::Run(RunFault::Listen);
+            let at = address_text(rt.alloc(), own).map_err(|_| Fault::Memory)?;
+            let words = "the desk has the address of the links";
+            Err(Failure::at(rt.alloc(), fault, at.as_str(), Whereabouts::Listen, &words))
+        }
+        _ => Ok(()),
+    }
+}
+
+/// Two members that have one address, and the address: the second is the first member that has one which another has before it.
+fn twins_of(peers: &[Address]) -> Option<(usize, usize, Address)> {
+    for (member, address) in peers.iter().enumerate() {
+        if let Some(other) = peers[..member].iter().position(|it| *it == *address) {
+            return Some((other, member, *address));
+        }
+    }
+    None
+}
+
+/// The failure of two members that have this address.
+fn clash_at(
+    alloc: Global,
+    one: usize,
+    other: usize,
+    address: &Address,
+) -> Result<Failure, AllocError> {
+    let at = address_text(alloc, address)?;
+    let words = format!(in alloc; "members {one} and {other} have this address")?;
+    let fault = Fault::Run(RunFault::Listen);
+    Ok(Failure::at(alloc, fault, at.as_str(), Whereabouts::Listen, &words))
+}
+
+/// Refuses settings in which two members have one address, since only one of them can listen there.
+///
+/// [`Fault::Run`] with [`RunFault::Listen`]: two have.
+fn keep_members_apart(rt: &HostRuntime, settings: &Settings) -> Result<(), Failure> {
+    let Some((one, other, address)) = twins_of(&settings.peers) else {
+        return Ok(());
+    };
+    match clash_at(rt.alloc(), one, other, &address) {
+        Ok(failure) => Err(failure),
+        Err(_) => Err(Failure::from(Fault::Memory)),
+    }
+}
+
+/// A copy in memory of the journal's file, which is a regular one.
+fn copied_disk(rt: &HostRuntime, journal: &str) -> Result<MemDisk, Failure>
+    ensures named { IfErr result (IsNamed journal.now) }
+{
+    keep_to_files(rt, journal)?;
+    let bytes = match read_unlocked(rt, journal, u64::MAX) {
+        Ok(bytes) => bytes,
+        Err(error) => return Err(Failure::of_system(
+            rt.alloc(),
+            Fault::File,
+            journal,
+            Whereabouts::Open,
+            error,
+        )),
+    };
+    let mut disk = MemDisk::new(rt.alloc());
+    disk.write_at(0, &bytes).map_err(|_| Fault::Memory)?;
+    Ok(disk)
+}
+
+/// Prints how many records the journal has, behind what the settings say; or both as one object of JSON.
+fn print_records(
+    rt: &HostRuntime,
+    settings: &Settings,
+    disk: MemDisk,
+    json: bool,
+) -> Result<u8, DumpFault> {
+    let mut output = io::writer(rt);
+    if json {
+        print_check(rt.alloc(), settings, disk, &mut output)
+    } else {
+        check_journal(rt.alloc(), &settings.header, disk, &mut output)
+    }
+}
+
+/// Says what the settings in the file say, and how many records their journal has, if the member can run on it. As an object of
+/// JSON it is said once all of it is known.
+pub fn check_file(rt: &HostRuntime, path: &str, json: bool) -> Result<u8, Failure> {
+    let settings = read_settings(rt, path)?;
+    let journal = settings.journal.as_str();
+    if !json {
+        print_settings(rt.alloc(), &settings, &mut io::writer(rt)).map_err(|fault| Fault::from(
+            fault,
+        ))?;
+    }
+    let disk = copied_disk(rt, journal)?;
+    match print_records(rt, &settings, disk, json) {
+        Ok(status) => {
+            keep_ports_apart(rt, &settings)?;
+            keep_members_apart(rt, &settings)?;
+            Ok(status)
+        }
+        Err(fault) => Err(dump_failure(rt, journal, fault, Some(&settings.header))),
+    }
+}
+
+/// Prints the journal on the disk, or only how many records it has; as lines, or as objects of JSON.
+fn dump_disk(rt: &HostRuntime, disk: FileDisk, count: bool, json: bool) -> Result<u8, DumpFault> {
+    let mut output = BufWriter::new(rt.alloc(), io::writer(rt))?;
+    match (count, json) {
+        (false, false) => dump_lines(rt.alloc(), disk, &mut output),
+        (true, false) => dump_count(rt.alloc(), disk, &mut output),
+        (false, true) => dump_objects(rt.alloc(), disk, &mut output),
+        (true, true) => dump_count_object(rt.alloc(), disk, &mut output),
+    }
+}
+
+/// Prints the journal in the file, or only how many records it has; as lines, or as objects of JSON.
+pub fn dump_file(rt: &HostRuntime, path: &str, count: bool, json: bool) -> Result<u8, Failure>
+    ensures named { IfErr result (IsNamed path.now) }
+{
+    let disk = open_disk(rt, path, Purpose::Look)?;
+    match dump_disk(rt, disk, count, json) {
+        Ok(status) => Ok(status),
+        Err(fault) => Err(dump_failure(rt, path, fault, None)),
+    }
+}
+
+/// The failure of a journal that wasn't brought over from the file at `old` to that at `new`.
+fn migration_failure(rt: &HostRuntime, old: &str, new: &str, fault: MigrationFault) -> Failure {
+    let alloc = rt.alloc();
+    let MigrationFault::Migrate(why) = fault else {
+        return Failure::from(Fault::Migrate(fault));
+    };
+    match why {
+        MigrateFault::NotEmpty => {
+            failure_of_journal(rt, new, Fault::Migrate(fault), JournalFault::NotEmpty)
+        }
+        MigrateFault::NotOld => {
+            let words = "no journal of version 1";
+            Failure::at(
+                alloc,
+                Fault::Migrate(fault),
+                old,
+                Whereabouts::Whole,
+                &words,
+            )
+        }
+        MigrateFault::OtherHeader
+        | MigrateFault::BadRecord
+        | MigrateFault::CutShort
+        | MigrateFault::OldDevice => Failure::about(alloc, Fault::Migrate(fault), old),
+        MigrateFault::NewDevice | MigrateFault::Full => {
+            Failure::about(alloc, Fault::Migrate(fault), new)
+        }
+        MigrateFault::Memory => Failure::from(Fault::Migrate(fault)),
+    }
+}
+
+/// What is told of a new file that was made in vain and couldn't be removed.
+const LEFT: &str = "is no journal: remove it";
+
+/// The failure of a journal that wasn't brought over, once the file at `new` is gone, if it was made for it. Where it can't be
+/// removed that is told in place of the cause.
+fn unmade(rt: &HostRuntime, new: &str, made: bool, failure: Failure) -> Failure {
+    if !made || fs::remove_file(rt, new).is_ok() {
+        return failure;
+    }
+    Failure::at(rt.alloc(), failure.fault, new, Whereabouts::Whole, &LEFT)
+}
+
+/// Brings the journal of version 1 in the file at `old` over into the one at `new`, which is made, or is there and empty, and
+/// prints how many records it has. The old file is never written. After a fault of the migration a new file that was made for
+/// it is gone, and one that was there is left; after one of the printing it is whole.
+///
+/// [`Fault::SameFile`]: the two paths name one file.
+pub fn migrate_file(rt: &HostRuntime, old: &str, new: &str) -> Result<u8, Failure> {
+    keep_two_apart(rt, new, old)?;
+    let mut from = open_disk(rt, old, Purpose::Look)?;
+    let made = fs::metadata(rt, new).is_err();
+    let to = open_disk(rt, new, Purpose::Make)?;
+    match migrate_disks(rt.alloc(), &mut from, to, &mut io::writer(rt)) {
+        Ok(status) => Ok(status),
+        Err(MigrationFault::Stream) => Err(Failure::from(Fault::Migrate(MigrationFault::Stream))),
+        Err(fault) => {
+            let failure = migration_failure(rt, old, new, fault);
+            Err(unmade(rt, new, made, failure))
+        }
+    }
+}
+
+/// Where the pages of a simulation go: into the files at these paths, or to the standard output where a path is `-`.
+#[derive(Drop)]
+struct PageFiles<'a> {
+    rt: &'a HostRuntime,
+    trace: Option<&'a str>,
+    chart: Option<&'a str>,
+}
+
+impl<'a> Shelf for PageFiles<'a> {
+    type Fault = Failure;
+
+    fn put(&mut self, trace: Option<String>, chart: Option<String>) -> Result<(), Failure> {
+        write_page(
+            self.rt,
+            self.trace,
+            trace,
+            fault_at(self.trace, Fault::Trace),
+        )?;
+        write_page(
+            self.rt,
+            self.chart,
+            chart,
+            fault_at(self.chart, Fault::Chart),
+        )
+    }
+}
+
+/// The path of a script: that of the standard input where it is `-`.
+fn script_path(path: &str) -> &str
+    ensures input { path.now ≡ codes "-" → result.now ≡ codes "/dev/stdin" }
+    ensures file { path.now ≢ codes "-" → result.now ≡ path.now }
+{
+    if path == "-" { "/dev/stdin" } else { path }
+}
+
+/// Runs the script in the file, or the one on the standard input where its path is `-`, and writes a trace and a chart of it where they are asked for. Only then the verdicts are
+/// printed; they go to the standard error where a page takes the standard output.
+pub fn simulate_file(
+    rt: &HostRuntime,
+    path: &str,
+    trace: Option<&str>,
+    chart: Option<&str>,
+) -> Result<u8, Failure> {
+    let path = script_path(path);
+    keep_apart(rt, path, trace, chart)?;
+    let text = read_file(rt, path)?;
+    let mut files = PageFiles { rt, trace, chart };
+    let mut output = io::writer(rt);
+    let mut errors = rt.stderr();
+    match show_simulation(
+        rt.alloc(),
+        &text,
+        trace,
+        chart,
+        &mut files,
+        &mut output,
+        &mut errors,
+    ) {
+        Ok(status) => Ok(status),
+        Err(SimulationEnd::Script(fault)) => Err(script_failure(rt.alloc(), path, &text, fault)),
+        Err(SimulationEnd::Page(failure)) => Err(failure),
+        Err(SimulationEnd::Printing(fault)) => Err(Failure::from(Fault::from(fault))),
+    }
+}

@@ -1,0 +1,33 @@
+//! The commands over the files, sockets and standard streams that their words name, and what is told of a fault. The words
+//! themselves are read above it.
+#![tactic(auto)]
+
+mod arguments;
+mod asking;
+mod cluster;
+mod fault;
+mod files;
+mod input;
+mod limits;
+mod live;
+mod pages;
+mod process;
+mod signals;
+mod status;
+mod streams;
+mod telling;
+mod trouble;
+
+pub use arguments::{own_words, wants_quiet};
+pub use asking::{ask_at, await_at, propose_at, propose_to_all, status_at, transcript_at};
+pub use cluster::{NewCluster, new_cluster};
+pub use fault::Fault;
+pub use files::{
+    audit_file, check_file, dump_file, hear_input, init_file, migrate_file, simulate_file,
+};
+pub use limits::{clients_within, descriptors_lack, open_limit};
+pub use live::run_file;
+pub use pages::write_page;
+pub use signals::{is_blocked, is_called};
+pub use streams::{HeldStreams, hold_streams};
+pub use trouble::{Failure, Trouble, Whereabouts};

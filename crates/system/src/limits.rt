@@ -1,0 +1,86 @@
+//! How many files a member may have open.
+
+ghost use Rattle.std.specs.Prelude.{ℕ, ◌≡◌, ◌+◌, ◌*◌, ◌<◌, ◌≤◌, IfOk, IfSome, MatchOption, Some, None, string_bytes};
+ghost use Rattle.system.specs.Limits.{HasLimit, IsFirstNumber, clients_within, fewer_text, lack_text, wanted};
+
+use crate::status::line_with;
+use numerals::{number, split_at_space};
+use std::alloc::{AllocError, Global};
+
+/// The number that the first word writes, behind which a space stands.
+fn first_number(text: &[u8]) -> Option<u64>
+    ensures some { IfSome result (IsFirstNumber text.now) }
+    ensures exact { (first : ℕ) → IsFirstNumber text.now first → result ≡ Some first }
+{
+    match split_at_space(text) {
+        Some((word, _)) => number(word),
+        None => None,
+    }
+}
+
+/// The most files that the process of this `/proc/self/limits` may have open; none where it may have any number, or none is
+/// said.
+pub fn open_limit(alloc: Global, limits: &[u8]) -> Result<Option<u64>, AllocError>
+    ensures some { IfOk result (λ found. IfSome found (HasLimit limits.now)) }
+    ensures exact { (limit : ℕ) → HasLimit limits.now limit → IfOk result (λ found. found ≡ Some limit) }
+{
+    match line_with(alloc, limits, "Max open files            ")? {
+        Some(rest) => Ok(first_number(rest)),
+        None => Ok(None),
+    }
+}
+
+/// What is said of so many files, which are too few.
+fn lack_words(alloc: Global, limit: u64, links: u64) -> Result<String, AllocError>
+    ensures { IfOk result (λ text. string_bytes text ≡ lack_text limit links) }
+{
+    format!(in alloc;
+        "bracha: {limit} open files are too few: the links want {links}, and each client 2\n"
+    )
+}
+
+/// What is said of so many files, which are enough for some of the clients.
+fn fewer_words(alloc: Global, limit: u64, links: u64, clients: u8) -> Result<String, AllocError>
+    ensures { IfOk result (λ text. string_bytes text ≡ fewer_text limit links clients) }
+{
+    format!(in alloc;
+        "bracha: {limit} open files are enough for {clients} of 32 clients: the links want {links}, and each client 2\n"
+    )
+}
+
+/// How many files the links of a member of so many want.
+fn wanted_by_links(n: u8) -> u64
+    ensures { result ≡ wanted n 0 }
+{
+    4 * u64::from(n) + 9
+}
+
+/// How many clients at once a member of so many lets in, where it may have so many files open: those for whom files are left,
+/// but one at least and 32 at most; 32 where no limit is known.
+pub fn clients_within(limit: Option<u64>, n: u8) -> u8
+    ensures { result ≡ clients_within limit n }
+{
+    match limit {
+        None => 32,
+        Some(limit) => (limit.saturating_sub(wanted_by_links(n)) / 2).clamp(1, 32) as u8,
+    }
+}
+
+/// What is said where a member of so many has too few files for its links and 32 clients; none where it has enough.
+pub fn descriptors_lack(alloc: Global, limit: u64, n: u8) -> Result<Option<String>, AllocError>
+    ensures few { limit < wanted n 1 →
+        IfOk result (λ said. MatchOption said ⊥ (λ text. string_bytes text ≡ lack_text limit (wanted n 0))) }
+    ensures fewer { wanted n 1 ≤ limit → limit < wanted n 32 →
+        IfOk result (λ said. MatchOption said ⊥ (λ text. string_bytes text ≡ fewer_text limit (wanted n 0) (clients_within (Some limit) n))) }
+    ensures enough { wanted n 32 ≤ limit → IfOk result (λ said. said ≡ None) }
+{
+    let links = wanted_by_links(n);
+    if limit < links + 2 {
+        return Ok(Some(lack_words(alloc, limit, links)?));
+    }
+    if limit < links + 64 {
+        let clients = clients_within(Some(limit), n);
+        return Ok(Some(fewer_words(alloc, limit, links, clients)?));
+    }
+    Ok(None)
+}

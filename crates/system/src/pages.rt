@@ -1,0 +1,136 @@
+//! Where the pages of a simulation go.
+
+ghost use Rattle.system.specs.Faults.{AreApart, IsMeant};
+ghost use Rattle.system.specs.declared.fault.Fault.TheVariants as ends;
+ghost use Rattle.system.specs.Troubles.{IsNamed};
+ghost use Rattle.std.specs.Prelude.{IfSome, ◌≡◌, ◌≢◌, ◌⊎◌, IfErr, IsOk, IsTrue, None, Some, codes, option_map};
+
+use crate::fault::Fault;
+use crate::trouble::{Failure, Whereabouts};
+use commands::takes_output;
+use std::fs::{self, Metadata};
+use std::io::{self, Write};
+use std::os::unix::fs::MetadataExt;
+use std::path::Path;
+
+/// Writes a page, if there is one, into the file, or to the standard output where the path is `-`. What was in the file is
+/// replaced.
+pub fn write_page(
+    rt: &HostRuntime,
+    path: Option<&str>,
+    page: Option<String>,
+    fault: Fault,
+) -> Result<(), Failure>
+    ensures nothing { (path.entry ≡ None) ⊎ (page ≡ None) → IsOk result }
+    ensures faults { IfErr result (λ failure. IsMeant fault failure.fault) }
+    ensures named { IfSome path.entry (λ path. IfErr result (IsNamed path.now)) }
+{
+    let (Some(path), Some(page)) = (path, page) else {
+        return Ok(());
+    };
+    match write_text(rt, path, page.as_str()) {
+        Ok(()) => Ok(()),
+        // Who read it has read enough, as `head` does: there is nothing to tell.
+        Err(error) if error.kind() == io::ErrorKind::BrokenPipe => Err(Failure::from(fault)),
+        Err(error) => Err(Failure::of_system(rt.alloc(), fault, path, Whereabouts::Write, error)),
+    }
+}
+
+/// The fault of a page that can't be written: that of its file, or of the standard output where the path is `-`.
+pub fn fault_at(path: Option<&str>, of_file: Fault) -> Fault
+    ensures output { option_map (λ path. path.now) path.entry ≡ Some (codes "-") → result ≡ ends.Stream }
+    ensures file { option_map (λ path. path.now) path.entry ≢ Some (codes "-") → result ≡ of_file }
+{
+    if takes_output(path, None) {
+        Fault::Stream
+    } else {
+        of_file
+    }
+}
+
+/// Writes the text into the file, or to the standard output where the path is `-`.
+fn write_text(rt: &HostRuntime, path: &str, text: &str) -> io::Result<()> {
+    if takes_output(Some(path), None) {
+        return io::writer(rt).write_all(text.as_bytes());
+    }
+    fs::write(rt, path, text)
+}
+
+/// Whether what is known of two files is known of one.
+fn is_one_node(one: &Metadata, other: &Metadata) -> bool {
+    one.dev() == other.dev() && one.ino() == other.ino()
+}
+
+/// The folder of a path, which is the working folder for a bare name.
+fn folder_of(path: &str) -> Path<'_> {
+    match Path::new(path).parent() {
+        Some(folder) if !folder.as_os_str().is_empty() => folder,
+        _ => Path::new("."),
+    }
+}
+
+/// Whether paths at which nothing is would be one file: they have one name, and one folder.
+fn would_be_one(rt: &HostRuntime, one: &str, other: &str) -> bool {
+    match (
+        fs::metadata(rt, folder_of(one)),
+        fs::metadata(rt, folder_of(other)),
+    ) {
+        (Ok(folder), Ok(second)) => {
+            is_one_node(&folder, &second)
+                && Path::new(one).file_name() == Path::new(other).file_name()
+        }
+        _ => false,
+    }
+}
+
+/// Whether the paths name one file, be it there or not.
+fn is_one_file(rt: &HostRuntime, one: &str, other: &str) -> bool
+    ensures { one.now ≡ other.now → IsTrue result }
+{
+    if one == other {
+        return true;
+    }
+    match (fs::metadata(rt, one), fs::metadata(rt, other)) {
+        (Ok(first), Ok(second)) => is_one_node(&first, &second),
+        (Err(_), Err(_)) => would_be_one(rt, one, other),
+        _ => false,
+    }
+}
+
+/// Refuses a path that names the file. [`Fault::SameFile`]: it does.
+pub fn keep_two_apart(rt: &HostRuntime, path: &str, file: &str) -> Result<(), Fault>
+    ensures { IsOk result → path.now ≢ file.now }
+{
+    if is_one_file(rt, path, file) {
+        return Err(Fault::SameFile(String::from_str(rt.alloc(), path)?));
+    }
+    Ok(())
+}
+
+/// Refuses a page that would be written over the file. [`Fault::SameFile`]: its path names that file.
+fn keep_off(rt: &HostRuntime, page: Option<&str>, file: &str) -> Result<(), Fault>
+    ensures { IsOk result → option_map (λ path. path.now) page.entry ≢ Some file.now }
+{
+    match page {
+        Some(path) => keep_two_apart(rt, path, file),
+        None => Ok(()),
+    }
+}
+
+/// Refuses pages that would be written over the script or over one another, before anything is written.
+/// [`Fault::SameFile`]: two of the paths name one file.
+pub fn keep_apart(
+    rt: &HostRuntime,
+    script: &str,
+    trace: Option<&str>,
+    chart: Option<&str>,
+) -> Result<(), Fault>
+    ensures { IsOk result → AreApart script.now (option_map (λ path. path.now) trace.entry) (option_map (λ path. path.now) chart.entry) }
+{
+    keep_off(rt, trace, script)?;
+    keep_off(rt, chart, script)?;
+    match trace {
+        Some(trace) => keep_off(rt, chart, trace),
+        None => Ok(()),
+    }
+}

@@ -1,5 +1,0 @@
-use Rattle.std.proofs.Common.{refl}
-use Rattle.usage.proofs.command_line.check.Goals as goal
-
-pub returns : goal.returns
-returns c = c.with_arg.ensures _ _ c.named-command.ensures c.word.ensures refl

@@ -1,8 +1,0 @@
-use Rattle.std.proofs.Common.{refl, ◌∙◌, ap}
-use Rattle.usage.specs.Usage.{as_u8}
-use Rattle.usage.proofs.command_line.hear.Goals as goal
-
-pub returns : goal.returns
-returns c =
-    let size = c.with_size-command.ensures _ c.named.ensures in
-    c.with_arg.ensures _ _ size (c.of_u8.ensures ∙ ap as_u8 c.number-me.ensures) refl

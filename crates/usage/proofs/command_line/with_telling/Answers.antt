@@ -1,9 +1,0 @@
-use Rattle.std.proofs.Common.{refl}
-use Rattle.usage.specs.Usage.{quiet_rule, verbose_rule}
-use Rattle.clap.specs.Simple.{with_rule}
-use Rattle.usage.proofs.command_line.with_telling.Goals as goal
-
-pub returns : goal.returns
-returns c app command =
-    let quiet = c.with_arg-command.ensures app quiet_rule command c.quiet.ensures refl in
-    c.with_arg.ensures (with_rule app quiet_rule) verbose_rule quiet c.verbose.ensures refl
