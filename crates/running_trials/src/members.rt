@@ -276,17 +276,48 @@ fn answers(stream: &mut TcpStream, line: &[u8], wanted: &[u8]) -> bool {
     }
 }
 
+/// Whether less than 15 seconds have passed since then.
+fn is_recent<R: Machine>(rt: &R, start: Instant) -> bool {
+    match start.elapsed(rt) {
+        Ok(passed) => passed < Duration::from_secs(15),
+        Err(_) => false,
+    }
+}
+
 /// Whether a desk answers a line so, asked again and again for 15 seconds, each time by a client of its own.
 fn comes_to<R: Machine>(rt: &R, address: SocketAddr, line: &[u8], wanted: &[u8]) -> bool {
+    let Ok(start) = Instant::now(rt) else {
+        return false;
+    };
     for _ in 0..300u32 {
         if let Ok(mut stream) = connect(rt, address) {
             if answers(&mut stream, line, wanted) {
                 return true;
             }
         }
+        if !is_recent(rt, start) {
+            return false;
+        }
         thread::sleep(rt, Duration::from_millis(50));
     }
     false
+}
+
+/// The next connection that comes to a listener; an error where none comes in ten seconds.
+fn accept<R: Machine>(rt: &R, listener: &TcpListener) -> io::Result<TcpStream> {
+    listener.set_nonblocking(true)?;
+    for _ in 0..1000u32 {
+        match listener.accept() {
+            Ok((link, _)) => return Ok(link),
+            Err(error) => {
+                if error.kind() != ErrorKind::WouldBlock {
+                    return Err(error);
+                }
+            }
+        }
+        thread::sleep(rt, Duration::from_millis(10));
+    }
+    Err(io::Error::from(ErrorKind::TimedOut))
 }
 
 /// Whether the other side closed the connection, within five seconds.
@@ -647,8 +678,10 @@ fn run_visited<R: Machine + Abort>(
             })
             .is_ok();
         assert!(rt; runs && cue.is_ready(rt));
-        visitor.visit(rt, cluster, log)?;
-        assert!(rt; cue.ends(rt) == Some(Ok(())));
+        let visited = visitor.visit(rt, cluster, log);
+        let ended = cue.ends(rt);
+        visited?;
+        assert!(rt; ended == Some(Ok(())));
         Ok(())
     })
 }
@@ -736,13 +769,12 @@ fn is_dialled<R: Machine + Abort>(
     listener: &TcpListener,
     log: &Mutex<Kept>,
 ) -> Result<(), Fail> {
-    let (mut link, _) = listener.accept()?;
+    let mut link = accept(rt, listener)?;
     welcome(rt, &mut link, 2)?;
     wait_for(rt, log, 2);
     drop(link);
     wait_for(rt, log, 3);
-    let (silent, _) = listener.accept()?;
-    drop(silent);
+    drop(accept(rt, listener)?);
     thread::sleep(rt, Duration::from_millis(500));
     Ok(())
 }
@@ -896,8 +928,10 @@ fn slow_peer<R: Machine + Abort>(rt: &R, alloc: Global) -> Result<(), Fail> {
             .spawn(move || run_to_cue(rt, alloc, cluster, 0, None, cue))
             .is_ok();
         assert!(rt; runs && cue.is_ready(rt));
-        greet_and_greet_slowly(rt, cluster.address(0))?;
-        assert!(rt; cue.ends(rt) == Some(Ok(())));
+        let greeted = greet_and_greet_slowly(rt, cluster.address(0));
+        let ended = cue.ends(rt);
+        greeted?;
+        assert!(rt; ended == Some(Ok(())));
         Ok(())
     })
 }
@@ -1207,8 +1241,8 @@ fn tosses_by<R: Machine + Abort>(
     listener: &TcpListener,
     seed: u8,
 ) -> Result<(), Fail> {
-    drop(listener.accept()?);
-    let (mut link, _) = listener.accept()?;
+    drop(accept(rt, listener)?);
+    let mut link = accept(rt, listener)?;
     welcome(rt, &mut link, 1)?;
     let start = Instant::now(rt)?;
     assert!(rt; comes_to(rt, cluster.desk(0), b"PROPOSE 0 0\n", b"OK\n"));
@@ -1268,8 +1302,10 @@ fn comes_to_a_coin<R: Machine + Abort>(
             })
             .is_ok();
         assert!(rt; runs && cue.is_ready(rt));
-        tosses_by(rt, cluster, listener, seed)?;
-        assert!(rt; cue.ends(rt) == Some(Ok(())));
+        let tossed = tosses_by(rt, cluster, listener, seed);
+        let ended = cue.ends(rt);
+        tossed?;
+        assert!(rt; ended == Some(Ok(())));
         Ok(())
     })
 }

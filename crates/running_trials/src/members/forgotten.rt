@@ -1,6 +1,6 @@
 //! A member that lost its journal, among peers that have heard it before.
 
-use super::{Cluster, Cue, Kept, comes_to, no_sockets, run_told, wait_for};
+use super::{Cluster, Cue, IDLE, Kept, accept, comes_to, no_sockets, run_told, wait_for};
 use running::{LogEvent, Machine, RunFault};
 use std::alloc::Global;
 use std::io::{Read, Write};
@@ -14,33 +14,33 @@ use wire::Version;
 
 /// As a peer that has heard five statements of the member that dials it.
 fn welcomes<R: Machine + Abort>(rt: &R, listener: &TcpListener) -> Result<TcpStream, Fail> {
-    let (mut link, _) = listener.accept()?;
+    let mut link = accept(rt, listener)?;
     link.set_read_timeout(Some(Duration::from_secs(5)))?;
     let mut hello = [0u8; 18];
     link.read_exact(&mut hello)?;
     link.write_all(&[0, 9, 2, 0, 0, 0, 0, 0, 0, 0, 5])?;
     let mut idle = [0u8; 3];
     link.read_exact(&mut idle)?;
-    assert!(rt; idle == [0, 1, 0]);
+    assert!(rt; idle == IDLE);
     Ok(link)
 }
 
-/// One peer alone, which may be a liar, doesn't stop the member; two of them do.
+/// One peer alone, which may be a liar, doesn't stop the member; two of them do. The second listens only then, so that its
+/// link is one that was dialled just now.
 fn meets_two<R: Machine + Abort>(
     rt: &R,
     cluster: Cluster,
-    peers: &[TcpListener; 2],
-    cue: &Cue,
+    listener: &TcpListener,
     log: &Mutex<Kept>,
 ) -> Result<(), Fail> {
-    let _first = welcomes(rt, &peers[0])?;
+    let mut first = welcomes(rt, listener)?;
     wait_for(rt, log, 2);
     thread::sleep(rt, Duration::from_millis(2500));
     assert!(rt; comes_to(rt, cluster.desk(0), b"STATUS\n", b"UP 0 0\n"));
-    let _second = welcomes(rt, &peers[1])?;
+    first.write_all(&IDLE)?;
+    let _second = welcomes(rt, &TcpListener::bind(rt, cluster.address(2))?)?;
     wait_for(rt, log, 4);
     assert!(rt; comes_to(rt, cluster.desk(0), b"PROPOSE 0 1\n", b"STOPPED\n"));
-    assert!(rt; cue.ends(rt) == Some(Err(RunFault::Forgotten)));
     Ok(())
 }
 
@@ -49,7 +49,7 @@ fn runs_anew<R: Machine + Abort>(
     rt: &R,
     alloc: Global,
     cluster: Cluster,
-    peers: &[TcpListener; 2],
+    listener: &TcpListener,
     log: &Mutex<Kept>,
 ) -> Result<(), Fail> {
     let cue = Cue::new();
@@ -62,7 +62,11 @@ fn runs_anew<R: Machine + Abort>(
             })
             .is_ok();
         assert!(rt; runs && cue.is_ready(rt));
-        meets_two(rt, cluster, peers, cue, log)
+        let met = meets_two(rt, cluster, listener, log);
+        let ended = cue.ends(rt);
+        met?;
+        assert!(rt; ended == Some(Err(RunFault::Forgotten)));
+        Ok(())
     })
 }
 
@@ -74,14 +78,11 @@ fn forgets<R: Machine + Abort>(rt: &R, alloc: Global) -> Result<(), Fail> {
         port: 7480,
         elsewhere: None,
     };
-    let peers = [
-        TcpListener::bind(rt, cluster.address(1))?,
-        TcpListener::bind(rt, cluster.address(2))?,
-    ];
+    let listener = TcpListener::bind(rt, cluster.address(1))?;
     let kept = Mutex::new(Kept {
         events: Vec::new(alloc),
     });
-    runs_anew(rt, alloc, cluster, &peers, &kept)?;
+    runs_anew(rt, alloc, cluster, &listener, &kept)?;
     let told = kept.into_inner().events;
     let want = [
         LogEvent::Ready(0),

@@ -1,8 +1,8 @@
 //! A peer that falls silent.
 
 use super::{
-    Cluster, Kept, Visitor, connect, is_closed_within, is_welcomed, no_sockets, tells, wait_for,
-    welcome,
+    Cluster, Kept, Visitor, accept, connect, is_closed_within, is_welcomed, no_sockets, tells,
+    wait_for, welcome,
 };
 use links::LinkEnd;
 use running::{LogEvent, Machine};
@@ -36,7 +36,7 @@ pub(super) fn falls_silent<R: Machine + Abort>(
     listener: &TcpListener,
     log: &Mutex<Kept>,
 ) -> Result<(), Fail> {
-    let (mut dialled, _) = listener.accept()?;
+    let mut dialled = accept(rt, listener)?;
     welcome(rt, &mut dialled, 2)?;
     wait_for(rt, log, 2);
     let mut dials = connect(rt, cluster.address(0))?;

@@ -1,8 +1,8 @@
 //! What a log tells of links that are refused.
 
 use super::{
-    Cluster, HELLO, Kept, Visitor, caller, is_refused, no_sockets, refused, refused_by, tells,
-    wait_for,
+    Cluster, HELLO, Kept, Visitor, accept, caller, is_refused, no_sockets, refused, refused_by,
+    tells, wait_for,
 };
 use links::LinkEnd;
 use running::{Difference, LogEvent, Machine};
@@ -92,8 +92,8 @@ fn a_log_tells_of_strangers_once(rt: HostRuntime) -> Result<(), Fail> {
 }
 
 /// Takes the next link that is dialled, reads its Hello and closes it. The Hello's version comes out.
-fn close_next(listener: &TcpListener) -> io::Result<u8> {
-    let (mut link, _) = listener.accept()?;
+fn close_next<R: Machine>(rt: &R, listener: &TcpListener) -> io::Result<u8> {
+    let mut link = accept(rt, listener)?;
     link.set_read_timeout(Some(Duration::from_secs(5)))?;
     let mut hello = [0u8; 18];
     link.read_exact(&mut hello)?;
@@ -107,11 +107,11 @@ pub(super) fn closes<R: Machine + Abort>(
     listener: &TcpListener,
     log: &Mutex<Kept>,
 ) -> Result<(), Fail> {
-    assert!(rt; close_next(listener)? == 2);
-    assert!(rt; close_next(listener)? == 1);
+    assert!(rt; close_next(rt, listener)? == 2);
+    assert!(rt; close_next(rt, listener)? == 1);
     wait_for(rt, log, 2);
     for version in [2u8, 1, 2, 1, 2] {
-        assert!(rt; close_next(listener)? == version);
+        assert!(rt; close_next(rt, listener)? == version);
     }
     Ok(())
 }

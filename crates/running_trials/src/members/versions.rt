@@ -1,7 +1,8 @@
 //! Peers of the older version, and of both.
 
 use super::{
-    Cluster, HELLO, IDLE, Kept, Visitor, answers, connect, no_sockets, refused_by, tells, wait_for,
+    Cluster, HELLO, IDLE, Kept, Visitor, accept, answers, connect, no_sockets, refused_by, tells,
+    wait_for,
 };
 use links::LinkEnd;
 use running::{LogEvent, Machine};
@@ -29,8 +30,12 @@ const BOTH: [u8; 28] = [
 ];
 
 /// Takes the next link that member 0 dials to member 1, if its Hello is of this version.
-fn is_dialled_with(listener: &TcpListener, version: u8) -> io::Result<Option<TcpStream>> {
-    let (mut link, _) = listener.accept()?;
+fn is_dialled_with<R: Machine>(
+    rt: &R,
+    listener: &TcpListener,
+    version: u8,
+) -> io::Result<Option<TcpStream>> {
+    let mut link = accept(rt, listener)?;
     link.set_read_timeout(Some(Duration::from_secs(5)))?;
     let mut hello = [0u8; 18];
     link.read_exact(&mut hello)?;
@@ -69,14 +74,14 @@ pub(super) fn is_dialled_as_older<R: Machine + Abort>(
 ) -> Result<(), Fail> {
     let mut client = connect(rt, cluster.desk(0))?;
     assert!(rt; answers(&mut client, b"PROPOSE 0 1\n", b"OK\n"));
-    drop(is_dialled_with(listener, 2)?.ok_or("a Hello of version 2")?);
-    let mut link = is_dialled_with(listener, 1)?.ok_or("a Hello of version 1")?;
+    drop(is_dialled_with(rt, listener, 2)?.ok_or("a Hello of version 2")?);
+    let mut link = is_dialled_with(rt, listener, 1)?.ok_or("a Hello of version 1")?;
     link.write_all(&[0, 9, 2, 0, 0, 0, 0, 0, 0, 0, 0])?;
     assert!(rt; carries(&mut link, &SAID)?);
     wait_for(rt, log, 2);
     drop(link);
     wait_for(rt, log, 3);
-    assert!(rt; is_dialled_with(listener, 1)?.is_some());
+    assert!(rt; is_dialled_with(rt, listener, 1)?.is_some());
     wait_for(rt, log, 4);
     Ok(())
 }
