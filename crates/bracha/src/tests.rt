@@ -6,7 +6,6 @@ use super::*;
 use std::alloc::Global;
 use std::fs;
 use std::test::Fail;
-use system::write_page;
 
 /// Files of the tests. Nothing makes the folder of the last one.
 const PAGE: &str = "bracha_tests_page";
@@ -15,29 +14,31 @@ const SCRIPT: &str = "bracha_tests_script";
 
 const NOWHERE: &str = "bracha_tests_missing/page";
 
-/// Writes a page to the file, and tells whether it is then all that the file has.
-fn is_replaced(rt: &HostRuntime, words: &str) -> Result<bool, Fail> {
-    let page = String::from_str(rt.alloc(), words)?;
-    let is_written = write_page(rt, Some(PAGE), Some(page), Fault::Trace).is_ok();
-    Ok(is_written && fs::read(rt, PAGE)?.as_slice() == words.as_bytes())
+/// A script of nothing, one of two proposals of which one has no member, and one whose only member lies.
+const NOTHING: &str = "n 1\nt 0\nquestions 1\nliars\nseed 1\n";
+
+const PROPOSALS: &str = "n 1\nt 0\nquestions 1\nliars\nseed 1\npropose 0 0 1\npropose 1 0 0\n";
+
+const ALL_LIE: &str = "n 1\nt 0\nquestions 1\nliars 0\nseed 1\n";
+
+/// Runs a script with its trace in the file, and tells whether that is then all that the file has.
+fn is_replaced(rt: &HostRuntime, script: &str, trace: &str) -> Result<bool, Fail> {
+    fs::write(rt, SCRIPT, script)?;
+    let is_done = simulate_file(rt, SCRIPT, Some(PAGE), None).is_ok();
+    Ok(is_done && fs::read(rt, PAGE)?.as_slice() == trace.as_bytes())
 }
 
 #[test]
 fn a_page_replaces_what_was_there(rt: HostRuntime) -> Result<(), Fail> {
-    let _ = fs::remove_file(&rt, PAGE);
-    for words in ["a longer text", "short"] {
-        assert!(rt; is_replaced(&rt, words)?, "{words}");
-    }
+    let trace = "1 propose 0 0 1: done: initial 0 0 1 1 one\n2 propose 1 0 0: skipped no-such\n";
+    assert!(rt; is_replaced(&rt, PROPOSALS, trace)?);
+    assert!(rt; is_replaced(&rt, NOTHING, "")?);
     fs::remove_file(&rt, PAGE)?;
-    let is_nothing = write_page(&rt, Some(PAGE), None, Fault::Trace).is_ok();
-    assert!(rt; is_nothing && fs::metadata(&rt, PAGE).is_err());
+    let is_done = simulate_file(&rt, SCRIPT, None, None).is_ok();
+    fs::remove_file(&rt, SCRIPT)?;
+    assert!(rt; is_done && fs::metadata(&rt, PAGE).is_err());
     Ok(())
 }
-
-/// A script of nothing, and one whose only member lies.
-const NOTHING: &str = "n 1\nt 0\nquestions 1\nliars\nseed 1\n";
-
-const ALL_LIE: &str = "n 1\nt 0\nquestions 1\nliars 0\nseed 1\n";
 
 /// The fault of a run as it is printed, where something can be told of it.
 fn told_fault(alloc: Global, run: Result<u8, Failure>) -> Result<String, Fail> {

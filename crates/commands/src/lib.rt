@@ -29,6 +29,6 @@ pub use init::init_disk;
 pub use migrate::migrate_disks;
 pub use owners::{other_owner, owner};
 pub use shown::{Shelf, SimulationEnd, show_simulation};
-pub use simulate::{Pages, print, print_verdicts, simulate_pages, simulate_text, takes_output};
+pub use simulate::{Simulation, print, print_verdicts, simulate_text, takes_output};
 pub use text_lines::{line_at, line_of_byte, line_of_key, lines_in, text_fault};
 pub use transcript::{fetch_transcript, transcript_line};

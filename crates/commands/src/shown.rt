@@ -1,37 +1,35 @@
 //! The command `simulate` as the program runs it: the pages are put somewhere, and then the verdicts are printed.
 
-ghost use Rattle.std.specs.Prelude.{◌≡◌, IfOk, OnOk, Err, is_some, option_map, string_bytes};
+ghost use Rattle.std.specs.Prelude.{◌≡◌, ◌≢◌, ◌||◌, true, IfOk, OnOk, Err, is_some, option_map, string_bytes};
 ghost use Rattle.std.specs.Io.KnownBytes.{Appends};
-ghost use Rattle.script.specs.declared.Script.{Script};
 ghost use Rattle.script.specs.Scripts.{IsScript};
-ghost use Rattle.sim.specs.declared.cluster.Outcome.{Outcome};
 ghost use Rattle.commands.specs.declared.fault.SimulateFault.{SimulateFault};
-ghost use Rattle.commands.specs.declared.simulate.Pages.{Pages};
+ghost use Rattle.commands.specs.declared.simulate.Simulation.{Simulation};
 ghost use Rattle.commands.specs.Faults.{IsOfSimulate, IsOfWriting};
-ghost use Rattle.commands.specs.Pages.{IsOutcome, ArePages};
+ghost use Rattle.commands.specs.Pages.{IsOutcome};
 ghost use Rattle.commands.specs.Simulations.{simulation_text};
 ghost use Rattle.commands.specs.Shows.{AreSaid, TakesOutput};
 ghost use Rattle.commands.specs.declared.shown.SimulationEnd.TheVariants as ends;
 
 use crate::fault::SimulateFault;
-use crate::simulate::{Pages, print_verdicts, simulate_pages, takes_output};
+use crate::simulate::{Simulation, counted_text, print_verdicts, takes_output};
 use std::alloc::Global;
 use std::io::Write;
 
 /// Where the pages of a simulation go.
 pub trait Shelf {
-    ghost use Rattle.std.specs.Prelude.{List, ℕ, Option, ◌≡◌, OnOk, option_map, string_bytes};
+    ghost use Rattle.std.specs.Prelude.{OnOk};
+    ghost use Rattle.commands.specs.declared.simulate.Simulation.{Simulation};
 
     /// Why a page couldn't be put.
     type Fault;
 
-    /// What a shelf has on which a trace and a chart were put, those of them that there are. One that says nothing of it may
-    /// have anything.
-    ghost has: { Option (List ℕ) → Option (List ℕ) → Self → Type 0 } = { λ _ _ _. Unit {0} };
+    /// What a shelf has on which the pages of a simulation were put. One that says nothing of it may have anything.
+    ghost has: { Simulation → Self → Type 0 } = { λ _ _. Unit {0} };
 
-    /// Puts a trace and a chart, those of them that there are.
-    fn put(&mut self, trace: Option<String>, chart: Option<String>) -> Result<(), Self::Fault>
-        ensures { OnOk result (has (option_map string_bytes trace) (option_map string_bytes chart) self.new) };
+    /// Puts the pages of a simulation, those of them that are wanted.
+    fn put(&mut self, alloc: Global, simulation: &Simulation) -> Result<(), Self::Fault>
+        ensures { OnOk result (has simulation.now self.new) };
 }
 
 /// Why a simulation wasn't shown.
@@ -43,6 +41,63 @@ pub enum SimulationEnd<F> {
     Page(F),
     /// The verdicts couldn't be printed.
     Printing(SimulateFault),
+}
+
+/// Whether a page has a path.
+fn has_pages(trace: Option<&str>, chart: Option<&str>) -> bool
+    ensures { result ≡ (is_some trace.entry || is_some chart.entry) }
+{
+    trace.is_some() || chart.is_some()
+}
+
+/// Runs the script over empty disks in memory, and puts its pages on the shelf. The text of its outcome comes out.
+fn put_pages<S: Shelf>(
+    alloc: Global,
+    text: &[u8],
+    shelf: &mut S,
+) -> Result<String, SimulationEnd<S::Fault>>
+    ensures all { IfOk result (λ made. (simulation : Simulation) × IsScript text.now simulation.script
+        × IsOutcome simulation.script simulation.outcome × S.has simulation shelf.new
+        × (string_bytes made ≡ simulation_text simulation.outcome)) }
+    ensures script { (fault : SimulateFault) → result ≡ Err (ends.Script fault) → IsOfSimulate text.now fault }
+    ensures unput { (fault : SimulateFault) → result ≡ Err (ends.Script fault) → shelf.new ≡ shelf.old }
+    ensures no_printing { (fault : SimulateFault) → result ≢ Err (ends.Printing fault) }
+{
+    let simulation = match Simulation::run(alloc, text) {
+        Ok(simulation) => simulation,
+        Err(fault) => return Err(SimulationEnd::Script(fault)),
+    };
+    let Ok(verdicts) = simulation.verdicts(alloc) else {
+        return Err(SimulationEnd::Script(SimulateFault::Memory));
+    };
+    match shelf.put(alloc, &simulation) {
+        Ok(()) => Ok(verdicts),
+        Err(fault) => Err(SimulationEnd::Page(fault)),
+    }
+}
+
+/// The text of a simulation's outcome, once its pages are put where any is wanted. Where none is, the events are played as
+/// they are read, and nothing of them is kept but their counts.
+fn play<S: Shelf>(
+    alloc: Global,
+    text: &[u8],
+    has_pages: bool,
+    shelf: &mut S,
+) -> Result<String, SimulationEnd<S::Fault>>
+    ensures all { IfOk result (λ made. (simulation : Simulation) × IsScript text.now simulation.script
+        × IsOutcome simulation.script simulation.outcome × (has_pages ≡ true → S.has simulation shelf.new)
+        × (string_bytes made ≡ simulation_text simulation.outcome)) }
+    ensures script { (fault : SimulateFault) → result ≡ Err (ends.Script fault) → IsOfSimulate text.now fault }
+    ensures unput { (fault : SimulateFault) → result ≡ Err (ends.Script fault) → shelf.new ≡ shelf.old }
+    ensures no_printing { (fault : SimulateFault) → result ≢ Err (ends.Printing fault) }
+{
+    if has_pages {
+        return put_pages(alloc, text, shelf);
+    }
+    match counted_text(alloc, text) {
+        Ok(verdicts) => Ok(verdicts),
+        Err(fault) => Err(SimulationEnd::Script(fault)),
+    }
 }
 
 /// Runs the script over empty disks in memory, puts a trace and a chart of it on the shelf where they have a path, and only
@@ -59,13 +114,12 @@ pub fn show_simulation<S: Shelf, W: Write, E: Write>(
 ) -> Result<u8, SimulationEnd<S::Fault>>
     ensures status { IfOk result (λ status. status ≡ 0) }
     // What was put and is printed is of a simulation of the script that the text says, which is a run of the world.
-    ensures all { OnOk result ((script : Script) × (outcome : Outcome) × (pages : Pages)
-        × IsScript text.now script × IsOutcome script outcome
-        × ArePages (is_some trace.entry) (is_some chart.entry) script outcome pages
-        × S.has (option_map string_bytes pages.trace) (option_map string_bytes pages.chart) shelf.new
+    ensures all { OnOk result ((simulation : Simulation)
+        × IsScript text.now simulation.script × IsOutcome simulation.script simulation.outcome
+        × ((is_some trace.entry || is_some chart.entry) ≡ true → S.has simulation shelf.new)
         × AreSaid (option_map (λ path. path.now) trace.entry) (option_map (λ path. path.now) chart.entry)
-        (Appends (W.contents output.old) (W.contents output.new) (simulation_text outcome))
-        (Appends (E.contents errors.old) (E.contents errors.new) (simulation_text outcome))) }
+        (Appends (W.contents output.old) (W.contents output.new) (simulation_text simulation.outcome))
+        (Appends (E.contents errors.old) (E.contents errors.new) (simulation_text simulation.outcome))) }
     // The other writer is left alone.
     ensures no_output { TakesOutput (option_map (λ path. path.now) trace.entry) (option_map (λ path. path.now) chart.entry) →
         output.new ≡ output.old }
@@ -78,16 +132,12 @@ pub fn show_simulation<S: Shelf, W: Write, E: Write>(
     ensures page { (fault : S.Fault) → result ≡ Err (ends.Page fault) → (output.new ≡ output.old) × (errors.new ≡ errors.old) }
     ensures printing { (fault : SimulateFault) → result ≡ Err (ends.Printing fault) → IsOfWriting fault }
 {
-    let pages = match simulate_pages(alloc, text, trace.is_some(), chart.is_some()) {
-        Ok(pages) => pages,
-        Err(fault) => return Err(SimulationEnd::Script(fault)),
+    let verdicts = match play(alloc, text, has_pages(trace, chart), shelf) {
+        Ok(verdicts) => verdicts,
+        Err(end) => return Err(end),
     };
-    match shelf.put(pages.trace, pages.chart) {
-        Ok(()) => {}
-        Err(fault) => return Err(SimulationEnd::Page(fault)),
-    }
     let aside = takes_output(trace, chart);
-    match print_verdicts(aside, pages.verdicts.as_str(), output, errors) {
+    match print_verdicts(aside, verdicts.as_str(), output, errors) {
         Ok(status) => Ok(status),
         Err(fault) => Err(SimulationEnd::Printing(fault)),
     }

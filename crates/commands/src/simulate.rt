@@ -14,18 +14,17 @@ ghost use Rattle.commands.specs.Counts.{CountsPlayed};
 ghost use Rattle.script.specs.Scripts.{IsScript};
 ghost use Rattle.commands.specs.Faults.{IsOfSimulate, IsOfWriting};
 ghost use Rattle.commands.specs.declared.fault.SimulateFault.{SimulateFault};
-ghost use Rattle.report.specs.Charts.{IsSvg};
-ghost use Rattle.commands.specs.Pages.{IsOutcome, IsPage, IsTrace, ArePages};
+ghost use Rattle.commands.specs.Pages.{IsOutcome};
 ghost use Rattle.commands.specs.Simulations.{verdict_line, line_of_counts, simulation_text, skipped};
 
 use crate::fault::SimulateFault;
 use disk::MemDisk;
 use numerals::is;
-use report::{chart_text, is_skipped, trace_text};
+use report::{is_skipped, write_chart, write_trace};
 use script::{Script, Source};
 use sim::{Cluster, Event, Mark, Outcome, SimFault};
 use std::alloc::{AllocError, Global};
-use std::io::Write;
+use std::io::{self, Write};
 use terms::{Memory, Size};
 
 /// How many events were played, and how many of them were skipped.
@@ -88,17 +87,6 @@ fn outcome_text(
     let mut text = verdict_lines(alloc, verdicts)?;
     text.push_str(count_line(alloc, counts)?.as_str())?;
     Ok(text)
-}
-
-/// The text of an outcome whose events were kept.
-fn simulation_text(alloc: Global, outcome: &Outcome) -> Result<String, AllocError>
-    ensures { IfOk result (λ text. string_bytes text ≡ simulation_text outcome.now) }
-{
-    let counts = EventCounts {
-        events: outcome.marks.len(),
-        skipped: skipped(&outcome.marks),
-    };
-    outcome_text(alloc, &outcome.verdicts, counts)
 }
 
 /// An empty disk for each member, without a fuse.
@@ -167,8 +155,8 @@ fn play_all(
 }
 
 /// Plays the script over empty disks in memory, keeps nothing of its events but their counts, and makes the text of its
-/// outcome.
-fn counted_text(alloc: Global, text: &[u8]) -> Result<String, SimulateFault>
+/// outcome. The faults are those of [`Simulation::run`].
+pub(crate) fn counted_text(alloc: Global, text: &[u8]) -> Result<String, SimulateFault>
     ensures all { IfOk result (λ made. (script : Script) × (outcome : Outcome)
         × IsScript text.now script × IsOutcome script outcome × (string_bytes made ≡ simulation_text outcome)) }
     ensures only { IfErr result (IsOfSimulate text.now) }
@@ -181,98 +169,80 @@ fn counted_text(alloc: Global, text: &[u8]) -> Result<String, SimulateFault>
     Ok(outcome_text(alloc, &verdicts, counts)?)
 }
 
-/// Reads the script, and runs it over empty disks in memory.
-fn run(alloc: Global, text: &[u8]) -> Result<(Script, Outcome), SimulateFault>
-    ensures says { IfOk result (λ ran. IsScript text.now ran.0) }
-    ensures run { IfOk result (λ ran. IsOutcome ran.0 ran.1) }
-    ensures only { IfErr result (IsOfSimulate text.now) }
-{
-    let script = script::read(alloc, text)?;
-    let disks = empty_disks(alloc, script.size)?;
-    let outcome = sim::run(alloc, script.size, &script.liars, disks, &script.events)?;
-    Ok((script, outcome))
-}
-
-/// The trace of a run, if it is wanted.
-fn trace_page(
-    alloc: Global,
-    wanted: bool,
-    script: &Script,
-    outcome: &Outcome,
-) -> Result<Option<String>, AllocError>
-    ensures { IfOk result (IsPage wanted (IsTrace script.now outcome.now)) }
-{
-    if !wanted {
-        return Ok(None);
-    }
-    let text = trace_text(alloc, &script.events, &outcome.marks, &outcome.saved)?;
-    Ok(Some(text))
-}
-
-/// The chart of a run, if it is wanted.
-fn chart_page(
-    alloc: Global,
-    wanted: bool,
-    script: &Script,
-    outcome: &Outcome,
-) -> Result<Option<String>, AllocError>
-    ensures { IfOk result (IsPage wanted IsSvg) }
-{
-    if !wanted {
-        return Ok(None);
-    }
-    let text = chart_text(
-        alloc,
-        script.size,
-        &script.liars,
-        &script.events,
-        &outcome.marks,
-        &outcome.saved,
-    )?;
-    Ok(Some(text))
-}
-
-/// What a simulation makes: texts to be printed and written.
+/// A script that was run over empty disks in memory, and what came of it.
 #[derive(Drop)]
-pub struct Pages {
-    /// For each verdict, by member and then by question, `member M question Q round R bit B`, and last
-    /// `events E skipped S`.
-    pub verdicts: String,
-    /// A line for each event.
-    pub trace: Option<String>,
-    /// A sequence chart in SVG.
-    pub chart: Option<String>,
+pub struct Simulation {
+    /// The script.
+    pub script: Script,
+    /// What became of its events, what was saved because of each, and the verdicts.
+    pub outcome: Outcome,
 }
 
-/// Runs the script over empty disks in memory, and makes the text of its outcome, and a trace and a chart where they are
-/// wanted. Where none is, the events are played as they are read, and nothing of them is kept but their counts.
-///
-/// [`SimulateFault::Line`], [`SimulateFault::Size`] and [`SimulateFault::Events`] for a text that is no script, [`SimulateFault::Sim`] for a script that
-/// can't be run, [`SimulateFault::Memory`] where a growth failed.
-pub fn simulate_pages(
-    alloc: Global,
-    text: &[u8],
-    trace: bool,
-    chart: bool,
-) -> Result<Pages, SimulateFault>
-    // They are of a simulation of the script that the text says, which is a run of the world.
-    ensures all { IfOk result (λ made. (script : Script) × (outcome : Outcome)
-        × IsScript text.now script × IsOutcome script outcome × ArePages trace chart script outcome made) }
-    ensures only { IfErr result (IsOfSimulate text.now) }
-{
-    if !trace && !chart {
-        return Ok(Pages {
-            verdicts: counted_text(alloc, text)?,
-            trace: None,
-            chart: None,
-        });
+impl Simulation {
+    ghost use Rattle.std.specs.Prelude.{ℕ, List, ◌≡◌, ◌≤◌, IfOk, IfErr, OnOk, length, string_bytes};
+    ghost use Rattle.std.specs.Io.KnownBytes.{Appends};
+    ghost use Rattle.sim.specs.declared.TheConstants.{MOST_EVENTS};
+    ghost use Rattle.script.specs.Scripts.{IsScript};
+    ghost use Rattle.commands.specs.Faults.{IsOfSimulate};
+    ghost use Rattle.commands.specs.Pages.{IsOutcome, trace_of, IsChartOf};
+    ghost use Rattle.commands.specs.Simulations.{simulation_text};
+
+    /// Reads the script, and runs it over empty disks in memory.
+    ///
+    /// [`SimulateFault::Line`], [`SimulateFault::Size`] and [`SimulateFault::Events`] for a text that is no script, [`SimulateFault::Sim`] for a
+    /// script that can't be run, [`SimulateFault::Memory`] where a growth failed.
+    pub fn run(alloc: Global, text: &[u8]) -> Result<Simulation, SimulateFault>
+        ensures says { IfOk result (λ ran. IsScript text.now ran.script) }
+        ensures few { IfOk result (λ ran. length ran.script.events.items ≤ MOST_EVENTS) }
+        ensures run { IfOk result (λ ran. IsOutcome ran.script ran.outcome) }
+        ensures only { IfErr result (IsOfSimulate text.now) }
+    {
+        let script = script::read(alloc, text)?;
+        let disks = empty_disks(alloc, script.size)?;
+        let outcome = sim::run(alloc, script.size, &script.liars, disks, &script.events)?;
+        Ok(Simulation { script, outcome })
     }
-    let (script, outcome) = run(alloc, text)?;
-    Ok(Pages {
-        verdicts: simulation_text(alloc, &outcome)?,
-        trace: trace_page(alloc, trace, &script, &outcome)?,
-        chart: chart_page(alloc, chart, &script, &outcome)?,
-    })
+
+    /// The text of its outcome: for each verdict, by member and then by question, `member M question Q round R bit B`, and
+    /// last `events E skipped S`.
+    pub fn verdicts(&self, alloc: Global) -> Result<String, AllocError>
+        ensures { IfOk result (λ text. string_bytes text ≡ simulation_text self.now.outcome) }
+    {
+        let counts = EventCounts {
+            events: self.outcome.marks.len(),
+            skipped: skipped(&self.outcome.marks),
+        };
+        outcome_text(alloc, &self.outcome.verdicts, counts)
+    }
+
+    /// Writes its trace, a line for each event, as it is made. The errors are those of [`write_trace`].
+    pub fn write_trace<W: Write>(&self, alloc: Global, output: &mut W) -> io::Result<()>
+        ensures { OnOk result (Appends (W.contents output.old) (W.contents output.new) (trace_of self.now)) }
+    {
+        write_trace(
+            alloc,
+            &self.script.events,
+            &self.outcome.marks,
+            &self.outcome.saved,
+            output,
+        )
+    }
+
+    /// Writes its chart, a picture in SVG, as it is made. The errors are those of [`write_chart`].
+    pub fn write_chart<W: Write>(&self, alloc: Global, output: &mut W) -> io::Result<()>
+        ensures { length self.now.script.events.items ≤ MOST_EVENTS → OnOk result ((picture : List ℕ)
+            × IsChartOf self.now picture × Appends (W.contents output.old) (W.contents output.new) picture) }
+    {
+        write_chart(
+            alloc,
+            self.script.size,
+            &self.script.liars,
+            &self.script.events,
+            &self.outcome.marks,
+            &self.outcome.saved,
+            output,
+        )
+    }
 }
 
 /// Writes the text. The status is 0. [`SimulateFault::Stream`] and [`SimulateFault::Memory`]: the write failed.
@@ -305,8 +275,8 @@ pub fn simulate_text<W: Write>(
     ensures nothing { (fault : SimulateFault) → result ≡ Err fault → (IsOfWriting fault → ⊥) → output.new ≡ output.old }
     ensures only { IfErr result (IsOfSimulate text.now) }
 {
-    let pages = simulate_pages(alloc, text, false, false)?;
-    print(pages.verdicts.as_str(), output)
+    let verdicts = counted_text(alloc, text)?;
+    print(verdicts.as_str(), output)
 }
 
 /// Whether the path is `-`, which stands for the standard output.

@@ -6,7 +6,7 @@
 //! and answer what became of it and what it saved, as a trace has it. `verdicts` answers how many there are.
 
 use disk::{Disk, MemDisk};
-use report::trace_text;
+use report::write_trace;
 use row_words::{toss_of, words_of};
 use sim::{Cluster, Event, SimFault, Which, run};
 use std::alloc::Global;
@@ -78,8 +78,9 @@ fn play(alloc: Global, cluster: &mut Cluster, event: Event) -> Option<String> {
     };
     let saved = list_of(alloc, cluster.saved())?;
     let events = [event];
-    let text = trace_text(alloc, &events, &[mark], &saved).ok()?;
-    let (_, told) = text.as_str().split_once(": ")?;
+    let mut text = Vec::new(alloc);
+    write_trace(alloc, &events, &[mark], &saved, &mut text).ok()?;
+    let (_, told) = str::from_utf8(&text).ok()?.split_once(": ")?;
     String::from_str(alloc, told.trim_end()).ok()
 }
 

@@ -7,13 +7,12 @@
 //! `marks MARK ..` are what became of the events, `done`, `failed`, or the reason for which one was skipped; `saves RECORD ..` are
 //! the records that the next one saved, as `lives` writes them. `trace` writes their trace, and each row `-> LINE` is a line of it.
 
-use report::trace_text;
+use report::write_trace;
 use rounds::Toss;
 use row_words::{Output, record_of, words_of};
 use script::{Script, ScriptFault, Source, read};
 use sim::{Event, Mark, Reason};
 use std::alloc::Global;
-use std::io::Write;
 use terms::Record;
 
 /// A script's text, what was read of it, and what became of its events.
@@ -176,9 +175,15 @@ impl Texts {
     /// Writes the trace.
     fn trace(&mut self) -> Option<String> {
         let events = &self.script.as_ref()?.events;
-        let text = trace_text(self.alloc, events, &self.marks, &self.saved).ok()?;
         self.output.clear();
-        self.output.write_all(text.as_bytes()).ok()?;
+        write_trace(
+            self.alloc,
+            events,
+            &self.marks,
+            &self.saved,
+            &mut self.output,
+        )
+        .ok()?;
         Some(String::new(self.alloc))
     }
 

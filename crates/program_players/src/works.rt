@@ -1,8 +1,8 @@
 //! The commands that jobs run, over any reader, any writer and a disk in memory.
 
 use commands::{
-    ask_line, check_journal, dump_count, dump_lines, print_settings, print_verdicts, propose_line,
-    simulate_pages, simulate_text, status_line, takes_output, talk,
+    Simulation, ask_line, check_journal, dump_count, dump_lines, print_settings, print_verdicts,
+    propose_line, simulate_text, status_line, takes_output, talk,
 };
 use disk::MemDisk;
 use hearing::hear_lines;
@@ -109,17 +109,16 @@ impl<'a> Place<'a> {
 
     /// A script's trace and what is printed behind it, or its chart, and how that ends.
     fn pages(&self, trace: bool, output: &mut Output) -> Option<String> {
-        let pages = match simulate_pages(self.alloc, self.bytes, trace, !trace) {
-            Ok(pages) => pages,
+        let ran = match Simulation::run(self.alloc, self.bytes) {
+            Ok(ran) => ran,
             Err(fault) => return format!(in self.alloc; "{fault}").ok(),
         };
-        match (&pages.trace, &pages.chart) {
-            (Some(lines), _) => {
-                output.write_all(lines.as_bytes()).ok()?;
-                output.write_all(pages.verdicts.as_bytes()).ok()?;
-            }
-            (None, Some(picture)) => output.write_all(picture.as_bytes()).ok()?,
-            (None, None) => return None,
+        if trace {
+            ran.write_trace(self.alloc, output).ok()?;
+            let verdicts = ran.verdicts(self.alloc).ok()?;
+            output.write_all(verdicts.as_bytes()).ok()?;
+        } else {
+            ran.write_chart(self.alloc, output).ok()?;
         }
         format!(in self.alloc; "0").ok()
     }

@@ -1,11 +1,17 @@
 -- What a chart keeps.
-use Rattle.std.proofs.Common.{ℕ, suc, ◌≡◌, ◌+◌, ◌<◌, refl, sym, ap, ◌∙◌, subst, arith, append_assoc, append-nil, Result, IfOk, String, Global, string_bytes, codes, List, [], ◌∷◌, ◌++◌, length, take, get_or}
-use Rattle.std.specs.declared.alloc.AllocError.{AllocError}
+use Rattle.std.proofs.Common.{ℕ, suc, ◌≡◌, ◌+◌, ◌<◌, refl, sym, ap, ◌∙◌, subst, arith, append_assoc, append-nil, Result, OnOk, Option, codes, List, [], ◌∷◌, ◌++◌, length, take, get_or}
+use Rattle.std.specs.Global.{Vec}
 use Rattle.std.proofs.lemmas.Result.{IfOk-weaker}
 use Rattle.std.proofs.Math.Seq.{take-suc}
-use Rattle.terms_prelude.specs.Terms.{Record, Said, Decided, Statement}
+use Rattle.terms_prelude.specs.Terms.{Record, Said, Decided, Statement, Size}
+use Rattle.std.specs.Io.KnownBytes.{Appends}
+use Rattle.std.proofs.KnownBytes.{Appends-trans}
+use Rattle.sim.specs.declared.events.Event.{Event}
+use Rattle.sim.specs.declared.events.Mark.{Mark}
 use Rattle.report.specs.Charts.{statements_said, IsSvg}
-use Rattle.report.specs.Runs.{size_text, page_text, legend_text, picture}
+use Rattle.report.specs.Lives.{lines_of_run, whole_lines}
+use Rattle.report.specs.Places.{column_x, row_y}
+use Rattle.report.specs.Runs.{size_text, page_text, legend_text, picture_top, picture_end, chart_picture, AreRows, IsChart}
 
 statements-append : (xs ys : List Record) → statements_said (xs ++ ys) ≡ statements_said xs ++ statements_said ys
 statements-append [] ys = refl
@@ -30,26 +36,39 @@ pub not_said : (r : Record) (before : List Statement) → ((s : Statement) → r
 not_said (Said s) before h = absurd (h s refl)
 not_said (Decided question round bit) before h = append-nil before
 
--- a text that begins and ends so
-pub svg_text : (r : Result (String Global) AllocError) (size page lifelines events legend : List ℕ)
-    → IfOk r (λ s. string_bytes s ≡ codes "<svg " ++ (size ++ (page ++ (lifelines ++ (events ++ (legend ++ codes "</svg>\n")))))) → IfOk r (λ s. IsSvg (string_bytes s))
-svg_text r size page lifelines events legend h =
-    IfOk-weaker r (λ s. string_bytes s ≡ codes "<svg " ++ (size ++ (page ++ (lifelines ++ (events ++ (legend ++ codes "</svg>\n")))))) (λ s. IsSvg (string_bytes s))
-    (λ s e. (size ++ (page ++ (lifelines ++ (events ++ legend))), e ∙ simp append_assoc)) h
+-- the beginning of a picture from its parts
+pub top_is : (width bottom height : ℕ) (size page lifelines : List ℕ) → height ≡ bottom + 196 → size ≡ size_text width height → page ≡ page_text width height
+    → codes "<svg " ++ (size ++ (page ++ lifelines)) ≡ picture_top width bottom lifelines
+top_is width bottom height size page lifelines h one two =
+    ap (λ (t : List ℕ). codes "<svg " ++ (t ++ (page ++ lifelines))) (one ∙ ap (size_text width) h)
+    ∙ ap (λ (t : List ℕ). codes "<svg " ++ (size_text width (bottom + 196) ++ (t ++ lifelines))) (two ∙ ap (page_text width) h)
 
--- the picture from its parts
-pub svg_picture : (r : Result (String Global) AllocError) (size page lifelines events legend : List ℕ) (width bottom below height : ℕ) (under over : List ℕ)
-    → below ≡ bottom + 36 → height ≡ bottom + 196 → size ≡ size_text width height → page ≡ page_text width height → lifelines ≡ under → events ≡ over
-    → legend ≡ legend_text below
-    → IfOk r (λ s. string_bytes s ≡ codes "<svg " ++ (size ++ (page ++ (lifelines ++ (events ++ (legend ++ codes "</svg>\n"))))))
-    → IfOk r (λ s. string_bytes s ≡ picture width bottom under over)
-svg_picture r size page lifelines events legend width bottom below height under over b h one two three four five is =
-    IfOk-weaker r (λ s. string_bytes s ≡ codes "<svg " ++ (size ++ (page ++ (lifelines ++ (events ++ (legend ++ codes "</svg>\n"))))))
-    (λ s. string_bytes s ≡ picture width bottom under over)
-    (λ s e. e
-    ∙ ap (λ (t : List ℕ). codes "<svg " ++ (t ++ (page ++ (lifelines ++ (events ++ (legend ++ codes "</svg>\n")))))) (one ∙ ap (size_text width) h)
-    ∙ ap (λ (t : List ℕ). codes "<svg " ++ (size_text width (bottom + 196) ++ (t ++ (lifelines ++ (events ++ (legend ++ codes "</svg>\n")))))) (two ∙ ap (page_text width) h)
-    ∙ ap (λ (t : List ℕ). codes "<svg " ++ (size_text width (bottom + 196) ++ (page_text width (bottom + 196) ++ (t ++ (events ++ (legend ++ codes "</svg>\n")))))) three
-    ∙ ap (λ (t : List ℕ). codes "<svg " ++ (size_text width (bottom + 196) ++ (page_text width (bottom + 196) ++ (under ++ (t ++ (legend ++ codes "</svg>\n")))))) four
-    ∙ ap (λ (t : List ℕ). codes "<svg " ++ (size_text width (bottom + 196) ++ (page_text width (bottom + 196) ++ (under ++ (over ++ (t ++ codes "</svg>\n"))))))
-    (five ∙ ap legend_text b)) is
+-- its end
+pub end_is : (bottom below : ℕ) (legend : List ℕ) → below ≡ bottom + 36 → legend ≡ legend_text below → legend ++ codes "</svg>\n" ≡ picture_end bottom
+end_is bottom below legend b l = ap (λ (t : List ℕ). t ++ codes "</svg>\n") (l ∙ ap legend_text b)
+
+behind_five : (a b c d e : List ℕ) → (a ++ b) ++ (c ++ (d ++ e)) ≡ a ++ ((b ++ (c ++ d)) ++ e)
+behind_five a b c d e = simp append_assoc
+
+-- a chart from what was written, one behind the other
+pub chart_written : {E : Type 0} (r : Result (Unit {0}) E) (a b c d : Option (List ℕ)) (size : Size) (liars : List ℕ) (events : List Event) (marks : List Mark) (saved : List (Vec Record))
+    (width bottom : ℕ) (lines : List ℕ) → width ≡ column_x size.n → bottom ≡ row_y (lines_of_run size.n liars events marks saved).rows
+    → lines ≡ whole_lines size.n (lines_of_run size.n liars events marks saved) → Appends a b (picture_top width bottom lines)
+    → ((rows : List ℕ) × AreRows size liars events marks saved rows × Appends b c rows) → OnOk r (Appends c d (picture_end bottom))
+    → OnOk r ((text : List ℕ) × IsChart size liars events marks saved text × IsSvg text × Appends a d text)
+chart_written r a b c d size liars events marks saved width bottom lines w h l one rows last =
+    let run = lines_of_run size.n liars events marks saved in
+    let is : picture_top width bottom lines ++ (rows.0 ++ picture_end bottom) ≡ chart_picture size.n run rows.0 =
+    λ t. picture_top (w t) (h t) (l t) ++ (rows.0 ++ picture_end (h t)) in
+    IfOk-weaker r (λ _. Appends c d (picture_end bottom)) (λ _. (text : List ℕ) × IsChart size liars events marks saved text × IsSvg text × Appends a d text)
+    (λ _ three. (
+      chart_picture size.n run rows.0,
+      (rows.0, rows.1, refl),
+      (
+        (size_text (column_x size.n) (row_y run.rows + 196) ++ (page_text (column_x size.n) (row_y run.rows + 196) ++ whole_lines size.n run)) ++ (rows.0 ++ legend_text (row_y run.rows + 36)),
+        behind_five (codes "<svg ") (size_text (column_x size.n) (row_y run.rows + 196) ++ (page_text (column_x size.n) (row_y run.rows + 196) ++ whole_lines size.n run)) rows.0
+            (legend_text (row_y run.rows + 36)) (codes "</svg>\n"),
+      ),
+      subst (λ (t : List ℕ). Appends a d t) is
+          (Appends-trans a b d (picture_top width bottom lines) (rows.0 ++ picture_end bottom) one (Appends-trans b c d rows.0 (picture_end bottom) rows.2 three)),
+    )) last

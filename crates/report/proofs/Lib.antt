@@ -5,3 +5,4 @@ pub mod Lying
 pub mod Picturing
 pub mod Elements
 pub mod Running
+pub mod Living

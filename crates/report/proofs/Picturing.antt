@@ -1,5 +1,5 @@
 -- What is drawn of an event, element by element and part by part.
-use Rattle.std.proofs.Common.{ℕ, suc, Bool, true, false, ◌≡◌, ◌+◌, ◌<◌, ◌==◌, nat_lt, refl, sym, ap, ◌∙◌, subst, arith, append_assoc, append-nil, Result, OnOk, Some, codes, List, [], ◌∷◌, ◌++◌, length, take, drop, get_or}
+use Rattle.std.proofs.Common.{ℕ, suc, Bool, true, false, ◌≡◌, ◌+◌, ◌<◌, ◌==◌, nat_lt, refl, sym, ap, ◌∙◌, subst, arith, append_assoc, append-nil, Result, OnOk, codes, List, [], ◌∷◌, ◌++◌, length, take, drop, get_or}
 use Rattle.std.specs.declared.alloc.AllocError.{AllocError}
 use Rattle.std.specs.List.{flat_map, count_by}
 use Rattle.std.specs.Fmt.{decimal}
@@ -17,10 +17,9 @@ use Rattle.report.specs.declared.chart.drawing.Drawing.{Drawing}
 use Rattle.report.specs.declared.chart.drawing.Words.{Words}
 use Rattle.report.specs.declared.chart.drawing.Words.TheVariants as words
 use Rattle.report.specs.declared.chart.drawing.Sign.TheVariants as sign
-use Rattle.report.specs.Drawings.{Element, Piece, SignAt, BadgeAt, Arrow, Loop, words_at, Grows}
-use Rattle.report.specs.Pictures.{also_part, listed, decision, decisions, on_question, column_x, arrow_words, arrow_elements, lie_words, lie_elements, proposal_elements, is_said_of, counted, said_parts, said_text, said_verb, said_elements, saved_elements, failure_elements, decided_text, of_members, heads_again, last_piece, IsShown, IsRow}
-use Rattle.report.specs.Columns.{line_of}
-use Rattle.report.specs.declared.chart.drawing.Lifeline.{Lifeline}
+use Rattle.report.specs.Drawings.{Element, SignAt, BadgeAt, Arrow, Loop, words_at, Grows}
+use Rattle.report.specs.Pictures.{also_part, listed, decision, decisions, on_question, arrow_words, arrow_elements, lie_words, lie_elements, proposal_elements, is_said_of, counted, said_parts, said_text, said_verb, said_elements, saved_elements, failure_elements, decided_text, heads_again, IsShown, IsRow}
+use Rattle.report.specs.Places.{column_x, of_members}
 use Rattle.report.proofs.Elements.{grows_more}
 use Rattle.report.specs.Charts.{member_of, IsLieLabel}
 
@@ -174,8 +173,3 @@ row_drawn r a b d e f g size columns row y number event outcome saved shown one 
       grows_more a b g (heads_again size.n columns row y) (digits ++ (shown ++ (failed ++ last))) one
           (grows_more b d g digits (shown ++ (failed ++ last)) two (grows_more d e g shown (failed ++ last) three (grows_more e f g failed last four it))),
     )) five
-
--- the last piece of a lifeline
-pub piece_is : (column : Column) (member bottom : ℕ) (line : Lifeline) (x from : ℕ) → line ≡ line_of column.is_liar column.runs → x ≡ column_x member
-    → from ≡ column.drawn → (Piece line x from bottom ∷ []) ≡ last_piece (Some column) member bottom
-piece_is column member bottom line x from a b d = rw (a, b, d) refl

@@ -1,5 +1,5 @@
 -- The pieces of a trace.
-use Rattle.std.proofs.Common.{ℕ, zero, suc, min, ◌≡◌, ◌≤◌, ◌⊎◌, inl, inr, refl, sym, ap, ◌∙◌, arith, append_assoc, append-nil, codes, List, [], ◌∷◌, ◌++◌, length, take, drop, length-take-le}
+use Rattle.std.proofs.Common.{ℕ, zero, suc, min, ◌≡◌, ◌≤◌, ◌⊎◌, inl, inr, refl, sym, ap, ◌∙◌, ◌+◌, arith, append_assoc, append-nil, codes, List, [], ◌∷◌, ◌++◌, length, take, drop, length-take-le}
 use Rattle.std.proofs.Math.Nat.{le-min, min-le_left}
 use Rattle.std.specs.Global.{Vec}
 use Rattle.std.specs.Fmt.{decimal}
@@ -14,6 +14,18 @@ pub line_pieces : (number : ℕ) (e : Event) (m : Mark) (records : List Record) 
     → event ≡ event_text e → mark ≡ mark_text m → saved ≡ saved_text records
     → decimal number ++ (codes " " ++ (event ++ (codes ": " ++ (mark ++ (saved ++ codes "\n"))))) ≡ trace_line number e m records
 line_pieces number e m records event mark saved a b c = rw (a, b, c) (simp append_assoc)
+
+-- one line more
+pub trace_on : (i : ℕ) (events : List Event) (marks : List Mark) (saved : List (Vec Record)) (written line all : List ℕ) (event : Event) (mark : Mark) (records : Vec Record) (kept : List Record)
+    → kept ≡ records.items → line ≡ trace_line (i + 1) event mark kept
+    → drop i events ≡ event ∷ drop (i + 1) events → drop i marks ≡ mark ∷ drop (i + 1) marks → drop i saved ≡ records ∷ drop (i + 1) saved
+    → written ++ trace_from (i + 1) (drop i events) (drop i marks) (drop i saved) ≡ all
+    → (written ++ line) ++ trace_from (i + 1 + 1) (drop (i + 1) events) (drop (i + 1) marks) (drop (i + 1) saved) ≡ all
+trace_on i events marks saved written line all event mark records kept same is a b d before =
+    let rest = trace_from (i + 1 + 1) (drop (i + 1) events) (drop (i + 1) marks) (drop (i + 1) saved) in
+    let made : line ≡ trace_line (i + 1) event mark records.items = is ∙ ap (trace_line (i + 1) event mark) same in
+    let step : trace_from (i + 1) (drop i events) (drop i marks) (drop i saved) ≡ trace_line (i + 1) event mark records.items ++ rest = λ t. trace_from (i + 1) (a t) (b t) (d t) in
+    append_assoc written line rest ∙ ap (λ (t : List ℕ). written ++ (t ++ rest)) made ∙ ap (λ (t : List ℕ). written ++ t) (sym step) ∙ before
 
 no_marks : (number : ℕ) (events : List Event) (saved : List (Vec Record)) → trace_from number events [] saved ≡ []
 no_marks number [] saved = refl

@@ -1,5 +1,5 @@
 -- What the chart of a run makes of its events.
-use Rattle.std.specs.Prelude.{ℕ, ◌+◌, ◌-◌, ◌^◌, ◌≡◌, ◌<◌, ◌==◌, ◌⊎◌, nat_le, Bool, true, false, if◌then◌else◌, Option, Some, None, List, [], ◌∷◌, ◌++◌, codes, length, min, take, slice_get, slice_index}
+use Rattle.std.specs.Prelude.{ℕ, ◌+◌, ◌-◌, ◌^◌, ◌≡◌, ◌<◌, ◌==◌, ◌⊎◌, nat_le, if◌then◌else◌, Option, Some, None, List, [], ◌∷◌, ◌++◌, codes, length, min, take, slice_get, slice_index}
 use Rattle.std.specs.Fmt.{decimal}
 use Rattle.hex.specs.Hex.{encode_lower}
 use Rattle.numerals.specs.Sentences.{sentence}
@@ -12,7 +12,7 @@ use Rattle.sim.specs.declared.events.Event.TheVariants.{Propose, Deliver, Delive
 use Rattle.sim.specs.declared.events.Which.{Which}
 use Rattle.sim.specs.declared.events.Which.TheVariants.{Next, At}
 use Rattle.sim.specs.declared.events.Mark.{Mark}
-use Rattle.sim.specs.declared.events.Mark.TheVariants.{Done, Failed, Skipped}
+use Rattle.sim.specs.declared.events.Mark.TheVariants.{Done, Skipped}
 
 -- the member that an event is for
 abbrev pub member_of : Event → ℕ
@@ -24,15 +24,6 @@ member_of (Fuse member calls) = member
 member_of (Crash member pick) = member
 member_of (Restart member) = member
 member_of (Reset from to) = to
-
--- whether that member runs after the event, if it ran before or not: a crash and a failed disk end a life, and being
--- opened begins one
-abbrev pub runs_after : Event → Mark → Bool → Bool
-runs_after event (Skipped reason) runs = runs
-runs_after event Failed runs = false
-runs_after (Crash member pick) Done runs = false
-runs_after (Restart member) Done runs = true
-runs_after event Done runs = runs
 
 -- how many statements come as one group of at most so many, of all that their sender has said, over a link at that place
 abbrev pub group_count : ℕ → ℕ → ℕ → ℕ

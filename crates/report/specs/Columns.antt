@@ -1,32 +1,17 @@
 -- What the chart knows of a member.
-use Rattle.std.specs.Prelude.{ℕ, ◌≡◌, ◌++◌, Bool, true, false, not, if◌then◌else◌, Option, Some, None, List, [], length, replicate, slice_get}
+use Rattle.std.specs.Prelude.{ℕ, ◌≡◌, ◌++◌, Bool, Option, Some, None, List, [], length, replicate, slice_get}
 use Rattle.terms_prelude.specs.Terms.{Record}
 use Rattle.sim.specs.declared.events.Event.{Event}
 use Rattle.sim.specs.declared.events.Event.TheVariants.{DeliverAll}
 use Rattle.sim.specs.declared.events.Mark.{Mark}
 use Rattle.report.specs.declared.chart.column.Column.{Column}
-use Rattle.report.specs.declared.chart.drawing.Lifeline.{Lifeline}
-use Rattle.report.specs.declared.chart.drawing.Lifeline.TheVariants.{Runs, Down, Lies}
-use Rattle.report.specs.Charts.{member_of, runs_after, statements_said, AreMoved}
+use Rattle.report.specs.Charts.{member_of, statements_said, AreMoved}
 
--- how the lifeline of a liar, or else of a member that runs or doesn't, looks
-abbrev pub line_of : Bool → Bool → Lifeline
-line_of true runs = Lies
-line_of false true = Runs
-line_of false false = Down
-
--- whether the lifeline of a member looks different from an event on
-abbrev pub turns : Event → Mark → Bool → Bool
-turns event mark true = not (runs_after event mark true)
-turns event mark false = runs_after event mark false
-
--- a member of a cluster of n before the first event, its lifeline not drawn yet
-pub record IsNew (n : ℕ) (liar : Bool) (top : ℕ) (column : Column) : Type 0 where
+-- a member of a cluster of n before the first event
+pub record IsNew (n : ℕ) (liar : Bool) (column : Column) : Type 0 where
   pub side : column.is_liar ≡ liar
-  pub up : column.runs ≡ true
   pub silent : column.said.items ≡ []
   pub at_start : column.places.items ≡ replicate n 0
-  pub drawn : column.drawn ≡ top
 
 -- how many statements a member has said, if there is one
 abbrev pub count_said : Option Column → ℕ
@@ -41,7 +26,6 @@ said_before event columns = 0
 -- the event's member, before and after it; a group's sender had said so many statements
 pub record Follows (count : ℕ) (event : Event) (mark : Mark) (saved : List Record) (old new : Column) : Type 0 where
   pub side : new.is_liar ≡ old.is_liar
-  pub runs : new.runs ≡ runs_after event mark old.runs
   pub said : new.said.items ≡ old.said.items ++ statements_said saved
   pub places : AreMoved count event mark old.places.items new.places.items
   pub links : length new.places.items ≡ length old.places.items
@@ -51,12 +35,3 @@ abbrev pub FollowAll : Event → Mark → List Record → List Column → List C
 FollowAll event mark saved old new = (k : ℕ) (before after : Column)
     → slice_get old k ≡ Some before → slice_get new k ≡ Some after
     → (k ≡ member_of event → Follows (said_before event old) event mark saved before after) × ((k ≡ member_of event → ⊥) → after ≡ before)
-
--- how far down the lifeline of the event's member is drawn: where it looks different from there on, down to the event
-abbrev pub drawn_after : Event → Mark → ℕ → Column → ℕ
-drawn_after event mark y column = if turns event mark column.runs then y else column.drawn
-
--- the lifelines after an event that is so far down
-abbrev pub HaveLifelines : Event → Mark → ℕ → List Column → List Column → Type 0
-HaveLifelines event mark y old new = (before after : Column) → slice_get old (member_of event) ≡ Some before → slice_get new (member_of event) ≡ Some after
-    → after.drawn ≡ drawn_after event mark y before

@@ -3,6 +3,8 @@ pub mod Traces
 pub mod Charts
 pub mod Columns
 pub mod Drawings
+pub mod Places
+pub mod Lives
 pub mod Pictures
 pub mod Runs
 pub mod Scenes

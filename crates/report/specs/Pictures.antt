@@ -1,5 +1,5 @@
 -- What is drawn of an event, into its row.
-use Rattle.std.specs.Prelude.{ℕ, zero, suc, ◌-◌, ◌/◌, ◌%◌, ◌&&◌, ◌≡◌, ◌+◌, ◌*◌, ◌==◌, nat_lt, Bool, true, false, if◌then◌else◌, Option, Some, List, [], ◌∷◌, ◌++◌, codes, length, slice_get, None}
+use Rattle.std.specs.Prelude.{ℕ, ◌-◌, ◌%◌, ◌&&◌, ◌≡◌, ◌==◌, nat_lt, Bool, true, false, if◌then◌else◌, Option, Some, List, [], ◌∷◌, ◌++◌, codes, length, slice_get, None}
 use Rattle.std.specs.List.{flat_map, count_by}
 use Rattle.std.specs.Fmt.{decimal}
 use Rattle.disk.specs.declared.crash.Pick.{Pick}
@@ -17,12 +17,8 @@ use Rattle.report.specs.declared.chart.drawing.Words.TheVariants as words
 use Rattle.report.specs.declared.chart.drawing.Sign.TheVariants as sign
 use Rattle.report.specs.Records.{kind_word}
 use Rattle.report.specs.Charts.{member_of, delivered, text_if, group_count, group_text, IsLieLabel}
-use Rattle.report.specs.Columns.{line_of, turns}
-use Rattle.report.specs.Drawings.{Piece, Element, SignAt, Arrow, Loop, BadgeAt, words_at}
-
--- where the column of a member stands
-abbrev pub column_x : ℕ → ℕ
-column_x member = 220 * member + 110
+use Rattle.report.specs.Drawings.{Element, SignAt, Arrow, Loop, BadgeAt, words_at}
+use Rattle.report.specs.Places.{column_x, of_members}
 
 -- the question, where a cluster has several
 abbrev pub on_question : ℕ → ℕ → List ℕ
@@ -160,15 +156,6 @@ abbrev pub saved_elements : ℕ → Event → List Record → ℕ → List Eleme
 saved_elements questions event records y =
     said_elements (column_x (member_of event)) y (decided_text questions records) (said_text (said_verb event) records)
 
--- how far down the row of that number stands, counted from 0. Behind each 40 rows there is room for the heads.
-abbrev pub row_y : ℕ → ℕ
-row_y row = 36 * (row + row / 40) + 66
-
--- the elements of each of the first so many members, in order
-abbrev pub of_members : ℕ → (ℕ → List Element) → List Element
-of_members zero elements = []
-of_members (suc members) elements = of_members members elements ++ elements members
-
 -- the head of a column: the member's name, and whether it lies
 abbrev pub head_text : ℕ → Bool → List ℕ
 head_text member true = sentence (codes "member" ∷ decimal member ∷ codes "(lies)" ∷ [])
@@ -193,18 +180,3 @@ pub record IsRow (size : Size) (columns : List Column) (row y number : ℕ) (eve
   pub happens : IsShown size columns event outcome y shown
   pub order : elements ≡ heads_again size.n columns row y ++ (words_at words.Number 40 y (decimal number)
       ++ (shown ++ (failure_elements (member_of event) outcome y ++ saved_elements size.questions event saved y)))
-
--- the piece of a lifeline that ends at an event
-abbrev pub piece_elements : Option Column → Event → Mark → ℕ → List Element
-piece_elements (Some column) event outcome y =
-    if turns event outcome column.runs then Piece (line_of column.is_liar column.runs) (column_x (member_of event)) column.drawn y ∷ [] else []
-piece_elements None event outcome y = []
-
--- the last piece of a lifeline, down to the bottom
-abbrev pub last_piece : Option Column → ℕ → ℕ → List Element
-last_piece (Some column) member bottom = Piece (line_of column.is_liar column.runs) (column_x member) column.drawn bottom ∷ []
-last_piece None member bottom = []
-
--- those of n members
-abbrev pub last_pieces : ℕ → List Column → ℕ → List Element
-last_pieces n columns bottom = of_members n (λ member. last_piece (slice_get columns member) member bottom)

@@ -9,10 +9,11 @@ use Rattle.sim.specs.declared.events.Mark.{Mark}
 use Rattle.sim.specs.declared.events.Mark.TheVariants.{Skipped}
 use Rattle.report.specs.declared.chart.TheConstants.{STYLE, LEGEND}
 use Rattle.report.specs.declared.chart.column.Column.{Column}
-use Rattle.report.specs.Charts.{member_of}
-use Rattle.report.specs.Columns.{IsNew, FollowAll, HaveLifelines}
+use Rattle.report.specs.Columns.{IsNew, FollowAll}
 use Rattle.report.specs.Drawings.{Element, joined, picture_text}
-use Rattle.report.specs.Pictures.{column_x, IsRow, row_y, heads, piece_elements, last_pieces}
+use Rattle.report.specs.Lives.{Lines, lines_of_run, whole_lines}
+use Rattle.report.specs.Pictures.{IsRow, heads}
+use Rattle.report.specs.Places.{column_x, row_y}
 
 -- how far a chart has come: what it knows of the members, and how many rows it has
 pub record Stage : Type 0 where
@@ -22,37 +23,33 @@ pub record Stage : Type 0 where
 -- the members before the first event
 pub record AreNew (n members : ℕ) (liars : List ℕ) (columns : List Column) : Type 0 where
   pub count : length columns ≡ members
-  pub each : (k : ℕ) (column : Column) → slice_get columns k ≡ Some column → IsNew n (list_any (λ liar. liar == k) liars) 34 column
+  pub each : (k : ℕ) (column : Column) → slice_get columns k ≡ Some column → IsNew n (list_any (λ liar. liar == k) liars) column
 
--- an event with its row and the piece of a lifeline that ends there, if one does
-pub record IsTaken (size : Size) (number : ℕ) (event : Event) (outcome : Mark) (saved : List Record) (old new : Stage) (row piece : List Element) : Type 0 where
+-- an event with its row
+pub record IsTaken (size : Size) (number : ℕ) (event : Event) (outcome : Mark) (saved : List Record) (old new : Stage) (row : List Element) : Type 0 where
   pub follow : FollowAll event outcome saved old.columns new.columns
-  pub lines : HaveLifelines event outcome (row_y old.row) old.columns new.columns
   pub count : length new.columns ≡ length old.columns
   pub below : new.row ≡ old.row + 1
   pub drawn : IsRow size old.columns old.row (row_y old.row) number event outcome saved row
-  pub ends : piece ≡ piece_elements (slice_get old.columns (member_of event)) event outcome (row_y old.row)
 
 -- an event that was skipped leaves no trace
-pub record IsPassedOver (old new : Stage) (row piece : List Element) : Type 0 where
+pub record IsPassedOver (old new : Stage) (row : List Element) : Type 0 where
   pub stage : new ≡ old
   pub no_row : row ≡ []
-  pub no_piece : piece ≡ []
 
 -- an event of that number, counted from 1
-abbrev pub IsDrawn : Size → ℕ → Event → Mark → List Record → Stage → Stage → List Element → List Element → Type 0
-IsDrawn size number event (Skipped reason) saved old new row piece = IsPassedOver old new row piece
-IsDrawn size number event outcome saved old new row piece = IsTaken size number event outcome saved old new row piece
+abbrev pub IsDrawn : Size → ℕ → Event → Mark → List Record → Stage → Stage → List Element → Type 0
+IsDrawn size number event (Skipped reason) saved old new row = IsPassedOver old new row
+IsDrawn size number event outcome saved old new row = IsTaken size number event outcome saved old new row
 
--- the events, the first of which has that number, as far as the shortest of the lists goes: their rows, and the pieces of
--- lifelines that end with them
-abbrev pub AreDrawn : Size → ℕ → List Event → List Mark → List (Vec Record) → Stage → Stage → List Element → List Element → Type 0
-AreDrawn size number [] marks saved old new rows pieces = (new ≡ old) × (rows ≡ []) × (pieces ≡ [])
-AreDrawn size number (event ∷ events) [] saved old new rows pieces = (new ≡ old) × (rows ≡ []) × (pieces ≡ [])
-AreDrawn size number (event ∷ events) (mark ∷ marks) [] old new rows pieces = (new ≡ old) × (rows ≡ []) × (pieces ≡ [])
-AreDrawn size number (event ∷ events) (mark ∷ marks) (records ∷ saved) old new rows pieces =
-    (next : Stage) × (row piece others more : List Element) × IsDrawn size number event mark records.items old next row piece
-    × AreDrawn size (number + 1) events marks saved next new others more × (rows ≡ row ++ others) × (pieces ≡ piece ++ more)
+-- the rows of the events, the first of which has that number, as far as the shortest of the lists goes
+abbrev pub AreDrawn : Size → ℕ → List Event → List Mark → List (Vec Record) → Stage → Stage → List Element → Type 0
+AreDrawn size number [] marks saved old new rows = (new ≡ old) × (rows ≡ [])
+AreDrawn size number (event ∷ events) [] saved old new rows = (new ≡ old) × (rows ≡ [])
+AreDrawn size number (event ∷ events) (mark ∷ marks) [] old new rows = (new ≡ old) × (rows ≡ [])
+AreDrawn size number (event ∷ events) (mark ∷ marks) (records ∷ saved) old new rows =
+    (next : Stage) × (row others : List Element) × IsDrawn size number event mark records.items old next row
+    × AreDrawn size (number + 1) events marks saved next new others × (rows ≡ row ++ others)
 
 -- the picture's own attributes, and the size of its page
 abbrev pub size_text : ℕ → ℕ → List ℕ
@@ -69,20 +66,31 @@ page_text width height =
 abbrev pub legend_text : ℕ → List ℕ
 legend_text below = joined (codes "<g transform=\"translate(0," ∷ decimal below ∷ codes ")\">\n" ∷ LEGEND.now ∷ codes "</g>\n" ∷ [])
 
--- an SVG text of that width, as far down as that, and the legend below it: these lifelines, and above them these elements
-abbrev pub picture : ℕ → ℕ → List ℕ → List ℕ → List ℕ
-picture width bottom lifelines events =
-    joined (codes "<svg " ∷ size_text width (bottom + 196) ∷ page_text width (bottom + 196) ∷ lifelines ∷ events
-    ∷ legend_text (bottom + 36) ∷ codes "</svg>\n" ∷ [])
+-- the beginning of an SVG text of that width, as far down as that, and the lifelines, above which all else is drawn
+abbrev pub picture_top : ℕ → ℕ → List ℕ → List ℕ
+picture_top width bottom lifelines =
+    joined (codes "<svg " ∷ size_text width (bottom + 196) ∷ page_text width (bottom + 196) ∷ lifelines ∷ [])
 
--- the chart of a run: the heads of all columns and below them the rows of the events, over lifelines that reach to the
--- bottom
-pub record IsChart (size : Size) (liars : List ℕ) (events : List Event) (marks : List Mark) (saved : List (Vec Record)) (text : List ℕ) : Type 0 where
+-- its end, with the legend
+abbrev pub picture_end : ℕ → List ℕ
+picture_end bottom = legend_text (bottom + 36) ++ codes "</svg>\n"
+
+-- that of n members, with these lifelines and rows
+abbrev pub chart_picture : ℕ → Lines → List ℕ → List ℕ
+chart_picture n lines rows =
+    picture_top (column_x n) (row_y lines.rows) (whole_lines n lines) ++ (rows ++ picture_end (row_y lines.rows))
+
+-- the heads of all columns, and below them the rows of the events
+pub record AreRows (size : Size) (liars : List ℕ) (events : List Event) (marks : List Mark) (saved : List (Vec Record)) (text : List ℕ) : Type 0 where
   pub first : List Column
   pub last : Stage
   pub rows : List Element
-  pub pieces : List Element
   pub begins : AreNew size.n size.n liars first
-  pub drawn : AreDrawn size 1 events marks saved (record { columns = first; row = 0 }) last rows pieces
-  pub is : text ≡ picture (column_x size.n) (row_y last.row)
-      (picture_text (pieces ++ last_pieces size.n last.columns (row_y last.row))) (picture_text (heads size.n first 24 ++ rows))
+  pub drawn : AreDrawn size 1 events marks saved (record { columns = first; row = 0 }) last rows
+  pub is : text ≡ picture_text (heads size.n first 24 ++ rows)
+
+-- the chart of a run: the rows of its events, over lifelines that reach to the bottom
+abbrev pub IsChart : Size → List ℕ → List Event → List Mark → List (Vec Record) → List ℕ → Type 0
+IsChart size liars events marks saved text =
+    (rows : List ℕ) × AreRows size liars events marks saved rows
+    × (text ≡ chart_picture size.n (lines_of_run size.n liars events marks saved) rows)

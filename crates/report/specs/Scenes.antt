@@ -1,12 +1,12 @@
 -- A chart in the making.
-use Rattle.std.specs.Prelude.{ℕ, ◌≡◌, List, [], ◌++◌, string_bytes}
+use Rattle.std.specs.Prelude.{ℕ, ◌≡◌, List, string_bytes}
 use Rattle.terms_prelude.specs.Terms.{Record, Size}
 use Rattle.sim.specs.declared.events.Event.{Event}
 use Rattle.sim.specs.declared.events.Mark.{Mark}
 use Rattle.report.specs.declared.chart.Canvas.{Canvas}
 use Rattle.report.specs.Drawings.{Element, picture_text, Grows}
-use Rattle.report.specs.Pictures.{column_x, heads, last_pieces, row_y}
-use Rattle.report.specs.Runs.{Stage, AreNew, IsTaken, IsDrawn, picture}
+use Rattle.report.specs.Pictures.{heads}
+use Rattle.report.specs.Runs.{Stage, AreNew, IsTaken, IsDrawn}
 
 -- elements may have been drawn, and all else is as it was
 abbrev pub DrawsOnly : Canvas → Canvas → Type 0
@@ -21,29 +21,18 @@ pub record IsBegun (size : Size) (liars : List ℕ) (canvas : Canvas) : Type 0 w
   pub members : AreNew size.n size.n liars canvas.columns.items
   pub size_is : canvas.size ≡ size
   pub no_row : canvas.rows ≡ 0
-  pub no_piece : string_bytes canvas.lifelines.text ≡ []
   pub heads_stand : string_bytes canvas.events.text ≡ picture_text (heads size.n canvas.columns.items 24)
 
 -- an event that wasn't skipped is drawn
 pub record Draws (number : ℕ) (event : Event) (outcome : Mark) (saved : List Record) (old new : Canvas) : Type 0 where
   pub row : List Element
-  pub piece : List Element
   pub size_is : new.size ≡ old.size
-  pub is : IsTaken old.size number event outcome saved (stage_of old) (stage_of new) row piece
+  pub is : IsTaken old.size number event outcome saved (stage_of old) (stage_of new) row
   pub events : Grows old.events new.events row
-  pub lifelines : Grows old.lifelines new.lifelines piece
 
 -- an event is drawn, if it wasn't skipped
 pub record DrawsUnlessSkipped (number : ℕ) (event : Event) (outcome : Mark) (saved : List Record) (old new : Canvas) : Type 0 where
   pub row : List Element
-  pub piece : List Element
   pub size_is : new.size ≡ old.size
-  pub is : IsDrawn old.size number event outcome saved (stage_of old) (stage_of new) row piece
+  pub is : IsDrawn old.size number event outcome saved (stage_of old) (stage_of new) row
   pub events : Grows old.events new.events row
-  pub lifelines : Grows old.lifelines new.lifelines piece
-
--- its text, once the lifelines are drawn to the bottom
-abbrev pub IsFinished : Canvas → List ℕ → Type 0
-IsFinished canvas text = text ≡ picture (column_x canvas.size.n) (row_y canvas.rows)
-    (string_bytes canvas.lifelines.text ++ picture_text (last_pieces canvas.size.n canvas.columns.items (row_y canvas.rows)))
-    (string_bytes canvas.events.text)

@@ -1,18 +1,19 @@
 //! What `simulate --chart` draws: the events of a run as a sequence chart in SVG.
 
-ghost use Rattle.std.specs.Prelude.{ℕ, ◌≡◌, ◌+◌, ◌*◌, ◌/◌, ◌^◌, ◌<◌, ◌≤◌, IfOk, OnOk, Some, List, [], ◌∷◌, ◌++◌, length, slice_get, string_bytes};
+ghost use Rattle.std.specs.Prelude.{ℕ, ◌≡◌, ◌+◌, ◌*◌, ◌/◌, ◌^◌, ◌<◌, ◌≤◌, min, IfOk, OnOk, List, [], ◌∷◌, ◌++◌, length, slice_get, string_bytes};
 ghost use Rattle.std.specs.List.{count_by};
 ghost use Rattle.sim.specs.declared.TheConstants.{MOST_EVENTS};
 ghost use Rattle.sim.specs.Texts.{calls_text, pick_text};
+ghost use Rattle.std.specs.Io.KnownBytes.{Appends};
+ghost use Rattle.report.specs.Runs.{AreNew, AreRows, size_text, page_text, legend_text, picture_top, picture_end, IsChart};
 ghost use Rattle.report.specs.Charts.{IsSvg};
-ghost use Rattle.report.specs.Columns.{drawn_after};
-ghost use Rattle.report.specs.Runs.{AreNew, size_text, page_text, legend_text, picture, IsChart};
 ghost use Rattle.report.specs.Drawings.{Grows};
-ghost use Rattle.report.specs.Pictures.{heads, head_elements, head_text, piece_elements, last_piece, last_pieces, arrow_words, lie_words, on_question, decision, listed, is_said_of, counted, said_text, said_verb, decided_text};
+ghost use Rattle.report.specs.Pictures.{heads, head_elements, head_text, arrow_words, lie_words, on_question, decision, listed, is_said_of, counted, said_text, said_verb, decided_text};
 
 mod column;
 mod drawing;
 mod lie;
+mod lifelines;
 
 use crate::records::{kind_word, statement_text};
 use crate::trace::is_skipped;
@@ -20,8 +21,10 @@ use column::{Column, member_of};
 use disk::Pick;
 use drawing::{Drawing, Sign, Words};
 use lie::lie_label;
+use lifelines::lifelines_of;
 use sim::{Event, Mark, Which};
 use std::alloc::{AllocError, Global};
+use std::io::{self, Write};
 use terms::{Kind, Record, Size};
 
 /// How far a row stands below the one before it.
@@ -224,57 +227,6 @@ fn lie_words(is_rightward: bool) -> Words
     }
 }
 
-/// Draws the lifeline of the event's member down to it, where it looks different from there on.
-fn draw_piece(
-    lifelines: &mut Drawing,
-    column: &mut Column,
-    event: &Event,
-    mark: Mark,
-    y: u64,
-) -> Result<(), AllocError>
-    ensures keeps { OnOk result (column.new ≡ record column.old { drawn = column.new.drawn }) }
-    ensures drawn { OnOk result (column.new.drawn ≡ drawn_after event.now mark y column.old) }
-    ensures piece { OnOk result (Grows lifelines.old lifelines.new (piece_elements (Some column.old) event.now mark y)) }
-{
-    if !column.turns(event, mark) {
-        return Ok(());
-    }
-    let x = x_of(member_of(event));
-    lifelines.lifeline(column.line(), x, column.drawn(), y)?;
-    column.draw_to(y);
-    Ok(())
-}
-
-/// Draws the last piece of a member's lifeline.
-fn draw_last_piece(
-    lifelines: &mut Drawing,
-    columns: &[Column],
-    member: u8,
-    bottom: u64,
-) -> Result<(), AllocError>
-    ensures { OnOk result (Grows lifelines.old lifelines.new (last_piece (slice_get columns.now member) member bottom)) }
-{
-    match columns.get(usize::from(member)) {
-        None => Ok(()),
-        Some(column) => lifelines.lifeline(column.line(), x_of(member), column.drawn(), bottom),
-    }
-}
-
-/// Draws the last pieces of the lifelines of n members.
-fn draw_last_pieces(
-    lifelines: &mut Drawing,
-    n: u8,
-    columns: &[Column],
-    bottom: u64,
-) -> Result<(), AllocError>
-    ensures { OnOk result (Grows lifelines.old lifelines.new (last_pieces n columns.now bottom)) }
-{
-    for member in 0..n {
-        draw_last_piece(lifelines, columns, member, bottom)?;
-    }
-    Ok(())
-}
-
 /// The name of a member, and whether it lies.
 fn head_text(alloc: Global, member: u8, is_liar: bool) -> Result<String, AllocError>
     ensures { IfOk result (λ text. string_bytes text ≡ head_text member is_liar) }
@@ -328,18 +280,17 @@ fn new_columns(alloc: Global, n: u8, liars: &[u8]) -> Result<Vec<Column>, AllocE
     let mut columns = Vec::new(alloc);
     for member in 0..n {
         let is_liar = liars.contains(&member);
-        columns.push(Column::new(alloc, n, is_liar, LIFE)?)?;
+        columns.push(Column::new(alloc, n, is_liar)?)?;
     }
     Ok(columns)
 }
 
-/// The run, as far as it is drawn.
+/// The rows of a run, as far as they are drawn, and those of them that aren't written yet.
 #[derive(Drop)]
 struct Canvas {
     alloc: Global,
     size: Size,
     columns: Vec<Column>,
-    lifelines: Drawing,
     events: Drawing,
     rows: u64,
 }
@@ -347,11 +298,12 @@ struct Canvas {
 impl Canvas {
     ghost use Rattle.std.specs.Prelude.{ℕ, ◌≡◌, ◌+◌, ◌<◌, IfOk, OnOk, Some, List, length, slice_get, string_bytes};
     ghost use Rattle.sim.specs.declared.TheConstants.{MOST_EVENTS};
-    ghost use Rattle.report.specs.Scenes.{DrawsOnly, IsBegun, Draws, DrawsUnlessSkipped, IsFinished};
-    ghost use Rattle.report.specs.Charts.{member_of, delivered, group_count, group_text, text_if, IsLieLabel, IsSvg};
-    ghost use Rattle.report.specs.Columns.{FollowAll, HaveLifelines, said_before};
+    ghost use Rattle.std.specs.Io.KnownBytes.{Appends};
+    ghost use Rattle.report.specs.Scenes.{DrawsOnly, IsBegun, Draws, DrawsUnlessSkipped};
+    ghost use Rattle.report.specs.Charts.{delivered, group_count, group_text, text_if, IsLieLabel};
+    ghost use Rattle.report.specs.Columns.{FollowAll, said_before};
     ghost use Rattle.report.specs.Drawings.{Element, Grows};
-    ghost use Rattle.report.specs.Pictures.{Carries, CarriesGroup, IsShown, IsRow, piece_elements, row_y, heads, heads_again, proposal_elements, arrow_elements, lie_elements, fuse_elements, crash_elements, restart_elements, reset_elements, failure_elements, saved_elements};
+    ghost use Rattle.report.specs.Pictures.{Carries, CarriesGroup, IsShown, IsRow, heads, heads_again, proposal_elements, arrow_elements, lie_elements, fuse_elements, crash_elements, restart_elements, reset_elements, failure_elements, saved_elements};
     ghost use Rattle.report.specs.declared.chart.column.Column.{Column};
 
     /// The columns, before the first event.
@@ -363,7 +315,6 @@ impl Canvas {
             alloc,
             size,
             columns,
-            lifelines: Drawing::new(alloc),
             events: Drawing::new(alloc),
             rows: 0,
         };
@@ -408,7 +359,7 @@ impl Canvas {
         let y = y_of(row);
         self.rows = row.saturating_add(1);
         self.show_row(row, y, number, event, mark, saved)?;
-        self.follow(event, mark, saved, y)?;
+        self.follow(event, mark, saved)?;
         Ok(())
     }
 
@@ -676,49 +627,30 @@ impl Canvas {
         }
     }
 
-    /// Follows the event, and draws the lifeline of its member down to it where it then looks different.
-    fn follow(
-        &mut self,
-        event: &Event,
-        mark: Mark,
-        saved: &[Record],
-        y: u64,
-    ) -> Result<(), AllocError>
+    /// Follows the event.
+    fn follow(&mut self, event: &Event, mark: Mark, saved: &[Record]) -> Result<(), AllocError>
         ensures follow { OnOk result (FollowAll event.now mark saved.now self.old.columns.items self.new.columns.items) }
         ensures row { OnOk result (self.new.rows ≡ self.old.rows) }
-        ensures lines { OnOk result (HaveLifelines event.now mark y self.old.columns.items self.new.columns.items) }
         ensures count { OnOk result (length self.new.columns.items ≡ length self.old.columns.items) }
-        ensures piece { OnOk result (Grows self.old.lifelines self.new.lifelines
-            (piece_elements (slice_get self.old.columns.items (member_of event.now)) event.now mark y)) }
         ensures size { self.new.size ≡ self.old.size }
         ensures events { self.new.events ≡ self.old.events }
     {
-        let member = member_of(event);
         let said = self.said_before(event);
-        match self.columns.get_mut(usize::from(member)) {
+        match self.columns.get_mut(usize::from(member_of(event))) {
             None => Ok(()),
-            Some(column) => {
-                draw_piece(&mut self.lifelines, column, event, mark, y)?;
-                column.follow(said, event, mark, saved)
-            }
+            Some(column) => column.follow(said, event, mark, saved),
         }
     }
 
-    /// The picture, with the lifelines drawn to its end.
-    fn finish(mut self) -> Result<String, AllocError>
-        ensures is_svg { IfOk result (λ text. IsSvg (string_bytes text)) }
-        ensures finished { self.rows ≤ MOST_EVENTS → IfOk result (λ text. IsFinished self (string_bytes text)) }
+    /// Writes what is drawn and wasn't written yet.
+    fn write_out<W: Write>(&mut self, output: &mut W) -> io::Result<()>
+        ensures only { OnOk result (DrawsOnly self.old self.new) }
+        ensures written { OnOk result (Appends (W.contents output.old) (W.contents output.new) (string_bytes self.old.events.text)) }
+        ensures rest { OnOk result (string_bytes self.new.events.text ≡ []) }
     {
-        let bottom = y_of(self.rows);
-        let n = self.size.n();
-        draw_last_pieces(&mut self.lifelines, n, self.columns.as_slice(), bottom)?;
-        svg(
-            self.alloc,
-            x_of(self.size.n()),
-            bottom,
-            &self.lifelines,
-            &self.events,
-        )
+        output.write_all(self.events.as_str().as_bytes())?;
+        self.events.clear();
+        Ok(())
     }
 }
 
@@ -748,50 +680,91 @@ fn legend_text(alloc: Global, below: u64) -> Result<String, AllocError>
     format!(in alloc; "<g transform=\"translate(0,{below})\">\n{}</g>\n", LEGEND)
 }
 
-/// The picture of that width, as far down as that, and the legend below it.
-fn svg(
+/// Writes the beginning of a picture of that width, as far down as that, and the lifelines below all else.
+fn write_top<W: Write>(
     alloc: Global,
     width: u64,
     bottom: u64,
-    lifelines: &Drawing,
-    events: &Drawing,
-) -> Result<String, AllocError>
-    ensures is_svg { IfOk result (λ text. IsSvg (string_bytes text)) }
-    ensures is { bottom + 196 < 2 ^ 64 → IfOk result (λ text. string_bytes text ≡
-        picture width bottom (string_bytes lifelines.now.text) (string_bytes events.now.text)) }
+    lifelines: &str,
+    output: &mut W,
+) -> io::Result<()>
+    ensures { bottom + 196 < 2 ^ 64 → OnOk result (Appends (W.contents output.old) (W.contents output.new)
+        (picture_top width bottom lifelines.now)) }
 {
-    let below = bottom.saturating_add(36);
-    let height = below.saturating_add(LEGEND_HEIGHT);
+    let height = bottom.saturating_add(36 + LEGEND_HEIGHT);
     let size = size_text(alloc, width, height)?;
     let page = page_text(alloc, width, height)?;
-    let legend = legend_text(alloc, below)?;
-    format!(in alloc;
-        "<svg {size}{page}{}{}{legend}</svg>\n",
-        lifelines.as_str(),
-        events.as_str()
-    )
+    let top = format!(in alloc; "<svg {size}{page}{lifelines}")?;
+    output.write_all(top.as_bytes())
 }
 
-/// Draws the events that weren't skipped as a sequence chart in SVG, each in a row with its number, counted from 1. A
-/// member's lifeline is solid while it runs, and dashed while it is down or stopped. The columns have their heads at the top
-/// and again after each 40 rows; below stands what the signs mean. On a dark page the picture is dark. Where the lists are
-/// of unequal lengths the chart goes as far as the shortest.
-pub fn chart_text(
+/// Writes the end of a picture that is as far down as that: what the signs mean.
+fn write_bottom<W: Write>(alloc: Global, bottom: u64, output: &mut W) -> io::Result<()>
+    ensures { bottom + 36 < 2 ^ 64 → OnOk result (Appends (W.contents output.old) (W.contents output.new) (picture_end bottom)) }
+{
+    let legend = legend_text(alloc, bottom.saturating_add(36))?;
+    let end = format!(in alloc; "{legend}</svg>\n")?;
+    output.write_all(end.as_bytes())
+}
+
+/// How many events are drawn: as many as the shortest of the lists has.
+fn shortest(events: &[Event], marks: &[Mark], saved: &[Vec<Record>]) -> usize
+    ensures { result ≡ min (min (length events.now) (length marks.now)) (length saved.now) }
+{
+    events.len().min(marks.len()).min(saved.len())
+}
+
+/// Writes the heads of the columns, and the rows of the events, each as soon as it is drawn.
+fn write_rows<W: Write>(
     alloc: Global,
     size: Size,
     liars: &[u8],
     events: &[Event],
     marks: &[Mark],
     saved: &[Vec<Record>],
-) -> Result<String, AllocError>
-    ensures is_svg { IfOk result (λ text. IsSvg (string_bytes text)) }
-    ensures chart { length events.now ≤ MOST_EVENTS →
-        IfOk result (λ text. IsChart size liars.now events.now marks.now saved.now (string_bytes text)) }
+    output: &mut W,
+) -> io::Result<()>
+    ensures { length events.now ≤ MOST_EVENTS → OnOk result ((rows : List ℕ)
+        × AreRows size liars.now events.now marks.now saved.now rows
+        × Appends (W.contents output.old) (W.contents output.new) rows) }
 {
-    let count = events.len().min(marks.len()).min(saved.len());
-    let mut scene = Canvas::new(alloc, size, liars)?;
+    let count = shortest(events, marks, saved);
+    let mut canvas = Canvas::new(alloc, size, liars)?;
+    canvas.write_out(output)?;
     for (index, event) in events[..count].iter().enumerate() {
-        scene.draw_unless_skipped(index + 1, event, marks[index], &saved[index])?;
+        canvas.draw_unless_skipped(index + 1, event, marks[index], &saved[index])?;
+        canvas.write_out(output)?;
     }
-    scene.finish()
+    Ok(())
+}
+
+/// Draws the events that weren't skipped as a sequence chart in SVG, each in a row with its number, counted from 1. A
+/// member's lifeline is solid while it runs, and dashed while it is down or stopped. The columns have their heads at the top
+/// and again after each 40 rows; below stands what the signs mean. On a dark page the picture is dark. Where the lists are
+/// of unequal lengths the chart goes as far as the shortest.
+///
+/// It is written row by row as it is drawn, so that a long one takes no memory but for the lifelines.
+///
+/// # Errors
+///
+/// Those of the writer, and [`io::ErrorKind::OutOfMemory`] where a growth failed: a part of the chart may be written then.
+pub fn write_chart<W: Write>(
+    alloc: Global,
+    size: Size,
+    liars: &[u8],
+    events: &[Event],
+    marks: &[Mark],
+    saved: &[Vec<Record>],
+    output: &mut W,
+) -> io::Result<()>
+    ensures { length events.now ≤ MOST_EVENTS → OnOk result ((text : List ℕ)
+        × IsChart size liars.now events.now marks.now saved.now text × IsSvg text
+        × Appends (W.contents output.old) (W.contents output.new) text) }
+{
+    let mut lines = lifelines_of(alloc, size.n(), liars, events, marks, saved)?;
+    let bottom = y_of(lines.rows());
+    lines.end(size.n(), bottom)?;
+    write_top(alloc, x_of(size.n()), bottom, lines.as_str(), output)?;
+    write_rows(alloc, size, liars, events, marks, saved, output)?;
+    write_bottom(alloc, bottom, output)
 }

@@ -1,12 +1,14 @@
 //! What `simulate --trace` writes: a line for each event of a run.
 
-ghost use Rattle.std.specs.Prelude.{◌≡◌, IfOk, string_bytes};
+ghost use Rattle.std.specs.Prelude.{◌≡◌, IfOk, OnOk, string_bytes};
+ghost use Rattle.std.specs.Io.KnownBytes.{Appends};
 ghost use Rattle.std.specs.List.{flat_map};
 ghost use Rattle.report.specs.Traces.{is_skipped, mark_text, also_text, saved_text, trace_line, trace_text};
 
 use crate::records::record_text;
 use sim::{Event, Mark, Reason};
 use std::alloc::{AllocError, Global};
+use std::io::{self, Write};
 use terms::Record;
 
 /// Whether the event was skipped.
@@ -79,22 +81,26 @@ fn trace_line(
     format!(in alloc; "{number} {event}: {}{saved}\n", mark_text(mark))
 }
 
-/// A line for each event, numbered from 1: `NUMBER EVENT: MARK[: RECORD[, RECORD]..]`. EVENT is the event as a line of a
-/// script, MARK is `done`, `failed`, or `skipped` and the reason; the records are those that were saved because of it, each
-/// as `dump` writes it. Where the lists are of unequal lengths the text goes as far as the shortest.
-pub fn trace_text(
+/// Writes a line for each event, numbered from 1, as it is made: `NUMBER EVENT: MARK[: RECORD[, RECORD]..]`. EVENT is the
+/// event as a line of a script, MARK is `done`, `failed`, or `skipped` and the reason; the records are those that were saved
+/// because of it, each as `dump` writes it. Where the lists are of unequal lengths the text goes as far as the shortest.
+///
+/// # Errors
+///
+/// Those of the writer, and [`io::ErrorKind::OutOfMemory`] where a growth failed: a part of the lines may be written then.
+pub fn write_trace<W: Write>(
     alloc: Global,
     events: &[Event],
     marks: &[Mark],
     saved: &[Vec<Record>],
-) -> Result<String, AllocError>
-    ensures { IfOk result (λ text. string_bytes text ≡ trace_text events.now marks.now saved.now) }
+    output: &mut W,
+) -> io::Result<()>
+    ensures { OnOk result (Appends (W.contents output.old) (W.contents output.new) (trace_text events.now marks.now saved.now)) }
 {
     let count = events.len().min(marks.len()).min(saved.len());
-    let mut text = String::new(alloc);
     for (index, event) in events[..count].iter().enumerate() {
         let line = trace_line(alloc, index + 1, event, marks[index], &saved[index])?;
-        text.push_str(line.as_str())?;
+        output.write_all(line.as_bytes())?;
     }
-    Ok(text)
+    Ok(())
 }

@@ -6,14 +6,14 @@ ghost use Rattle.system.specs.declared.fault.Fault.TheVariants as ends;
 ghost use Rattle.std.specs.Prelude.{◌≡◌, ◌≢◌, IfErr, codes};
 
 use crate::fault::Fault;
-use crate::pages::{fault_at, keep_apart, keep_two_apart, write_page};
+use crate::pages::{Page, fault_at, keep_apart, keep_two_apart, write_page};
 use crate::telling::{
     journal_failure, not_text, script_failure, settings_failure, transcript_failure,
 };
 use crate::trouble::{Failure, Whereabouts};
 use commands::{
-    DumpFault, InitFault, MigrationFault, Shelf, SimulationEnd, check_journal, dump_count,
-    dump_count_object, dump_lines, dump_objects, init_disk, migrate_disks, print_check,
+    DumpFault, InitFault, MigrationFault, Shelf, Simulation, SimulationEnd, check_journal,
+    dump_count, dump_count_object, dump_lines, dump_objects, init_disk, migrate_disks, print_check,
     print_settings, show_simulation,
 };
 use disk::{Disk, FileDisk, MemDisk};
@@ -443,19 +443,11 @@ struct PageFiles<'a> {
 impl<'a> Shelf for PageFiles<'a> {
     type Fault = Failure;
 
-    fn put(&mut self, trace: Option<String>, chart: Option<String>) -> Result<(), Failure> {
-        write_page(
-            self.rt,
-            self.trace,
-            trace,
-            fault_at(self.trace, Fault::Trace),
-        )?;
-        write_page(
-            self.rt,
-            self.chart,
-            chart,
-            fault_at(self.chart, Fault::Chart),
-        )
+    fn put(&mut self, _alloc: Global, simulation: &Simulation) -> Result<(), Failure> {
+        let trace = fault_at(self.trace, Fault::Trace);
+        write_page(self.rt, simulation, Page::Trace, self.trace, trace)?;
+        let chart = fault_at(self.chart, Fault::Chart);
+        write_page(self.rt, simulation, Page::Chart, self.chart, chart)
     }
 }
 

@@ -27,7 +27,7 @@ pub use files::{
 };
 pub use limits::{clients_within, descriptors_lack, open_limit};
 pub use live::run_file;
-pub use pages::write_page;
+pub use pages::{Page, write_page};
 pub use signals::{is_blocked, is_called};
 pub use streams::{HeldStreams, hold_streams};
 pub use trouble::{Failure, Trouble, Whereabouts};

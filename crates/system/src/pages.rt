@@ -3,32 +3,43 @@
 ghost use Rattle.system.specs.Faults.{AreApart, IsMeant};
 ghost use Rattle.system.specs.declared.fault.Fault.TheVariants as ends;
 ghost use Rattle.system.specs.Troubles.{IsNamed};
-ghost use Rattle.std.specs.Prelude.{IfSome, ◌≡◌, ◌≢◌, ◌⊎◌, IfErr, IsOk, IsTrue, None, Some, codes, option_map};
+ghost use Rattle.std.specs.Prelude.{IfSome, ◌≡◌, ◌≢◌, IfErr, IsOk, IsTrue, None, Some, codes, option_map};
 
 use crate::fault::Fault;
 use crate::trouble::{Failure, Whereabouts};
-use commands::takes_output;
-use std::fs::{self, Metadata};
-use std::io::{self, Write};
+use commands::{Simulation, takes_output};
+use std::alloc::Global;
+use std::fs::{self, File, Metadata};
+use std::io::{self, BufWriter, Write};
 use std::os::unix::fs::MetadataExt;
 use std::path::Path;
 
-/// Writes a page, if there is one, into the file, or to the standard output where the path is `-`. What was in the file is
-/// replaced.
+/// A page of a simulation.
+#[derive(Clone, Copy, Debug, PartialEq, Eq)]
+pub enum Page {
+    /// A line for each event.
+    Trace,
+    /// A sequence chart in SVG.
+    Chart,
+}
+
+/// Writes a page of the simulation, where it has a path, into the file there, or to the standard output where the path is
+/// `-`. What was in the file is replaced. The page is written as it is made: where that fails a part of it may be written.
 pub fn write_page(
     rt: &HostRuntime,
+    simulation: &Simulation,
+    page: Page,
     path: Option<&str>,
-    page: Option<String>,
     fault: Fault,
 ) -> Result<(), Failure>
-    ensures nothing { (path.entry ≡ None) ⊎ (page ≡ None) → IsOk result }
+    ensures nothing { path.entry ≡ None → IsOk result }
     ensures faults { IfErr result (λ failure. IsMeant fault failure.fault) }
     ensures named { IfSome path.entry (λ path. IfErr result (IsNamed path.now)) }
 {
-    let (Some(path), Some(page)) = (path, page) else {
+    let Some(path) = path else {
         return Ok(());
     };
-    match write_text(rt, path, page.as_str()) {
+    match write_at(rt, simulation, page, path) {
         Ok(()) => Ok(()),
         // Who read it has read enough, as `head` does: there is nothing to tell.
         Err(error) if error.kind() == io::ErrorKind::BrokenPipe => Err(Failure::from(fault)),
@@ -48,12 +59,27 @@ pub fn fault_at(path: Option<&str>, of_file: Fault) -> Fault
     }
 }
 
-/// Writes the text into the file, or to the standard output where the path is `-`.
-fn write_text(rt: &HostRuntime, path: &str, text: &str) -> io::Result<()> {
-    if takes_output(Some(path), None) {
-        return io::writer(rt).write_all(text.as_bytes());
+/// Writes a page into what has room for a part of it at a time.
+fn write_into<W: Write + Drop>(
+    alloc: Global,
+    simulation: &Simulation,
+    page: Page,
+    output: W,
+) -> io::Result<()> {
+    let mut output = BufWriter::new(alloc, output)?;
+    match page {
+        Page::Trace => simulation.write_trace(alloc, &mut output)?,
+        Page::Chart => simulation.write_chart(alloc, &mut output)?,
     }
-    fs::write(rt, path, text)
+    output.flush()
+}
+
+/// Writes a page into the file at that path, or to the standard output where the path is `-`.
+fn write_at(rt: &HostRuntime, simulation: &Simulation, page: Page, path: &str) -> io::Result<()> {
+    if takes_output(Some(path), None) {
+        return write_into(rt.alloc(), simulation, page, io::writer(rt));
+    }
+    write_into(rt.alloc(), simulation, page, File::create(rt, path)?)
 }
 
 /// Whether what is known of two files is known of one.

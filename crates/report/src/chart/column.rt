@@ -1,9 +1,8 @@
 //! A member of a chart, as far as the chart has come.
 
 ghost use Rattle.std.specs.Prelude.{◌≡◌, ◌+◌, ◌-◌, ◌^◌, ◌<◌, ◌++◌, OnOk};
-ghost use Rattle.report.specs.Charts.{member_of, runs_after, place_after, group_count, statements_said, delivered, AreMoved};
+ghost use Rattle.report.specs.Charts.{member_of, place_after, group_count, statements_said, delivered, AreMoved};
 
-use crate::chart::drawing::Lifeline;
 use sim::{Event, MOST_IN_GROUP, Mark, Which};
 use std::alloc::{AllocError, Global};
 use terms::{Record, Statement};
@@ -21,18 +20,6 @@ pub(crate) fn member_of(event: &Event) -> u8
         | Event::DeliverAll { to, .. }
         | Event::LieBytes { to, .. }
         | Event::Reset { to, .. } => *to,
-    }
-}
-
-/// Whether the event's member runs after it, if it ran before or not.
-fn runs_after(event: &Event, mark: Mark, runs: bool) -> bool
-    ensures { result ≡ runs_after event.now mark runs }
-{
-    match (event, mark) {
-        (_, Mark::Skipped(_)) => runs,
-        (_, Mark::Failed) | (Event::Crash { .. }, Mark::Done) => false,
-        (Event::Restart { .. }, Mark::Done) => true,
-        (_, Mark::Done) => runs,
     }
 }
 
@@ -100,29 +87,25 @@ fn delivered(said: &[Statement], place: usize, which: Which) -> Option<Statement
 #[derive(Drop)]
 pub(crate) struct Column {
     is_liar: bool,
-    runs: bool,
     said: Vec<Statement>,
     places: Vec<usize>,
-    drawn: u64,
 }
 
 impl Column {
-    ghost use Rattle.std.specs.Prelude.{ℕ, ◌≡◌, ◌≢◌, ◌↔◌, IsTrue, IfOk, OnOk, Some, length, slice_get};
-    ghost use Rattle.report.specs.Charts.{runs_after, group_count, delivered};
-    ghost use Rattle.report.specs.Columns.{IsNew, Follows, line_of, turns};
+    ghost use Rattle.std.specs.Prelude.{ℕ, ◌≡◌, IfOk, OnOk, Some, length, slice_get};
+    ghost use Rattle.report.specs.Charts.{group_count, delivered};
+    ghost use Rattle.report.specs.Columns.{IsNew, Follows};
 
-    /// A member of a cluster of n before the first event. Its lifeline begins that far down.
-    pub(crate) fn new(alloc: Global, n: u8, is_liar: bool, top: u64) -> Result<Column, AllocError>
-        ensures { IfOk result (IsNew n is_liar top) }
+    /// A member of a cluster of n before the first event.
+    pub(crate) fn new(alloc: Global, n: u8, is_liar: bool) -> Result<Column, AllocError>
+        ensures { IfOk result (IsNew n is_liar) }
     {
         let mut places = Vec::new(alloc);
         places.resize(usize::from(n), 0)?;
         Ok(Column {
             is_liar,
-            runs: true,
             said: Vec::new(alloc),
             places,
-            drawn: top,
         })
     }
 
@@ -160,39 +143,6 @@ impl Column {
         self.is_liar
     }
 
-    /// How its lifeline looks.
-    pub(crate) fn line(&self) -> Lifeline
-        ensures { result ≡ line_of self.now.is_liar self.now.runs }
-    {
-        match (self.is_liar, self.runs) {
-            (true, _) => Lifeline::Lies,
-            (false, true) => Lifeline::Runs,
-            (false, false) => Lifeline::Down,
-        }
-    }
-
-    /// How far down its lifeline is drawn.
-    pub(crate) fn drawn(&self) -> u64
-        ensures { result ≡ self.now.drawn }
-    {
-        self.drawn
-    }
-
-    /// Whether another piece of its lifeline begins with the event.
-    pub(crate) fn turns(&self, event: &Event, mark: Mark) -> bool
-        ensures is { IsTrue result ↔ (runs_after event.now mark self.now.runs ≢ self.now.runs) }
-        ensures value { result ≡ turns event.now mark self.now.runs }
-    {
-        runs_after(event, mark, self.runs) != self.runs
-    }
-
-    /// Its lifeline is drawn that far down.
-    pub(crate) fn draw_to(&mut self, y: u64)
-        ensures { self.new ≡ record self.old { drawn = y } }
-    {
-        self.drawn = y;
-    }
-
     /// Follows an event that is for it. A group's sender had said so many statements.
     pub(crate) fn follow(
         &mut self,
@@ -201,11 +151,9 @@ impl Column {
         mark: Mark,
         saved: &[Record],
     ) -> Result<(), AllocError>
-        ensures follows { OnOk result (Follows said event.now mark saved.now self.old self.new) }
-        ensures drawn { OnOk result (self.new.drawn ≡ self.old.drawn) }
+        ensures { OnOk result (Follows said event.now mark saved.now self.old self.new) }
     {
         move_links(said, event, mark, &mut self.places);
-        self.runs = runs_after(event, mark, self.runs);
         add_statements(&mut self.said, saved)
     }
 }

@@ -189,6 +189,13 @@ impl Drawing {
         }
     }
 
+    /// Forgets the elements, once they are written.
+    pub(crate) fn clear(&mut self)
+        ensures { string_bytes self.new.text ≡ [] }
+    {
+        self.text.clear();
+    }
+
     /// The elements.
     pub(crate) fn as_str(&self) -> &str
         ensures { result.now ≡ string_bytes self.now.text }

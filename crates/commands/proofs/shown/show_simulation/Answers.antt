@@ -1,4 +1,4 @@
-use Rattle.std.proofs.Common.{rules, ◌≡◌, ◌∙◌, ℕ, List, Bool, true, false, IsTrue, refl, subst}
+use Rattle.std.proofs.Common.{◌≡◌, ◌∙◌, ℕ, List, Bool, true, false, IsTrue, refl, subst}
 use Rattle.std.specs.Io.KnownBytes.{Appends}
 use Rattle.commands.proofs.shown.show_simulation.Goals as goal
 
@@ -15,17 +15,14 @@ returns-in-Ok-print_verdicts-clause-all g c =
     let takes = c.takes_output-aside.ensures in (
       of.0,
       of.1,
-      c.in-Ok.pages,
       of.2,
-      of.3,
-      search (rules, of.4, c.is_some.ensures, c.is_some-2.ensures),
-      c.in-Ok-put.ensures,
+      (λ some. of.3 (c.has_pages.ensures ∙ some)),
       record {
         in_output = λ none.
             subst (λ (text : List ℕ). Appends (g.W.Write.contents c.args.output.now) (g.W.Write.contents c.print_verdicts.new.output) text)
-            (c.as_str.ensures.value ∙ of.4.verdicts_are) (said.output (not_so _ _ takes.0 none));
+            (c.as_str.ensures.value ∙ of.4) (said.output (not_so _ _ takes.0 none));
         aside = λ some.
             subst (λ (text : List ℕ). Appends (g.E.Write.contents c.args.errors.now) (g.E.Write.contents c.print_verdicts.new.errors) text)
-            (c.as_str.ensures.value ∙ of.4.verdicts_are) (said.aside (takes.1 some));
+            (c.as_str.ensures.value ∙ of.4) (said.aside (takes.1 some));
       },
     )

@@ -2,7 +2,8 @@ use Rattle.std.proofs.Common.{rules, ◌≡◌, ◌∙◌, Option, Some, None, o
 use Rattle.report.specs.declared.chart.column.Column.{Column}
 use Rattle.report.specs.declared.chart.drawing.Words.TheVariants as words
 use Rattle.report.specs.Drawings.{words_at}
-use Rattle.report.specs.Pictures.{head_elements, head_text, column_x}
+use Rattle.report.specs.Pictures.{head_elements, head_text}
+use Rattle.report.specs.Places.{column_x}
 use Rattle.report.proofs.Elements.{named, unchanged, looked_up}
 use Rattle.report.proofs.chart.draw_head.Goals as goal
 

@@ -13,4 +13,4 @@ loop-member-preserved c =
     let lies : c.contains-is_liar.result ≡ list_any (λ liar. liar == k) liars = c.contains-is_liar.ensures.value in
     subst (λ (l : List Column). AreNew c.args.n (k + 1) liars l) (sym {A = List Column} c.in_ok-push.ensures.items)
     (new_more c.args.n k liars c.loop-member.columns.items c.in_ok-new.field-0 c.loop-member.invariant
-    (subst (λ is. IsNew c.args.n is 34 c.in_ok-new.field-0) lies c.in_ok-new.ensures))
+    (subst (λ is. IsNew c.args.n is c.in_ok-new.field-0) lies c.in_ok-new.ensures))

@@ -1,11 +1,11 @@
-use Rattle.std.proofs.Common.{rules, arith, List, ◌∙◌, ◌≡◌, ◌+◌, ap, sym, refl, subst, length, slice_get}
+use Rattle.std.proofs.Common.{rules, arith, List, ◌∙◌, ◌≡◌, ◌+◌, ap, sym, subst, length}
 use Rattle.report.specs.declared.chart.Canvas.{Canvas}
 use Rattle.report.specs.declared.chart.column.Column.{Column}
 use Rattle.report.specs.declared.chart.drawing.Drawing.{Drawing}
-use Rattle.report.specs.Charts.{member_of}
-use Rattle.report.specs.Columns.{FollowAll, HaveLifelines}
+use Rattle.report.specs.Columns.{FollowAll}
 use Rattle.report.specs.Drawings.{Grows}
-use Rattle.report.specs.Pictures.{IsRow, row_y, piece_elements}
+use Rattle.report.specs.Pictures.{IsRow}
+use Rattle.report.specs.Places.{row_y}
 use Rattle.report.proofs.chart.Canvas.draw.Goals as goal
 
 -- what is drawn changes no column
@@ -15,14 +15,13 @@ returns-clause-follow c =
     subst (λ (before : List Column). FollowAll c.args.event.now c.args.mark c.args.saved.now before c.follow.new.self.columns.items)
     same c.in_ok-follow.ensures.follow
 
--- the row, and the piece of a lifeline that ends there
+-- the row
 pub returns-clause-draws : goal.returns-clause-draws
 returns-clause-draws c few =
     let event = c.args.event.now in
     let before = c.args.self.now in
     let y : c.y_of-y.result ≡ row_y before.rows = c.y_of-y.ensures (omega (arith, few)) in
     let columns : c.show_row.new.self.columns.items ≡ before.columns.items = ap (λ (s : Canvas). s.columns.items) c.show_row.ensures.only in
-    let lifelines : c.show_row.new.self.lifelines ≡ before.lifelines = ap (λ (s : Canvas). s.lifelines) c.show_row.ensures.only in
     let size : c.show_row.new.self.size ≡ before.size = ap (λ (s : Canvas). s.size) c.show_row.ensures.only in
     let next : c.saturating_add-self.result ≡ before.rows + 1 = search (rules, few, c.saturating_add-self.ensures) in
     let rows : c.show_row.new.self.rows ≡ before.rows + 1 = ap (λ (s : Canvas). s.rows) c.show_row.ensures.only ∙ next in
@@ -30,20 +29,12 @@ returns-clause-draws c few =
     let done = c.in_ok-follow.ensures in
     record {
       row = shown.0;
-      piece = piece_elements (slice_get before.columns.items (member_of event)) event c.args.mark (row_y before.rows);
       size_is = done.size ∙ size;
       is = record {
         follow = subst (λ (l : List Column). FollowAll event c.args.mark c.args.saved.now l c.follow.new.self.columns.items) columns done.follow;
-        lines = subst (λ (l : List Column). HaveLifelines event c.args.mark (row_y before.rows) l c.follow.new.self.columns.items) columns
-            (subst (λ at. HaveLifelines event c.args.mark at c.show_row.new.self.columns.items c.follow.new.self.columns.items) y done.lines);
         count = done.count ∙ ap length columns;
         below = done.row ∙ rows;
         drawn = subst (λ at. IsRow before.size before.columns.items before.rows at c.args.number event c.args.mark c.args.saved.now shown.0) y shown.1;
-        ends = refl;
       };
       events = subst (λ (d : Drawing). Grows before.events d shown.0) (sym done.events) shown.2;
-      lifelines = subst (λ at. Grows before.lifelines c.follow.new.self.lifelines (piece_elements (slice_get before.columns.items (member_of event)) event c.args.mark at)) y
-          (subst (λ (l : List Column). Grows before.lifelines c.follow.new.self.lifelines (piece_elements (slice_get l (member_of event)) event c.args.mark c.y_of-y.result)) columns
-          (subst (λ (d : Drawing). Grows d c.follow.new.self.lifelines (piece_elements (slice_get c.show_row.new.self.columns.items (member_of event)) event c.args.mark c.y_of-y.result)) lifelines
-          done.piece));
     }

@@ -1,7 +1,8 @@
 use Rattle.std.proofs.Common.{rules, ◌≡◌, ◌==◌, ◌∙◌, [], ◌∷◌, length, false, string_bytes}
 use Rattle.report.specs.Charts.{member_of}
 use Rattle.report.specs.Drawings.{BadgeAt}
-use Rattle.report.specs.Pictures.{column_x, decided_text, saved_elements, said_text, said_verb}
+use Rattle.report.specs.Pictures.{decided_text, saved_elements, said_text, said_verb}
+use Rattle.report.specs.Places.{column_x}
 use Rattle.report.proofs.Elements.{named}
 use Rattle.report.proofs.Picturing.{saved_is, said_is}
 use Rattle.report.proofs.chart.Canvas.show_saved.Goals as goal

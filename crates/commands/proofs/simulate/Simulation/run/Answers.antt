@@ -4,7 +4,7 @@ use Rattle.sim.specs.Outcomes.{AreLiars, IsSimulation, among, fused_in}
 use Rattle.sim.specs.declared.events.Event.{Event}
 use Rattle.sim.specs.declared.cluster.Outcome.{Outcome}
 use Rattle.commands.proofs.Running.{unread_ends, unrun_ends, same_table, both_ways}
-use Rattle.commands.proofs.simulate.run.Goals as goal
+use Rattle.commands.proofs.simulate.Simulation.run.Goals as goal
 
 pub returns-in_err-script-clause-only : goal.returns-in_err-script-clause-only
 returns-in_err-script-clause-only c =

@@ -1,0 +1,10 @@
+use Rattle.std.proofs.Common.{◌≡◌, ◌≤◌, length, drop}
+use Rattle.sim.specs.declared.TheConstants.{MOST_EVENTS}
+use Rattle.report.specs.Lives.{drawn_lines, lines_after, lines_of_run}
+use Rattle.report.proofs.chart.lifelines.lifelines_of.Given as goal
+
+-- the lifelines so far, and the events that are left, make the whole
+abbrev pub invariant-loop-index : goal.invariant-loop-index
+invariant-loop-index l =
+    length l.events ≤ MOST_EVENTS → (l.lines.rows ≤ l.index)
+    × (lines_after (drop l.index l.events) (drop l.index l.marks) (drop l.index l.saved) (drawn_lines l.lines) ≡ lines_of_run l.fn.n l.liars l.events l.marks l.saved)
