@@ -190,7 +190,7 @@ impl<D: Disk, J: Naming, R: Wait> Writer<'_, D, J, R> {
 /// A session of the link to a peer, a number below n: writes the Hello, reads the Welcome, at most 11 bytes in all, and
 /// then writes the statements of the outbox from its next on, in order, until the session ends: in version 1 at most 64 at a
 /// time, in version 2 at most 99, which are one frame. Woken by the bell with nothing new it writes an Idle. It waits for no
-/// disk. The stream is closed. Beside the end it answers whether it read its Welcome.
+/// disk, but for that of a hub that is shut. The stream is closed. Beside the end it answers whether it read its Welcome.
 ///
 /// It ends:
 ///

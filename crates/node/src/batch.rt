@@ -1,4 +1,5 @@
-//! A group that the book hears: what several links handed in, one behind the other.
+//! A group that the book hears: what several links handed in, one behind the other. A journal's batch is another thing: that
+//! one is of records.
 ghost use Rattle.std.specs.Prelude.{◌≡◌, [], IfErr};
 
 use rounds::Toss;

@@ -48,7 +48,7 @@ fn stream_at<D: Disk, J: Naming, R: Machine>(
     }
 }
 
-/// Whether a session of that version was refused that ended so without a Welcome, so many seconds after its Hello. One of
+/// Whether the peer refused a session of that version: it ended so, without a Welcome, that many seconds after it began. One of
 /// version 2 may have ended for its version alone. A read fails too where the peer has said nothing for ten seconds, which
 /// is no refusal.
 fn was_refused(version: Version, end: LinkEnd, waited: u64) -> bool
@@ -161,7 +161,7 @@ fn dial_on<D: Disk, J: Naming, R: Machine>(
     unreachable!()
 }
 
-/// Where this member listens; none at the end, and past the last member.
+/// Where the member of that number listens; none once the own member ends, and for a number past the last.
 fn address_of<D: Disk, J: Naming>(it: &Shared<D, J>, peer: u8) -> Option<SocketAddr> {
     if it.is_closing() || peer >= it.hub.header().size().n() {
         return None;

@@ -1,4 +1,4 @@
-//! The seven bytes of a statement, as frames and journals have them.
+//! The seven bytes of a statement, as frames and journals of version 1 have them, and the bytes of kinds and values.
 #![tactic(auto)]
 
 ghost use Rattle.std.specs.Prelude.{◌≡◌, ◌≢◌, MatchOption};
