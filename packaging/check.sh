@@ -1,6 +1,7 @@
 #!/usr/bin/env bash
-# Says which commands and options of the program's own help are missing in the man page or in a shell's completions. Its last
-# line is `N passed, M failed`; its status is 1 where M isn't 0.
+# Says which commands and options of the program's own help are missing in the man page or in a shell's completions, and what
+# an operator relies on is missing in the unit, the composed image or the examples. Its last line is `N passed, M failed`; its
+# status is 1 where M isn't 0.
 #
 #   packaging/check.sh [PROGRAM]   by default crates/bracha/out/bracha, which `rt run` makes in crates/bracha
 set -euo pipefail
@@ -40,5 +41,30 @@ for command in $commands; do
         has packaging/completions/bracha.fish "-l ${option#--}"
     done
 done
+
+for line in 'run --stay --log' --ignore-signal=XFSZ StartLimitIntervalSec=0 UMask=0077 PrivateUsers=yes ProtectKernelLogs=yes \
+    ProtectKernelModules=yes ProtectKernelTunables=yes RestrictRealtime=yes SystemCallArchitectures=native \
+    SystemCallFilter=@system-service; do
+    has packaging/bracha@.service "$line"
+done
+has packaging/compose.yaml build:
+has packaging/compose.yaml healthcheck:
+has packaging/bracha.1 '.SH FILES'
+has packaging/bracha.1 '.SH SEE ALSO'
+
+# Whether what is installed and shown lacks something.
+lacks() {
+    if grep -rnE -e "$1" README.md docs examples packaging/bracha* packaging/compose.yaml packaging/completions; then
+        echo "that has no place there: $1"
+        failed=$((failed + 1))
+    else
+        passed=$((passed + 1))
+    fi
+}
+
+# A port that the system gives to outgoing connections, a file below /tmp by a name that can be guessed, a tool that isn't everywhere.
+lacks '(127\.0\.0\.1|localhost):(3[2-9]|[4-6][0-9])[0-9]{3}'
+lacks '[ ">=]/tmp/'
+lacks xxd
 echo "$passed passed, $failed failed"
 [ "$failed" = 0 ]

@@ -163,6 +163,7 @@ def too_many_clients(program):
         assert is_closed(clients[1]), "the one that was silent longest wasn't closed"
         assert all(is_answered(it) for it in [clients[0], *clients[2:], one_more]), "another one was closed"
         clients[7].close()
+        time.sleep(1)  # until the member has noticed: else the place of another may be given
         one_more = connect(member.desk)
         assert is_answered(one_more), "a place that was given back isn't given again"
         assert all(is_answered(it) for it in [clients[0], *clients[2:7], *clients[8:]]), "it wasn't that place"
@@ -251,9 +252,10 @@ def few_files(program):
 
 
 def few_clients(program):
-    """Of 31 files its links want 25, so there are 6 for three clients."""
-    with cluster(program, PORTS + 20, [0], files=31) as [member]:
-        said = "bracha: 31 open files are enough for 3 of 32 clients: the links want 25, and each client 2"
+    """Of 35 files its links want 29, so there are 6 for three clients. All links are up."""
+    with cluster(program, PORTS + 20, range(4), files=35) as [member, *_others]:
+        assert until(lambda: sum("link-up" in it for it in member.told()) >= 6), "its links aren't up"
+        said = "bracha: 35 open files are enough for 3 of 32 clients: the links want 29, and each client 2"
         assert said in member.told(), member.told()
         clients = [connect(member.desk) for _ in range(3)]
         assert all(is_answered(it) for it in clients), "a client has no reply"

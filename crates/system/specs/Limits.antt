@@ -14,9 +14,9 @@ IsFirstNumber text first = (digits behind : List ℕ) × (text ≡ digits ++ 32 
 abbrev pub HasLimit : List ℕ → ℕ → Type 0
 HasLimit limits limit = IsSomeAnd (first_with (codes "Max open files            ") (lines_in limits)) (λ rest. IsFirstNumber rest limit)
 
--- four for each member and nine more, and two for each client
+-- four for each member and thirteen more, and two for each client
 abbrev pub wanted : ℕ → ℕ → ℕ
-wanted n clients = 4 * n + 9 + 2 * clients
+wanted n clients = 4 * n + 13 + 2 * clients
 
 -- how many clients are let in at once: those for whom there are files, but one at least and 32 at most, and as many where no
 -- limit is known

@@ -48,11 +48,12 @@ fn fewer_words(alloc: Global, limit: u64, links: u64, clients: u8) -> Result<Str
     )
 }
 
-/// How many files the links of a member of so many want.
+/// How many files the links of a member of so many want: four for each member, nine for its streams, its journal and its two
+/// doors, two that the doors hold for who comes next, and two for a client that comes in the place of another.
 fn wanted_by_links(n: u8) -> u64
     ensures { result ≡ wanted n 0 }
 {
-    4 * u64::from(n) + 9
+    4 * u64::from(n) + 13
 }
 
 /// How many clients at once a member of so many lets in, where it may have so many files open: those for whom files are left,

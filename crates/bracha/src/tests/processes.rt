@@ -1149,7 +1149,7 @@ fn a_member_alone_tells_its_life(rt: HostRuntime) -> Result<(), Fail> {
     // So is that fewer files may be open than its links and a client want.
     let script = "ulimit -n 14; exec \"$0\" tests::processes::a_process < /dev/null";
     let said = said_beside(&rt, "run bracha_tests_alone.toml", script)?;
-    let few = "bracha: 14 open files are too few: the links want 13, and each client 2\n";
+    let few = "bracha: 14 open files are too few: the links want 17, and each client 2\n";
     assert!(rt; said.as_str().contains(few), "{said}");
     remove(&rt, &[path, journal])
 }
