@@ -1,7 +1,7 @@
 #!/usr/bin/env bash
 # Does with the built program what a new user and an operator do, and looks at what they are told: installs it, makes a
-# cluster of four, proposes and asks, ends it; fills a disk and makes room; starts a member with few files; reads a page by
-# `head`, and a file that is no journal. It takes the ports 7100 to 7113 and some ten seconds. Its last line is
+# cluster of four, proposes and asks, ends it; fills a disk and makes room; starts a member with few files, and with no thread;
+# reads a page by `head`, a file that is no journal, and one that is too long to go through. It takes the ports 7100 to 7113 and some ten seconds. Its last line is
 # `N passed, M failed`; its status is 1 where M isn't 0.
 #
 #   tests/as-a-user.sh [PROGRAM]   by default crates/bracha/out/bracha, which `rt run` makes in crates/bracha
@@ -101,7 +101,12 @@ for _ in {1..200}; do
     sleep 0.1
 done
 end_of 0
-says 'a full disk' 0 $'1\nstopped\nend\nbracha: stopped' bash -c 'echo "$0"; tail -n 3 log-alone' "$ended"
+says 'a full disk' 0 $'1\nstopped device: File too large (os error 27)\nend\nbracha: stopped\nalone.journal: File too large (os error 27)' \
+    bash -c 'echo "$0"; tail -n 4 log-alone' "$ended"
+says 'a full disk and no log' 1 $'member 0 ready\nstopped device: File too large (os error 27)\nbracha: stopped\nalone.journal: File too large (os error 27)' \
+    bash -c 'ulimit -f 1; exec timeout 60 env --ignore-signal=XFSZ "$0" run --stay alone.toml' "$program"
+says 'no room for a journal' 1 $'bracha: journal Device\nfresh.journal: File too large (os error 27)' \
+    bash -c 'sed s/alone.journal/fresh.journal/ alone.toml >fresh.toml; ulimit -f 0; exec env --ignore-signal=XFSZ "$0" init fresh.toml' "$program"
 run alone
 says 'room again' 0 'DECIDED 1' "$program" ask --wait --timeout 60 127.0.0.1:7110 2
 end_of 1
@@ -123,5 +128,17 @@ says 'few clients' 0 '3 served, one more, 2 left' bash -c '
     for file in "${files[@]}"; do if talks "$file"; then left=$((left + 1)); fi; done
     echo "$served served, ${more-none more}, $left left"'
 end_of 2
+
+# A journal that is too long to go through is told whose it is all the same.
+truncate -s 20M alone.journal
+says 'a long journal' 1 $'bracha: journal NotEmpty\nalone.journal: begins as the journal of member 0 of cluster 7 and has 20971520 bytes' \
+    "$program" init alone.toml
+
+# A system that gives no thread is told as such.
+chmod 711 "$room"
+chmod 666 alone.journal
+says 'no threads' 1 $'member 0 ready\nbracha: memory\nthreads: the system refused one: see `ulimit -u`' \
+    bash -c 'as=(); if [ "$EUID" = 0 ]; then as=(setpriv --reuid 65534 --regid 65534 --clear-groups); fi
+    chmod 644 alone.toml; exec timeout 60 "${as[@]}" prlimit --nproc=1 "$0" run --stay alone.toml' "$program"
 echo "$passed passed, $failed failed"
 [ "$failed" = 0 ]

@@ -2,7 +2,7 @@
 use Rattle.std.proofs.Common.{ℕ, ◌≡◌, ◌==◌, refl, codes, List, ◌++◌}
 use Rattle.std.specs.Fmt.{decimal}
 use Rattle.terms_prelude.specs.Terms.{Header}
-use Rattle.commands.specs.Owners.{header_words, unless, differences, other_words, owner_words}
+use Rattle.commands.specs.Owners.{header_words, unless, differences, long_words, other_words, owner_words}
 
 pub header_pieces : (h : Header) (cluster n t questions me : ℕ) → cluster ≡ h.cluster → n ≡ h.size.n → t ≡ h.size.t → questions ≡ h.size.questions → me ≡ h.me
     → codes "cluster " ++ (decimal cluster ++ (codes " n " ++ (decimal n ++ (codes " t " ++ (decimal t
@@ -24,3 +24,8 @@ pub owner_pieces : (h : Header) (me cluster count : ℕ) (more : List ℕ) → m
     → codes "the journal of member " ++ (decimal me ++ (codes " of cluster " ++ (decimal cluster ++ (codes " with "
     ++ (decimal count ++ (codes " record" ++ more)))))) ≡ owner_words h count
 owner_pieces h me cluster count more a b c = rw (a, b, c) refl
+
+pub long_pieces : (h : Header) (me cluster length : ℕ) → me ≡ h.me → cluster ≡ h.cluster
+    → codes "begins as the journal of member " ++ (decimal me ++ (codes " of cluster " ++ (decimal cluster ++ (codes " and has "
+    ++ (decimal length ++ codes " bytes"))))) ≡ long_words h length
+long_pieces h me cluster length a b = rw (a, b) refl

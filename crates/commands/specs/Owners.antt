@@ -49,6 +49,17 @@ pub record IsOwner (file : List ℕ) (words : List ℕ) : Type 0 where
   pub journal : IsJournalOf file header count
   pub is : words ≡ owner_words header count
 
+-- whose journal it begins as, and how long it is
+abbrev pub long_words : Header → ℕ → List ℕ
+long_words h length =
+    codes "begins as the journal of member " ++ (decimal h.me ++ (codes " of cluster " ++ (decimal h.cluster ++ (codes " and has " ++ (decimal length ++ codes " bytes")))))
+
+-- a file of that length begins so, with a header, and the words say whose, and how long it is
+pub record IsLongOwner (front : List ℕ) (length : ℕ) (words : List ℕ) : Type 0 where
+  pub header : Header
+  pub begins : HasHeader header front
+  pub is : words ≡ long_words header length
+
 -- the file begins with no header
 abbrev pub IsHeadless : List ℕ → Type 0
 IsHeadless file = (header : Header) → HasHeader header file → ⊥

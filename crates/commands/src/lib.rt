@@ -27,7 +27,7 @@ pub use dump::{dump_count, dump_count_object, dump_lines, dump_objects};
 pub use fault::{DumpFault, InitFault, MigrationFault, SimulateFault, TalkFault};
 pub use init::init_disk;
 pub use migrate::migrate_disks;
-pub use owners::{other_owner, owner};
+pub use owners::{long_owner, other_owner, owner};
 pub use shown::{Shelf, SimulationEnd, show_simulation};
 pub use simulate::{Simulation, print, print_verdicts, simulate_text, takes_output};
 pub use text_lines::{line_at, line_of_byte, line_of_key, lines_in, text_fault};

@@ -1,7 +1,7 @@
 //! Whose journal a file is, in words.
 
 ghost use Rattle.std.specs.Prelude.{◌≡◌, ◌==◌, IfOk, IfSome, IsNone, codes, string_bytes};
-ghost use Rattle.commands.specs.Owners.{IsHeadless, IsJournalOf, IsNoJournal, IsOtherOwner, IsOwner, IsRefused, differences, header_words, other_words, owner_words, unless};
+ghost use Rattle.commands.specs.Owners.{IsHeadless, IsJournalOf, IsLongOwner, IsNoJournal, IsOtherOwner, IsOwner, IsRefused, differences, header_words, long_words, other_words, owner_words, unless};
 
 use crate::damage::{disk_of, header_of};
 use journal::{Journal, JournalFault};
@@ -113,4 +113,30 @@ pub fn owner(alloc: Global, file: &[u8]) -> Result<Option<String>, Memory>
         return Ok(None);
     };
     Ok(Some(owner_words(alloc, &header, count)?))
+}
+
+/// Whose journal a file of that many bytes begins as.
+fn long_words(alloc: Global, header: &Header, length: u64) -> Result<String, AllocError>
+    ensures { IfOk result (λ text. string_bytes text ≡ long_words header.now length) }
+{
+    format!(in alloc;
+        "begins as the journal of member {} of cluster {} and has {} bytes",
+        header.me(),
+        header.cluster(),
+        length
+    )
+}
+
+/// Whose journal a file of that many bytes is, by these first ones of it, where it is too long for its records to be counted:
+/// `begins as the journal of member 1 of cluster 7 and has 20000025 bytes`. None where they begin with no header.
+///
+/// [`Memory`]: memory was refused.
+pub fn long_owner(alloc: Global, front: &[u8], length: u64) -> Result<Option<String>, Memory>
+    ensures some { IfOk result (λ found. IfSome found (λ text. IsLongOwner front.now length (string_bytes text))) }
+    ensures none { IfOk result (λ found. IsNone found → IsHeadless front.now) }
+{
+    let Some(header) = header_of(alloc, front)? else {
+        return Ok(None);
+    };
+    Ok(Some(long_words(alloc, &header, length)?))
 }

@@ -3,13 +3,16 @@ ghost use Rattle.std.specs.Prelude.{◌≡◌, [], true, false, IfOk, OnOk, OnEr
 ghost use Rattle.disk.specs.Model.{at_rest, CountsFailures};
 ghost use Rattle.disk.specs.System.{with_told, with_read, with_written, with_synced, WroteSome};
 
+use crate::first_error::FirstError;
 use crate::named::NamedFile;
 use crate::system::RealFile;
 use crate::{DeviceFault, Disk};
+use std::alloc::{AllocError, Global};
 use std::fs::{File, OpenOptions};
 use std::io;
 use std::path::Path;
 use std::rt::Files;
+use std::sync::Arc;
 
 /// An open file of the operating system. One process at a time has it open: it holds the file's lock for as long as it
 /// lives.
@@ -22,7 +25,7 @@ pub struct FileDisk {
 }
 
 impl FileDisk {
-    ghost use Rattle.disk.specs.File.{file_failures, is_named};
+    ghost use Rattle.disk.specs.File.{file_failures, is_named, file_done, folder_done};
 
     /// Opens a file for reading and writing. A missing one is made, empty, where `make` says so.
     ///
@@ -40,6 +43,17 @@ impl FileDisk {
         Ok(FileDisk {
             named: NamedFile::new(RealFile::new(file), RealFile::new(folder)),
         })
+    }
+
+    /// From now on the system's error at the first call that fails is kept in what this gives.
+    ///
+    /// An error is that memory was refused: nothing is kept then.
+    pub fn keep_first_error(&mut self, alloc: Global) -> Result<Arc<FirstError>, AllocError>
+        ensures failures { file_failures self.new ≡ file_failures self.old }
+        ensures done { (file_done self.new ≡ file_done self.old) × (folder_done self.new ≡ folder_done self.old) }
+        ensures named { is_named self.new ≡ is_named self.old }
+    {
+        self.named.keep_first_error(alloc)
     }
 }
 

@@ -5,10 +5,13 @@ ghost use Rattle.disk.specs.System.{with_told, with_read, with_written, with_syn
 
 use crate::DeviceFault;
 use crate::failures::{Failure, Failures};
+use crate::first_error::{FirstError, note_for};
 use crate::system::SystemFile;
 use crate::whole::{length_of, read_whole, settle, write_whole};
 use ghost_record::GhostRecord;
+use std::alloc::{AllocError, Global};
 use std::io;
+use std::sync::Arc;
 
 /// An open file, and the folder in which its name stands. Each call that fails is counted.
 #[derive(Drop)]
@@ -18,11 +21,14 @@ pub(crate) struct NamedFile<F: SystemFile> {
     /// Whether a sync has put the folder on the disk, and so the file's name.
     pub(crate) named: bool,
     pub(crate) failures: GhostRecord<Failures>,
+    /// Where the first error of the system is kept, if somebody wants to know it.
+    pub(crate) first: Option<Arc<FirstError>>,
 }
 
-/// The answer to a call of the system.
+/// The answer to a call of the system, whose error is kept for who wants to know it.
 fn answer<T: Drop>(
     failures: &mut GhostRecord<Failures>,
+    first: &Option<Arc<FirstError>>,
     done: io::Result<T>,
 ) -> Result<T, DeviceFault>
     ensures ok { IfOk result (λ value. done ≡ Ok value) }
@@ -31,7 +37,8 @@ fn answer<T: Drop>(
 {
     match done {
         Ok(value) => Ok(value),
-        Err(_) => {
+        Err(error) => {
+            note_for(first, error);
             *failures = failures.then(&Failure);
             Err(DeviceFault)
         }
@@ -51,7 +58,19 @@ impl<F: SystemFile> NamedFile<F> {
             folder,
             named: false,
             failures: GhostRecord::new(),
+            first: None,
         }
+    }
+
+    /// From now on the system's error at the first call that fails is kept in what this gives.
+    pub(crate) fn keep_first_error(&mut self, alloc: Global) -> Result<Arc<FirstError>, AllocError>
+        ensures file { (self.new.file ≡ self.old.file) × (self.new.folder ≡ self.old.folder) }
+        ensures named { self.new.named ≡ self.old.named }
+        ensures failures { self.new.failures ≡ self.old.failures }
+    {
+        let ours = Arc::new(alloc, FirstError::new())?;
+        self.first = Some(ours.clone()?);
+        Ok(ours)
     }
 
     /// How many bytes the file has.
@@ -61,7 +80,7 @@ impl<F: SystemFile> NamedFile<F> {
         ensures cause { CountsFailures self.old.failures.value self.new.failures.value result }
     {
         let length = length_of(&mut self.file);
-        answer(&mut self.failures, length)
+        answer(&mut self.failures, &self.first, length)
     }
 
     /// Fills the buffer with the bytes from a place on.
@@ -71,7 +90,7 @@ impl<F: SystemFile> NamedFile<F> {
         ensures cause { CountsFailures self.old.failures.value self.new.failures.value result }
     {
         let read = read_whole(&mut self.file, at, buf);
-        answer(&mut self.failures, read)
+        answer(&mut self.failures, &self.first, read)
     }
 
     /// Writes the bytes from a place on. After a fault a beginning of them was written.
@@ -82,7 +101,7 @@ impl<F: SystemFile> NamedFile<F> {
         ensures cause { CountsFailures self.old.failures.value self.new.failures.value result }
     {
         let written = write_whole(&mut self.file, at, bytes);
-        answer(&mut self.failures, written)
+        answer(&mut self.failures, &self.first, written)
     }
 
     /// Puts the file on the disk, and the folder too until that has once succeeded.
@@ -94,7 +113,7 @@ impl<F: SystemFile> NamedFile<F> {
         ensures cause { CountsFailures self.old.failures.value self.new.failures.value result }
     {
         let settled = settle_both(&mut self.file, &mut self.folder, self.named);
-        match answer(&mut self.failures, settled) {
+        match answer(&mut self.failures, &self.first, settled) {
             Ok(()) => {
                 self.named = true;
                 Ok(())

@@ -60,6 +60,9 @@ pub trait Operator {
 
     /// Is told why the member can't listen at this address. The run ends with [`RunFault::Listen`] then.
     fn unheard(&mut self, _address: SocketAddr, _error: &io::Error) {}
+
+    /// Is told that the system refused a thread without which the member can't run. The run ends with [`RunFault::Memory`] then.
+    fn unstarted(&mut self) {}
 }
 
 /// Each tosser behind a lock of its own.
@@ -183,6 +186,7 @@ fn run_doors<D: Disk + Send, J: Naming + Send + Sync, O: Operator, R: Machine>(
         let end = if started {
             operator.until_end()
         } else {
+            operator.unstarted();
             Err(RunFault::Memory)
         };
         it.close(rt);

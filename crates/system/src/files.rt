@@ -8,7 +8,7 @@ ghost use Rattle.std.specs.Prelude.{◌≡◌, ◌≢◌, IfErr, codes};
 use crate::fault::Fault;
 use crate::pages::{Page, fault_at, keep_apart, keep_two_apart, write_page};
 use crate::telling::{
-    journal_failure, not_text, script_failure, settings_failure, transcript_failure,
+    journal_failure, long_failure, not_text, script_failure, settings_failure, transcript_failure,
 };
 use crate::trouble::{Failure, Whereabouts};
 use commands::{
@@ -16,7 +16,7 @@ use commands::{
     dump_count, dump_count_object, dump_lines, dump_objects, init_disk, migrate_disks, print_check,
     print_settings, show_simulation,
 };
-use disk::{Disk, FileDisk, MemDisk};
+use disk::{Disk, FileDisk, FirstError, MemDisk};
 use hearing::hear_lines;
 use journal::JournalFault;
 use migration::MigrateFault;
@@ -25,6 +25,7 @@ use settings::{Address, Settings, address_text};
 use std::alloc::{AllocError, Global};
 use std::fs::{self, OpenOptions};
 use std::io::{self, BufReader, BufWriter, LineWriter, Read};
+use std::sync::Arc;
 use terms::{Header, Size};
 use transcripts::audit_text;
 
@@ -108,8 +109,41 @@ fn keep_to_files(rt: &HostRuntime, path: &str) -> Result<(), Failure>
     }
 }
 
+/// The file of a journal, as it is told of.
+#[derive(Drop)]
+pub struct Source<'a> {
+    pub path: &'a str,
+    /// Where the system's error is kept at the first call of the file that fails; none where the file isn't open.
+    pub first_error: Option<Arc<FirstError>>,
+}
+
+impl<'a> Source<'a> {
+    /// What the system said at the first call of the file that failed; none where none has.
+    pub fn error(&self) -> Option<io::Error> {
+        match &self.first_error {
+            Some(first) => first.get(),
+            None => None,
+        }
+    }
+}
+
+/// The disk in the file of a journal, which is a regular file, and what is told of it.
+pub fn open_disk<'a>(
+    rt: &HostRuntime,
+    path: &'a str,
+    purpose: Purpose,
+) -> Result<(FileDisk, Source<'a>), Failure>
+    ensures source { IfOk result (λ opened. opened.1.path.now ≡ path.now) }
+    ensures fault { IfErr result (λ failure. IsMeant ends.File failure.fault) }
+    ensures named { IfErr result (IsNamed path.now) }
+{
+    let mut disk = open_file(rt, path, purpose)?;
+    let first_error = disk.keep_first_error(rt.alloc()).ok();
+    Ok((disk, Source { path, first_error }))
+}
+
 /// The disk in the file of a journal, which is a regular file.
-pub fn open_disk(rt: &HostRuntime, path: &str, purpose: Purpose) -> Result<FileDisk, Failure>
+fn open_file(rt: &HostRuntime, path: &str, purpose: Purpose) -> Result<FileDisk, Failure>
     ensures fault { IfErr result (λ failure. IsMeant ends.File failure.fault) }
     ensures named { IfErr result (IsNamed path.now) }
 {
@@ -138,7 +172,7 @@ pub fn open_disk(rt: &HostRuntime, path: &str, purpose: Purpose) -> Result<FileD
 pub fn init_file(rt: &HostRuntime, path: &str) -> Result<u8, Failure> {
     let settings = read_settings(rt, path)?;
     let journal = settings.journal.as_str();
-    let mut disk = open_disk(rt, journal, Purpose::Make)?;
+    let (mut disk, source) = open_disk(rt, journal, Purpose::Make)?;
     match init_disk(&mut disk, &settings) {
         Ok(status) => Ok(status),
         Err(fault) => {
@@ -146,7 +180,7 @@ pub fn init_file(rt: &HostRuntime, path: &str) -> Result<u8, Failure> {
                 InitFault::NotEmpty => JournalFault::NotEmpty,
                 InitFault::Device => JournalFault::Device,
             };
-            Err(failure_of_journal(rt, journal, Fault::from(fault), found))
+            Err(failure_for(rt, &source, Fault::from(fault), found, None))
         }
     }
 }
@@ -154,38 +188,57 @@ pub fn init_file(rt: &HostRuntime, path: &str) -> Result<u8, Failure> {
 /// The most bytes of a file that are read for a second line: those of more than 2,700,000 records.
 const MOST: u64 = 1 << 24;
 
-/// How many bytes of a journal's file the second line of that fault is told from: where the header is wrong, it and one more;
-/// none where the fault isn't the file's.
-fn needed(found: JournalFault) -> u64 {
+/// How many bytes of a journal's file of that length the second line of that fault is told from: where the header is wrong, it
+/// and one more; of a file that is too long to go through, these too where they tell whose it is. None where the fault isn't
+/// the file's, or a file that is too long goes wrong somewhere.
+fn needed(found: JournalFault, length: u64) -> Option<u64> {
     match found {
-        JournalFault::BadHeader | JournalFault::OtherHeader | JournalFault::OldVersion => 25,
-        JournalFault::NotEmpty | JournalFault::BadRecord | JournalFault::CutShort => MOST,
+        JournalFault::BadHeader | JournalFault::OtherHeader | JournalFault::OldVersion => Some(25),
+        JournalFault::NotEmpty if length > MOST => Some(25),
+        JournalFault::BadRecord | JournalFault::CutShort if length > MOST => None,
+        JournalFault::NotEmpty | JournalFault::BadRecord | JournalFault::CutShort => Some(length),
         JournalFault::Device | JournalFault::Memory | JournalFault::Stopped | JournalFault::Full =>
-            0,
+            None,
     }
 }
 
-/// Whether a file with so many bytes is too long to tell where its batches go wrong.
-fn is_too_long(found: JournalFault, length: u64) -> bool {
-    match found {
-        JournalFault::BadRecord | JournalFault::CutShort => length > MOST,
-        _ => false,
-    }
-}
-
-/// The bytes of the file from which the second line of that fault is told; none where it is no regular file, or too long.
-fn read_needed(rt: &HostRuntime, path: &str, found: JournalFault) -> io::Result<Option<Vec<u8>>> {
+/// The bytes of the file from which the second line of that fault is told, and how many it has; none where it is no regular
+/// file, or too long.
+fn read_needed(
+    rt: &HostRuntime,
+    path: &str,
+    found: JournalFault,
+) -> io::Result<Option<(Vec<u8>, u64)>> {
     let known = fs::metadata(rt, path)?;
-    let most = needed(found);
-    if most == 0 || !known.is_file() || is_too_long(found, known.len()) {
-        return Ok(None);
+    match needed(found, known.len()) {
+        Some(most) if known.is_file() => Ok(Some((read_unlocked(rt, path, most)?, known.len()))),
+        _ => Ok(None),
     }
-    Ok(Some(read_unlocked(rt, path, most)?))
 }
 
-/// The failure of the journal in the file, in which that was found, where the one of this header was asked for, if one was.
-/// Its bytes are read anew, as many as are needed.
+/// The failure of the journal in the file, in which that was found, where the one of this header was asked for, if one was: in
+/// the system's words where a call of the file failed, else by its bytes, which are read anew, as many as are needed.
 pub fn failure_for(
+    rt: &HostRuntime,
+    source: &Source<'_>,
+    fault: Fault,
+    found: JournalFault,
+    asked: Option<&Header>,
+) -> Failure
+    ensures fault { result.fault ≡ fault }
+    ensures named { IsNamed source.now.path.now result }
+{
+    match (found, source.error()) {
+        (JournalFault::Device, Some(error)) => {
+            Failure::at(rt.alloc(), fault, source.path, Whereabouts::Whole, &error)
+        }
+        _ => failure_by_bytes(rt, source.path, fault, found, asked),
+    }
+}
+
+/// The failure of the journal in the file, in which that was found, where the one of this header was asked for, if one was, by
+/// its bytes.
+fn failure_by_bytes(
     rt: &HostRuntime,
     path: &str,
     fault: Fault,
@@ -196,30 +249,30 @@ pub fn failure_for(
     ensures named { IsNamed path.now result }
 {
     match read_needed(rt, path, found) {
-        Ok(Some(bytes)) => journal_failure(rt.alloc(), path, fault, found, asked, &bytes),
+        Ok(Some((bytes, length))) if found == JournalFault::NotEmpty && length > MOST => {
+            long_failure(rt.alloc(), path, fault, &bytes, length)
+        }
+        Ok(Some((bytes, _))) => journal_failure(rt.alloc(), path, fault, found, asked, &bytes),
         _ => Failure::about(rt.alloc(), fault, path),
     }
 }
 
-/// The failure of the journal in the file, in which that was found.
-fn failure_of_journal(rt: &HostRuntime, path: &str, fault: Fault, found: JournalFault) -> Failure
-    ensures fault { result.fault ≡ fault }
-    ensures named { IsNamed path.now result }
-{
-    failure_for(rt, path, fault, found, None)
-}
-
 /// The failure of a journal that was to be printed, counted or checked; the one of this header, if one was asked for. A write
 /// that failed is not the journal's.
-fn dump_failure(rt: &HostRuntime, path: &str, fault: DumpFault, asked: Option<&Header>) -> Failure
+fn dump_failure(
+    rt: &HostRuntime,
+    source: &Source<'_>,
+    fault: DumpFault,
+    asked: Option<&Header>,
+) -> Failure
     ensures fault { result.fault ≡ ends.Dump fault }
-    ensures named { IsNamed path.now result }
+    ensures named { IsNamed source.now.path.now result }
 {
     match fault {
         DumpFault::Journal(found) => {
             failure_for(
                 rt,
-                path,
+                source,
                 Fault::Dump(DumpFault::Journal(found)),
                 found,
                 asked,
@@ -343,7 +396,13 @@ pub fn check_file(rt: &HostRuntime, path: &str, json: bool) -> Result<u8, Failur
             keep_members_apart(rt, &settings)?;
             Ok(status)
         }
-        Err(fault) => Err(dump_failure(rt, journal, fault, Some(&settings.header))),
+        Err(fault) => {
+            let source = Source {
+                path: journal,
+                first_error: None,
+            };
+            Err(dump_failure(rt, &source, fault, Some(&settings.header)))
+        }
     }
 }
 
@@ -362,41 +421,38 @@ fn dump_disk(rt: &HostRuntime, disk: FileDisk, count: bool, json: bool) -> Resul
 pub fn dump_file(rt: &HostRuntime, path: &str, count: bool, json: bool) -> Result<u8, Failure>
     ensures named { IfErr result (IsNamed path.now) }
 {
-    let disk = open_disk(rt, path, Purpose::Look)?;
+    let (disk, source) = open_disk(rt, path, Purpose::Look)?;
     match dump_disk(rt, disk, count, json) {
         Ok(status) => Ok(status),
-        Err(fault) => Err(dump_failure(rt, path, fault, None)),
+        Err(fault) => Err(dump_failure(rt, &source, fault, None)),
     }
 }
 
-/// The failure of a journal that wasn't brought over from the file at `old` to that at `new`.
-fn migration_failure(rt: &HostRuntime, old: &str, new: &str, fault: MigrationFault) -> Failure {
+/// The failure of a journal that wasn't brought over from the old file to the new one.
+fn migration_failure(
+    rt: &HostRuntime,
+    old: &Source<'_>,
+    new: &Source<'_>,
+    fault: MigrationFault,
+) -> Failure {
     let alloc = rt.alloc();
     let MigrationFault::Migrate(why) = fault else {
         return Failure::from(Fault::Migrate(fault));
     };
+    let fault = Fault::Migrate(fault);
     match why {
-        MigrateFault::NotEmpty => {
-            failure_of_journal(rt, new, Fault::Migrate(fault), JournalFault::NotEmpty)
-        }
+        MigrateFault::NotEmpty => failure_for(rt, new, fault, JournalFault::NotEmpty, None),
         MigrateFault::NotOld => {
             let words = "no journal of version 1";
-            Failure::at(
-                alloc,
-                Fault::Migrate(fault),
-                old,
-                Whereabouts::Whole,
-                &words,
-            )
+            Failure::at(alloc, fault, old.path, Whereabouts::Whole, &words)
         }
-        MigrateFault::OtherHeader
-        | MigrateFault::BadRecord
-        | MigrateFault::CutShort
-        | MigrateFault::OldDevice => Failure::about(alloc, Fault::Migrate(fault), old),
-        MigrateFault::NewDevice | MigrateFault::Full => {
-            Failure::about(alloc, Fault::Migrate(fault), new)
+        MigrateFault::OldDevice => failure_for(rt, old, fault, JournalFault::Device, None),
+        MigrateFault::NewDevice => failure_for(rt, new, fault, JournalFault::Device, None),
+        MigrateFault::OtherHeader | MigrateFault::BadRecord | MigrateFault::CutShort => {
+            Failure::about(alloc, fault, old.path)
         }
-        MigrateFault::Memory => Failure::from(Fault::Migrate(fault)),
+        MigrateFault::Full => Failure::about(alloc, fault, new.path),
+        MigrateFault::Memory => Failure::from(fault),
     }
 }
 
@@ -419,14 +475,14 @@ fn unmade(rt: &HostRuntime, new: &str, made: bool, failure: Failure) -> Failure 
 /// [`Fault::SameFile`]: the two paths name one file.
 pub fn migrate_file(rt: &HostRuntime, old: &str, new: &str) -> Result<u8, Failure> {
     keep_two_apart(rt, new, old)?;
-    let mut from = open_disk(rt, old, Purpose::Look)?;
+    let (mut from, old_source) = open_disk(rt, old, Purpose::Look)?;
     let made = fs::metadata(rt, new).is_err();
-    let to = open_disk(rt, new, Purpose::Make)?;
+    let (to, new_source) = open_disk(rt, new, Purpose::Make)?;
     match migrate_disks(rt.alloc(), &mut from, to, &mut io::writer(rt)) {
         Ok(status) => Ok(status),
         Err(MigrationFault::Stream) => Err(Failure::from(Fault::Migrate(MigrationFault::Stream))),
         Err(fault) => {
-            let failure = migration_failure(rt, old, new, fault);
+            let failure = migration_failure(rt, &old_source, &new_source, fault);
             Err(unmade(rt, new, made, failure))
         }
     }

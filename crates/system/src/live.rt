@@ -3,10 +3,10 @@
 ghost use Rattle.system.specs.Sockets.{AreSocketsOf, IsSocketOf};
 ghost use Rattle.system.specs.declared.fault.Fault.TheVariants as ends;
 ghost use Rattle.running.specs.declared.hosts.Hosts.TheVariants as hosts;
-ghost use Rattle.std.specs.Prelude.{◌≡◌, true, false, IfErr, IfOk, Err, Ok};
+ghost use Rattle.std.specs.Prelude.{◌≡◌, true, false, IfErr, IfOk, IfSome, Err, Ok, string_bytes};
 
 use crate::fault::Fault;
-use crate::files::{Purpose, failure_for, open_disk, read_settings};
+use crate::files::{Purpose, Source, failure_for, open_disk, read_settings};
 use crate::input::{Input, read_aside};
 use crate::limits::clients_within;
 use crate::process::{blocks_signals, is_called_off, most_files, warn_of_files};
@@ -158,21 +158,37 @@ impl<'a> Operator for Console<'a> {
         };
         self.trouble = trouble_of(alloc, text.as_str(), Whereabouts::Listen, error);
     }
+
+    fn unstarted(&mut self) {
+        let words = "the system refused one: see `ulimit -u`";
+        self.trouble = trouble_of(self.host.alloc(), "threads", Whereabouts::Whole, &words);
+    }
 }
 
-/// A log on the standard error: a line for each event, by one write, where lines are wanted. It notes that the member is
-/// stopped in any case.
+/// A log on the standard error: a line for each event, by one write, where lines are wanted. That the member is stopped is told
+/// in any case, with what the system said where a call of its journal's file failed, and is noted.
 #[derive(Drop)]
 struct ErrorLog<'a> {
     alloc: Global,
     errors: Stderr,
     prints: bool,
     stopped: &'a AtomicBool,
+    source: &'a Source<'a>,
 }
 
 impl ErrorLog<'_> {
+    /// Prints the line of an event.
     fn print(&mut self, event: &LogEvent) -> io::Result<()> {
         let line = format!(in self.alloc; "{event}\n")?;
+        self.errors.write_all(line.as_bytes())
+    }
+
+    /// Prints that the member is stopped, and why where that is known.
+    fn print_stop(&mut self) -> io::Result<()> {
+        let Some(error) = self.source.error() else {
+            return self.print(&LogEvent::Stopped);
+        };
+        let line = format!(in self.alloc; "{} device: {error}\n", LogEvent::Stopped)?;
         self.errors.write_all(line.as_bytes())
     }
 }
@@ -180,10 +196,23 @@ impl ErrorLog<'_> {
 impl Log for ErrorLog<'_> {
     fn tell(&mut self, event: &LogEvent) {
         if *event == LogEvent::Stopped {
+            let _lost = self.print_stop().is_err();
             self.stopped.store(true, Ordering::SeqCst);
-        }
-        if self.prints {
+        } else if self.prints {
             let _lost = self.print(event).is_err();
+        }
+    }
+}
+
+/// What can be told of the journal of a member that is stopped.
+fn trouble_of_stop(alloc: Global, source: &Source<'_>) -> Option<Trouble>
+    ensures { IfSome result (λ trouble. string_bytes trouble.thing ≡ source.now.path.now) }
+{
+    match source.error() {
+        Some(error) => trouble_of(alloc, source.path, Whereabouts::Whole, &error),
+        None => {
+            let words = "memory was refused, or it is full";
+            trouble_of(alloc, source.path, Whereabouts::Whole, &words)
         }
     }
 }
@@ -250,12 +279,12 @@ pub fn run_file<R: Machine>(
         |_| Fault::Memory,
     )?;
     let journal = settings.journal.as_str();
-    let disk = open_disk(host, journal, Purpose::Run)?;
+    let (disk, source) = open_disk(host, journal, Purpose::Run)?;
     let member = match Member::open(host.alloc(), disk, &settings.header) {
         Ok(member) => member,
         Err(fault) => {
             let asked = Some(&settings.header);
-            return Err(failure_for(host, journal, Fault::from(fault), fault, asked));
+            return Err(failure_for(host, &source, Fault::from(fault), fault, asked));
         }
     };
     if any_host {
@@ -278,6 +307,7 @@ pub fn run_file<R: Machine>(
         errors: host.stderr(),
         prints: log,
         stopped: &stopped,
+        source: &source,
     });
     let run = run_member(
         rt,
@@ -286,7 +316,11 @@ pub fn run_file<R: Machine>(
         addresses,
         settings.seed,
         &mut console,
-        if log || stay { Some(&lines) } else { None },
+        Some(&lines),
     );
-    ended(run, console.trouble)
+    let trouble = match run {
+        Err(RunFault::Stopped) => trouble_of_stop(host.alloc(), &source),
+        _ => console.trouble,
+    };
+    ended(run, trouble)
 }

@@ -6,7 +6,7 @@ ghost use Rattle.system.specs.declared.fault.Fault.TheVariants as ends;
 ghost use Rattle.system.specs.declared.trouble.Whereabouts.TheVariants as whereabouts;
 ghost use Rattle.commands.specs.Asked.{IsSaidOfKey, asked_words};
 ghost use Rattle.commands.specs.Damage.{IsPlaceOf};
-ghost use Rattle.commands.specs.Owners.{IsHeadless, IsNoJournal, IsOtherOwner, IsOwner};
+ghost use Rattle.commands.specs.Owners.{IsHeadless, IsLongOwner, IsNoJournal, IsOtherOwner, IsOwner};
 ghost use Rattle.journal.specs.declared.fault.JournalFault.TheVariants.{NotEmpty, OtherHeader};
 ghost use Rattle.settings.specs.declared.fault.SettingsFault.TheVariants as unset;
 ghost use Rattle.commands.specs.TextLines.{lines_in};
@@ -16,7 +16,7 @@ ghost use Rattle.std.specs.Prelude.{◌≡◌, ◌↔◌, ◌-◌, ◌⊎◌, If
 use crate::fault::Fault;
 use crate::trouble::{Failure, Whereabouts};
 use commands::{
-    SimulateFault, asked_words, bytes_at, fault_place, key_words, line_at, line_of_key,
+    SimulateFault, asked_words, bytes_at, fault_place, key_words, line_at, line_of_key, long_owner,
     other_owner, owner, text_fault,
 };
 use journal::JournalFault;
@@ -168,6 +168,19 @@ fn owner_failure(alloc: Global, path: &str, fault: Fault, file: &[u8]) -> Failur
     match owner(alloc, file) {
         Ok(Some(words)) => Failure::at(alloc, fault, path, Whereabouts::Whole, &words),
         Ok(None) => bytes_failure(alloc, path, fault, JournalFault::NotEmpty, file),
+        Err(_) => Failure::from(fault),
+    }
+}
+
+/// The failure of a file that should have been empty and is too long for its records to be counted, by its first bytes: whose
+/// journal it begins as, or these bytes where it begins as none.
+pub fn long_failure(alloc: Global, path: &str, fault: Fault, front: &[u8], length: u64) -> Failure
+    ensures fault { result.fault ≡ fault }
+    ensures told { IfSome result.trouble (IsTold path.now (IsJournalPlace NotEmpty front.now) (λ words. IsLongOwner front.now length words ⊎ IsHeadless front.now)) }
+{
+    match long_owner(alloc, front, length) {
+        Ok(Some(words)) => Failure::at(alloc, fault, path, Whereabouts::Whole, &words),
+        Ok(None) => bytes_failure(alloc, path, fault, JournalFault::NotEmpty, front),
         Err(_) => Failure::from(fault),
     }
 }

@@ -165,3 +165,16 @@ fn the_folder_of_a_file_is_synced(rt: HostRuntime) {
         assert!(&rt; disk.file.syncs == file && disk.folder.syncs == folder);
     }
 }
+
+/// A file of which one call fails keeps the system's error there, and none that comes later.
+#[test]
+fn the_first_error_is_kept(rt: HostRuntime) {
+    let mut disk = open(Faulty::new(0, 2, ErrorKind::PermissionDenied), sound());
+    let Ok(first) = disk.keep_first_error(rt.alloc()) else {
+        return assert!(&rt; false);
+    };
+    assert!(&rt; disk.len() == Ok(0) && first.get().is_none());
+    assert!(&rt; disk.write_at(0, b"ab") == Err(DeviceFault));
+    assert!(&rt; disk.write_at(0, b"ab") == Err(DeviceFault));
+    assert!(&rt; matches!(first.get(), Some(error) if error.kind() == ErrorKind::PermissionDenied));
+}
