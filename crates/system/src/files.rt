@@ -3,7 +3,7 @@
 ghost use Rattle.system.specs.Faults.{IsMeant};
 ghost use Rattle.system.specs.Troubles.{IsNamed};
 ghost use Rattle.system.specs.declared.fault.Fault.TheVariants as ends;
-ghost use Rattle.std.specs.Prelude.{◌≡◌, ◌≢◌, IfErr, codes};
+ghost use Rattle.std.specs.Prelude.{◌≡◌, ◌≢◌, IfErr, IfOk, codes};
 
 use crate::fault::Fault;
 use crate::pages::{Page, fault_at, keep_apart, keep_two_apart, write_page};
@@ -120,10 +120,26 @@ pub struct Source<'a> {
 impl<'a> Source<'a> {
     /// What the system said at the first call of the file that failed; none where none has.
     pub fn error(&self) -> Option<io::Error> {
+        first_error_in(&self.first_error)
+    }
+
+    /// Where the system's error is kept, for another thread.
+    pub fn shared_error(&self) -> Option<Arc<FirstError>> {
         match &self.first_error {
-            Some(first) => first.get(),
+            Some(first) => {
+                let shared: Result<Arc<FirstError>, AllocError> = first.clone();
+                shared.ok()
+            }
             None => None,
         }
+    }
+}
+
+/// What the system said at the first call of a file that failed, where that is kept.
+pub fn first_error_in(kept: &Option<Arc<FirstError>>) -> Option<io::Error> {
+    match kept {
+        Some(first) => first.get(),
+        None => None,
     }
 }
 

@@ -2,15 +2,17 @@
 
 ghost use Rattle.system.specs.Sockets.{AreSocketsOf, IsSocketOf};
 ghost use Rattle.system.specs.declared.fault.Fault.TheVariants as ends;
+ghost use Rattle.running.specs.declared.fault.RunFault.TheVariants as ends_of_run;
 ghost use Rattle.running.specs.declared.hosts.Hosts.TheVariants as hosts;
-ghost use Rattle.std.specs.Prelude.{◌≡◌, true, false, IfErr, IfOk, IfSome, Err, Ok, string_bytes};
+ghost use Rattle.std.specs.Prelude.{◌≡◌, ◌≢◌, true, false, IfErr, IfOk, IfSome, Err, Ok, string_bytes};
 
 use crate::fault::Fault;
-use crate::files::{Purpose, Source, failure_for, open_disk, read_settings};
+use crate::files::{Purpose, Source, failure_for, first_error_in, open_disk, read_settings};
 use crate::input::{Input, read_aside};
 use crate::limits::clients_within;
 use crate::process::{blocks_signals, is_called_off, most_files, warn_of_files};
 use crate::trouble::{Failure, Trouble, Whereabouts, trouble_of};
+use disk::FirstError;
 use member::Member;
 use running::{Addresses, Hosts, Log, LogEvent, Machine, Operator, RunFault, run_member};
 use settings::{Address, Settings};
@@ -173,7 +175,8 @@ struct ErrorLog<'a> {
     errors: Stderr,
     prints: bool,
     stopped: &'a AtomicBool,
-    source: &'a Source<'a>,
+    /// Where the system's error is kept at the first call of the journal's file that fails.
+    first_error: Option<Arc<FirstError>>,
 }
 
 impl ErrorLog<'_> {
@@ -185,7 +188,7 @@ impl ErrorLog<'_> {
 
     /// Prints that the member is stopped, and why where that is known.
     fn print_stop(&mut self) -> io::Result<()> {
-        let Some(error) = self.source.error() else {
+        let Some(error) = first_error_in(&self.first_error) else {
             return self.print(&LogEvent::Stopped);
         };
         let line = format!(in self.alloc; "{} device: {error}\n", LogEvent::Stopped)?;
@@ -214,6 +217,23 @@ fn trouble_of_stop(alloc: Global, source: &Source<'_>) -> Option<Trouble>
             let words = "memory was refused, or it is full";
             trouble_of(alloc, source.path, Whereabouts::Whole, &words)
         }
+    }
+}
+
+/// What can be told of how a run ended: of its journal where the member is stopped, else what the console was told.
+fn told_at_end(
+    alloc: Global,
+    run: &Result<(), RunFault>,
+    source: &Source<'_>,
+    told: Option<Trouble>,
+) -> Option<Trouble>
+    ensures stopped { run.now ≡ Err ends_of_run.Stopped → IfSome result (λ trouble. string_bytes trouble.thing ≡ source.now.path.now) }
+    ensures other { run.now ≢ Err ends_of_run.Stopped → result ≡ told }
+{
+    match run {
+        Err(RunFault::Stopped) => trouble_of_stop(alloc, source),
+        Ok(())
+        | Err(RunFault::Listen | RunFault::Memory | RunFault::Stream | RunFault::Forgotten) => told,
     }
 }
 
@@ -273,13 +293,24 @@ pub fn run_file<R: Machine>(
     any_host: bool,
 ) -> Result<u8, Failure> {
     let settings = read_settings(host, path)?;
+    run_settings(rt, host, &settings, stay, log, any_host)
+}
+
+/// Runs the member of these settings, as `run_file` says.
+fn run_settings<'a, R: Machine>(
+    rt: &R,
+    host: &'a HostRuntime,
+    settings: &'a Settings,
+    stay: bool,
+    log: bool,
+    any_host: bool,
+) -> Result<u8, Failure> {
     let (limit, n) = (most_files(host), settings.header.size().n());
     let clients = clients_within(limit, n);
-    let addresses = addresses_of(host.alloc(), &settings, any_host, clients).map_err(
+    let addresses = addresses_of(host.alloc(), settings, any_host, clients).map_err(
         |_| Fault::Memory,
     )?;
-    let journal = settings.journal.as_str();
-    let (disk, source) = open_disk(host, journal, Purpose::Run)?;
+    let (disk, source) = open_disk(host, settings.journal.as_str(), Purpose::Run)?;
     let member = match Member::open(host.alloc(), disk, &settings.header) {
         Ok(member) => member,
         Err(fault) => {
@@ -295,7 +326,7 @@ pub fn run_file<R: Machine>(
     let blocked = blocks_signals(host);
     let mut console = Console {
         host,
-        settings: &settings,
+        settings,
         stay,
         blocked,
         input: input_of(rt, host, stay, blocked),
@@ -307,7 +338,7 @@ pub fn run_file<R: Machine>(
         errors: host.stderr(),
         prints: log,
         stopped: &stopped,
-        source: &source,
+        first_error: source.shared_error(),
     });
     let run = run_member(
         rt,
@@ -318,9 +349,7 @@ pub fn run_file<R: Machine>(
         &mut console,
         Some(&lines),
     );
-    let trouble = match run {
-        Err(RunFault::Stopped) => trouble_of_stop(host.alloc(), &source),
-        _ => console.trouble,
-    };
+    let told = console.trouble;
+    let trouble = told_at_end(host.alloc(), &run, &source, told);
     ended(run, trouble)
 }
