@@ -135,7 +135,7 @@ says 'a long journal' 1 $'bracha: journal NotEmpty\nalone.journal: begins as the
     "$program" init alone.toml
 
 # A system that gives no thread is told as such.
-chmod 711 "$room"
+chmod 755 "$room"
 chmod 666 alone.journal
 says 'no threads' 1 $'member 0 ready\nbracha: memory\nthreads: the system refused one: see `ulimit -u`' \
     bash -c 'as=(); if [ "$EUID" = 0 ]; then as=(setpriv --reuid 65534 --regid 65534 --clear-groups); fi
