@@ -91,6 +91,7 @@ impl<D: Disk> Member<D> {
     /// [`MemberFault::NoSuchMember`], the sender or the statement's origin. These change nothing. Then
     /// [`MemberFault::Memory`], [`MemberFault::JournalFull`] and [`MemberFault::Device`], which stop the member; only
     /// `Device` comes after a call of the device was made.
+    #[inline(always)]
     pub fn hear(&mut self, from: u8, s: &Statement, toss: Toss) -> Result<Answer, MemberFault>
         requires sound { IsSound D.Disk self.old }
         ensures sound { IsSound D.Disk self.new }
@@ -158,6 +159,7 @@ impl<D: Disk> Member<D> {
     }
 
     /// Saves what the core answered, or stops.
+    #[inline(always)]
     fn keep(&mut self, answer: Result<Answer, CoreFault>) -> Result<Answer, MemberFault>
         requires few { IfOk answer (λ a. length (records_of (reply_of a)) ≤ 99) }
         requires well_formed { IfOk answer (λ a. AreWellFormedFor (member_header self.old) (records_of (reply_of a))) }

@@ -49,6 +49,7 @@ pub fn say(cells: &mut Touched, size: Size, s: &Statement) -> Result<(), AllocEr
 }
 
 /// Receives a statement at its place: it counts, or is a repeat. Nothing is asked of memory where the place has a cell.
+#[inline(always)]
 pub fn receive(
     cells: &mut Touched,
     size: Size,

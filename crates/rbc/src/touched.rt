@@ -77,6 +77,7 @@ impl Touched {
     }
 
     /// The number of the spot's cell, which is made where it has none. Nothing is asked of memory where it has one.
+    #[inline(always)]
     pub fn reach(&mut self, spot: u16) -> Result<usize, AllocError>
         requires { spot < 8000 }
         ensures same { (other : ℕ) → touched_known self.new other ≡ touched_known self.old other }
@@ -90,6 +91,7 @@ impl Touched {
     }
 
     /// Receives a statement in the cell of that number.
+    #[inline(always)]
     pub fn receive(&mut self, number: usize, size: Size, from: u8, s: &Statement) -> Taken
         requires number { number < length self.old }
         requires from { from < 64 }

@@ -267,6 +267,7 @@ impl Draw {
     }
 
     /// An event of this kind, 0 to 15, of a cluster of this size.
+    #[inline(always)]
     #[tactic(auto, unfolding(crate::specs::Drawing::act_of_kind))]
     fn of_kind(&mut self, alloc: Global, size: Size, kind: u32) -> Result<Event, Memory>
         ensures { IfOk result (λ event. (act_of event, self.new) ≡ drawing.act_of_kind size kind self.old) }
@@ -284,6 +285,7 @@ impl Draw {
     }
 
     /// An event of a cluster of this size.
+    #[inline(always)]
     pub fn event(&mut self, alloc: Global, size: Size) -> Result<Event, Memory>
         ensures { IfOk result (λ event. (act_of event, self.new) ≡ drawing.drawn size self.old) }
     {
@@ -292,6 +294,7 @@ impl Draw {
     }
 
     /// Draws the event's toss, where it takes one.
+    #[inline(always)]
     pub fn toss_into(&mut self, event: &mut Event)
         ensures { (tossed_act event.new, self.new) ≡ drawing.tossed (act_of event.old) self.old }
     {

@@ -103,6 +103,7 @@ impl Cluster {
     ///   before, in order; an event whose plan is to skip it saved nothing.
     /// - `memory`: no error but `Memory` comes. So `Full` never does, whatever was played: all that a correct member may
     ///   ever save has room in its journal.
+    #[inline(always)]
     pub fn play(&mut self, alloc: Global, event: &Event) -> Result<Mark, SimFault>
         ensures stands { (past : Played) (saved : Vec Record) → ClusterStandsFor past self.old → saved.items ≡ last_saved self.new →
             IfOk result (λ mark. ClusterStandsFor (and_then past event.now mark saved) self.new) }
@@ -299,6 +300,7 @@ fn follow(
 
 /// Carries one event out: its mark, and where it wasn't skipped its member, and how many records that had saved before.
 /// Most events are deliveries of one statement, for which nothing else is asked.
+#[inline(always)]
 fn step(
     alloc: Global,
     size: Size,

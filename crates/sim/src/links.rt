@@ -100,6 +100,7 @@ impl Link {
     }
 
     /// Carries a statement as a frame, and gives what comes out at the other end.
+    #[inline(always)]
     pub(crate) fn carry(&mut self, statement: &Statement) -> Result<Option<Statement>, Memory>
         ensures arrives { IsSize self.old.size → IsWellFormed self.old.size statement.now → self.old.end ≡ Rest [] →
             IfOk result (λ arrived. arrived ≡ Some statement.now) }

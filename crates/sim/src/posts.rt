@@ -211,6 +211,7 @@ impl Post {
     }
 
     /// A statement comes to it over the link from its sender, which then has that place.
+    #[inline(always)]
     fn deliver(
         &mut self,
         from: u8,

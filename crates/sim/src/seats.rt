@@ -107,6 +107,7 @@ impl Presence {
     }
 
     /// Lets it hear a statement.
+    #[inline(always)]
     pub(crate) fn hear(
         &mut self,
         fused: bool,

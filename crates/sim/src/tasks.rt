@@ -37,6 +37,7 @@ pub(crate) enum Instruction {
 }
 
 /// The member that an event is for and its task, or the first reason to skip the event.
+#[inline(always)]
 pub(crate) fn plan(size: Size, posts: &[Post], event: &Event) -> Result<(u8, Instruction), Reason>
     requires ready { AreReady size posts.now }
     ensures plan { (liars : ℕ → Bool) (c : Scene) → IsCluster size liars c posts.now → result ≡ plan_of size liars c event.now }

@@ -70,6 +70,7 @@ impl Votes {
     }
 
     /// The votes with one more, the member's.
+    #[inline(always)]
     pub fn with(self, member: u8, value: Value) -> Votes
         requires { member < 64 }
         ensures votes { result ≡ with_vote self member value }
