@@ -134,11 +134,17 @@ truncate -s 20M alone.journal
 says 'a long journal' 1 $'bracha: journal NotEmpty\nalone.journal: begins as the journal of member 0 of cluster 7 and has 20971520 bytes' \
     "$program" init alone.toml
 
-# A system that gives no thread is told as such.
+# A system that gives no thread is told as such. The limit holds for no root, so root tries it as nobody, where that can be.
 chmod 755 "$room"
+chmod 644 alone.toml
 chmod 666 alone.journal
-says 'no threads' 1 $'member 0 ready\nbracha: memory\nthreads: the system refused one: see `ulimit -u`' \
-    bash -c 'as=(); if [ "$EUID" = 0 ]; then as=(setpriv --reuid 65534 --regid 65534 --clear-groups); fi
-    chmod 644 alone.toml; exec timeout 60 "${as[@]}" prlimit --nproc=1 "$0" run --stay alone.toml' "$program"
+as=()
+if [ "$EUID" = 0 ]; then as=(setpriv --reuid 65534 --regid 65534 --clear-groups); fi
+alone=("${as[@]}" prlimit --nproc=1 "$room/to/usr/bin/bracha")
+if "${alone[@]}" --version >/dev/null 2>&1; then
+    says 'no threads' 1 $'member 0 ready\nbracha: memory\nthreads: the system refused one: see `ulimit -u`' timeout 60 "${alone[@]}" run --stay alone.toml
+else
+    echo 'no threads: not tried, since nobody can start the program here'
+fi
 echo "$passed passed, $failed failed"
 [ "$failed" = 0 ]
