@@ -44,7 +44,16 @@ class Desk:
 
     def say(self, lines):
         self.socket.sendall("".join(f"{it}\n" for it in lines).encode())
-        return [self.replies.readline().rstrip("\n") for _ in lines]
+
+    def hear(self, count):
+        return [self.replies.readline().rstrip("\n") for _ in range(count)]
+
+
+def say_to_all(desks, lines):
+    """Says the lines to every desk, and only then waits for what each of them replies."""
+    for desk in desks:
+        desk.say(lines)
+    return [desk.hear(len(lines)) for desk in desks]
 
 
 def linked(folder, n):
@@ -68,9 +77,8 @@ def decide(desks, questions, width):
         for question in fresh:
             began[question] = time.perf_counter()
         open_now += fresh
-        for desk in desks:
-            desk.say([f"PROPOSE {it} {it % 2}" for it in fresh])
-        told = [desk.say([f"ASK {it}" for it in open_now]) for desk in desks]
+        say_to_all(desks, [f"PROPOSE {it} {it % 2}" for it in fresh])
+        told = say_to_all(desks, [f"ASK {it}" for it in open_now])
         done = [q for at, q in enumerate(open_now) if all(it[at] == f"DECIDED {q % 2}" for it in told)]
         wrong = [q for at, q in enumerate(open_now) if any(it[at] == f"DECIDED {1 - q % 2}" for it in told)]
         if wrong:

@@ -70,6 +70,94 @@ fn are_served<D: Disk + Send, J: Naming + Send + Sync, R: Threads + Wait + Clock
     Ok(())
 }
 
+/// The book is lent for more than half a second, as to a client.
+fn lend<D: Disk, J: Naming, R: Wait + Clock>(rt: &R, hub: &Hub<D, J>) {
+    let _book = hub.lock(rt);
+    thread::sleep(rt, Duration::from_millis(600));
+}
+
+/// Hands one statement in after so many milliseconds, and says whether it was taken and counts for the seat.
+fn hands_in_after<D: Disk, J: Naming, R: Wait + Clock>(
+    rt: &R,
+    hub: &Hub<D, J>,
+    seat: &mut Seat,
+    said: Statement,
+    wait: u64,
+) -> bool {
+    thread::sleep(rt, Duration::from_millis(wait));
+    hands_in(rt, hub, seat, said)
+}
+
+/// While the book is lent two links hand a statement each in, one a fifth of a second behind the other.
+fn both_hand_in_meanwhile<
+    D: Disk + Send,
+    J: Naming + Send + Sync,
+    R: Threads + Wait + Clock + Sync,
+>(
+    rt: &R,
+    hub: &Hub<D, J>,
+    one: &mut Seat,
+    said: Statement,
+    other: &mut Seat,
+    too: Statement,
+) -> bool {
+    let hand_in = || {
+        join(
+            rt,
+            || hands_in_after(rt, hub, one, said, 200),
+            || hands_in_after(rt, hub, other, too, 400),
+        )
+    };
+    let ((), (first, second)) = join(rt, || lend(rt, hub), hand_in);
+    hub.shut(rt);
+    first && second
+}
+
+/// Two links hand in while the book is lent; a thread serves the line, ten milliseconds behind what comes into it, or none.
+fn are_answered<D: Disk + Send, J: Naming + Send + Sync, R: Threads + Wait + Clock + Abort + Sync>(
+    rt: &R,
+    hub: &Hub<D, J>,
+    rack: &Rack,
+    has_server: bool,
+) -> Result<(), Fail> {
+    let mut one = take(rt, rack, 0)?;
+    let mut other = take(rt, rack, 2)?;
+    let said = at(0, 0, Initial, One)?;
+    let too = at(0, 2, Initial, Zero)?;
+    let serve = || {
+        if has_server {
+            hub.serve_on(rt, || thread::sleep(rt, Duration::from_millis(10)))
+        }
+    };
+    let ((), handed) = join(
+        rt,
+        serve,
+        || both_hand_in_meanwhile(rt, hub, &mut one, said, &mut other, too),
+    );
+    rack.put(rt, one);
+    rack.put(rt, other);
+    assert!(rt; handed && hub.lock(rt).events() == 2 && hub.said(rt) == 2);
+    Ok(())
+}
+
+/// The same of member 1 of four, over a file.
+fn answers<J: Naming + Send + Sync, R: Threads + Wait + Clock + Abort + AllocGlobal + Sync>(
+    rt: &R,
+    disk: FileDisk,
+    board: Arc<Board>,
+    has_server: bool,
+) -> Result<(), Fail>
+    requires names { arc_value board ≡ J.names }
+    requires header { J.header ≡ new_header 7 (new_size 4 1 1) 1 }
+    requires cells { length (arc_value board) ≡ 1 }
+{
+    let header = header(4, 1, 1, 1)?;
+    let (hub, rack) = open::<FileDisk, J>(rt.alloc(), disk, &header, false, board)?;
+    are_answered(rt, &hub, &rack, has_server)?;
+    assert!(rt; closes(hub, rack.into_seats()));
+    Ok(())
+}
+
 /// Member 1 of four, over a file.
 fn is_one_batch<J: Naming + Send + Sync, R: Threads + Wait + Clock + Abort + AllocGlobal + Sync>(
     rt: &R,
@@ -95,6 +183,32 @@ fn what_links_hand_in_at_once_is_one_batch(rt: HostRuntime) -> Result<(), Fail> 
     is_one_batch::<Brand, _>(&rt, disk, board(&rt, 1)?)?;
     // A header of 24 bytes, one batch of two records of 6, and the gate behind it.
     assert!(&rt; fs::metadata(&rt, path)?.len() == 24 + 3 + 12 + 1);
+    fs::remove_file(&rt, path)?;
+    Ok(())
+}
+
+/// The thread that serves the line waits until others have done with the book, so what came meanwhile is one batch.
+#[test]
+fn what_links_hand_in_while_the_book_is_lent_is_one_batch(rt: HostRuntime) -> Result<(), Fail> {
+    let path = "lent_tests_file";
+    let _ = fs::remove_file(&rt, path);
+    let disk = FileDisk::open(&rt, path, true)?;
+    answers::<Brand, _>(&rt, disk, board(&rt, 1)?, true)?;
+    // A header of 24 bytes, one batch of two records of 6, and the gate behind it.
+    assert!(&rt; fs::metadata(&rt, path)?.len() == 24 + 3 + 12 + 1);
+    fs::remove_file(&rt, path)?;
+    Ok(())
+}
+
+/// Where no thread serves the line the first link does, and wakes the second one to serve it next: two batches.
+#[test]
+fn a_link_that_waits_for_another_serves_the_line_next(rt: HostRuntime) -> Result<(), Fail> {
+    let path = "unserved_tests_file";
+    let _ = fs::remove_file(&rt, path);
+    let disk = FileDisk::open(&rt, path, true)?;
+    answers::<Brand, _>(&rt, disk, board(&rt, 1)?, false)?;
+    // A header of 24 bytes, two batches of one record of 6, and the gate behind them.
+    assert!(&rt; fs::metadata(&rt, path)?.len() == 24 + 2 * (3 + 6) + 1);
     fs::remove_file(&rt, path)?;
     Ok(())
 }
