@@ -87,7 +87,7 @@ def decide(desks, questions, width):
         took += [now - began[it] for it in done]
         open_now = [it for it in open_now if it not in done]
         if not done:
-            time.sleep(0.0005)
+            time.sleep(0.00003 * len(desks) ** 2)
     return took
 
 

@@ -178,23 +178,6 @@ impl<D> Line<D> {
         }
     }
 
-    /// Whom to wake behind a group, a bit for each link, the lowest of them that of link 0: those that were answered, and all
-    /// of them where they serve the line themselves.
-    pub(crate) fn to_wake(&self) -> u64 {
-        if !self.has_server {
-            return u64::MAX;
-        }
-        let mut links = 0u64;
-        let mut bit = 1u64;
-        for slot in &self.slots {
-            if slot.is_answered() {
-                links |= bit;
-            }
-            bit <<= 1;
-        }
-        links
-    }
-
     /// Refuses what waits for want of memory.
     fn refuse(&mut self) {
         for slot in self.slots.iter_mut() {
@@ -207,11 +190,6 @@ impl<D> Slot<D> {
     /// Whether something waits there.
     fn waits(&self) -> bool {
         matches!(self, Slot::Waits(_))
-    }
-
-    /// Whether the book has answered.
-    fn is_answered(&self) -> bool {
-        matches!(self, Slot::Answered(_))
     }
 
     /// What came of these statements of the peer, if they were answered.
