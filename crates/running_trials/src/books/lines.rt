@@ -140,12 +140,23 @@ fn are_answered<D: Disk + Send, J: Naming + Send + Sync, R: Threads + Wait + Clo
     Ok(())
 }
 
-/// The same of member 1 of four, over a file.
-fn answers<J: Naming + Send + Sync, R: Threads + Wait + Clock + Abort + AllocGlobal + Sync>(
+/// How two links hand in, and who serves the line.
+#[derive(Clone, Copy)]
+enum Scene {
+    /// At the same time; a thread serves the line half a second later.
+    AtOnce,
+    /// One behind the other, while the book is lent; a thread serves the line.
+    Lent,
+    /// The same, and no thread serves the line.
+    Unserved,
+}
+
+/// Plays it with member 1 of four, over a file.
+fn play<J: Naming + Send + Sync, R: Threads + Wait + Clock + Abort + AllocGlobal + Sync>(
     rt: &R,
     disk: FileDisk,
     board: Arc<Board>,
-    has_server: bool,
+    scene: Scene,
 ) -> Result<(), Fail>
     requires names { arc_value board ≡ J.names }
     requires header { J.header ≡ new_header 7 (new_size 4 1 1) 1 }
@@ -153,62 +164,45 @@ fn answers<J: Naming + Send + Sync, R: Threads + Wait + Clock + Abort + AllocGlo
 {
     let header = header(4, 1, 1, 1)?;
     let (hub, rack) = open::<FileDisk, J>(rt.alloc(), disk, &header, false, board)?;
-    are_answered(rt, &hub, &rack, has_server)?;
+    match scene {
+        Scene::AtOnce => are_served(rt, &hub, &rack)?,
+        Scene::Lent => are_answered(rt, &hub, &rack, true)?,
+        Scene::Unserved => are_answered(rt, &hub, &rack, false)?,
+    }
     assert!(rt; closes(hub, rack.into_seats()));
     Ok(())
 }
 
-/// Member 1 of four, over a file.
-fn is_one_batch<J: Naming + Send + Sync, R: Threads + Wait + Clock + Abort + AllocGlobal + Sync>(
-    rt: &R,
-    disk: FileDisk,
-    board: Arc<Board>,
-) -> Result<(), Fail>
-    requires names { arc_value board ≡ J.names }
-    requires header { J.header ≡ new_header 7 (new_size 4 1 1) 1 }
-    requires cells { length (arc_value board) ≡ 1 }
-{
-    let header = header(4, 1, 1, 1)?;
-    let (hub, rack) = open::<FileDisk, J>(rt.alloc(), disk, &header, false, board)?;
-    are_served(rt, &hub, &rack)?;
-    assert!(rt; closes(hub, rack.into_seats()));
-    Ok(())
+/// How many bytes the file of a new member has behind it.
+fn length_after(rt: &HostRuntime, path: &str, scene: Scene) -> Result<u64, Fail> {
+    let _ = fs::remove_file(rt, path);
+    let disk = FileDisk::open(rt, path, true)?;
+    play::<Brand, _>(rt, disk, board(rt, 1)?, scene)?;
+    let length = fs::metadata(rt, path)?.len();
+    fs::remove_file(rt, path)?;
+    Ok(length)
 }
+
+// A header has 24 bytes, a batch of c records 3 + 6 * c, and the gate behind the last one is one byte.
 
 #[test]
 fn what_links_hand_in_at_once_is_one_batch(rt: HostRuntime) -> Result<(), Fail> {
-    let path = "lines_tests_file";
-    let _ = fs::remove_file(&rt, path);
-    let disk = FileDisk::open(&rt, path, true)?;
-    is_one_batch::<Brand, _>(&rt, disk, board(&rt, 1)?)?;
-    // A header of 24 bytes, one batch of two records of 6, and the gate behind it.
-    assert!(&rt; fs::metadata(&rt, path)?.len() == 24 + 3 + 12 + 1);
-    fs::remove_file(&rt, path)?;
+    assert!(&rt; length_after(&rt, "lines_tests_file", Scene::AtOnce)? == 24 + 3 + 12 + 1);
     Ok(())
 }
 
 /// The thread that serves the line waits until others have done with the book, so what came meanwhile is one batch.
 #[test]
 fn what_links_hand_in_while_the_book_is_lent_is_one_batch(rt: HostRuntime) -> Result<(), Fail> {
-    let path = "lent_tests_file";
-    let _ = fs::remove_file(&rt, path);
-    let disk = FileDisk::open(&rt, path, true)?;
-    answers::<Brand, _>(&rt, disk, board(&rt, 1)?, true)?;
-    // A header of 24 bytes, one batch of two records of 6, and the gate behind it.
-    assert!(&rt; fs::metadata(&rt, path)?.len() == 24 + 3 + 12 + 1);
-    fs::remove_file(&rt, path)?;
+    assert!(&rt; length_after(&rt, "lent_tests_file", Scene::Lent)? == 24 + 3 + 12 + 1);
     Ok(())
 }
 
 /// Where no thread serves the line the first link does, and wakes the second one to serve it next: two batches.
 #[test]
 fn a_link_that_waits_for_another_serves_the_line_next(rt: HostRuntime) -> Result<(), Fail> {
-    let path = "unserved_tests_file";
-    let _ = fs::remove_file(&rt, path);
-    let disk = FileDisk::open(&rt, path, true)?;
-    answers::<Brand, _>(&rt, disk, board(&rt, 1)?, false)?;
-    // A header of 24 bytes, two batches of one record of 6, and the gate behind them.
-    assert!(&rt; fs::metadata(&rt, path)?.len() == 24 + 2 * (3 + 6) + 1);
-    fs::remove_file(&rt, path)?;
+    assert!(&rt;
+        length_after(&rt, "unserved_tests_file", Scene::Unserved)? == 24 + 2 * (3 + 6) + 1
+    );
     Ok(())
 }
