@@ -49,27 +49,6 @@ fn both_hand_in<D: Disk + Send, J: Naming + Send + Sync, R: Threads + Wait + Clo
     first && second
 }
 
-/// A thread serves the line, half a second behind what comes into it, while two links hand in.
-fn are_served<D: Disk + Send, J: Naming + Send + Sync, R: Threads + Wait + Clock + Abort + Sync>(
-    rt: &R,
-    hub: &Hub<D, J>,
-    rack: &Rack,
-) -> Result<(), Fail> {
-    let mut one = take(rt, rack, 0)?;
-    let mut other = take(rt, rack, 2)?;
-    let said = at(0, 0, Initial, One)?;
-    let too = at(0, 2, Initial, Zero)?;
-    let ((), handed) = join(
-        rt,
-        || hub.serve_on(rt, || thread::sleep(rt, Duration::from_millis(500))),
-        || both_hand_in(rt, hub, &mut one, said, &mut other, too),
-    );
-    rack.put(rt, one);
-    rack.put(rt, other);
-    assert!(rt; handed && hub.lock(rt).events() == 2 && hub.said(rt) == 2);
-    Ok(())
-}
-
 /// The book is lent for more than half a second, as to a client.
 fn lend<D: Disk, J: Naming, R: Wait + Clock>(rt: &R, hub: &Hub<D, J>) {
     let _book = hub.lock(rt);
@@ -113,33 +92,6 @@ fn both_hand_in_meanwhile<
     first && second
 }
 
-/// Two links hand in while the book is lent; a thread serves the line, ten milliseconds behind what comes into it, or none.
-fn are_answered<D: Disk + Send, J: Naming + Send + Sync, R: Threads + Wait + Clock + Abort + Sync>(
-    rt: &R,
-    hub: &Hub<D, J>,
-    rack: &Rack,
-    has_server: bool,
-) -> Result<(), Fail> {
-    let mut one = take(rt, rack, 0)?;
-    let mut other = take(rt, rack, 2)?;
-    let said = at(0, 0, Initial, One)?;
-    let too = at(0, 2, Initial, Zero)?;
-    let serve = || {
-        if has_server {
-            hub.serve_on(rt, || thread::sleep(rt, Duration::from_millis(10)))
-        }
-    };
-    let ((), handed) = join(
-        rt,
-        serve,
-        || both_hand_in_meanwhile(rt, hub, &mut one, said, &mut other, too),
-    );
-    rack.put(rt, one);
-    rack.put(rt, other);
-    assert!(rt; handed && hub.lock(rt).events() == 2 && hub.said(rt) == 2);
-    Ok(())
-}
-
 /// How two links hand in, and who serves the line.
 #[derive(Clone, Copy)]
 enum Scene {
@@ -149,6 +101,40 @@ enum Scene {
     Lent,
     /// The same, and no thread serves the line.
     Unserved,
+}
+
+/// Serves the line so many milliseconds behind what comes into it, as the scene says, or not at all.
+fn serve<D: Disk, J: Naming, R: Wait + Clock>(rt: &R, hub: &Hub<D, J>, scene: Scene) {
+    let behind = match scene {
+        Scene::AtOnce => 500,
+        Scene::Lent => 10,
+        Scene::Unserved => return,
+    };
+    hub.serve_on(rt, || thread::sleep(rt, Duration::from_millis(behind)));
+}
+
+/// Two links hand in as the scene says.
+fn are_answered<D: Disk + Send, J: Naming + Send + Sync, R: Threads + Wait + Clock + Abort + Sync>(
+    rt: &R,
+    hub: &Hub<D, J>,
+    rack: &Rack,
+    scene: Scene,
+) -> Result<(), Fail> {
+    let mut one = take(rt, rack, 0)?;
+    let mut other = take(rt, rack, 2)?;
+    let said = at(0, 0, Initial, One)?;
+    let too = at(0, 2, Initial, Zero)?;
+    let hand_in = || match scene {
+        Scene::AtOnce => both_hand_in(rt, hub, &mut one, said, &mut other, too),
+        Scene::Lent | Scene::Unserved => {
+            both_hand_in_meanwhile(rt, hub, &mut one, said, &mut other, too)
+        }
+    };
+    let ((), handed) = join(rt, || serve(rt, hub, scene), hand_in);
+    rack.put(rt, one);
+    rack.put(rt, other);
+    assert!(rt; handed && hub.lock(rt).events() == 2 && hub.said(rt) == 2);
+    Ok(())
 }
 
 /// Plays it with member 1 of four, over a file.
@@ -164,11 +150,7 @@ fn play<J: Naming + Send + Sync, R: Threads + Wait + Clock + Abort + AllocGlobal
 {
     let header = header(4, 1, 1, 1)?;
     let (hub, rack) = open::<FileDisk, J>(rt.alloc(), disk, &header, false, board)?;
-    match scene {
-        Scene::AtOnce => are_served(rt, &hub, &rack)?,
-        Scene::Lent => are_answered(rt, &hub, &rack, true)?,
-        Scene::Unserved => are_answered(rt, &hub, &rack, false)?,
-    }
+    are_answered(rt, &hub, &rack, scene)?;
     assert!(rt; closes(hub, rack.into_seats()));
     Ok(())
 }
