@@ -155,11 +155,14 @@ fn play<J: Naming + Send + Sync, R: Threads + Wait + Clock + Abort + AllocGlobal
     Ok(())
 }
 
-/// How many bytes the file of a new member has behind it.
-fn length_after(rt: &HostRuntime, path: &str, scene: Scene) -> Result<u64, Fail> {
+/// A disk over a new file.
+fn new_file(rt: &HostRuntime, path: &str) -> Result<FileDisk, Fail> {
     let _ = fs::remove_file(rt, path);
-    let disk = FileDisk::open(rt, path, true)?;
-    play::<Brand, _>(rt, disk, board(rt, 1)?, scene)?;
+    Ok(FileDisk::open(rt, path, true)?)
+}
+
+/// How many bytes the file has, which is removed.
+fn length_of(rt: &HostRuntime, path: &str) -> Result<u64, Fail> {
     let length = fs::metadata(rt, path)?.len();
     fs::remove_file(rt, path)?;
     Ok(length)
@@ -169,22 +172,29 @@ fn length_after(rt: &HostRuntime, path: &str, scene: Scene) -> Result<u64, Fail>
 
 #[test]
 fn what_links_hand_in_at_once_is_one_batch(rt: HostRuntime) -> Result<(), Fail> {
-    assert!(&rt; length_after(&rt, "lines_tests_file", Scene::AtOnce)? == 24 + 3 + 12 + 1);
+    let path = "lines_tests_file";
+    let disk = new_file(&rt, path)?;
+    play::<Brand, _>(&rt, disk, board(&rt, 1)?, Scene::AtOnce)?;
+    assert!(&rt; length_of(&rt, path)? == 24 + 3 + 12 + 1);
     Ok(())
 }
 
 /// The thread that serves the line waits until others have done with the book, so what came meanwhile is one batch.
 #[test]
 fn what_links_hand_in_while_the_book_is_lent_is_one_batch(rt: HostRuntime) -> Result<(), Fail> {
-    assert!(&rt; length_after(&rt, "lent_tests_file", Scene::Lent)? == 24 + 3 + 12 + 1);
+    let path = "lent_tests_file";
+    let disk = new_file(&rt, path)?;
+    play::<Brand, _>(&rt, disk, board(&rt, 1)?, Scene::Lent)?;
+    assert!(&rt; length_of(&rt, path)? == 24 + 3 + 12 + 1);
     Ok(())
 }
 
 /// Where no thread serves the line the first link does, and wakes the second one to serve it next: two batches.
 #[test]
 fn a_link_that_waits_for_another_serves_the_line_next(rt: HostRuntime) -> Result<(), Fail> {
-    assert!(&rt;
-        length_after(&rt, "unserved_tests_file", Scene::Unserved)? == 24 + 2 * (3 + 6) + 1
-    );
+    let path = "unserved_tests_file";
+    let disk = new_file(&rt, path)?;
+    play::<Brand, _>(&rt, disk, board(&rt, 1)?, Scene::Unserved)?;
+    assert!(&rt; length_of(&rt, path)? == 24 + 2 * (3 + 6) + 1);
     Ok(())
 }
