@@ -1,14 +1,18 @@
 #!/usr/bin/env python3
 """What each part costs: processor time (user and system, the best of five), what that makes a second, and memory at its peak.
 
-    bench/table.py [PROGRAM]               whole simulations; PROGRAM is by default crates/bracha/out/bracha, which
-                                           `rt run` makes in crates/bracha
-    bench/table.py --libraries [PROGRAM]   the decoder, a member's core and batches on a real file too: their crates
+    bench/table.py [PROGRAM [OTHER]]       whole simulations; PROGRAM is by default crates/bracha/out/bracha, which
+                                           `rt run` makes in crates/bracha. OTHER is another program that takes the
+                                           same words, run in turns with it: a row of its own, and the ratio
+    bench/table.py --instructions ..       instructions an event instead (valgrind's callgrind), by the difference of a
+                                           script and one three times as long, which other work doesn't move
+    bench/table.py --libraries ..          the decoder, a member's core and batches on a real file too: their crates
                                            are proved and built in a copy first, which takes some twenty minutes
 
 The row of the file is wall time, beside the bare writes and syncs of the same bytes on the same disk.
 """
 import os
+import re
 import shutil
 import subprocess
 import sys
@@ -36,9 +40,12 @@ def spent(words, folder):
     return used.ru_utime + used.ru_stime, time.monotonic() - start, used.ru_maxrss / 1024, told[-1] if told else ""
 
 
-def best(words, folder=ROOT):
-    runs = [spent(words, folder) for _ in range(TRIES)]
+def best_of(runs):
     return min(it[0] for it in runs), min(it[1] for it in runs), max(it[2] for it in runs), runs[0][3]
+
+
+def best(words, folder=ROOT):
+    return best_of([spent(words, folder) for _ in range(TRIES)])
 
 
 def row(name, seconds, count, unit, peak):
@@ -56,18 +63,49 @@ def rounds(n, t, questions):
     return [*head(n, t, questions), f"rounds {(6 + 12 * n) * questions}"]
 
 
-def simulations(program, room):
-    rows = [
-        ("simulate, random events, n 4, one question", [*head(4, 1, 1), "random 999996"]),
-        ("simulate, rounds, n 7, 200 questions", rounds(7, 2, 200)),
-        ("simulate, rounds, n 16, 19 questions", rounds(16, 5, 19)),
-        ("simulate, random events, n 7, one question", [*head(7, 2, 1), "random 999993"]),
+def scripts(part=1):
+    """The simulations of the table, or those of a part of their length."""
+    return [
+        ("random events, n 4, one question", [*head(4, 1, 1), f"random {int(999996 * part)}"]),
+        ("rounds, n 7, 200 questions", rounds(7, 2, int(200 * part))),
+        ("rounds, n 16, 19 questions", rounds(16, 5, max(2, int(19 * part)))),
+        ("random events, n 7, one question", [*head(7, 2, 1), f"random {int(999993 * part)}"]),
     ]
-    for name, lines in rows:
-        with open(f"{room}/script", "w", encoding="utf-8") as script:
-            script.write("\n".join(lines) + "\n")
-        seconds, _, peak, told = best([program, "simulate", f"{room}/script"])
-        row(name, seconds, int(told.split()[1]), "events", peak)
+
+
+def written(room, lines):
+    path = f"{room}/script"
+    with open(path, "w", encoding="utf-8") as script:
+        script.write("\n".join(lines) + "\n")
+    return path
+
+
+def simulations(programs, room):
+    for name, lines in scripts():
+        path = written(room, lines)
+        turns = [[spent([it, "simulate", path], ROOT) for it in programs] for _ in range(TRIES)]
+        bests = [best_of(runs) for runs in zip(*turns)]
+        for at, (seconds, _, peak, told) in enumerate(bests):
+            row(f"simulate, {name}" if not at else "  the other program", seconds, int(told.split()[1]), "events", peak)
+        if len(bests) > 1:
+            print(f"  ratio of their times{bests[1][0] / bests[0][0]:35.2f}", flush=True)
+
+
+def counted(program, room, lines):
+    """The instructions of one run, and how many events it says that there were."""
+    words = ["valgrind", "--tool=callgrind", "--callgrind-out-file=/dev/null", program, "simulate", written(room, lines)]
+    run = subprocess.run(words, stdin=subprocess.DEVNULL, capture_output=True, text=True)
+    found = re.search(r"Collected : (\d+)", run.stderr)
+    if run.returncode or not found:
+        sys.exit(f"{' '.join(words)} ended with status {run.returncode}:\n{run.stderr}")
+    return int(found[1]), int(run.stdout.strip().splitlines()[-1].split()[1])
+
+
+def instructions(programs, room):
+    for (name, short), (_, long) in zip(scripts(0.1), scripts(0.3)):
+        for at, program in enumerate(programs):
+            (few, first), (many, last) = counted(program, room, short), counted(program, room, long)
+            print(f"{name if not at else '  the other program':<44}{(many - few) / (last - first):9.0f} instructions an event", flush=True)
 
 
 def built(room, crates, tests):
@@ -122,13 +160,17 @@ def bare_writes(path):
 
 
 def main():
-    words = [it for it in sys.argv[1:] if it != "--libraries"]
-    if any(it.startswith("-") for it in words) or len(words) > 1:
+    options = [it for it in sys.argv[1:] if it.startswith("-")]
+    programs = [os.path.abspath(it) for it in sys.argv[1:] if not it.startswith("-")]
+    if not {"--instructions", "--libraries"}.issuperset(options) or len(programs) > 2:
         sys.exit(__doc__)
-    program = os.path.abspath(words[0] if words else f"{ROOT}/crates/bracha/out/bracha")
+    programs = programs or [f"{ROOT}/crates/bracha/out/bracha"]
     with tempfile.TemporaryDirectory() as room:
-        simulations(program, room)
-        if "--libraries" in sys.argv:
+        if "--instructions" in options:
+            instructions(programs, room)
+            return
+        simulations(programs, room)
+        if "--libraries" in options:
             libraries(room)
 
 
