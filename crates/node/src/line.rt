@@ -17,6 +17,9 @@ use std::marker::{Model, PhantomData};
 use std::mem::replace;
 use terms::{Memory, Statement};
 
+/// For how many groups in a row the bell isn't rung, at most.
+const QUIET: u32 = 7;
+
 /// A group and what came of it.
 #[derive(Drop)]
 pub(crate) struct Heard<D> {
@@ -74,6 +77,8 @@ pub(crate) struct Line<D> {
     slots: Vec<Slot<D>>,
     /// The place with which the next group begins, so that each link has its turn.
     first: usize,
+    /// How many groups in a row were taken for which the bell isn't rung.
+    quiet: u32,
     /// Whether a thread serves the line at this moment.
     pub(crate) is_busy: bool,
     /// Whether a thread of its own serves the line. Links then wait for it, and don't serve it themselves.
@@ -90,6 +95,7 @@ impl<D> Line<D> {
         Ok(Line {
             slots,
             first: 0,
+            quiet: 0,
             is_busy: false,
             has_server: false,
         })
@@ -135,6 +141,19 @@ impl<D> Line<D> {
         batch
     }
 
+    /// Whether the bell is to ring for the group that was taken last: not while more waits than that had room for, which is
+    /// the next group, but at most 7 times in a row. So writers are woken less often where there is much to say, and each of
+    /// them has more to send.
+    pub(crate) fn is_to_ring(&mut self) -> bool {
+        let rings = !self.has_waiting() || self.quiet >= QUIET;
+        self.quiet = if rings {
+            0
+        } else {
+            self.quiet.saturating_add(1)
+        };
+        rings
+    }
+
     /// Moves what waits at a place into a group, if it has room; says whether it did.
     fn move_to(&mut self, batch: &mut Batch, at: usize) -> bool {
         let Some(slot) = self.slots.get_mut(at) else {
@@ -178,6 +197,23 @@ impl<D> Line<D> {
         }
     }
 
+    /// Whom to wake behind a group, a bit for each link, the lowest of them that of link 0: those that were answered, and all
+    /// where they serve the line themselves.
+    pub(crate) fn to_wake(&self) -> u64 {
+        if !self.has_server {
+            return u64::MAX;
+        }
+        let mut links = 0;
+        let mut bit = 1u64;
+        for slot in &self.slots {
+            if slot.is_answered() {
+                links |= bit;
+            }
+            bit <<= 1;
+        }
+        links
+    }
+
     /// Refuses what waits for want of memory.
     fn refuse(&mut self) {
         for slot in self.slots.iter_mut() {
@@ -190,6 +226,11 @@ impl<D> Slot<D> {
     /// Whether something waits there.
     fn waits(&self) -> bool {
         matches!(self, Slot::Waits(_))
+    }
+
+    /// Whether the book has answered.
+    fn is_answered(&self) -> bool {
+        matches!(self, Slot::Answered(_))
     }
 
     /// What came of these statements of the peer, if they were answered.

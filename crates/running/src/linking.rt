@@ -73,7 +73,7 @@ fn write_told<D: Disk, J: Naming, R: Machine>(
     stream: NetStream,
     version: Version,
 ) -> bool {
-    let said = it.hub.said(rt);
+    let said = it.hub.said();
     let to = Peer {
         number: peer,
         said,

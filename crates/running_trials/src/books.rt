@@ -4,6 +4,7 @@ ghost use Rattle.std.specs.Arc.{arc_value};
 ghost use Rattle.terms_prelude.specs.Terms.{new_header, new_size};
 
 mod lines;
+mod pauses;
 
 use crate::beginnings::{at, board, header, open, take};
 use Told::{Counts, Foreign, Have, Repeat, Says};

@@ -1082,6 +1082,17 @@ fn second_number<R: Machine>(rt: &R, desk: SocketAddr) -> io::Result<i32> {
     Ok(connect(rt, desk)?.as_raw_fd())
 }
 
+/// Whether a socket that is opened gets about that number, within ten seconds.
+fn comes_down_to<R: Machine>(rt: &R, desk: SocketAddr, number: i32) -> io::Result<bool> {
+    for _ in 0..20u32 {
+        thread::sleep(rt, Duration::from_millis(500));
+        if second_number(rt, desk)? < number.saturating_add(20) {
+            return Ok(true);
+        }
+    }
+    Ok(false)
+}
+
 /// A hundred clients come, are answered and go; the system's number of a socket that is opened then is about that of before,
 /// so the member keeps nothing of them.
 fn hundred_clients<R: Machine + Abort>(rt: &R, desk: SocketAddr) -> Result<(), Fail> {
@@ -1089,12 +1100,7 @@ fn hundred_clients<R: Machine + Abort>(rt: &R, desk: SocketAddr) -> Result<(), F
     for _ in 0..100u32 {
         assert!(rt; comes_to(rt, desk, b"ASK 0\n", b"DECIDED 0\n"));
     }
-    thread::sleep(rt, Duration::from_millis(500));
-    let after = second_number(rt, desk)?;
-    assert!(rt;
-        after < before.saturating_add(20),
-        "from {before} to {after}"
-    );
+    assert!(rt; comes_down_to(rt, desk, before)?, "more than {before}");
     Ok(())
 }
 

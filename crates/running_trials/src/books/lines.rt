@@ -66,7 +66,7 @@ fn are_served<D: Disk + Send, J: Naming + Send + Sync, R: Threads + Wait + Clock
     );
     rack.put(rt, one);
     rack.put(rt, other);
-    assert!(rt; handed && hub.lock(rt).events() == 2 && hub.said(rt) == 2);
+    assert!(rt; handed && hub.lock(rt).events() == 2 && hub.said() == 2);
     Ok(())
 }
 
