@@ -19,7 +19,41 @@ use std::thread::{Threads, join};
 use std::time::{Clock, Duration};
 use terms::Kind::{Echo, Initial};
 use terms::Statement;
-use terms::Value::{One, Zero};
+use terms::Value::One;
+
+/// What four threads do with the hub of member 1: one that serves the line, one that has to do with the member for others,
+/// and two links.
+#[derive(Clone, Copy)]
+enum Scene {
+    /// The first two pauses of who serves the line have a client propose; a link hands in.
+    Client,
+    /// One has the book while the line is served; a link hands in.
+    Lent,
+    /// One has the book, nobody serves the line; both links hand in.
+    Unserved,
+    /// A writer waits for the bell; both links hand in, together more than a group takes, and only the first makes the member
+    /// say something.
+    Full,
+}
+
+/// A scene, and what its threads see of each other.
+#[derive(Drop)]
+struct Play {
+    scene: Scene,
+    /// How often who serves the line has paused.
+    pauses: AtomicUsize,
+    /// Whether the book is lent.
+    lent: AtomicBool,
+    /// Whether the writer has heard the bell.
+    rung: AtomicBool,
+}
+
+/// A link, with what it hands in.
+#[derive(Drop)]
+struct Link {
+    seat: Seat,
+    said: Statement,
+}
 
 /// Waits until so many pauses were counted, at most 10,000 turns of a millisecond. Whether they were.
 fn reaches<R: Clock>(rt: &R, pauses: &AtomicUsize, wanted: usize) -> bool {
@@ -33,25 +67,26 @@ fn reaches<R: Clock>(rt: &R, pauses: &AtomicUsize, wanted: usize) -> bool {
 }
 
 /// Hands one statement in, and says whether it was taken.
-fn hands_in<D: Disk, J: Naming, R: Wait>(
-    rt: &R,
-    hub: &Hub<D, J>,
-    seat: &mut Seat,
-    said: Statement,
-) -> bool {
-    hub.hand_in(rt, seat, &[(said, Toss(0))]).is_ok()
+fn hands_in<D: Disk, J: Naming, R: Wait>(rt: &R, hub: &Hub<D, J>, link: &mut Link) -> bool {
+    hub.hand_in(rt, &mut link.seat, &[(link.said, Toss(0))])
+        .is_ok()
+}
+
+/// Hands one statement in two hundred times, which with another such is more than a group, and says whether they were taken.
+fn hands_many_in<D: Disk, J: Naming, R: Wait>(rt: &R, hub: &Hub<D, J>, link: &mut Link) -> bool {
+    hub.hand_in(rt, &mut link.seat, &[(link.said, Toss(0)); 200])
+        .is_ok()
 }
 
 /// Hands a statement in, and again, until the thread that serves the line has begun and pauses for it. Whether it did.
 fn hands_in_until_paused<D: Disk, J: Naming, R: Wait + Clock>(
     rt: &R,
     hub: &Hub<D, J>,
-    seat: &mut Seat,
-    said: Statement,
+    link: &mut Link,
     pauses: &AtomicUsize,
 ) -> bool {
     for _ in 0..10_000u32 {
-        if !hands_in(rt, hub, seat, said) || pauses.load(Ordering::SeqCst) > 0 {
+        if !hands_in(rt, hub, link) || pauses.load(Ordering::SeqCst) > 0 {
             return true;
         }
         thread::sleep(rt, Duration::from_millis(1));
@@ -59,9 +94,9 @@ fn hands_in_until_paused<D: Disk, J: Naming, R: Wait + Clock>(
     false
 }
 
-/// A pause in which a client proposes, the first two times.
-fn pause_of_client<D: Disk, J: Naming, R: Wait>(rt: &R, hub: &Hub<D, J>, pauses: &AtomicUsize) {
-    let question = match pauses.fetch_add(1, Ordering::SeqCst) {
+/// A client proposes on questions 0 and 1, one at each of the first two pauses.
+fn propose_twice<D: Disk, J: Naming, R: Wait>(rt: &R, hub: &Hub<D, J>, pause: usize) {
+    let question = match pause {
         0 => 0,
         1 => 1,
         _ => return,
@@ -71,239 +106,162 @@ fn pause_of_client<D: Disk, J: Naming, R: Wait>(rt: &R, hub: &Hub<D, J>, pauses:
     hub.post(rt, &book);
 }
 
-/// A link hands in until the line is served, and the hub is shut.
-fn hands_in_and_shuts<D: Disk, J: Naming, R: Wait + Clock>(
-    rt: &R,
-    hub: &Hub<D, J>,
-    seat: &mut Seat,
-    said: Statement,
-    pauses: &AtomicUsize,
-) -> bool {
-    let served = hands_in_until_paused(rt, hub, seat, said, pauses);
-    hub.shut(rt);
-    served
+/// A pause of who serves the line.
+fn pause<D: Disk, J: Naming, R: Wait + Clock>(rt: &R, hub: &Hub<D, J>, play: &Play) {
+    let pause = play.pauses.fetch_add(1, Ordering::SeqCst);
+    match play.scene {
+        Scene::Client => propose_twice(rt, hub, pause),
+        Scene::Lent | Scene::Unserved => thread::sleep(rt, Duration::from_millis(1)),
+        Scene::Full => thread::sleep(rt, Duration::from_millis(300)),
+    }
 }
 
-/// The thread that serves the line pauses again after each pause in which the member said more, and then hears what waits.
-fn hears_behind_a_client<
-    D: Disk + Send,
-    J: Naming + Send + Sync,
-    R: Threads + Wait + Clock + Abort + Sync,
->(rt: &R, hub: &Hub<D, J>, rack: &Rack) -> Result<(), Fail> {
-    let mut seat = take(rt, rack, 0)?;
-    let said = at(0, 0, Initial, One)?;
-    let pauses = AtomicUsize::new(0);
-    let ((), served) = join(
-        rt,
-        || hub.serve_on(rt, || pause_of_client(rt, hub, &pauses)),
-        || hands_in_and_shuts(rt, hub, &mut seat, said, &pauses),
-    );
-    rack.put(rt, seat);
-    // Two proposals, and the Echo of what the link handed in.
-    assert!(rt; served && pauses.load(Ordering::SeqCst) == 3 && hub.said() == 3);
-    Ok(())
+/// What the thread that serves the line does.
+fn serve<D: Disk, J: Naming, R: Wait + Clock>(rt: &R, hub: &Hub<D, J>, play: &Play) {
+    match play.scene {
+        Scene::Client | Scene::Lent | Scene::Full => {
+            hub.serve_on(rt, || pause(rt, hub, play));
+        }
+        Scene::Unserved => {}
+    }
 }
 
-/// Has the book from when the line is served until it was paused for five times more.
+/// Has the book from when the line is served until it was paused for five times more. Whether it was.
 fn lends_for_five_pauses<D: Disk, J: Naming, R: Wait + Clock>(
     rt: &R,
     hub: &Hub<D, J>,
-    pauses: &AtomicUsize,
-    lent: &AtomicBool,
+    play: &Play,
 ) -> bool {
-    let begun = reaches(rt, pauses, 1);
+    let begun = reaches(rt, &play.pauses, 1);
     let _book = hub.lock(rt);
-    let before = pauses.load(Ordering::SeqCst);
-    lent.store(true, Ordering::SeqCst);
-    begun && reaches(rt, pauses, before.saturating_add(5))
+    let before = play.pauses.load(Ordering::SeqCst);
+    play.lent.store(true, Ordering::SeqCst);
+    begun && reaches(rt, &play.pauses, before.saturating_add(5))
 }
 
-/// A link hands in until the line is served, once more while the book is lent, and the hub is shut.
-fn hands_in_while_lent<D: Disk, J: Naming, R: Wait + Clock>(
-    rt: &R,
-    hub: &Hub<D, J>,
-    seat: &mut Seat,
-    said: Statement,
-    pauses: &AtomicUsize,
-    lent: &AtomicBool,
-) -> bool {
-    let served = hands_in_until_paused(rt, hub, seat, said, pauses);
-    let handed = waits(rt, lent) && hands_in(rt, hub, seat, said);
-    hub.shut(rt);
-    served && handed
-}
-
-/// A pause of a millisecond, which is counted.
-fn count_pause<R: Clock>(rt: &R, pauses: &AtomicUsize) {
-    pauses.fetch_add(1, Ordering::SeqCst);
-    thread::sleep(rt, Duration::from_millis(1));
-}
-
-/// One lends the book, and a link hands in.
-fn lend_and_hand_in<D: Disk + Send, J: Naming + Send + Sync, R: Threads + Wait + Clock + Sync>(
-    rt: &R,
-    hub: &Hub<D, J>,
-    seat: &mut Seat,
-    said: Statement,
-    pauses: &AtomicUsize,
-) -> bool {
-    let lent = AtomicBool::new(false);
-    let (paused, handed) = join(
-        rt,
-        || lends_for_five_pauses(rt, hub, pauses, &lent),
-        || hands_in_while_lent(rt, hub, seat, said, pauses, &lent),
-    );
-    paused && handed
-}
-
-/// The thread that serves the line pauses again while another has the book.
-fn hears_behind_who_has_the_book<
-    D: Disk + Send,
-    J: Naming + Send + Sync,
-    R: Threads + Wait + Clock + Abort + Sync,
->(rt: &R, hub: &Hub<D, J>, rack: &Rack) -> Result<(), Fail> {
-    let mut seat = take(rt, rack, 0)?;
-    let said = at(0, 0, Initial, One)?;
-    let pauses = AtomicUsize::new(0);
-    let ((), served) = join(
-        rt,
-        || hub.serve_on(rt, || count_pause(rt, &pauses)),
-        || lend_and_hand_in(rt, hub, &mut seat, said, &pauses),
-    );
-    rack.put(rt, seat);
-    assert!(rt; served);
-    Ok(())
-}
-
-/// Has the book for a third of a second, as for a client.
-fn lends<D: Disk, J: Naming, R: Wait + Clock>(rt: &R, hub: &Hub<D, J>, lent: &AtomicBool) {
+/// Has the book for a third of a second.
+fn lends<D: Disk, J: Naming, R: Wait + Clock>(rt: &R, hub: &Hub<D, J>, play: &Play) -> bool {
     let _book = hub.lock(rt);
-    lent.store(true, Ordering::SeqCst);
+    play.lent.store(true, Ordering::SeqCst);
     thread::sleep(rt, Duration::from_millis(300));
+    true
 }
 
-/// Hands in once the book is lent.
-fn hands_in_behind<D: Disk, J: Naming, R: Wait + Clock>(
+/// Waits for the bell, as a writer. Whether it rang for something.
+fn hears_the_bell<D: Disk, J: Naming, R: Wait>(rt: &R, hub: &Hub<D, J>, play: &Play) -> bool {
+    let Ok(Some(told)) = hub.next(rt, 0, 64) else {
+        return false;
+    };
+    let is_rung = !told.is_empty();
+    play.rung.store(is_rung, Ordering::SeqCst);
+    is_rung
+}
+
+/// What the thread does that has to do with the member for others. Whether that came out as it should.
+fn use_member<D: Disk, J: Naming, R: Wait + Clock>(rt: &R, hub: &Hub<D, J>, play: &Play) -> bool {
+    match play.scene {
+        Scene::Client => true,
+        Scene::Lent => lends_for_five_pauses(rt, hub, play),
+        Scene::Unserved => lends(rt, hub, play),
+        Scene::Full => hears_the_bell(rt, hub, play),
+    }
+}
+
+/// What the link of member 0 does, which ends the scene. Whether its statements were taken.
+fn hand_in_first<D: Disk, J: Naming, R: Wait + Clock>(
     rt: &R,
     hub: &Hub<D, J>,
-    seat: &mut Seat,
-    said: Statement,
-    lent: &AtomicBool,
+    link: &mut Link,
+    play: &Play,
 ) -> bool {
-    waits(rt, lent) && hands_in(rt, hub, seat, said)
+    match play.scene {
+        Scene::Client => hands_in_until_paused(rt, hub, link, &play.pauses),
+        Scene::Lent => {
+            hands_in_until_paused(rt, hub, link, &play.pauses)
+                && waits(rt, &play.lent)
+                && hands_in(rt, hub, link)
+        }
+        Scene::Unserved => waits(rt, &play.lent) && hands_in(rt, hub, link),
+        Scene::Full => hands_many_in(rt, hub, link) && waits(rt, &play.rung),
+    }
 }
 
-/// Two links hand in while the book is lent: one serves the line, the other waits for that, and serves it next.
-fn serve_in_turn<D: Disk + Send, J: Naming + Send + Sync, R: Threads + Wait + Clock + Abort + Sync>(
+/// What the link of member 2 does. Whether its statements were taken.
+fn hand_in_second<D: Disk, J: Naming, R: Wait + Clock>(
+    rt: &R,
+    hub: &Hub<D, J>,
+    link: &mut Link,
+    play: &Play,
+) -> bool {
+    match play.scene {
+        Scene::Client | Scene::Lent => true,
+        Scene::Unserved => waits(rt, &play.lent) && hands_in(rt, hub, link),
+        Scene::Full => hands_many_in(rt, hub, link),
+    }
+}
+
+/// What the links do, and the hub is shut.
+fn hand_in<D: Disk + Send, J: Naming + Send + Sync, R: Threads + Wait + Clock + Sync>(
+    rt: &R,
+    hub: &Hub<D, J>,
+    one: &mut Link,
+    other: &mut Link,
+    play: &Play,
+) -> bool {
+    // The thread that serves the line has mostly begun by then.
+    thread::sleep(rt, Duration::from_millis(100));
+    let (first, second) = join(
+        rt,
+        || hand_in_first(rt, hub, one, play),
+        || hand_in_second(rt, hub, other, play),
+    );
+    hub.shut(rt);
+    first && second
+}
+
+/// Whether the member said what it should, and who served the line paused as often as it should.
+fn has_come_out<D: Disk, J: Naming>(hub: &Hub<D, J>, play: &Play) -> bool {
+    match play.scene {
+        // Two proposals and an Echo; one pause behind the last proposal.
+        Scene::Client => hub.said() == 3 && play.pauses.load(Ordering::SeqCst) == 3,
+        Scene::Lent | Scene::Unserved | Scene::Full => hub.said() == 1,
+    }
+}
+
+/// Has the four threads play the scene.
+fn are_played<D: Disk + Send, J: Naming + Send + Sync, R: Threads + Wait + Clock + Abort + Sync>(
     rt: &R,
     hub: &Hub<D, J>,
     rack: &Rack,
+    play: &Play,
 ) -> Result<(), Fail> {
-    let mut one = take(rt, rack, 0)?;
-    let mut other = take(rt, rack, 2)?;
-    let said = at(0, 0, Initial, One)?;
-    let too = at(0, 2, Initial, Zero)?;
-    let lent = AtomicBool::new(false);
-    let ((), (first, second)) = join(
-        rt,
-        || lends(rt, hub, &lent),
-        || {
-            join(
-                rt,
-                || hands_in_behind(rt, hub, &mut one, said, &lent),
-                || hands_in_behind(rt, hub, &mut other, too, &lent),
-            )
-        },
-    );
-    rack.put(rt, one);
-    rack.put(rt, other);
-    assert!(rt; first && second && hub.said() == 2);
-    Ok(())
-}
-
-/// Hands one statement in two hundred times, which with another such is more than a group.
-fn hands_many_in<D: Disk, J: Naming, R: Wait>(
-    rt: &R,
-    hub: &Hub<D, J>,
-    seat: &mut Seat,
-    said: Statement,
-) -> bool {
-    hub.hand_in(rt, seat, &[(said, Toss(0)); 200]).is_ok()
-}
-
-/// Two links hand much in at the same time, and the hub is shut.
-fn both_hand_much_in<D: Disk + Send, J: Naming + Send + Sync, R: Threads + Wait + Clock + Sync>(
-    rt: &R,
-    hub: &Hub<D, J>,
-    one: &mut Seat,
-    said: Statement,
-    other: &mut Seat,
-    too: Statement,
-    heard: &AtomicBool,
-) -> bool {
-    // The thread that serves the line has begun by then.
-    thread::sleep(rt, Duration::from_millis(200));
-    let (first, second) = join(
-        rt,
-        || hands_many_in(rt, hub, one, said),
-        || hands_many_in(rt, hub, other, too),
-    );
-    let heard = waits(rt, heard);
-    hub.shut(rt);
-    first && second && heard
-}
-
-/// Waits for what the member says, as a writer.
-fn hears_the_bell<D: Disk, J: Naming, R: Wait>(rt: &R, hub: &Hub<D, J>, heard: &AtomicBool) {
-    let Ok(Some(told)) = hub.next(rt, 0, 64) else {
-        return;
+    let mut one = Link {
+        seat: take(rt, rack, 0)?,
+        said: at(0, 0, Initial, One)?,
     };
-    heard.store(!told.is_empty(), Ordering::SeqCst);
-}
-
-/// What the first of two links brings is said, what the second brings says nothing: a writer is woken behind both.
-fn rings_behind_more<
-    D: Disk + Send,
-    J: Naming + Send + Sync,
-    R: Threads + Wait + Clock + Abort + Sync,
->(rt: &R, hub: &Hub<D, J>, rack: &Rack) -> Result<(), Fail> {
-    let mut one = take(rt, rack, 0)?;
-    let mut other = take(rt, rack, 2)?;
-    let said = at(0, 0, Initial, One)?;
-    let too = at(0, 0, Echo, One)?;
-    let heard = AtomicBool::new(false);
-    let ((), ((), handed)) = join(
+    let mut other = Link {
+        seat: take(rt, rack, 2)?,
+        said: at(0, 0, Echo, One)?,
+    };
+    let ((), (used, handed)) = join(
         rt,
-        || hub.serve_on(rt, || thread::sleep(rt, Duration::from_millis(300))),
+        || serve(rt, hub, play),
         || {
             join(
                 rt,
-                || hears_the_bell(rt, hub, &heard),
-                || both_hand_much_in(rt, hub, &mut one, said, &mut other, too, &heard),
+                || use_member(rt, hub, play),
+                || hand_in(rt, hub, &mut one, &mut other, play),
             )
         },
     );
-    rack.put(rt, one);
-    rack.put(rt, other);
-    assert!(rt; handed && hub.said() == 1);
+    assert!(rt; used && handed && has_come_out(hub, play));
+    rack.put(rt, one.seat);
+    rack.put(rt, other.seat);
     Ok(())
 }
 
-/// What a test does with a member's hub.
-#[derive(Clone, Copy)]
-enum Scene {
-    /// A client proposes while the line is served.
-    Client,
-    /// Another thread has the book while the line is served.
-    Lent,
-    /// No thread serves the line.
-    Unserved,
-    /// More waits than a group takes.
-    Full,
-}
-
-/// Plays it with member 1 of four, two questions.
-fn play<J: Naming + Send + Sync, R: Threads + Wait + Clock + Abort + AllocGlobal + Sync>(
+/// Opens member 1 of four, two questions, and plays the scene.
+fn open_and_play<J: Naming + Send + Sync, R: Threads + Wait + Clock + Abort + AllocGlobal + Sync>(
     rt: &R,
     board: Arc<Board>,
     scene: Scene,
@@ -315,32 +273,33 @@ fn play<J: Naming + Send + Sync, R: Threads + Wait + Clock + Abort + AllocGlobal
     let header = header(4, 1, 2, 1)?;
     let disk = MemDisk::new(rt.alloc());
     let (hub, rack) = open::<MemDisk, J>(rt.alloc(), disk, &header, false, board)?;
-    match scene {
-        Scene::Client => hears_behind_a_client(rt, &hub, &rack)?,
-        Scene::Lent => hears_behind_who_has_the_book(rt, &hub, &rack)?,
-        Scene::Unserved => serve_in_turn(rt, &hub, &rack)?,
-        Scene::Full => rings_behind_more(rt, &hub, &rack)?,
-    }
+    let play = Play {
+        scene,
+        pauses: AtomicUsize::new(0),
+        lent: AtomicBool::new(false),
+        rung: AtomicBool::new(false),
+    };
+    are_played(rt, &hub, &rack, &play)?;
     assert!(rt; closes(hub, rack.into_seats()));
     Ok(())
 }
 
 #[test]
 fn the_line_is_served_behind_a_client_that_proposes(rt: HostRuntime) -> Result<(), Fail> {
-    play::<Brand, _>(&rt, board(&rt, 2)?, Scene::Client)
+    open_and_play::<Brand, _>(&rt, board(&rt, 2)?, Scene::Client)
 }
 
 #[test]
 fn the_line_is_served_behind_who_has_the_book(rt: HostRuntime) -> Result<(), Fail> {
-    play::<Brand, _>(&rt, board(&rt, 2)?, Scene::Lent)
+    open_and_play::<Brand, _>(&rt, board(&rt, 2)?, Scene::Lent)
 }
 
 #[test]
 fn a_link_that_waits_for_another_serves_the_line_next(rt: HostRuntime) -> Result<(), Fail> {
-    play::<Brand, _>(&rt, board(&rt, 2)?, Scene::Unserved)
+    open_and_play::<Brand, _>(&rt, board(&rt, 2)?, Scene::Unserved)
 }
 
 #[test]
 fn the_bell_rings_behind_what_a_group_leaves(rt: HostRuntime) -> Result<(), Fail> {
-    play::<Brand, _>(&rt, board(&rt, 2)?, Scene::Full)
+    open_and_play::<Brand, _>(&rt, board(&rt, 2)?, Scene::Full)
 }
