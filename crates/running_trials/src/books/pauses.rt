@@ -78,7 +78,8 @@ fn hands_many_in<D: Disk, J: Naming, R: Wait>(rt: &R, hub: &Hub<D, J>, link: &mu
         .is_ok()
 }
 
-/// Hands a statement in, and again, until the thread that serves the line has begun and pauses for it. Whether it did.
+/// Hands a statement in, and again, until the thread that serves the line has begun and pauses for it. Whether it did,
+/// and each was taken.
 fn hands_in_until_paused<D: Disk, J: Naming, R: Wait + Clock>(
     rt: &R,
     hub: &Hub<D, J>,
@@ -86,7 +87,10 @@ fn hands_in_until_paused<D: Disk, J: Naming, R: Wait + Clock>(
     pauses: &AtomicUsize,
 ) -> bool {
     for _ in 0..10_000u32 {
-        if !hands_in(rt, hub, link) || pauses.load(Ordering::SeqCst) > 0 {
+        if !hands_in(rt, hub, link) {
+            return false;
+        }
+        if pauses.load(Ordering::SeqCst) > 0 {
             return true;
         }
         thread::sleep(rt, Duration::from_millis(1));
