@@ -6,5 +6,5 @@ mod OldOpened
 mod OldOutcomes
 mod OldParsed
 mod OldRecords
-mod OldRefused
-mod OldTexts
+pub mod OldRefused
+pub mod OldTexts

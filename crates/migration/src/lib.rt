@@ -22,5 +22,5 @@ mod old;
 mod staging;
 
 pub use fault::MigrateFault;
-pub use old::peek_old;
+pub use old::{peek_old, read_old};
 pub use staging::{Staging, begin, stage};

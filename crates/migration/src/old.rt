@@ -63,7 +63,7 @@ pub(crate) fn load<D: Disk>(
     ensures fault { IfErr result (λ fault. HandsOldBack D.Disk disk.old header.now fault disk.new) }
 {
     let bytes = fetch(alloc, disk)?;
-    read_file(alloc, header, &bytes)
+    read_old(alloc, header, &bytes)
 }
 
 /// All the bytes, once they are on the disk.
@@ -79,8 +79,11 @@ fn fetch<D: Disk>(alloc: Global, disk: &mut D) -> Result<Vec<u8>, MigrateFault>
     Ok(bytes)
 }
 
-/// The records of these bytes.
-fn read_file(alloc: Global, header: &Header, bytes: &[u8]) -> Result<Vec<Record>, MigrateFault>
+/// The records that a file of these bytes holds, by this header.
+///
+/// - `NotOld`, `OtherHeader`, `CutShort` or `BadRecord`: the first thing that is wrong with it.
+/// - `Memory`: there was none for the records.
+pub fn read_old(alloc: Global, header: &Header, bytes: &[u8]) -> Result<Vec<Record>, MigrateFault>
     ensures held { IfOk result (λ records. HoldsOld header.now records.items bytes.now) }
     ensures well_formed { IfOk result (λ records. AreWellFormedFor header.now records.items) }
     ensures refused { IfErr result (λ fault. IsOfOldFile fault → RefusesOld header.now fault bytes.now) }

@@ -4,7 +4,7 @@ use Rattle.terms_prelude.specs.Terms.{Header}
 use Rattle.migration.specs.Words.{HasOldHeader}
 use Rattle.journal.proofs.Headers.{same_by, by_same}
 use Rattle.migration.proofs.OldOpened.{front_of, header_long, begins_with, held_from, read_good, refused_from, broken_so}
-use Rattle.migration.proofs.old.read_file.Goals as goal
+use Rattle.migration.proofs.old.read_old.Goals as goal
 
 pub returns-in_default-clause-refused : goal.returns-in_default-clause-refused
 returns-in_default-clause-refused c of_file header has =
