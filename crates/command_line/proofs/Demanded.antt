@@ -127,7 +127,9 @@ new_cluster_demands words e =
     let cluster = has_number 32 4294967295 (codes "cluster") rows (omega arith) (given_in (built_at new_cluster_app) words solid e _ (inr (inr (inr (inl refl)))) refl) in
     let folder = given_in (built_at new_cluster_app) words solid e _ (inr (inr (inr (inr (inl refl))))) refl in
     let hosts = text_in (codes "hosts") rows in
-    (NewCluster n.0 t.0 questions.0 cluster.0 (at_some_place folder.0) hosts.0, (refl, n.1, t.1, questions.1, cluster.1, folder.1, hosts.1))
+    let port = may_have 16 65535 (codes "port") rows (omega arith) (perhaps_in (built_at new_cluster_app) words solid e _ (inr (inr (inr (inr (inr (inr (inl refl)))))))) in
+    let desk = text_in (codes "desk") rows in
+    (NewCluster n.0 t.0 questions.0 cluster.0 (at_some_place folder.0) hosts.0 port.0 desk.0, (refl, n.1, t.1, questions.1, cluster.1, folder.1, hosts.1, port.1, desk.1))
 
 init_demands : Demanding init_app
 init_demands words e =
@@ -148,8 +150,9 @@ run_demands words e =
     let settings = given_in (built_at run_app) words solid e _ (inl refl) refl in
     let stay = flag_in (codes "stay") (rows_after (built_at run_app).rules [] words) in
     let log = flag_in (codes "log") (rows_after (built_at run_app).rules [] words) in
+    let log_json = flag_in (codes "log-json") (rows_after (built_at run_app).rules [] words) in
     let any_host = flag_in (codes "any-host") (rows_after (built_at run_app).rules [] words) in
-    (Run (at_some_place settings.0) stay.0 log.0 any_host.0, (refl, settings.1, stay.1, log.1, any_host.1))
+    (Run (at_some_place settings.0) stay.0 log.0 log_json.0 any_host.0, (refl, settings.1, stay.1, log.1, log_json.1, any_host.1))
 
 dump_demands : Demanding dump_app
 dump_demands words e =
@@ -171,9 +174,11 @@ status_demands words e =
     let solid : IsSolid (built_at status_app) = record { each = refl; apart = refl; demands = refl } in
     let rows = rows_after (built_at status_app).rules [] words in
     let address = given_in (built_at status_app) words solid e _ (inl refl) refl in
+    let links = flag_in (codes "links") rows in
+    let ready = flag_in (codes "ready") rows in
     let json = flag_in (codes "json") rows in
-    let timeout = may_have 16 65535 (codes "timeout") rows (omega arith) (perhaps_in (built_at status_app) words solid e _ (inr (inr (inl refl)))) in
-    (Status (at_some_place address.0) json.0 timeout.0, (refl, address.1, json.1, timeout.1))
+    let timeout = text_in (codes "timeout") rows in
+    (Status (at_some_place address.0) links.0 ready.0 json.0 timeout.0, (refl, address.1, links.1, ready.1, json.1, timeout.1))
 
 ask_demands : Demanding ask_app
 ask_demands words e =
@@ -183,7 +188,7 @@ ask_demands words e =
     let question = has_number 16 65535 (codes "question") rows (omega arith) (given_in (built_at ask_app) words solid e _ (inr (inl refl)) refl) in
     let wait = flag_in (codes "wait") rows in
     let json = flag_in (codes "json") rows in
-    let timeout = may_have 16 65535 (codes "timeout") rows (omega arith) (perhaps_in (built_at ask_app) words solid e _ (inr (inr (inr (inr (inl refl)))))) in
+    let timeout = text_in (codes "timeout") rows in
     (Ask (at_some_place address.0) question.0 wait.0 json.0 timeout.0, (refl, address.1, question.1, wait.1, json.1, timeout.1))
 
 transcript_demands : Demanding transcript_app
@@ -192,7 +197,7 @@ transcript_demands words e =
     let rows = rows_after (built_at transcript_app).rules [] words in
     let address = given_in (built_at transcript_app) words solid e _ (inl refl) refl in
     let question = has_number 16 65535 (codes "question") rows (omega arith) (given_in (built_at transcript_app) words solid e _ (inr (inl refl)) refl) in
-    let timeout = may_have 16 65535 (codes "timeout") rows (omega arith) (perhaps_in (built_at transcript_app) words solid e _ (inr (inr (inl refl)))) in
+    let timeout = text_in (codes "timeout") rows in
     (Transcript (at_some_place address.0) question.0 timeout.0, (refl, address.1, question.1, timeout.1))
 
 audit_demands : Demanding audit_app
@@ -213,7 +218,7 @@ propose_demands words e =
     let question = has_number 16 65535 (codes "question") rows (omega arith) (given_in (built_at propose_app) words solid e _ (inr (inl refl)) refl) in
     let bit = has_number 8 255 (codes "bit") rows (omega arith) (given_in (built_at propose_app) words solid e _ (inr (inr (inl refl))) refl) in
     let all = flag_in (codes "all") rows in
-    let timeout = may_have 16 65535 (codes "timeout") rows (omega arith) (perhaps_in (built_at propose_app) words solid e _ (inr (inr (inr (inr (inl refl)))))) in
+    let timeout = text_in (codes "timeout") rows in
     (Propose (at_some_place address.0) question.0 bit.0 all.0 timeout.0, (refl, address.1, question.1, bit.1, all.1, timeout.1))
 
 simulate_demands : Demanding simulate_app
@@ -223,7 +228,13 @@ simulate_demands words e =
     let script = given_in (built_at simulate_app) words solid e _ (inl refl) refl in
     let trace = text_in (codes "trace") rows in
     let chart = text_in (codes "chart") rows in
-    (Simulate (at_some_place script.0) trace.0 chart.0, (refl, script.1, trace.1, chart.1))
+    let question = may_have 16 65535 (codes "question") rows (omega arith) (perhaps_in (built_at simulate_app) words solid e _ (inr (inr (inr (inl refl))))) in
+    let member = may_have 8 255 (codes "member") rows (omega arith) (perhaps_in (built_at simulate_app) words solid e _ (inr (inr (inr (inr (inl refl)))))) in
+    let from = may_have 32 4294967295 (codes "from") rows (omega arith) (perhaps_in (built_at simulate_app) words solid e _ (inr (inr (inr (inr (inr (inl refl))))))) in
+    let to = may_have 32 4294967295 (codes "to") rows (omega arith) (perhaps_in (built_at simulate_app) words solid e _ (inr (inr (inr (inr (inr (inr (inl refl)))))))) in (
+      Simulate (at_some_place script.0) trace.0 chart.0 question.0 member.0 from.0 to.0,
+      (refl, script.1, trace.1, chart.1, question.1, member.1, from.1, to.1),
+    )
 
 hear_demands : Demanding hear_app
 hear_demands words e =

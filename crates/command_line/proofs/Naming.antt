@@ -20,196 +20,196 @@ apart a b differ is =
 
 pub only_hear : (rows : List Row) → ((n : ℕ) (t : ℕ) (questions : ℕ) (me : ℕ) → Names (codes "hear") rows (Hear n t questions me) → ⊥) → (task : Task) → Names (codes "hear") rows task → ⊥
 only_hear rows none (Hear n t questions me) named = none n t questions me named
-only_hear rows none (NewCluster n t questions cluster folder hosts) named = apart (codes "hear") (codes "new-cluster") refl named.0
+only_hear rows none (NewCluster n t questions cluster folder hosts port desk) named = apart (codes "hear") (codes "new-cluster") refl named.0
 only_hear rows none (Init settings) named = apart (codes "hear") (codes "init") refl named.0
 only_hear rows none (Check settings json) named = apart (codes "hear") (codes "check") refl named.0
-only_hear rows none (Run settings stay log any_host) named = apart (codes "hear") (codes "run") refl named.0
+only_hear rows none (Run settings stay log log_json any_host) named = apart (codes "hear") (codes "run") refl named.0
 only_hear rows none (Propose address question bit all timeout) named = apart (codes "hear") (codes "propose") refl named.0
 only_hear rows none (Ask address question wait json timeout) named = apart (codes "hear") (codes "ask") refl named.0
-only_hear rows none (Status address json timeout) named = apart (codes "hear") (codes "status") refl named.0
+only_hear rows none (Status address links ready json timeout) named = apart (codes "hear") (codes "status") refl named.0
 only_hear rows none (Transcript address question timeout) named = apart (codes "hear") (codes "transcript") refl named.0
 only_hear rows none (Audit file n t questions) named = apart (codes "hear") (codes "audit") refl named.0
-only_hear rows none (Simulate script trace chart) named = apart (codes "hear") (codes "simulate") refl named.0
+only_hear rows none (Simulate script trace chart question member from to) named = apart (codes "hear") (codes "simulate") refl named.0
 only_hear rows none (Dump journal count json) named = apart (codes "hear") (codes "dump") refl named.0
 only_hear rows none (Migrate old new) named = apart (codes "hear") (codes "migrate") refl named.0
 
-pub only_new_cluster : (rows : List Row) → ((n t questions cluster : ℕ) (folder : Bor Text) (hosts : Option (Bor Text)) → Names (codes "new-cluster") rows (NewCluster n t questions cluster folder hosts) → ⊥) → (task : Task) → Names (codes "new-cluster") rows task → ⊥
-only_new_cluster rows none (NewCluster n t questions cluster folder hosts) named = none n t questions cluster folder hosts named
+pub only_new_cluster : (rows : List Row) → ((n t questions cluster : ℕ) (folder : Bor Text) (hosts : Option (Bor Text)) (port : Option ℕ) (desk : Option (Bor Text)) → Names (codes "new-cluster") rows (NewCluster n t questions cluster folder hosts port desk) → ⊥) → (task : Task) → Names (codes "new-cluster") rows task → ⊥
+only_new_cluster rows none (NewCluster n t questions cluster folder hosts port desk) named = none n t questions cluster folder hosts port desk named
 only_new_cluster rows none (Hear n t questions me) named = apart (codes "new-cluster") (codes "hear") refl named.0
 only_new_cluster rows none (Init settings) named = apart (codes "new-cluster") (codes "init") refl named.0
 only_new_cluster rows none (Check settings json) named = apart (codes "new-cluster") (codes "check") refl named.0
-only_new_cluster rows none (Run settings stay log any_host) named = apart (codes "new-cluster") (codes "run") refl named.0
+only_new_cluster rows none (Run settings stay log log_json any_host) named = apart (codes "new-cluster") (codes "run") refl named.0
 only_new_cluster rows none (Propose address question bit all timeout) named = apart (codes "new-cluster") (codes "propose") refl named.0
 only_new_cluster rows none (Ask address question wait json timeout) named = apart (codes "new-cluster") (codes "ask") refl named.0
-only_new_cluster rows none (Status address json timeout) named = apart (codes "new-cluster") (codes "status") refl named.0
+only_new_cluster rows none (Status address links ready json timeout) named = apart (codes "new-cluster") (codes "status") refl named.0
 only_new_cluster rows none (Transcript address question timeout) named = apart (codes "new-cluster") (codes "transcript") refl named.0
 only_new_cluster rows none (Audit file n t questions) named = apart (codes "new-cluster") (codes "audit") refl named.0
-only_new_cluster rows none (Simulate script trace chart) named = apart (codes "new-cluster") (codes "simulate") refl named.0
+only_new_cluster rows none (Simulate script trace chart question member from to) named = apart (codes "new-cluster") (codes "simulate") refl named.0
 only_new_cluster rows none (Dump journal count json) named = apart (codes "new-cluster") (codes "dump") refl named.0
 only_new_cluster rows none (Migrate old new) named = apart (codes "new-cluster") (codes "migrate") refl named.0
 
 pub only_init : (rows : List Row) → ((settings : Bor Text) → Names (codes "init") rows (Init settings) → ⊥) → (task : Task) → Names (codes "init") rows task → ⊥
 only_init rows none (Hear n t questions me) named = apart (codes "init") (codes "hear") refl named.0
-only_init rows none (NewCluster n t questions cluster folder hosts) named = apart (codes "init") (codes "new-cluster") refl named.0
+only_init rows none (NewCluster n t questions cluster folder hosts port desk) named = apart (codes "init") (codes "new-cluster") refl named.0
 only_init rows none (Init settings) named = none settings named
 only_init rows none (Check settings json) named = apart (codes "init") (codes "check") refl named.0
-only_init rows none (Run settings stay log any_host) named = apart (codes "init") (codes "run") refl named.0
+only_init rows none (Run settings stay log log_json any_host) named = apart (codes "init") (codes "run") refl named.0
 only_init rows none (Propose address question bit all timeout) named = apart (codes "init") (codes "propose") refl named.0
 only_init rows none (Ask address question wait json timeout) named = apart (codes "init") (codes "ask") refl named.0
-only_init rows none (Status address json timeout) named = apart (codes "init") (codes "status") refl named.0
+only_init rows none (Status address links ready json timeout) named = apart (codes "init") (codes "status") refl named.0
 only_init rows none (Transcript address question timeout) named = apart (codes "init") (codes "transcript") refl named.0
 only_init rows none (Audit file n t questions) named = apart (codes "init") (codes "audit") refl named.0
-only_init rows none (Simulate script trace chart) named = apart (codes "init") (codes "simulate") refl named.0
+only_init rows none (Simulate script trace chart question member from to) named = apart (codes "init") (codes "simulate") refl named.0
 only_init rows none (Dump journal count json) named = apart (codes "init") (codes "dump") refl named.0
 only_init rows none (Migrate old new) named = apart (codes "init") (codes "migrate") refl named.0
 
 pub only_check : (rows : List Row) → ((settings : Bor Text) (json : Bool) → Names (codes "check") rows (Check settings json) → ⊥) → (task : Task) → Names (codes "check") rows task → ⊥
 only_check rows none (Hear n t questions me) named = apart (codes "check") (codes "hear") refl named.0
-only_check rows none (NewCluster n t questions cluster folder hosts) named = apart (codes "check") (codes "new-cluster") refl named.0
+only_check rows none (NewCluster n t questions cluster folder hosts port desk) named = apart (codes "check") (codes "new-cluster") refl named.0
 only_check rows none (Init settings) named = apart (codes "check") (codes "init") refl named.0
 only_check rows none (Check settings json) named = none settings json named
-only_check rows none (Run settings stay log any_host) named = apart (codes "check") (codes "run") refl named.0
+only_check rows none (Run settings stay log log_json any_host) named = apart (codes "check") (codes "run") refl named.0
 only_check rows none (Propose address question bit all timeout) named = apart (codes "check") (codes "propose") refl named.0
 only_check rows none (Ask address question wait json timeout) named = apart (codes "check") (codes "ask") refl named.0
-only_check rows none (Status address json timeout) named = apart (codes "check") (codes "status") refl named.0
+only_check rows none (Status address links ready json timeout) named = apart (codes "check") (codes "status") refl named.0
 only_check rows none (Transcript address question timeout) named = apart (codes "check") (codes "transcript") refl named.0
 only_check rows none (Audit file n t questions) named = apart (codes "check") (codes "audit") refl named.0
-only_check rows none (Simulate script trace chart) named = apart (codes "check") (codes "simulate") refl named.0
+only_check rows none (Simulate script trace chart question member from to) named = apart (codes "check") (codes "simulate") refl named.0
 only_check rows none (Dump journal count json) named = apart (codes "check") (codes "dump") refl named.0
 only_check rows none (Migrate old new) named = apart (codes "check") (codes "migrate") refl named.0
 
-pub only_run : (rows : List Row) → ((settings : Bor Text) (stay log any_host : Bool) → Names (codes "run") rows (Run settings stay log any_host) → ⊥) → (task : Task) → Names (codes "run") rows task → ⊥
+pub only_run : (rows : List Row) → ((settings : Bor Text) (stay log log_json any_host : Bool) → Names (codes "run") rows (Run settings stay log log_json any_host) → ⊥) → (task : Task) → Names (codes "run") rows task → ⊥
 only_run rows none (Hear n t questions me) named = apart (codes "run") (codes "hear") refl named.0
-only_run rows none (NewCluster n t questions cluster folder hosts) named = apart (codes "run") (codes "new-cluster") refl named.0
+only_run rows none (NewCluster n t questions cluster folder hosts port desk) named = apart (codes "run") (codes "new-cluster") refl named.0
 only_run rows none (Init settings) named = apart (codes "run") (codes "init") refl named.0
 only_run rows none (Check settings json) named = apart (codes "run") (codes "check") refl named.0
-only_run rows none (Run settings stay log any_host) named = none settings stay log any_host named
+only_run rows none (Run settings stay log log_json any_host) named = none settings stay log log_json any_host named
 only_run rows none (Propose address question bit all timeout) named = apart (codes "run") (codes "propose") refl named.0
 only_run rows none (Ask address question wait json timeout) named = apart (codes "run") (codes "ask") refl named.0
-only_run rows none (Status address json timeout) named = apart (codes "run") (codes "status") refl named.0
+only_run rows none (Status address links ready json timeout) named = apart (codes "run") (codes "status") refl named.0
 only_run rows none (Transcript address question timeout) named = apart (codes "run") (codes "transcript") refl named.0
 only_run rows none (Audit file n t questions) named = apart (codes "run") (codes "audit") refl named.0
-only_run rows none (Simulate script trace chart) named = apart (codes "run") (codes "simulate") refl named.0
+only_run rows none (Simulate script trace chart question member from to) named = apart (codes "run") (codes "simulate") refl named.0
 only_run rows none (Dump journal count json) named = apart (codes "run") (codes "dump") refl named.0
 only_run rows none (Migrate old new) named = apart (codes "run") (codes "migrate") refl named.0
 
-pub only_propose : (rows : List Row) → ((address : Bor Text) (question : ℕ) (bit : ℕ) (all : Bool) (timeout : Option ℕ) → Names (codes "propose") rows (Propose address question bit all timeout) → ⊥) → (task : Task) → Names (codes "propose") rows task → ⊥
+pub only_propose : (rows : List Row) → ((address : Bor Text) (question : ℕ) (bit : ℕ) (all : Bool) (timeout : Option (Bor Text)) → Names (codes "propose") rows (Propose address question bit all timeout) → ⊥) → (task : Task) → Names (codes "propose") rows task → ⊥
 only_propose rows none (Hear n t questions me) named = apart (codes "propose") (codes "hear") refl named.0
-only_propose rows none (NewCluster n t questions cluster folder hosts) named = apart (codes "propose") (codes "new-cluster") refl named.0
+only_propose rows none (NewCluster n t questions cluster folder hosts port desk) named = apart (codes "propose") (codes "new-cluster") refl named.0
 only_propose rows none (Init settings) named = apart (codes "propose") (codes "init") refl named.0
 only_propose rows none (Check settings json) named = apart (codes "propose") (codes "check") refl named.0
-only_propose rows none (Run settings stay log any_host) named = apart (codes "propose") (codes "run") refl named.0
+only_propose rows none (Run settings stay log log_json any_host) named = apart (codes "propose") (codes "run") refl named.0
 only_propose rows none (Propose address question bit all timeout) named = none address question bit all timeout named
 only_propose rows none (Ask address question wait json timeout) named = apart (codes "propose") (codes "ask") refl named.0
-only_propose rows none (Status address json timeout) named = apart (codes "propose") (codes "status") refl named.0
+only_propose rows none (Status address links ready json timeout) named = apart (codes "propose") (codes "status") refl named.0
 only_propose rows none (Transcript address question timeout) named = apart (codes "propose") (codes "transcript") refl named.0
 only_propose rows none (Audit file n t questions) named = apart (codes "propose") (codes "audit") refl named.0
-only_propose rows none (Simulate script trace chart) named = apart (codes "propose") (codes "simulate") refl named.0
+only_propose rows none (Simulate script trace chart question member from to) named = apart (codes "propose") (codes "simulate") refl named.0
 only_propose rows none (Dump journal count json) named = apart (codes "propose") (codes "dump") refl named.0
 only_propose rows none (Migrate old new) named = apart (codes "propose") (codes "migrate") refl named.0
 
-pub only_ask : (rows : List Row) → ((address : Bor Text) (question : ℕ) (wait : Bool) (json : Bool) (timeout : Option ℕ) → Names (codes "ask") rows (Ask address question wait json timeout) → ⊥) → (task : Task) → Names (codes "ask") rows task → ⊥
+pub only_ask : (rows : List Row) → ((address : Bor Text) (question : ℕ) (wait : Bool) (json : Bool) (timeout : Option (Bor Text)) → Names (codes "ask") rows (Ask address question wait json timeout) → ⊥) → (task : Task) → Names (codes "ask") rows task → ⊥
 only_ask rows none (Hear n t questions me) named = apart (codes "ask") (codes "hear") refl named.0
-only_ask rows none (NewCluster n t questions cluster folder hosts) named = apart (codes "ask") (codes "new-cluster") refl named.0
+only_ask rows none (NewCluster n t questions cluster folder hosts port desk) named = apart (codes "ask") (codes "new-cluster") refl named.0
 only_ask rows none (Init settings) named = apart (codes "ask") (codes "init") refl named.0
 only_ask rows none (Check settings json) named = apart (codes "ask") (codes "check") refl named.0
-only_ask rows none (Run settings stay log any_host) named = apart (codes "ask") (codes "run") refl named.0
+only_ask rows none (Run settings stay log log_json any_host) named = apart (codes "ask") (codes "run") refl named.0
 only_ask rows none (Propose address question bit all timeout) named = apart (codes "ask") (codes "propose") refl named.0
 only_ask rows none (Ask address question wait json timeout) named = none address question wait json timeout named
-only_ask rows none (Status address json timeout) named = apart (codes "ask") (codes "status") refl named.0
+only_ask rows none (Status address links ready json timeout) named = apart (codes "ask") (codes "status") refl named.0
 only_ask rows none (Transcript address question timeout) named = apart (codes "ask") (codes "transcript") refl named.0
 only_ask rows none (Audit file n t questions) named = apart (codes "ask") (codes "audit") refl named.0
-only_ask rows none (Simulate script trace chart) named = apart (codes "ask") (codes "simulate") refl named.0
+only_ask rows none (Simulate script trace chart question member from to) named = apart (codes "ask") (codes "simulate") refl named.0
 only_ask rows none (Dump journal count json) named = apart (codes "ask") (codes "dump") refl named.0
 only_ask rows none (Migrate old new) named = apart (codes "ask") (codes "migrate") refl named.0
 
-pub only_status : (rows : List Row) → ((address : Bor Text) (json : Bool) (timeout : Option ℕ) → Names (codes "status") rows (Status address json timeout) → ⊥) → (task : Task) → Names (codes "status") rows task → ⊥
+pub only_status : (rows : List Row) → ((address : Bor Text) (links : Bool) (ready : Bool) (json : Bool) (timeout : Option (Bor Text)) → Names (codes "status") rows (Status address links ready json timeout) → ⊥) → (task : Task) → Names (codes "status") rows task → ⊥
 only_status rows none (Hear n t questions me) named = apart (codes "status") (codes "hear") refl named.0
-only_status rows none (NewCluster n t questions cluster folder hosts) named = apart (codes "status") (codes "new-cluster") refl named.0
+only_status rows none (NewCluster n t questions cluster folder hosts port desk) named = apart (codes "status") (codes "new-cluster") refl named.0
 only_status rows none (Init settings) named = apart (codes "status") (codes "init") refl named.0
 only_status rows none (Check settings json) named = apart (codes "status") (codes "check") refl named.0
-only_status rows none (Run settings stay log any_host) named = apart (codes "status") (codes "run") refl named.0
+only_status rows none (Run settings stay log log_json any_host) named = apart (codes "status") (codes "run") refl named.0
 only_status rows none (Propose address question bit all timeout) named = apart (codes "status") (codes "propose") refl named.0
 only_status rows none (Ask address question wait json timeout) named = apart (codes "status") (codes "ask") refl named.0
-only_status rows none (Status address json timeout) named = none address json timeout named
+only_status rows none (Status address links ready json timeout) named = none address links ready json timeout named
 only_status rows none (Transcript address question timeout) named = apart (codes "status") (codes "transcript") refl named.0
 only_status rows none (Audit file n t questions) named = apart (codes "status") (codes "audit") refl named.0
-only_status rows none (Simulate script trace chart) named = apart (codes "status") (codes "simulate") refl named.0
+only_status rows none (Simulate script trace chart question member from to) named = apart (codes "status") (codes "simulate") refl named.0
 only_status rows none (Dump journal count json) named = apart (codes "status") (codes "dump") refl named.0
 only_status rows none (Migrate old new) named = apart (codes "status") (codes "migrate") refl named.0
 
-pub only_transcript : (rows : List Row) → ((address : Bor Text) (question : ℕ) (timeout : Option ℕ) → Names (codes "transcript") rows (Transcript address question timeout) → ⊥) → (task : Task) → Names (codes "transcript") rows task → ⊥
+pub only_transcript : (rows : List Row) → ((address : Bor Text) (question : ℕ) (timeout : Option (Bor Text)) → Names (codes "transcript") rows (Transcript address question timeout) → ⊥) → (task : Task) → Names (codes "transcript") rows task → ⊥
 only_transcript rows none (Hear n t questions me) named = apart (codes "transcript") (codes "hear") refl named.0
-only_transcript rows none (NewCluster n t questions cluster folder hosts) named = apart (codes "transcript") (codes "new-cluster") refl named.0
+only_transcript rows none (NewCluster n t questions cluster folder hosts port desk) named = apart (codes "transcript") (codes "new-cluster") refl named.0
 only_transcript rows none (Init settings) named = apart (codes "transcript") (codes "init") refl named.0
 only_transcript rows none (Check settings json) named = apart (codes "transcript") (codes "check") refl named.0
-only_transcript rows none (Run settings stay log any_host) named = apart (codes "transcript") (codes "run") refl named.0
+only_transcript rows none (Run settings stay log log_json any_host) named = apart (codes "transcript") (codes "run") refl named.0
 only_transcript rows none (Propose address question bit all timeout) named = apart (codes "transcript") (codes "propose") refl named.0
 only_transcript rows none (Ask address question wait json timeout) named = apart (codes "transcript") (codes "ask") refl named.0
-only_transcript rows none (Status address json timeout) named = apart (codes "transcript") (codes "status") refl named.0
+only_transcript rows none (Status address links ready json timeout) named = apart (codes "transcript") (codes "status") refl named.0
 only_transcript rows none (Transcript address question timeout) named = none address question timeout named
 only_transcript rows none (Audit file n t questions) named = apart (codes "transcript") (codes "audit") refl named.0
-only_transcript rows none (Simulate script trace chart) named = apart (codes "transcript") (codes "simulate") refl named.0
+only_transcript rows none (Simulate script trace chart question member from to) named = apart (codes "transcript") (codes "simulate") refl named.0
 only_transcript rows none (Dump journal count json) named = apart (codes "transcript") (codes "dump") refl named.0
 only_transcript rows none (Migrate old new) named = apart (codes "transcript") (codes "migrate") refl named.0
 
 pub only_audit : (rows : List Row) → ((file : Bor Text) (n : ℕ) (t : ℕ) (questions : ℕ) → Names (codes "audit") rows (Audit file n t questions) → ⊥) → (task : Task) → Names (codes "audit") rows task → ⊥
 only_audit rows none (Hear n t questions me) named = apart (codes "audit") (codes "hear") refl named.0
-only_audit rows none (NewCluster n t questions cluster folder hosts) named = apart (codes "audit") (codes "new-cluster") refl named.0
+only_audit rows none (NewCluster n t questions cluster folder hosts port desk) named = apart (codes "audit") (codes "new-cluster") refl named.0
 only_audit rows none (Init settings) named = apart (codes "audit") (codes "init") refl named.0
 only_audit rows none (Check settings json) named = apart (codes "audit") (codes "check") refl named.0
-only_audit rows none (Run settings stay log any_host) named = apart (codes "audit") (codes "run") refl named.0
+only_audit rows none (Run settings stay log log_json any_host) named = apart (codes "audit") (codes "run") refl named.0
 only_audit rows none (Propose address question bit all timeout) named = apart (codes "audit") (codes "propose") refl named.0
 only_audit rows none (Ask address question wait json timeout) named = apart (codes "audit") (codes "ask") refl named.0
-only_audit rows none (Status address json timeout) named = apart (codes "audit") (codes "status") refl named.0
+only_audit rows none (Status address links ready json timeout) named = apart (codes "audit") (codes "status") refl named.0
 only_audit rows none (Transcript address question timeout) named = apart (codes "audit") (codes "transcript") refl named.0
 only_audit rows none (Audit file n t questions) named = none file n t questions named
-only_audit rows none (Simulate script trace chart) named = apart (codes "audit") (codes "simulate") refl named.0
+only_audit rows none (Simulate script trace chart question member from to) named = apart (codes "audit") (codes "simulate") refl named.0
 only_audit rows none (Dump journal count json) named = apart (codes "audit") (codes "dump") refl named.0
 only_audit rows none (Migrate old new) named = apart (codes "audit") (codes "migrate") refl named.0
 
-pub only_simulate : (rows : List Row) → ((script : Bor Text) (trace : Option (Bor Text)) (chart : Option (Bor Text)) → Names (codes "simulate") rows (Simulate script trace chart) → ⊥) → (task : Task) → Names (codes "simulate") rows task → ⊥
+pub only_simulate : (rows : List Row) → ((script : Bor Text) (trace : Option (Bor Text)) (chart : Option (Bor Text)) (question : Option ℕ) (member : Option ℕ) (from : Option ℕ) (to : Option ℕ) → Names (codes "simulate") rows (Simulate script trace chart question member from to) → ⊥) → (task : Task) → Names (codes "simulate") rows task → ⊥
 only_simulate rows none (Hear n t questions me) named = apart (codes "simulate") (codes "hear") refl named.0
-only_simulate rows none (NewCluster n t questions cluster folder hosts) named = apart (codes "simulate") (codes "new-cluster") refl named.0
+only_simulate rows none (NewCluster n t questions cluster folder hosts port desk) named = apart (codes "simulate") (codes "new-cluster") refl named.0
 only_simulate rows none (Init settings) named = apart (codes "simulate") (codes "init") refl named.0
 only_simulate rows none (Check settings json) named = apart (codes "simulate") (codes "check") refl named.0
-only_simulate rows none (Run settings stay log any_host) named = apart (codes "simulate") (codes "run") refl named.0
+only_simulate rows none (Run settings stay log log_json any_host) named = apart (codes "simulate") (codes "run") refl named.0
 only_simulate rows none (Propose address question bit all timeout) named = apart (codes "simulate") (codes "propose") refl named.0
 only_simulate rows none (Ask address question wait json timeout) named = apart (codes "simulate") (codes "ask") refl named.0
-only_simulate rows none (Status address json timeout) named = apart (codes "simulate") (codes "status") refl named.0
+only_simulate rows none (Status address links ready json timeout) named = apart (codes "simulate") (codes "status") refl named.0
 only_simulate rows none (Transcript address question timeout) named = apart (codes "simulate") (codes "transcript") refl named.0
 only_simulate rows none (Audit file n t questions) named = apart (codes "simulate") (codes "audit") refl named.0
-only_simulate rows none (Simulate script trace chart) named = none script trace chart named
+only_simulate rows none (Simulate script trace chart question member from to) named = none script trace chart question member from to named
 only_simulate rows none (Dump journal count json) named = apart (codes "simulate") (codes "dump") refl named.0
 only_simulate rows none (Migrate old new) named = apart (codes "simulate") (codes "migrate") refl named.0
 
 pub only_dump : (rows : List Row) → ((journal : Bor Text) (count : Bool) (json : Bool) → Names (codes "dump") rows (Dump journal count json) → ⊥) → (task : Task) → Names (codes "dump") rows task → ⊥
 only_dump rows none (Hear n t questions me) named = apart (codes "dump") (codes "hear") refl named.0
-only_dump rows none (NewCluster n t questions cluster folder hosts) named = apart (codes "dump") (codes "new-cluster") refl named.0
+only_dump rows none (NewCluster n t questions cluster folder hosts port desk) named = apart (codes "dump") (codes "new-cluster") refl named.0
 only_dump rows none (Init settings) named = apart (codes "dump") (codes "init") refl named.0
 only_dump rows none (Check settings json) named = apart (codes "dump") (codes "check") refl named.0
-only_dump rows none (Run settings stay log any_host) named = apart (codes "dump") (codes "run") refl named.0
+only_dump rows none (Run settings stay log log_json any_host) named = apart (codes "dump") (codes "run") refl named.0
 only_dump rows none (Propose address question bit all timeout) named = apart (codes "dump") (codes "propose") refl named.0
 only_dump rows none (Ask address question wait json timeout) named = apart (codes "dump") (codes "ask") refl named.0
-only_dump rows none (Status address json timeout) named = apart (codes "dump") (codes "status") refl named.0
+only_dump rows none (Status address links ready json timeout) named = apart (codes "dump") (codes "status") refl named.0
 only_dump rows none (Transcript address question timeout) named = apart (codes "dump") (codes "transcript") refl named.0
 only_dump rows none (Audit file n t questions) named = apart (codes "dump") (codes "audit") refl named.0
-only_dump rows none (Simulate script trace chart) named = apart (codes "dump") (codes "simulate") refl named.0
+only_dump rows none (Simulate script trace chart question member from to) named = apart (codes "dump") (codes "simulate") refl named.0
 only_dump rows none (Dump journal count json) named = none journal count json named
 only_dump rows none (Migrate old new) named = apart (codes "dump") (codes "migrate") refl named.0
 
 pub only_migrate : (rows : List Row) → ((old : Bor Text) (new : Bor Text) → Names (codes "migrate") rows (Migrate old new) → ⊥) → (task : Task) → Names (codes "migrate") rows task → ⊥
 only_migrate rows none (Hear n t questions me) named = apart (codes "migrate") (codes "hear") refl named.0
-only_migrate rows none (NewCluster n t questions cluster folder hosts) named = apart (codes "migrate") (codes "new-cluster") refl named.0
+only_migrate rows none (NewCluster n t questions cluster folder hosts port desk) named = apart (codes "migrate") (codes "new-cluster") refl named.0
 only_migrate rows none (Init settings) named = apart (codes "migrate") (codes "init") refl named.0
 only_migrate rows none (Check settings json) named = apart (codes "migrate") (codes "check") refl named.0
-only_migrate rows none (Run settings stay log any_host) named = apart (codes "migrate") (codes "run") refl named.0
+only_migrate rows none (Run settings stay log log_json any_host) named = apart (codes "migrate") (codes "run") refl named.0
 only_migrate rows none (Propose address question bit all timeout) named = apart (codes "migrate") (codes "propose") refl named.0
 only_migrate rows none (Ask address question wait json timeout) named = apart (codes "migrate") (codes "ask") refl named.0
-only_migrate rows none (Status address json timeout) named = apart (codes "migrate") (codes "status") refl named.0
+only_migrate rows none (Status address links ready json timeout) named = apart (codes "migrate") (codes "status") refl named.0
 only_migrate rows none (Transcript address question timeout) named = apart (codes "migrate") (codes "transcript") refl named.0
 only_migrate rows none (Audit file n t questions) named = apart (codes "migrate") (codes "audit") refl named.0
-only_migrate rows none (Simulate script trace chart) named = apart (codes "migrate") (codes "simulate") refl named.0
+only_migrate rows none (Simulate script trace chart question member from to) named = apart (codes "migrate") (codes "simulate") refl named.0
 only_migrate rows none (Dump journal count json) named = apart (codes "migrate") (codes "dump") refl named.0
 only_migrate rows none (Migrate old new) named = none old new named
 

@@ -39,31 +39,35 @@ abbrev pub Names : Text → List Row → Task → Type 0
 Names name rows (Hear n t questions me) = (name ≡ codes "hear") × HasNumberOption 16 (codes "n") rows n
     × HasNumberOption 16 (codes "t") rows t × HasNumberOption 16 (codes "questions") rows questions
     × HasNumberOption 8 (codes "me") rows me
-Names name rows (NewCluster n t questions cluster folder hosts) = (name ≡ codes "new-cluster")
+Names name rows (NewCluster n t questions cluster folder hosts port desk) = (name ≡ codes "new-cluster")
     × HasNumberOption 16 (codes "n") rows n × HasNumberOption 16 (codes "t") rows t
     × HasNumberOption 16 (codes "questions") rows questions × HasNumberOption 32 (codes "cluster") rows cluster
     × HasText (codes "folder") rows folder.now × MayHaveText (codes "hosts") rows (option_map (λ text. text.now) hosts)
+    × MayHaveNumber 16 (codes "port") rows port × MayHaveText (codes "desk") rows (option_map (λ text. text.now) desk)
 Names name rows (Init settings) = (name ≡ codes "init") × HasText (codes "settings") rows settings.now
 Names name rows (Check settings json) = (name ≡ codes "check") × HasText (codes "settings") rows settings.now
     × HasFlag (codes "json") rows json
-Names name rows (Run settings stay log any_host) = (name ≡ codes "run") × HasText (codes "settings") rows settings.now
-    × HasFlag (codes "stay") rows stay × HasFlag (codes "log") rows log × HasFlag (codes "any-host") rows any_host
+Names name rows (Run settings stay log log_json any_host) = (name ≡ codes "run") × HasText (codes "settings") rows settings.now
+    × HasFlag (codes "stay") rows stay × HasFlag (codes "log") rows log × HasFlag (codes "log-json") rows log_json
+    × HasFlag (codes "any-host") rows any_host
 Names name rows (Propose address question bit all timeout) = (name ≡ codes "propose")
     × HasText (codes "address") rows address.now × HasNumberOption 16 (codes "question") rows question
-    × HasNumberOption 8 (codes "bit") rows bit × HasFlag (codes "all") rows all × MayHaveNumber 16 (codes "timeout") rows timeout
+    × HasNumberOption 8 (codes "bit") rows bit × HasFlag (codes "all") rows all × MayHaveText (codes "timeout") rows (option_map (λ text. text.now) timeout)
 Names name rows (Ask address question wait json timeout) = (name ≡ codes "ask") × HasText (codes "address") rows address.now
     × HasNumberOption 16 (codes "question") rows question × HasFlag (codes "wait") rows wait
-    × HasFlag (codes "json") rows json × MayHaveNumber 16 (codes "timeout") rows timeout
-Names name rows (Status address json timeout) = (name ≡ codes "status") × HasText (codes "address") rows address.now
-    × HasFlag (codes "json") rows json × MayHaveNumber 16 (codes "timeout") rows timeout
+    × HasFlag (codes "json") rows json × MayHaveText (codes "timeout") rows (option_map (λ text. text.now) timeout)
+Names name rows (Status address links ready json timeout) = (name ≡ codes "status") × HasText (codes "address") rows address.now
+    × HasFlag (codes "links") rows links × HasFlag (codes "ready") rows ready × HasFlag (codes "json") rows json × MayHaveText (codes "timeout") rows (option_map (λ text. text.now) timeout)
 Names name rows (Transcript address question timeout) = (name ≡ codes "transcript") × HasText (codes "address") rows address.now
-    × HasNumberOption 16 (codes "question") rows question × MayHaveNumber 16 (codes "timeout") rows timeout
+    × HasNumberOption 16 (codes "question") rows question × MayHaveText (codes "timeout") rows (option_map (λ text. text.now) timeout)
 Names name rows (Audit file n t questions) = (name ≡ codes "audit") × HasText (codes "file") rows file.now
     × HasNumberOption 16 (codes "n") rows n × HasNumberOption 16 (codes "t") rows t
     × HasNumberOption 16 (codes "questions") rows questions
-Names name rows (Simulate script trace chart) = (name ≡ codes "simulate") × HasText (codes "script") rows script.now
+Names name rows (Simulate script trace chart question member from to) = (name ≡ codes "simulate") × HasText (codes "script") rows script.now
     × MayHaveText (codes "trace") rows (option_map (λ path. path.now) trace)
     × MayHaveText (codes "chart") rows (option_map (λ path. path.now) chart)
+    × MayHaveNumber 16 (codes "question") rows question × MayHaveNumber 8 (codes "member") rows member
+    × MayHaveNumber 32 (codes "from") rows from × MayHaveNumber 32 (codes "to") rows to
 Names name rows (Dump journal count json) = (name ≡ codes "dump") × HasText (codes "journal") rows journal.now
     × HasFlag (codes "count") rows count × HasFlag (codes "json") rows json
 Names name rows (Migrate old new) = (name ≡ codes "migrate") × HasText (codes "old") rows old.now

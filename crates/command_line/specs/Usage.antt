@@ -79,12 +79,13 @@ json_rule = flag_rule (codes "json")
 
 -- `--timeout S`
 abbrev pub timeout_rule : Rule
-timeout_rule = as_u16 (option_rule (codes "timeout"))
+timeout_rule = option_rule (codes "timeout")
 
--- `bracha new-cluster --n N --t T --questions Q --cluster C FOLDER [HOST,HOST,..]`
+-- `bracha new-cluster --n N --t T --questions Q --cluster C [--port FIRST] [--desk HOST] FOLDER [HOST,HOST,..]`
 abbrev pub new_cluster_app : App
 new_cluster_app = taking (codes "new-cluster")
-    (size_rules ++ as_u32 (number_rule (codes "cluster")) ∷ word_rule (codes "folder") ∷ last_rule (codes "hosts") ∷ [])
+    (size_rules ++ as_u32 (number_rule (codes "cluster")) ∷ word_rule (codes "folder") ∷ last_rule (codes "hosts")
+    ∷ as_u16 (option_rule (codes "port")) ∷ option_rule (codes "desk") ∷ [])
 
 -- `bracha init SETTINGS`
 abbrev pub init_app : App
@@ -94,10 +95,11 @@ init_app = taking (codes "init") (word_rule (codes "settings") ∷ [])
 abbrev pub check_app : App
 check_app = taking (codes "check") (word_rule (codes "settings") ∷ json_rule ∷ [])
 
--- `bracha run [--stay] [--log] [--any-host] SETTINGS`
+-- `bracha run [--stay] [--log] [--log-json] [--any-host] SETTINGS`
 abbrev pub run_app : App
 run_app = taking (codes "run")
-    (word_rule (codes "settings") ∷ flag_rule (codes "stay") ∷ flag_rule (codes "log") ∷ flag_rule (codes "any-host") ∷ [])
+    (word_rule (codes "settings") ∷ flag_rule (codes "stay") ∷ flag_rule (codes "log") ∷ flag_rule (codes "log-json")
+    ∷ flag_rule (codes "any-host") ∷ [])
 
 -- `bracha propose [--all] [--timeout S] ADDRESS Q V`
 abbrev pub propose_app : App
@@ -108,9 +110,9 @@ propose_app = taking (codes "propose")
 abbrev pub ask_app : App
 ask_app = taking (codes "ask") (desk_rules ++ flag_rule (codes "wait") ∷ json_rule ∷ timeout_rule ∷ [])
 
--- `bracha status [--json] [--timeout S] ADDRESS`
+-- `bracha status [--links] [--ready] [--json] [--timeout S] ADDRESS`
 abbrev pub status_app : App
-status_app = taking (codes "status") (address_rule ∷ json_rule ∷ timeout_rule ∷ [])
+status_app = taking (codes "status") (address_rule ∷ flag_rule (codes "links") ∷ flag_rule (codes "ready") ∷ json_rule ∷ timeout_rule ∷ [])
 
 -- `bracha transcript [--timeout S] ADDRESS Q`
 abbrev pub transcript_app : App
@@ -128,9 +130,15 @@ dump_app = taking (codes "dump") (word_rule (codes "journal") ∷ flag_rule (cod
 abbrev pub migrate_app : App
 migrate_app = taking (codes "migrate") (word_rule (codes "old") ∷ word_rule (codes "new") ∷ [])
 
--- `bracha simulate [--trace FILE] [--chart FILE] SCRIPT`
+-- `[--question Q] [--member M] [--from FIRST] [--to LAST]`
+abbrev pub choice_rules : List Rule
+choice_rules = as_u16 (option_rule (codes "question")) ∷ as_u8 (option_rule (codes "member")) ∷ as_u32 (option_rule (codes "from"))
+    ∷ as_u32 (option_rule (codes "to")) ∷ []
+
+-- `bracha simulate [--trace FILE] [--chart FILE] [--question Q] [--member M] [--from FIRST] [--to LAST] SCRIPT`
 abbrev pub simulate_app : App
-simulate_app = taking (codes "simulate") (word_rule (codes "script") ∷ option_rule (codes "trace") ∷ option_rule (codes "chart") ∷ [])
+simulate_app = taking (codes "simulate")
+    (word_rule (codes "script") ∷ option_rule (codes "trace") ∷ option_rule (codes "chart") ∷ choice_rules)
 
 -- `bracha hear --n N --t T --questions Q --me M`
 abbrev pub hear_app : App

@@ -1,7 +1,7 @@
 //! The words of the command line.
 
 ghost use Rattle.command_line.specs.Tasks.{AreQuiet, AskFor, HasFlag, HasNumberOption, IsAskedFor, IsQuiet, Names, SaysQuiet, rows_in};
-ghost use Rattle.command_line.specs.Usage.{Builds, address_rule, as_u16, as_u32, as_u8, ask_app, json_rule, audit_app, bare_app, check_app, dump_app, option_rule, flag_rule, last_rule, timeout_rule, hear_app, init_app, migrate_app, new_cluster_app, number_rule, program_app};
+ghost use Rattle.command_line.specs.Usage.{Builds, address_rule, as_u16, as_u32, as_u8, ask_app, json_rule, audit_app, bare_app, check_app, choice_rules, dump_app, option_rule, flag_rule, last_rule, timeout_rule, hear_app, init_app, migrate_app, new_cluster_app, number_rule, program_app};
 ghost use Rattle.command_line.specs.Usage.{propose_app, run_app, simulate_app, size_rules, status_app, transcript_app, desk_rules, quiet_rule, verbose_rule, word_rule, with_rules, with_telling};
 ghost use Rattle.clap.specs.Words.{App, FailsBy, Rule, app_of, fault_of, first_of, new_app, rule_of, subcommand_rows_of, with_rule, with_subcommand};
 ghost use Rattle.std.specs.Prelude.{◌≡◌, ◌↔◌, IfOk, IfSome, IsNone, IsTrue, Some, codes, map, option_map, ℕ};
@@ -30,17 +30,18 @@ pub enum Task<'a> {
         settings: &'a str,
         json: bool,
     },
-    /// Runs the member of the settings in this file, until the standard input ends, or for good where it is to stay. Its
-    /// events are told on the standard error where a log is wanted. Links are taken from their members' own hosts alone,
-    /// unless any host may speak for any member.
+    /// Runs the member of the settings in this file, until the standard input ends, or for good if it is to stay. Its
+    /// events are told on the standard error if a log is wanted, as lines or, with `log_json`, as objects of JSON. Links are
+    /// taken from their members' own hosts alone, unless any host may speak for any member.
     Run {
         settings: &'a str,
         stay: bool,
         log: bool,
+        log_json: bool,
         any_host: bool,
     },
-    /// Writes the settings of each member of a new cluster into files of this folder. Its members listen at these hosts,
-    /// with commas between them.
+    /// Writes the settings of each member of a new cluster, and a client's, into files of this folder. Its members listen to one
+    /// another at these hosts, with commas between them, at the ports from this one on; and to their clients at that host.
     NewCluster {
         n: u16,
         t: u16,
@@ -48,37 +49,42 @@ pub enum Task<'a> {
         cluster: u32,
         folder: &'a str,
         hosts: Option<&'a str>,
+        port: Option<u16>,
+        desk: Option<&'a str>,
     },
     /// Proposes a bit on a question to the member whose desk is at this address; or to all members of the cluster of the
-    /// settings in this file. Each is waited for so many seconds.
+    /// client's settings in this file. Each is waited for as long as this text says.
     Propose {
         address: &'a str,
         question: u16,
         bit: u8,
         all: bool,
-        timeout: Option<u16>,
+        timeout: Option<&'a str>,
     },
     /// Asks the member whose desk is at this address for its decision of a question, once or until there is one. It is
-    /// waited for so many seconds.
+    /// waited for as long as this text says.
     Ask {
         address: &'a str,
         question: u16,
         wait: bool,
         json: bool,
-        timeout: Option<u16>,
+        timeout: Option<&'a str>,
     },
-    /// Asks the member whose desk is at this address whether it is up, and waits for it so many seconds.
+    /// Asks the member whose desk is at this address whether it is up; or how many links come and go, or also whether these are
+    /// as many as are needed. It is waited for as long as this text says.
     Status {
         address: &'a str,
+        links: bool,
+        ready: bool,
         json: bool,
-        timeout: Option<u16>,
+        timeout: Option<&'a str>,
     },
-    /// Asks the member whose desk is at this address for what it heard of a question that is decided, and waits for more of
-    /// it so many seconds.
+    /// Asks the member whose desk is at this address for what it heard of a question that is decided, and waits for it as
+    /// long as this text says.
     Transcript {
         address: &'a str,
         question: u16,
-        timeout: Option<u16>,
+        timeout: Option<&'a str>,
     },
     /// Says whether the transcript in this file is proof of its decision, for a cluster of that size.
     Audit {
@@ -87,11 +93,16 @@ pub enum Task<'a> {
         t: u16,
         questions: u16,
     },
-    /// Runs the script in this file, and writes a trace and a chart of the run into those files.
+    /// Runs the script in this file, and writes a trace and a chart of the run into those files. The chart has the events of
+    /// this question and this member alone, from that number to that one.
     Simulate {
         script: &'a str,
         trace: Option<&'a str>,
         chart: Option<&'a str>,
+        question: Option<u16>,
+        member: Option<u8>,
+        from: Option<u32>,
+        to: Option<u32>,
     },
     /// Prints the journal in this file, or only how many records it has.
     Dump {
@@ -166,15 +177,14 @@ fn flag<'a>(alloc: Global, name: &'a str, help: &'a str) -> Arg<'a>
 fn json<'a>(alloc: Global) -> Arg<'a>
     ensures { rule_of result ≡ json_rule }
 {
-    flag(alloc, "json", "Prints objects of JSON, one a line")
+    flag(alloc, "json", "Print JSON, one object per line")
 }
 
 /// The option `--quiet`, which may stand before the command and behind it.
 fn quiet<'a>(alloc: Global) -> Arg<'a>
     ensures { rule_of result ≡ quiet_rule }
 {
-    let help =
-        "Of a fault prints the first line alone, without the second one, which names the thing";
+    let help = "Print only the first line of an error message";
     flag(alloc, "quiet", help)
 }
 
@@ -241,10 +251,10 @@ fn with_telling<'a>(alloc: Global, command: Built<'a>) -> Built<'a>
 fn with_size<'a>(alloc: Global, command: Built<'a>) -> Built<'a>
     ensures { (app : App) → Builds app command.entry → Builds (with_rules app size_rules) result }
 {
-    let n = number(alloc, "n", "N", "How many members there are (1 to 64)");
-    let liars = "How many of them may lie (less than a third)";
+    let n = number(alloc, "n", "N", "Number of members (1 to 64)");
+    let liars = "Number of lying members to tolerate (N > 3T)";
     let t = number(alloc, "t", "T", liars);
-    let count = "How many questions there are (1 to 4096)";
+    let count = "Number of questions (1 to 4096)";
     let questions = number(alloc, "questions", "Q", count);
     let command = with_arg(command, of_u16(n));
     let command = with_arg(command, of_u16(t));
@@ -254,11 +264,10 @@ fn with_size<'a>(alloc: Global, command: Built<'a>) -> Built<'a>
 fn hear<'a>(alloc: Global) -> Built<'a>
     ensures { Builds hear_app result }
 {
-    let about =
-        "Reads lines `SENDER HEX`, each a piece of a sender's stream, and prints what reliable broadcast answers";
+    let about = "Feed frames to reliable broadcast and print its answers";
     let examples =
-        "Example:\n  echo '0 00080301000000010101' | bracha hear --n 4 --t 1 --questions 1 --me 1";
-    let me = number(alloc, "me", "M", "The member that hears (below N)");
+        "Each line of standard input is a member's number and some bytes of its stream, in hexadecimal. Prints what member M answers to each.\n\nExample:\n  echo '0 00080301000000010101' | bracha hear --n 4 --t 1 --questions 1 --me 1";
+    let me = number(alloc, "me", "M", "Number of the member that hears, below N");
     let command = with_size(alloc, named(alloc, "hear", about, examples));
     with_arg(command, of_u8(me))
 }
@@ -266,40 +275,54 @@ fn hear<'a>(alloc: Global) -> Built<'a>
 fn new_cluster<'a>(alloc: Global) -> Built<'a>
     ensures { Builds new_cluster_app result }
 {
-    let about = "Writes the settings of each member of a new cluster, with seeds of their own";
+    let about = "Write the settings files of a new cluster";
     let examples =
-        "The files are FOLDER/member-0.toml and so on, which their owner alone can read. A file that is there is a fault, and nothing is written then. Links are at the ports from 7100 on, desks at those from 7110 on; with --n above 10, from 7200 on.\n\nExamples, four members on this machine, and on four hosts:\n  bracha new-cluster --n 4 --t 1 --questions 64 --cluster 7 .\n  bracha new-cluster --n 4 --t 1 --questions 64 --cluster 7 . 10.0.0.1,10.0.0.2,10.0.0.3,10.0.0.4";
+        "Creates FOLDER if it is missing, and writes member-0.toml to member-(N-1).toml, each with a random seed and readable only by its owner, and client.toml, which contains no secret. Writes nothing if one of them exists. Member M accepts links at port FIRST + M and clients at port FIRST + 10 + M, or FIRST + 100 + M if N is above 10. Desks are at 127.0.0.1 unless you say otherwise: whoever reaches a desk can propose for its member.\n\nExamples (four members on this machine; on four hosts):\n  bracha new-cluster --n 4 --t 1 --questions 64 --cluster 7 mine\n  bracha new-cluster --n 4 --t 1 --questions 64 --cluster 7 mine 10.0.0.1,10.0.0.2,10.0.0.3,10.0.0.4";
     let cluster = number(
         alloc,
         "cluster",
         "C",
-        "The cluster's number, another for each cluster",
+        "Number of the cluster, different for each cluster",
     );
     let folder = word(
         alloc,
         "folder",
         "FOLDER",
-        "The folder for the files, which is there",
+        "Folder to write the files to; created if it is missing",
     );
     let hosts = last_word(
         alloc,
         "hosts",
         "HOST,HOST,..",
-        "The hosts of the members, N of them (127.0.0.1 for all)",
+        "Hosts of the N members: localhost or IPv4 addresses [default: 127.0.0.1 for all]",
     );
     let command = with_size(alloc, named(alloc, "new-cluster", about, examples));
     let command = with_arg(command, of_u32(cluster));
+    let port = option(
+        alloc,
+        "port",
+        "FIRST",
+        "First port of the links [default: 7100]",
+    );
+    let desk = option(
+        alloc,
+        "desk",
+        "HOST",
+        "Host of all desks, or `links`: each at its links' host [default: 127.0.0.1]",
+    );
     let command = with_arg(command, folder);
-    with_arg(command, hosts)
+    let command = with_arg(command, hosts);
+    let command = with_arg(command, of_u16(port));
+    with_arg(command, desk)
 }
 
 fn init<'a>(alloc: Global) -> Built<'a>
     ensures { Builds init_app result }
 {
-    let about = "Makes the journal of a member, with no records";
+    let about = "Create a member's empty journal";
     let examples =
-        "Example, in the folder of the repository:\n  bracha init examples/cluster/member-1.toml";
-    let help = "The file of the member's settings, which names the journal";
+        "Run this once, for a new member. The journal must be missing or empty. A member that has lost its journal must not be given a new one.\n\nExample:\n  bracha init member-1.toml";
+    let help = "Settings file, which names the journal";
     let command = named(alloc, "init", about, examples);
     with_arg(command, word(alloc, "settings", "SETTINGS", help))
 }
@@ -307,11 +330,10 @@ fn init<'a>(alloc: Global) -> Built<'a>
 fn check<'a>(alloc: Global) -> Built<'a>
     ensures { Builds check_app result }
 {
-    let about =
-        "Reads a member's settings and its journal, says what is there, and changes nothing";
+    let about = "Print a member's settings and how many records its journal has";
     let examples =
-        "The status is 0 where `run` would start, as far as the files say. It may be asked while the member runs.\n\nExample, in the folder of the repository, after `bracha init` of the same file:\n  bracha check examples/cluster/member-1.toml";
-    let help = "The file of the member's settings, which names the journal";
+        "Exits with 0 if `run` would start, as far as the files and this host's addresses tell. Takes no lock and changes nothing, so you can check a running member. Names keys that it ignores on standard error.\n\nExample:\n  bracha check member-1.toml";
+    let help = "Settings file, which names the journal";
     let command = named(alloc, "check", about, examples);
     let command = with_arg(command, word(alloc, "settings", "SETTINGS", help));
     with_arg(command, json(alloc))
@@ -320,19 +342,19 @@ fn check<'a>(alloc: Global) -> Built<'a>
 fn run<'a>(alloc: Global) -> Built<'a>
     ensures { Builds run_app result }
 {
-    let about =
-        "Runs a member: it prints `member M ready`, links to all members, and answers clients at its desk";
+    let about = "Run a member";
     let examples =
-        "It ends where standard input does, or where SIGTERM or SIGINT comes that was blocked when it was started. It may be killed at any moment and started again.\n\nExamples, after `bracha init` of the same file, in a terminal (until Ctrl-D) and as a service:\n  bracha run examples/cluster/member-1.toml\n  env --block-signal=TERM,INT bracha run --stay examples/cluster/member-1.toml";
-    let help = "The file of the member's settings, whose journal `init` made";
-    let stay = "Doesn't look at standard input, and runs until a signal";
-    let log = "Tells on standard error when links come and go, and what is decided";
-    let any_host =
-        "Unsafe: takes links from any host, so that whoever reaches the port may speak for any member";
+        "Prints `member M ready` once it listens. Runs until standard input ends; with --stay, until a signal or until the member is stopped (status 1). SIGTERM and SIGINT end it cleanly if it was started with them blocked, as below. You can kill it at any moment and start it again: nothing is lost.\n\nExamples (in a terminal, until Ctrl-D; as a service):\n  bracha run member-1.toml\n  env --block-signal=TERM,INT bracha run --stay --log member-1.toml";
+    let help = "Settings file of the member";
+    let stay = "Keep running when standard input ends; stop on SIGTERM or SIGINT";
+    let log = "Write an event log to standard error";
+    let log_json = "Write the log as JSON, one object per line";
+    let any_host = "Accept links from any host (unsafe: any host can speak for any member)";
     let command = named(alloc, "run", about, examples);
     let command = with_arg(command, word(alloc, "settings", "SETTINGS", help));
     let command = with_arg(command, flag(alloc, "stay", stay));
     let command = with_arg(command, flag(alloc, "log", log));
+    let command = with_arg(command, flag(alloc, "log-json", log_json));
     with_arg(command, flag(alloc, "any-host", any_host))
 }
 
@@ -340,22 +362,23 @@ fn run<'a>(alloc: Global) -> Built<'a>
 fn address<'a>(alloc: Global) -> Arg<'a>
     ensures { rule_of result ≡ address_rule }
 {
-    word(alloc, "address", "ADDRESS", "The member's desk, HOST:PORT")
+    let help = "Address of the member's desk, HOST:PORT or unix:PATH";
+    word(alloc, "address", "ADDRESS", help)
 }
 
 /// The option that says how long a member is waited for.
 fn with_timeout<'a>(alloc: Global, command: Built<'a>) -> Built<'a>
     ensures { (app : App) → Builds app command.entry → Builds (with_rule app timeout_rule) result }
 {
-    let help = "Waits so many seconds at most for the connection, and for more of a reply";
-    with_arg(command, of_u16(option(alloc, "timeout", "S", help)))
+    let help = "Give up after S seconds in all (5, 0.5 or 5s)";
+    with_arg(command, option(alloc, "timeout", "S", help))
 }
 
 /// The words of a line to a desk: its address and the question.
 fn with_desk<'a>(alloc: Global, command: Built<'a>) -> Built<'a>
     ensures { (app : App) → Builds app command.entry → Builds (with_rules app desk_rules) result }
 {
-    let question = word(alloc, "question", "Q", "The question (from 0)");
+    let question = word(alloc, "question", "Q", "Question number, from 0");
     let command = with_arg(command, address(alloc));
     with_arg(command, of_u16(question))
 }
@@ -363,11 +386,11 @@ fn with_desk<'a>(alloc: Global, command: Built<'a>) -> Built<'a>
 fn propose<'a>(alloc: Global) -> Built<'a>
     ensures { Builds propose_app result }
 {
-    let about = "Proposes a bit on a question to a member that runs";
+    let about = "Propose a bit on a question";
     let examples =
-        "It prints OK, HAVE B (bit B was proposed before, and stands), or what is wrong. With --all ADDRESS is the file of a member's settings; the desks are that one's, and those in the files member-M.toml beside it.\n\nExamples, where member 1 of examples/cluster runs, and where all do:\n  bracha propose 127.0.0.1:7111 0 1\n  bracha propose --all examples/cluster/member-1.toml 0 1";
-    let bit = word(alloc, "bit", "V", "The bit, 0 or 1");
-    let all = "Proposes it to all members whose desks the settings' folder knows";
+        "Prints OK, or HAVE B if the member has an earlier proposal B, which stands. With --all, ADDRESS is the file client.toml of `new-cluster`, and a line `member M REPLY` is printed for each member.\n\nExamples:\n  bracha propose 127.0.0.1:7111 0 1\n  bracha propose --all client.toml 0 1";
+    let bit = word(alloc, "bit", "V", "Bit to propose, 0 or 1");
+    let all = "Propose to every member; ADDRESS is the file client.toml";
     let command = with_desk(alloc, named(alloc, "propose", about, examples));
     let command = with_arg(command, of_u8(bit));
     let command = with_arg(command, flag(alloc, "all", all));
@@ -377,11 +400,10 @@ fn propose<'a>(alloc: Global) -> Built<'a>
 fn ask<'a>(alloc: Global) -> Built<'a>
     ensures { Builds ask_app result }
 {
-    let about = "Asks a member that runs for its decision of a question";
+    let about = "Print a question's decision, or UNDECIDED";
     let examples =
-        "It prints DECIDED B or UNDECIDED, or what is wrong. A decision is for good.\n\nExamples, where member 1 of examples/cluster runs:\n  bracha ask 127.0.0.1:7111 0\n  bracha ask --wait --timeout 60 127.0.0.1:7111 0";
-    let wait =
-        "Asks until it is decided; with --timeout no longer than that, and then the status is 1";
+        "Prints DECIDED B or UNDECIDED. A decision is final, and the same at every correct member. UNDECIDED has status 0, and 1 with --wait.\n\nExamples:\n  bracha ask 127.0.0.1:7111 0\n  bracha ask --wait --timeout 60 127.0.0.1:7111 0";
+    let wait = "Ask until decided, even if the member isn't up yet; --timeout limits it";
     let command = with_desk(alloc, named(alloc, "ask", about, examples));
     let command = with_arg(command, flag(alloc, "wait", wait));
     let command = with_arg(command, json(alloc));
@@ -391,10 +413,14 @@ fn ask<'a>(alloc: Global) -> Built<'a>
 fn status<'a>(alloc: Global) -> Built<'a>
     ensures { Builds status_app result }
 {
-    let about = "Asks a member that runs whether it is up";
+    let about = "Print whether a member is up";
     let examples =
-        "It prints UP M D (M statements said, D questions decided), or what is wrong.\n\nExample, where member 1 of examples/cluster runs:\n  bracha status 127.0.0.1:7111";
+        "Prints UP M D if the member is up: it has made M statements and decided D questions. Prints STOPPED, with status 1, if it is stopped. With --links or --ready, prints LINKS I O N W: of N links, I come in and O go out, and W of both are needed to decide.\n\nExamples (is it up; can it decide):\n  bracha status 127.0.0.1:7111\n  bracha status --ready 127.0.0.1:7111";
+    let links = "Print how many links come in and go out";
+    let ready = "The same, with status 0 only if the links are enough to decide";
     let command = with_arg(named(alloc, "status", about, examples), address(alloc));
+    let command = with_arg(command, flag(alloc, "links", links));
+    let command = with_arg(command, flag(alloc, "ready", ready));
     let command = with_arg(command, json(alloc));
     with_timeout(alloc, command)
 }
@@ -402,9 +428,9 @@ fn status<'a>(alloc: Global) -> Built<'a>
 fn transcript<'a>(alloc: Global) -> Built<'a>
     ensures { Builds transcript_app result }
 {
-    let about = "Asks a member that runs for what it heard of a question that is decided";
+    let about = "Print the statements that prove a decision";
     let examples =
-        "It prints `transcript Q bit B count C` and C lines `FROM HEX`, which `bracha audit` reads, or what is wrong. THIN: it was decided in an earlier life of the member, and what was heard since is no proof.\n\nExample, where member 1 of examples/cluster runs:\n  bracha transcript 127.0.0.1:7111 0 > decision.txt";
+        "Prints `transcript Q bit B count C` and C lines `FROM HEX`, for `bracha audit`. Prints THIN if the member decided before its last start and has not heard a proof since: ask another member. Any reply but a transcript has status 1.\n\nExample:\n  bracha transcript 127.0.0.1:7111 0 > decision.txt";
     let command = with_desk(alloc, named(alloc, "transcript", about, examples));
     with_timeout(alloc, command)
 }
@@ -412,11 +438,11 @@ fn transcript<'a>(alloc: Global) -> Built<'a>
 fn audit<'a>(alloc: Global) -> Built<'a>
     ensures { Builds audit_app result }
 {
-    let about = "Says whether a transcript is proof of its decision: yes or no";
+    let about = "Check whether a transcript proves its decision";
     let examples =
-        "The statements are not signed: it proves what follows from them, not that they were sent.\n\nExample, with what `bracha transcript` printed:\n  bracha audit decision.txt --n 4 --t 1 --questions 16";
+        "Prints yes with status 0, or no with status 1, for a cluster of this size. Transcripts are not signed: `yes` says what follows from the statements, not that they were sent.\n\nExample:\n  bracha audit decision.txt --n 4 --t 1 --questions 64";
     let command = named(alloc, "audit", about, examples);
-    let help = "The file of the transcript";
+    let help = "Transcript to check";
     let command = with_arg(command, word(alloc, "file", "FILE", help));
     with_size(alloc, command)
 }
@@ -424,11 +450,11 @@ fn audit<'a>(alloc: Global) -> Built<'a>
 fn dump<'a>(alloc: Global) -> Built<'a>
     ensures { Builds dump_app result }
 {
-    let about = "Prints whose journal it is, and its records";
+    let about = "Print a journal's header and records";
     let examples =
-        "It is refused while a member runs on the journal.\n\nExamples, after `bracha init examples/cluster/member-1.toml`:\n  bracha dump member-1.journal\n  bracha dump --count member-1.journal";
-    let help = "The file of the journal";
-    let count = "Prints only how many records there are";
+        "Fails while a member runs on the journal. `bracha check` counts the records of a running member.\n\nExamples:\n  bracha dump member-1.journal\n  bracha dump --count member-1.journal";
+    let help = "Journal file";
+    let count = "Print only the number of records";
     let command = named(alloc, "dump", about, examples);
     let command = with_arg(command, word(alloc, "journal", "JOURNAL", help));
     let command = with_arg(command, flag(alloc, "count", count));
@@ -438,24 +464,42 @@ fn dump<'a>(alloc: Global) -> Built<'a>
 fn migrate<'a>(alloc: Global) -> Built<'a>
     ensures { Builds migrate_app result }
 {
-    let about = "Brings a member's journal of version 1 over into a new file";
+    let about = "Convert a journal of version 1 to version 2";
     let examples =
-        "It prints `migrated C`, how many records there are. The old file is left as it is, and is out of use from then on: a member that ran on both would say things twice.\n\nExample, while the member doesn't run:\n  bracha migrate member-1.journal member-1-v2.journal";
-    let old = "The file of the old journal";
-    let new = "The file of the new one, which is made (or empty)";
+        "Prints `migrated C`, the number of records. Stop the member first, and never run it on OLD again: a member that runs on both journals contradicts itself.\n\nExample:\n  bracha migrate member-1.journal member-1-v2.journal";
+    let old = "Journal of version 1, left as it is";
+    let new = "File for the new journal, missing or empty";
     let command = named(alloc, "migrate", about, examples);
     let command = with_arg(command, word(alloc, "old", "OLD", old));
     with_arg(command, word(alloc, "new", "NEW", new))
 }
 
+/// The options that choose a chart's rows.
+fn with_choice<'a>(alloc: Global, command: Built<'a>) -> Built<'a>
+    ensures { (app : App) → Builds app command.entry → Builds (with_rules app choice_rules) result }
+{
+    let question = "Chart only events of this question, and crashes, restarts, fuses and resets";
+    let member = "Chart only events that are for this member or come from it";
+    let from = "Number of the chart's first event, as --trace counts them";
+    let to = "Number of the chart's last event";
+    let question = option(alloc, "question", "Q", question);
+    let member = option(alloc, "member", "M", member);
+    let from = option(alloc, "from", "FIRST", from);
+    let to = option(alloc, "to", "LAST", to);
+    let command = with_arg(command, of_u16(question));
+    let command = with_arg(command, of_u8(member));
+    let command = with_arg(command, of_u32(from));
+    with_arg(command, of_u32(to))
+}
+
 fn simulate<'a>(alloc: Global) -> Built<'a>
     ensures { Builds simulate_app result }
 {
-    let about = "Runs a script of a whole cluster in memory, and prints what was decided";
+    let about = "Simulate a cluster from a script";
     let examples =
-        "With `-` as its file a page goes to standard output, and what was decided to standard error.\n\nExamples, in the folder of the repository:\n  bracha simulate crates/bracha/examples/small.script\n  bracha simulate --chart small.svg crates/bracha/examples/small.script\n  bracha simulate --trace - crates/bracha/examples/small.script";
-    let trace = "Writes what each event did, a line for each, to this file";
-    let chart = "Draws the run as a sequence chart (SVG) into this file";
+        "Prints every decision, then how many events there were and how many were skipped. If a trace or chart goes to standard output, this goes to standard error.\n\nExamples (in the repository):\n  bracha simulate crates/bracha/examples/small.script\n  bracha simulate --chart small.svg crates/bracha/examples/small.script\n  bracha simulate --chart small.svg --member 1 --from 8 --to 20 crates/bracha/examples/small.script\n  bracha simulate --trace - crates/bracha/examples/small.script";
+    let trace = "Write a line per event to FILE; - is standard output";
+    let chart = "Draw the run as an SVG sequence chart to FILE; - is standard output";
     let command = named(alloc, "simulate", about, examples);
     let command = with_arg(
         command,
@@ -463,11 +507,12 @@ fn simulate<'a>(alloc: Global) -> Built<'a>
             alloc,
             "script",
             "SCRIPT",
-            "The file of the script (- is standard input)",
+            "Script to run; - is standard input",
         ),
     );
     let command = with_arg(command, file(alloc, "trace", trace));
-    with_arg(command, file(alloc, "chart", chart))
+    let command = with_arg(command, file(alloc, "chart", chart));
+    with_choice(alloc, command)
 }
 
 /// The program without its commands and options.
@@ -476,8 +521,8 @@ fn bare<'a>(alloc: Global) -> Built<'a>
 {
     Ok(
         clap::Command::new(alloc, "bracha")
-            .version("0.2.0")
-            .about("A cluster that settles yes-or-no questions while some of its members lie")
+            .version("0.3.0\nwire 1, 2\njournal 2 (migrates 1)")
+            .about("Agree on yes-or-no questions while some members lie")
             .subcommand_required(true)
             .arg_required_else_help(true),
     )
@@ -569,6 +614,8 @@ fn new_cluster_of<'a>(options: &ArgMatches<'a>) -> Option<Task<'a>>
     let cluster = u32_of(options, "cluster")?;
     let folder = text_of(options, "folder")?;
     let hosts = text_of(options, "hosts");
+    let port = u16_of(options, "port");
+    let desk = text_of(options, "desk");
     Some(Task::NewCluster {
         n,
         t,
@@ -576,6 +623,8 @@ fn new_cluster_of<'a>(options: &ArgMatches<'a>) -> Option<Task<'a>>
         cluster,
         folder,
         hosts,
+        port,
+        desk,
     })
 }
 
@@ -609,6 +658,7 @@ fn run_of<'a>(options: &ArgMatches<'a>) -> Option<Task<'a>>
         settings: text_of(options, "settings")?,
         stay: flag_of(options, "stay"),
         log: flag_of(options, "log"),
+        log_json: flag_of(options, "log-json"),
         any_host: flag_of(options, "any-host"),
     })
 }
@@ -623,7 +673,7 @@ fn propose_of<'a>(options: &ArgMatches<'a>) -> Option<Task<'a>>
         question: u16_of(options, "question")?,
         bit: u8_of(options, "bit")?,
         all: flag_of(options, "all"),
-        timeout: u16_of(options, "timeout"),
+        timeout: text_of(options, "timeout"),
     })
 }
 
@@ -637,7 +687,7 @@ fn ask_of<'a>(options: &ArgMatches<'a>) -> Option<Task<'a>>
         question: u16_of(options, "question")?,
         wait: flag_of(options, "wait"),
         json: flag_of(options, "json"),
-        timeout: u16_of(options, "timeout"),
+        timeout: text_of(options, "timeout"),
     })
 }
 
@@ -648,8 +698,10 @@ fn status_of<'a>(options: &ArgMatches<'a>) -> Option<Task<'a>>
 {
     Some(Task::Status {
         address: text_of(options, "address")?,
+        links: flag_of(options, "links"),
+        ready: flag_of(options, "ready"),
         json: flag_of(options, "json"),
-        timeout: u16_of(options, "timeout"),
+        timeout: text_of(options, "timeout"),
     })
 }
 
@@ -661,7 +713,7 @@ fn transcript_of<'a>(options: &ArgMatches<'a>) -> Option<Task<'a>>
     Some(Task::Transcript {
         address: text_of(options, "address")?,
         question: u16_of(options, "question")?,
-        timeout: u16_of(options, "timeout"),
+        timeout: text_of(options, "timeout"),
     })
 }
 
@@ -714,6 +766,10 @@ fn simulate_of<'a>(options: &ArgMatches<'a>) -> Option<Task<'a>>
         script: text_of(options, "script")?,
         trace: text_of(options, "trace"),
         chart: text_of(options, "chart"),
+        question: u16_of(options, "question"),
+        member: u8_of(options, "member"),
+        from: u32_of(options, "from"),
+        to: u32_of(options, "to"),
     })
 }
 

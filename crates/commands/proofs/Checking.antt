@@ -6,18 +6,17 @@ use Rattle.numerals.specs.Sentences.{sentence}
 use Rattle.numerals.specs.Lines.{line}
 use Rattle.commands.specs.Dumps.{header_line}
 use Rattle.settings.specs.Texts.{address_text}
-use Rattle.commands.specs.Checks.{peer_line, settings_text}
+use Rattle.commands.specs.Checks.{peer_line, options_lines, settings_text}
 
-joined : (head journal peers desk : List ℕ)
-    → head ++ (codes "journal " ++ (journal ++ (codes "\n" ++ (peers ++ (codes "desk " ++ (desk ++ codes "\n"))))))
-    ≡ head ++ line (sentence (codes "journal" ∷ journal ∷ [])) ++ peers ++ line (sentence (codes "desk" ∷ desk ∷ []))
-joined head journal peers desk = simp append_assoc
+-- a line, before what follows it
+in_line : (word value rest : List ℕ) → (word ++ 32 ∷ []) ++ (value ++ (codes "\n" ++ rest)) ≡ line (sentence (word ∷ value ∷ [])) ++ rest
+in_line word value rest = simp append_assoc
 
 -- what the settings say, from the pieces that were written
-pub settings_pieces : (s : Settings) (header peers desk : List ℕ) → header ≡ header_line s.header → peers ≡ flat_map peer_line s.peers.items
-    → desk ≡ address_text s.desk
-    → header ++ (codes "journal " ++ (string_bytes s.journal ++ (codes "\n" ++ (peers ++ (codes "desk " ++ (desk ++ codes "\n")))))) ≡ settings_text s
-settings_pieces s header peers desk a b c =
-    joined header (string_bytes s.journal) peers desk
-    ∙ (ap (λ (h : List ℕ). h ++ line (sentence (codes "journal" ∷ string_bytes s.journal ∷ [])) ++ peers ++ line (sentence (codes "desk" ∷ desk ∷ []))) a
-    ∙ ap₂ (λ (p d : List ℕ). header_line s.header ++ line (sentence (codes "journal" ∷ string_bytes s.journal ∷ [])) ++ p ++ line (sentence (codes "desk" ∷ d ∷ []))) b c)
+pub settings_pieces : (s : Settings) (header peers desk options : List ℕ) → header ≡ header_line s.header → peers ≡ flat_map peer_line s.peers.items
+    → desk ≡ address_text s.desk → options ≡ options_lines s
+    → header ++ (codes "journal " ++ (string_bytes s.journal ++ (codes "\n" ++ (peers ++ (codes "desk " ++ (desk ++ (codes "\n" ++ options))))))) ≡ settings_text s
+settings_pieces s header peers desk options a b c o =
+    ap (λ (r : List ℕ). header ++ r) (in_line (codes "journal") (string_bytes s.journal) _ ∙ ap (λ (r : List ℕ). line (sentence (codes "journal" ∷ string_bytes s.journal ∷ [])) ++ (peers ++ r)) (in_line (codes "desk") desk options))
+    ∙ (ap₂ (λ (h r : List ℕ). h ++ (line (sentence (codes "journal" ∷ string_bytes s.journal ∷ [])) ++ (peers ++ (line (sentence (codes "desk" ∷ desk ∷ [])) ++ r)))) a o
+    ∙ ap₂ (λ (p d : List ℕ). header_line s.header ++ (line (sentence (codes "journal" ∷ string_bytes s.journal ∷ [])) ++ (p ++ (line (sentence (codes "desk" ∷ d ∷ [])) ++ options_lines s)))) b c)

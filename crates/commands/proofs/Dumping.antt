@@ -1,5 +1,5 @@
 -- The pieces of a dump's lines.
-use Rattle.std.proofs.Common.{ℕ, ◌≡◌, inl, inr, Option, None, Some, refl, sym, ap, ◌∙◌, subst, append_assoc, codes, List, ◌++◌}
+use Rattle.std.proofs.Common.{ℕ, ◌≡◌, ◌⊎◌, inl, inr, Option, None, Some, refl, sym, ap, ◌∙◌, subst, append_assoc, codes, List, ◌++◌}
 use Rattle.std.specs.Fmt.{decimal}
 use Rattle.std.specs.Io.KnownBytes.{Appends}
 use Rattle.std.proofs.lemmas.List.Concat.{flat_map-append}
@@ -13,7 +13,7 @@ use Rattle.commands.specs.declared.dump.Form.{Form}
 use Rattle.commands.specs.declared.dump.Form.TheVariants.{Lines, Objects}
 use Rattle.commands.specs.declared.fault.DumpFault.{DumpFault}
 use Rattle.commands.specs.declared.fault.DumpFault.TheVariants as dump
-use Rattle.commands.specs.Faults.{IsOfDump, IsOfPrint, of_opening}
+use Rattle.commands.specs.Faults.{IsOfDump, IsOfPrint}
 use Rattle.commands.specs.Dumps.{IsUnreadable, header_line, record_line, records_text}
 use Rattle.commands.specs.Objects.{record_object}
 
@@ -22,57 +22,33 @@ pub header_pieces : (h : Header) (cluster n t questions me : ℕ) → cluster �
     ++ (codes " questions " ++ (decimal questions ++ (codes " me " ++ (decimal me ++ codes "\n"))))))))) ≡ header_line h
 header_pieces h cluster n t questions me a b c d e = rw (a, b, c, d, e) (simp append_assoc)
 
--- what opening found wrong is wrong with a file that begins with the header
-unread : (header : Header) (why : JournalFault) (file : List ℕ) → HasHeader header file → (IsOfFile why → RefusesFile header why file) → IsFaultOfOpening why
-    → (why ≡ unheld.Memory → ⊥) → IsUnreadable why file
-unread header unheld.NotEmpty file has found of other = of
-unread header unheld.BadHeader file has found of other = found tt
-unread header unheld.OtherHeader file has found of other = let r = found tt in r.2 (one_header r.0 header file r.1 has)
-unread header unheld.BadRecord file has found of other = (header, found tt)
-unread header unheld.CutShort file has found of other = (header, found tt)
-unread header unheld.Device file has found of other = tt
-unread header unheld.Memory file has found of other = other refl
-unread header unheld.Stopped file has found of other = of
-unread header unheld.Full file has found of other = of
-unread header unheld.OldVersion file has found of other = found tt
-
--- the fault of a command that is one of the journal is that one
-same_fault : (why named : JournalFault) → of_opening why ≡ dump.Journal named → (why ≡ unheld.Memory → ⊥) × (why ≡ named)
-same_fault unheld.NotEmpty named e = ((λ h. cc), cc)
-same_fault unheld.BadHeader named e = ((λ h. cc), cc)
-same_fault unheld.OtherHeader named e = ((λ h. cc), cc)
-same_fault unheld.BadRecord named e = ((λ h. cc), cc)
-same_fault unheld.CutShort named e = ((λ h. cc), cc)
-same_fault unheld.Device named e = ((λ h. cc), cc)
-same_fault unheld.Memory named e = cc
-same_fault unheld.Stopped named e = ((λ h. cc), cc)
-same_fault unheld.Full named e = ((λ h. cc), cc)
-same_fault unheld.OldVersion named e = ((λ h. cc), cc)
-
-pub unreadable : (header : Header) (why named : JournalFault) (file : List ℕ) → HasHeader header file → (IsOfFile why → RefusesFile header why file) → IsFaultOfOpening why
-    → of_opening why ≡ dump.Journal named → IsUnreadable named file
-unreadable header why named file has found of e =
-    let s = same_fault why named e in
-    subst (λ (w : JournalFault). IsUnreadable w file) s.1 (unread header why file has found of s.0)
+-- what opening found wrong is wrong with a file that begins with the header, but for want of memory
+pub unreadable : (header : Header) (why : JournalFault) (file : List ℕ) → HasHeader header file → (IsOfFile why → RefusesFile header why file) → IsFaultOfOpening why
+    → (why ≡ unheld.Memory) ⊎ IsUnreadable why file
+unreadable header unheld.NotEmpty file has found of = absurd of
+unreadable header unheld.BadHeader file has found of = inr (found tt)
+unreadable header unheld.OtherHeader file has found of = let r = found tt in absurd (r.2 (one_header r.0 header file r.1 has))
+unreadable header unheld.BadRecord file has found of = inr (header, found tt)
+unreadable header unheld.CutShort file has found of = inr (header, found tt)
+unreadable header unheld.Device file has found of = inr tt
+unreadable header unheld.Memory file has found of = inl refl
+unreadable header unheld.Stopped file has found of = absurd of
+unreadable header unheld.Full file has found of = absurd of
+unreadable header unheld.OldVersion file has found of = inr (found tt)
 
 -- what reading the header alone answers
-peeked : (why : JournalFault) (file : List ℕ) → IsFaultOfPeek why → (why ≡ unheld.BadHeader → (header : Header) → HasHeader header file → ⊥)
+pub headless : (why : JournalFault) (file : List ℕ) → IsFaultOfPeek why → (why ≡ unheld.BadHeader → (header : Header) → HasHeader header file → ⊥)
     → (why ≡ unheld.BadHeader → IsOldVersion file → ⊥) → (why ≡ unheld.OldVersion → IsOldVersion file) → IsUnreadable why file
-peeked unheld.NotEmpty file of none new old = of
-peeked unheld.BadHeader file of none new old = (none refl, new refl)
-peeked unheld.OtherHeader file of none new old = of
-peeked unheld.BadRecord file of none new old = absurd of
-peeked unheld.CutShort file of none new old = absurd of
-peeked unheld.Device file of none new old = tt
-peeked unheld.Memory file of none new old = of
-peeked unheld.Stopped file of none new old = of
-peeked unheld.Full file of none new old = of
-peeked unheld.OldVersion file of none new old = old refl
-
-pub headless : (why named : JournalFault) (file : List ℕ) → IsFaultOfPeek why → (why ≡ unheld.BadHeader → (header : Header) → HasHeader header file → ⊥)
-    → (why ≡ unheld.BadHeader → IsOldVersion file → ⊥) → (why ≡ unheld.OldVersion → IsOldVersion file) → of_opening why ≡ dump.Journal named → IsUnreadable named file
-headless why named file of none new old e =
-    subst (λ (w : JournalFault). IsUnreadable w file) (same_fault why named e).1 (peeked why file of none new old)
+headless unheld.NotEmpty file of none new old = of
+headless unheld.BadHeader file of none new old = (none refl, new refl)
+headless unheld.OtherHeader file of none new old = of
+headless unheld.BadRecord file of none new old = absurd of
+headless unheld.CutShort file of none new old = absurd of
+headless unheld.Device file of none new old = tt
+headless unheld.Memory file of none new old = of
+headless unheld.Stopped file of none new old = of
+headless unheld.Full file of none new old = of
+headless unheld.OldVersion file of none new old = old refl
 
 -- what is written, and what is written behind it
 pub appends_more : (a b c : Option (List ℕ)) (x y : List ℕ) → Appends a b x → Appends b c y → Appends a c (x ++ y)

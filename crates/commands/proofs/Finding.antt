@@ -3,7 +3,7 @@ use Rattle.std.proofs.Common.{ℕ, zero, suc, ◌≡◌, ◌+◌, ◌-◌, ◌<�
 use Rattle.commands.specs.TextLines.{IsFirstLine, NoLine, texts}
 
 -- what is said of a line is said of the one at its place
-is_at : (P : List ℕ → Type 0) (d : Bor (List ℕ)) (lines : List (Bor (List ℕ))) (i : ℕ) → i < length lines → P (get_or lines i d).now → IsSomeAnd (slice_get (texts lines) i) P
+pub is_at : (P : List ℕ → Type 0) (d : Bor (List ℕ)) (lines : List (Bor (List ℕ))) (i : ℕ) → i < length lines → P (get_or lines i d).now → IsSomeAnd (slice_get (texts lines) i) P
 is_at P d [] i below p = absurd (omega (arith, below))
 is_at P d (x ∷ xs) zero below p = p
 is_at P d (x ∷ xs) (suc i) below p = is_at P d xs i (omega (arith, below)) p

@@ -7,6 +7,7 @@ pub mod Reading
 pub mod Checking
 pub mod Finding
 pub mod Batches
+pub mod OldBatches
 pub mod Lines
 pub mod Migrating
 pub mod Owning

@@ -1,11 +1,11 @@
 -- Where the bytes of a journal go wrong.
-use Rattle.std.specs.Prelude.{ℕ, ◌≡◌, ◌≢◌, ◌+◌, ◌*◌, ◌<◌, if◌then◌else◌, nat_lt, List, [], ◌∷◌, ◌++◌, codes, length, take, Option, Some, None, IsSomeAnd}
+use Rattle.std.specs.Prelude.{ℕ, ◌≡◌, ◌≢◌, ◌⊎◌, ◌+◌, ◌*◌, ◌<◌, ◌≤◌, if◌then◌else◌, nat_lt, List, [], ◌∷◌, ◌++◌, codes, length, take, drop, Option, Some, None, IsSomeAnd}
 use Rattle.std.specs.List.{flat_map}
 use Rattle.sim.specs.Texts.{byte_text}
 use Rattle.terms_prelude.specs.Terms.{Header}
 use Rattle.journal.specs.declared.fault.JournalFault.{JournalFault}
 use Rattle.journal.specs.declared.fault.JournalFault.TheVariants.{NotEmpty, BadHeader, OtherHeader, BadRecord, CutShort, Device, Memory, Stopped, Full, OldVersion}
-use Rattle.journal.specs.File.{HasHeader}
+use Rattle.journal.specs.File.{HasHeader, RefusesFile}
 use Rattle.journal.specs.Texts.{Batch, batch_bytes, header_text, batches_bytes}
 use Rattle.journal.specs.WellFormed.{AreBatches, IsBatch}
 
@@ -29,12 +29,26 @@ pub record IsGoodEnd (file : List ℕ) (place : ℕ) : Type 0 where
   pub good : (header : Header) → HasHeader header file → IsGoodUpTo header place file
   pub none : ((header : Header) → HasHeader header file → ⊥) → place ≡ 0
 
+-- a batch of these bytes alone, behind such bytes of a header, is refused
+abbrev pub IsBadAlone : Header → List ℕ → List ℕ → Type 0
+IsBadAlone header front bytes = (fault : JournalFault) × RefusesFile header fault (front ++ (1 ∷ 0 ∷ 1 ∷ bytes) ++ 0 ∷ [])
+
+-- behind the whole batches, which end there, the six bytes at this place are a record that is refused alone
+abbrev pub IsBadRecord : Header → ℕ → List ℕ → ℕ → Type 0
+IsBadRecord header end file place = (end ≤ place) × IsBadAlone header (take 24 file) (take 6 (drop place file))
+
+-- the file's whole batches end at this place, or a record behind their end is wrong there
+abbrev pub IsBadPlace : List ℕ → ℕ → Type 0
+IsBadPlace file place =
+    IsGoodEnd file place
+    ⊎ ((end : ℕ) × (header : Header) × IsGoodEnd file end × HasHeader header file × IsBadRecord header end file place)
+
 -- where a file goes wrong by this fault, if the fault is the file's
 abbrev pub IsPlaceOf : JournalFault → List ℕ → Option ℕ → Type 0
 IsPlaceOf NotEmpty file place = place ≡ Some 0
 IsPlaceOf BadHeader file place = place ≡ Some 0
 IsPlaceOf OtherHeader file place = place ≡ Some 0
-IsPlaceOf BadRecord file place = IsSomeAnd place (IsGoodEnd file)
+IsPlaceOf BadRecord file place = IsSomeAnd place (IsBadPlace file)
 IsPlaceOf CutShort file place = IsSomeAnd place (IsGoodEnd file)
 IsPlaceOf Device file place = place ≡ None
 IsPlaceOf Memory file place = place ≡ None

@@ -8,9 +8,11 @@ pub mod Transcripts
 pub mod Checks
 pub mod TextLines
 pub mod Damage
+pub mod OldDamage
 pub mod Shows
 pub mod Owners
 pub mod Asked
 pub mod Migrations
 pub mod Replies
 pub mod Objects
+pub mod Patience

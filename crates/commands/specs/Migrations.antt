@@ -1,13 +1,11 @@
 -- What the command `migrate` does, and why it doesn't.
-use Rattle.std.specs.Prelude.{ℕ, ◌≡◌, ◌+◌, ◌<◌, ◌^◌, List, ◌++◌, codes, length}
+use Rattle.std.specs.Prelude.{ℕ, ◌≡◌, ◌↔◌, ◌+◌, ◌<◌, ◌≤◌, ◌^◌, List, ◌++◌, codes, length}
 use Rattle.std.specs.Fmt.{decimal}
 use Rattle.terms_prelude.specs.Terms.{Record, Header}
-use Rattle.disk.specs.Model.{MayLeave}
+use Rattle.disk.specs.Model.{MayLeave, at_rest}
 use Rattle.disk.specs.declared.device.Disk.{Ghosts as DiskGhosts}
-use Rattle.journal.specs.declared.journal.Journal.{Journal}
 use Rattle.journal.specs.File.{Holds}
-use Rattle.journal.specs.Readers.{journal_disk}
-use Rattle.journal.specs.Texts.{batches_bytes}
+use Rattle.journal.specs.Texts.{batches_bytes, journal_text}
 use Rattle.migration.specs.Old.{HasOldHeader, HoldsOld, RefusesOld}
 use Rattle.migration.specs.Thousands.{in_thousands}
 use Rattle.migration.specs.declared.fault.MigrateFault.{MigrateFault}
@@ -18,25 +16,35 @@ use Rattle.numerals.specs.Lines.{line}
 abbrev pub migrated_text : ℕ → List ℕ
 migrated_text count = line (codes "migrated " ++ decimal count)
 
--- The old file holds so many records, the new one was empty, and each file that a crash can leave of it holds just these.
-pub record HasMigrated {D E : Type 0} (from : DiskGhosts D) (to : DiskGhosts E) (before : D) (new : E) (count : ℕ) : Type 0 where
+-- The old file holds so many records, the new one was empty, and is the journal of just these: this disk has their batches
+-- and nothing behind them, and each file that a crash can leave of it holds these.
+pub record HasMigrated {D E : Type 0} (from : DiskGhosts D) (to : DiskGhosts E) (before : D) (new : E) (count : ℕ) (disk : E) : Type 0 where
   pub header : Header
   pub records : List Record
-  pub journal : Journal E
   pub count_is : count ≡ length records
   pub held : from.keeps before → HoldsOld header records (from.state before).seen
   pub was_empty : to.keeps new → length (to.state new).seen ≡ 0
-  pub durable : to.keeps new → (file : List ℕ) → MayLeave (to.state (journal_disk journal)) file → Holds header records file
+  pub written : to.keeps new → to.state disk ≡ at_rest (journal_text header (in_thousands records))
+  pub durable : to.keeps new → (file : List ℕ) → MayLeave (to.state disk) file → Holds header records file
+  pub quiet : to.failures disk ≡ to.failures new
+  pub kept : to.keeps new ↔ to.keeps disk
 
 -- The old file is why it wasn't brought over, or one of the disks, and for want of memory there is nothing to say.
-abbrev pub IsWhyNot : {D E : Type 0} → DiskGhosts D → DiskGhosts E → D → E → D → MigrateFault → Type 0
-IsWhyNot from to before new after NotEmpty = to.keeps new → 0 < length (to.state new).seen
-IsWhyNot from to before new after NotOld = from.keeps before → (header : Header) → HasOldHeader header (from.state before).seen → ⊥
-IsWhyNot from to before new after OtherHeader = from.keeps before → ⊥
-IsWhyNot from to before new after BadRecord = from.keeps before → (header : Header) × RefusesOld header BadRecord (from.state before).seen
-IsWhyNot from to before new after CutShort = from.keeps before → (header : Header) × RefusesOld header CutShort (from.state before).seen
-IsWhyNot from to before new after OldDevice = from.failures before < from.failures after
-IsWhyNot {D} {E} from to before new after NewDevice = (disk : E) × (to.failures new < to.failures disk)
-IsWhyNot from to before new after Memory = Unit {0}
-IsWhyNot from to before new after Full = from.keeps before
+abbrev pub IsWhyNot : {D E : Type 0} → DiskGhosts D → DiskGhosts E → D → D → E → MigrateFault → E → Type 0
+IsWhyNot from to before after new NotEmpty disk = to.keeps new → 0 < length (to.state new).seen
+IsWhyNot from to before after new NotOld disk = from.keeps before → (header : Header) → HasOldHeader header (from.state before).seen → ⊥
+IsWhyNot from to before after new OtherHeader disk = from.keeps before → ⊥
+IsWhyNot from to before after new BadRecord disk = from.keeps before → (header : Header) × RefusesOld header BadRecord (from.state before).seen
+IsWhyNot from to before after new CutShort disk = from.keeps before → (header : Header) × RefusesOld header CutShort (from.state before).seen
+IsWhyNot from to before after new OldDevice disk = from.failures before < from.failures after
+IsWhyNot from to before after new NewDevice disk = to.failures new < to.failures disk
+IsWhyNot from to before after new Memory disk = Unit {0}
+IsWhyNot from to before after new Full disk = from.keeps before
     → (header : Header) × (records : List Record) × HoldsOld header records (from.state before).seen × (2 ^ 31 < 24 + length (batches_bytes (in_thousands records)))
+
+-- It wasn't brought over, for this fault, which has its cause. A file that had bytes already is as it was.
+pub record HasNotMigrated {D E : Type 0} (from : DiskGhosts D) (to : DiskGhosts E) (before after : D) (new : E) (why : MigrateFault) (disk : E) : Type 0 where
+  pub cause : IsWhyNot from to before after new why disk
+  pub not_empty_same : to.keeps new → why ≡ NotEmpty → to.state disk ≡ to.state new
+  pub later : to.failures new ≤ to.failures disk
+  pub kept : to.keeps new ↔ to.keeps disk

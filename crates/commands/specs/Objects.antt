@@ -1,5 +1,5 @@
 -- Objects of JSON.
-use Rattle.std.specs.Prelude.{ℕ, ◌==◌, ◌+◌, ◌-◌, ◌/◌, ◌%◌, nat_lt, cond, List, [], ◌∷◌, ◌++◌, codes, drop, string_bytes}
+use Rattle.std.specs.Prelude.{ℕ, ◌==◌, ◌+◌, ◌-◌, ◌/◌, ◌%◌, nat_lt, cond, List, [], ◌∷◌, ◌++◌, codes, drop, Option, Some, None, option_map, string_bytes}
 use Rattle.std.specs.List.{flat_map}
 use Rattle.std.specs.Fmt.{decimal}
 use Rattle.numerals.specs.Sentences.{bit_digit}
@@ -71,9 +71,21 @@ abbrev pub check_front : Settings → List ℕ
 check_front settings =
     ((codes "{" ++ (header_fields settings.header ++ codes ",\"journal\":\"")) ++ escaped (string_bytes settings.journal)) ++ codes "\",\"peers\":["
 
-abbrev pub check_rest : Address → ℕ → List ℕ
-check_rest desk count = codes "],\"desk\":\"" ++ (address_text desk ++ (codes "\",\"records\":" ++ (decimal count ++ codes "}\n")))
+abbrev pub check_doors : Address → Option Address → List ℕ
+check_doors desk None = codes "],\"desk\":\"" ++ (address_text desk ++ codes "\"")
+check_doors desk (Some listen) = codes "],\"desk\":\"" ++ (address_text desk ++ (codes "\",\"listen\":\"" ++ (address_text listen ++ codes "\"")))
+
+abbrev pub socket_field : Option (List ℕ) → List ℕ
+socket_field None = []
+socket_field (Some path) = (codes ",\"desk-socket\":\"" ++ escaped path) ++ codes "\""
+
+abbrev pub check_end : ℕ → List ℕ
+check_end count = codes ",\"records\":" ++ (decimal count ++ codes "}\n")
+
+abbrev pub check_rest : Settings → ℕ → List ℕ
+check_rest settings count =
+    (check_doors settings.desk settings.listen ++ socket_field (option_map string_bytes settings.desk_socket)) ++ check_end count
 
 -- the object of settings and of a number of records, in a line
 abbrev pub check_object : Settings → ℕ → List ℕ
-check_object settings count = (check_front settings ++ listed settings.peers.items) ++ check_rest settings.desk count
+check_object settings count = (check_front settings ++ listed settings.peers.items) ++ check_rest settings count

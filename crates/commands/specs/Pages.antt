@@ -4,6 +4,7 @@ use Rattle.script.specs.declared.Script.{Script}
 use Rattle.sim.specs.declared.cluster.Outcome.{Outcome}
 use Rattle.sim.specs.Outcomes.{IsSimulation, among}
 use Rattle.commands.specs.declared.simulate.Simulation.{Simulation}
+pub use Rattle.report.specs.declared.chart.choice.Choice.{Choice}
 use Rattle.report.specs.Traces.{trace_text}
 use Rattle.report.specs.Charts.{IsSvg}
 use Rattle.report.specs.Runs.{IsChart}
@@ -18,7 +19,8 @@ IsOutcome script outcome =
 abbrev pub trace_of : Simulation → List ℕ
 trace_of ran = trace_text ran.script.events.items ran.outcome.marks.items ran.outcome.saved.items
 
--- its chart, which is a picture
-abbrev pub IsChartOf : Simulation → List ℕ → Type 0
-IsChartOf ran picture =
-    IsChart ran.script.size ran.script.liars.items ran.script.events.items ran.outcome.marks.items ran.outcome.saved.items picture × IsSvg picture
+-- its chart with the events that are chosen, which is a picture of so many rows
+abbrev pub IsChartOf : Choice → Simulation → ℕ → List ℕ → Type 0
+IsChartOf choice ran rows picture =
+    IsChart choice ran.script.size ran.script.liars.items ran.script.events.items ran.outcome.marks.items ran.outcome.saved.items rows picture
+    × IsSvg picture

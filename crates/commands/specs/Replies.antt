@@ -3,6 +3,7 @@ use Rattle.std.specs.Prelude.{ℕ, ◌≡◌, ◌≢◌, ◌⊎◌, ◌≤◌, L
 use Rattle.std.specs.Fmt.{decimal}
 use Rattle.numerals.specs.Numbers.{IsBelow}
 use Rattle.numerals.specs.Spaces.{NoSpace}
+use Rattle.commands.specs.declared.replies.Links.{Links}
 
 -- the digits write the number, with no zero before it
 abbrev pub IsCount : List ℕ → ℕ → Type 0
@@ -44,10 +45,45 @@ SaysFixed reply object = SaysDone reply object ⊎ SaysWhyNot reply object
 abbrev pub up_object : ℕ → ℕ → List ℕ
 up_object m d = codes "{\"up\":true,\"statements\":" ++ (decimal m ++ (codes ",\"decided\":" ++ (decimal d ++ codes "}")))
 
+-- the words are such a number, a space and the rest
+abbrev pub HasFirst : List ℕ → ℕ → List ℕ → Type 0
+HasFirst words n rest = (first : List ℕ) × (words ≡ first ++ 32 ∷ rest) × NoSpace first × IsCount first n
+
+-- the words are four such, with a space between each two
+abbrev pub AreFour : List ℕ → Links → Type 0
+AreFour words links =
+    (a : List ℕ) × (b : List ℕ) × HasFirst words links.coming a × HasFirst a links.going b × AreCounts b links.members links.needed
+
+-- the reply is `LINKS i o n w`
+abbrev pub HasLinks : List ℕ → Links → Type 0
+HasLinks reply links = (words : List ℕ) × (reply ≡ codes "LINKS " ++ words) × AreFour words links
+
+-- it is one of these
+abbrev pub IsLinks : List ℕ → Type 0
+IsLinks reply = (links : Links) × HasLinks reply links
+
+-- as many links come in and go out as are needed
+abbrev pub IsReady : List ℕ → Type 0
+IsReady reply = (links : Links) × HasLinks reply links × (links.needed ≤ links.coming) × (links.needed ≤ links.going)
+
+-- the object of `LINKS i o n w`
+abbrev pub links_object : Links → List ℕ
+links_object links =
+    codes "{\"state\":\"links\",\"in\":" ++ (decimal links.coming ++ (codes ",\"out\":" ++ (decimal links.going
+    ++ (codes ",\"members\":" ++ (decimal links.members ++ (codes ",\"needed\":" ++ (decimal links.needed ++ codes "}")))))))
+
+-- the object says the same as a reply that isn't of links
+abbrev pub SaysPlain : List ℕ → List ℕ → Type 0
+SaysPlain reply object = SaysFixed reply object ⊎ ((m d : ℕ) × HasCounts reply m d × (object ≡ up_object m d))
+
 -- the object says the same as the reply
 abbrev pub SaysSame : List ℕ → List ℕ → Type 0
-SaysSame reply object = SaysFixed reply object ⊎ ((m d : ℕ) × HasCounts reply m d × (object ≡ up_object m d))
+SaysSame reply object = SaysPlain reply object ⊎ ((links : Links) × HasLinks reply links × (object ≡ links_object links))
+
+-- the line is a reply that isn't of links
+abbrev pub IsPlainReply : List ℕ → Type 0
+IsPlainReply line = ((object : List ℕ) × SaysFixed line object) ⊎ ((m d : ℕ) × HasCounts line m d)
 
 -- the line is a reply
 abbrev pub IsReply : List ℕ → Type 0
-IsReply line = ((object : List ℕ) × SaysFixed line object) ⊎ ((m d : ℕ) × HasCounts line m d)
+IsReply line = IsPlainReply line ⊎ IsLinks line

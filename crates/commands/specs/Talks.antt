@@ -3,7 +3,7 @@ use Rattle.std.specs.Prelude.{ℕ, ◌≡◌, ◌⊎◌, List, [], ◌∷◌, �
 use Rattle.std.specs.Fmt.{decimal}
 use Rattle.numerals.specs.Lines.{line}
 use Rattle.numerals.specs.Sentences.{sentence}
-use Rattle.commands.specs.Replies.{HasCounts}
+use Rattle.commands.specs.Replies.{HasCounts, IsLinks, IsReady}
 
 -- the line that proposes a bit on a question
 abbrev pub propose_line : ℕ → ℕ → List ℕ
@@ -16,6 +16,10 @@ ask_line question = line (sentence (codes "ASK" ∷ decimal question ∷ []))
 -- the line that asks whether a member is up
 abbrev pub status_line : List ℕ
 status_line = line (codes "STATUS")
+
+-- the line that asks how many links come and go
+abbrev pub links_line : List ℕ
+links_line = line (codes "LINKS")
 
 -- the line that asks for what was heard of a question
 abbrev pub transcript_line : ℕ → List ℕ
@@ -36,8 +40,12 @@ IsUp reply = (m d : ℕ) × HasCounts reply m d
 abbrev pub IsGood : List ℕ → Type 0
 IsGood reply =
     (reply ≡ codes "OK") ⊎ ((reply ≡ codes "HAVE 0") ⊎ ((reply ≡ codes "HAVE 1") ⊎ ((reply ≡ codes "DECIDED 0")
-    ⊎ ((reply ≡ codes "DECIDED 1") ⊎ ((reply ≡ codes "UNDECIDED") ⊎ IsUp reply)))))
+    ⊎ ((reply ≡ codes "DECIDED 1") ⊎ ((reply ≡ codes "UNDECIDED") ⊎ (IsUp reply ⊎ IsLinks reply))))))
 
 -- the status for a reply: 0 where the member did as it was asked, and 1 else
 abbrev pub HasStatus : List ℕ → ℕ → Type 0
 HasStatus reply status = ((status ≡ 0) × IsGood reply) ⊎ ((status ≡ 1) × (IsGood reply → ⊥))
+
+-- the status for a reply of a member that is to be ready: 0 where as many links come in and go out as are needed, and 1 else
+abbrev pub HasReadyStatus : List ℕ → ℕ → Type 0
+HasReadyStatus reply status = ((status ≡ 0) × IsReady reply) ⊎ ((status ≡ 1) × (IsReady reply → ⊥))

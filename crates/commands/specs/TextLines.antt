@@ -1,5 +1,5 @@
 -- Where in a text a fault is.
-use Rattle.std.specs.Prelude.{ℕ, ◌≡◌, ◌⊎◌, ◌==◌, ◌-◌, ◌≤◌, List, length, take, slice_get, IsSomeAnd, Option, Some, None}
+use Rattle.std.specs.Prelude.{ℕ, ◌≡◌, ◌⊎◌, ◌==◌, ◌-◌, ◌<◌, ◌≤◌, List, [], ◌∷◌, length, take, slice_get, IsSomeAnd, Option, Some, None}
 use Rattle.std.specs.List.{AllByRecursion, slice_split}
 pub use Rattle.numerals.specs.Sentences.{texts}
 
@@ -27,3 +27,13 @@ EndsKey byte = (byte ≡ 32) ⊎ (byte ≡ 61)
 -- the line begins with the name, and a blank or `=` behind it
 abbrev pub SaysKey : List ℕ → List ℕ → Type 0
 SaysKey name line = (take (length name) line ≡ name) × IsSomeAnd (slice_get line (length name)) EndsKey
+
+-- the line begins with `[`
+abbrev pub IsHead : List ℕ → Type 0
+IsHead [] = ⊥
+IsHead (byte ∷ line) = byte ≡ 91
+
+-- the line of that number, counted from 1, gives the key a value, and a table begins above it
+abbrev pub IsLineInTable : List ℕ → List (List ℕ) → ℕ → Type 0
+IsLineInTable name lines number =
+    (head : ℕ) × IsSomeAnd (slice_get lines head) IsHead × (head < number) × IsSomeAnd (slice_get lines (number - 1)) (SaysKey name)

@@ -8,8 +8,9 @@ ghost use Rattle.settings.specs.Keys.{key_text};
 ghost use Rattle.settings.specs.Settings.{HasSmall, HasValue, IsAddressText};
 ghost use Rattle.toml.specs.Data.{get_member, string};
 ghost use Rattle.toml.specs.View.{table_view, view};
-ghost use Rattle.commands.specs.Asked.{HasPeers, IsFirstNone, IsPeersWords, IsSaidOfKey, IsSeedWords, LacksPeers, LacksSeed, NamesNone, NamesOne, asked_text, asked_words, count_words, digits_words, entry_words, is_other};
+ghost use Rattle.commands.specs.Asked.{HasArray, IsArrayWords, IsFirstNone, IsLackWords, IsSaidOfKey, IsSeedWords, IsTableWords, IsValueWords, LacksArray, LacksSeed, NamesNone, NamesOne, asked_text, asked_words, below_words, count_words, digits_words, entry_words, is_other, missing_words};
 
+use crate::text_lines::line_of_key;
 use settings::{Address, Key};
 use std::alloc::{AllocError, Global};
 use toml::{Table, Value};
@@ -25,8 +26,11 @@ fn asked(key: Key) -> &'static str
         Key::Questions => "an integer from 1 to 4096",
         Key::Me => "an integer from 0 on and below n",
         Key::Journal => "a path",
-        Key::Peers => "an array of n texts HOST:PORT",
-        Key::Desk => "a text HOST:PORT",
+        Key::Peers | Key::Desks => "an array of n texts HOST:PORT",
+        Key::Desk | Key::Listen => {
+            "localhost or four numbers with points between them, a colon and a port from 1 to 65535: no host names, no IPv6"
+        }
+        Key::DeskSocket => "a path",
         Key::Seed => "a text of 64 hexadecimal digits",
     }
 }
@@ -36,6 +40,23 @@ pub fn asked_words(alloc: Global, key: Key) -> Result<String, AllocError>
     ensures { IfOk result (λ text. string_bytes text ≡ asked_words key) }
 {
     format!(in alloc; "{}: must be {}", key.text(), asked(key))
+}
+
+/// What is said of a key that isn't there.
+fn missing_words(alloc: Global, key: Key) -> Result<String, AllocError>
+    ensures { IfOk result (λ text. string_bytes text ≡ missing_words key) }
+{
+    format!(in alloc; "{}: is missing", key.text())
+}
+
+/// What is said of a key that is there, but in a table of the document.
+fn below_words(alloc: Global, key: Key) -> Result<String, AllocError>
+    ensures { IfOk result (λ text. string_bytes text ≡ below_words key) }
+{
+    format!(in alloc;
+        "{}: stands below a table, and must stand above the first one",
+        key.text()
+    )
 }
 
 /// The value at a key, if the table has the key.
@@ -79,17 +100,24 @@ fn first_none(values: &[Value]) -> Option<usize>
 }
 
 /// What an entry has to be.
-fn entry_words(alloc: Global, entry: usize) -> Result<String, AllocError>
-    ensures { IfOk result (λ text. string_bytes text ≡ entry_words entry) }
+fn entry_words(alloc: Global, key: Key, entry: usize) -> Result<String, AllocError>
+    ensures { IfOk result (λ text. string_bytes text ≡ entry_words key entry) }
 {
-    format!(in alloc; "peers: entry {entry} must be a text HOST:PORT")
+    format!(in alloc;
+        "{}: entry {entry} must be {}",
+        key.text(),
+        asked(Key::Desk)
+    )
 }
 
 /// How many entries there are, and how many there have to be.
-fn count_words(alloc: Global, count: usize, n: u16) -> Result<String, AllocError>
-    ensures { IfOk result (λ text. string_bytes text ≡ count_words count n) }
+fn count_words(alloc: Global, key: Key, count: usize, n: u16) -> Result<String, AllocError>
+    ensures { IfOk result (λ text. string_bytes text ≡ count_words key count n) }
 {
-    format!(in alloc; "peers: there are {count} entries, and must be {n}")
+    format!(in alloc;
+        "{}: there are {count} entries, and must be {n}",
+        key.text()
+    )
 }
 
 /// How many members the table says that there are.
@@ -102,27 +130,27 @@ fn members_of(table: &Table) -> Option<u16>
         .and_then(|integer| u16::try_from(integer).ok())
 }
 
-/// The values of the array of the peers.
-fn peers_of(table: &Table) -> Option<&[Value]>
-    ensures some { IfSome result (λ values. HasPeers (table_view table.now) values.now) }
-    ensures none { IsNone result → LacksPeers (table_view table.now) }
+/// The values of the array at a key.
+fn array_of(table: &Table, key: Key) -> Option<&[Value]>
+    ensures some { IfSome result (λ values. HasArray (table_view table.now) key values.now) }
+    ensures none { IsNone result → LacksArray (table_view table.now) key }
 {
-    Some(value_at(table, Key::Peers)?.as_array()?.as_slice())
+    Some(value_at(table, key)?.as_array()?.as_slice())
 }
 
-/// What is said of the peers: the first entry that is wrong; or where none is, how many there are and have to be.
-fn peers_words(alloc: Global, table: &Table) -> Result<String, AllocError>
-    ensures { IfOk result (λ text. IsPeersWords (table_view table.now) (string_bytes text)) }
+/// What is said of an array of addresses: the first entry that is wrong; or where none is, how many there are and have to be.
+fn array_words(alloc: Global, table: &Table, key: Key) -> Result<String, AllocError>
+    ensures { IfOk result (λ text. IsArrayWords key (table_view table.now) (string_bytes text)) }
 {
-    let Some(values) = peers_of(table) else {
-        return asked_words(alloc, Key::Peers);
+    let Some(values) = array_of(table, key) else {
+        return asked_words(alloc, key);
     };
     if let Some(entry) = first_none(values) {
-        return entry_words(alloc, entry);
+        return entry_words(alloc, key, entry);
     }
     match members_of(table) {
-        Some(n) => count_words(alloc, values.len(), n),
-        None => asked_words(alloc, Key::Peers),
+        Some(n) => count_words(alloc, key, values.len(), n),
+        None => asked_words(alloc, key),
     }
 }
 
@@ -164,17 +192,46 @@ fn seed_words(alloc: Global, table: &Table) -> Result<String, AllocError>
     }
 }
 
-/// What is said of a key of the settings whose value is wrong in this text, which is TOML: what the value has to be; of
-/// peers the first entry that is wrong, or how many there are and have to be; of the seed how many digits there are.
+/// What is said of a key that the table of this text lacks: it is missing, or a line of the text says it below a table.
+fn lack_words(alloc: Global, text: &str, key: Key) -> Result<String, AllocError>
+    ensures { IfOk result (λ words. IsLackWords key text.now (string_bytes words)) }
+{
+    match line_of_key(alloc, text.as_bytes(), key)? {
+        None => missing_words(alloc, key),
+        Some(_line) => below_words(alloc, key),
+    }
+}
+
+/// What is said of a value that the table has at the key, and that is wrong.
+fn value_words(alloc: Global, table: &Table, key: Key) -> Result<String, AllocError>
+    ensures { IfOk result (λ words. IsValueWords key (table_view table.now) (string_bytes words)) }
+{
+    match key {
+        Key::Peers => array_words(alloc, table, Key::Peers),
+        Key::Desks => array_words(alloc, table, Key::Desks),
+        Key::Seed => seed_words(alloc, table),
+        other => asked_words(alloc, other),
+    }
+}
+
+/// What is said of the key in the table of this text.
+fn table_words(alloc: Global, text: &str, table: &Table, key: Key) -> Result<String, AllocError>
+    ensures { IfOk result (λ words. IsTableWords key text.now (table_view table.now) (string_bytes words)) }
+{
+    match value_at(table, key) {
+        None => lack_words(alloc, text, key),
+        Some(_value) => value_words(alloc, table, key),
+    }
+}
+
+/// What is said of a key of the settings that is wrong in this text, which is TOML: that it is missing, or stands below a table;
+/// else what its value has to be: of peers and desks the first entry that is wrong, or how many there are and have to be; of the
+/// seed how many digits there are.
 pub fn key_words(alloc: Global, text: &str, key: Key) -> Result<String, AllocError>
     ensures { IfOk result (λ words. IsSaidOfKey key text.now (string_bytes words)) }
 {
     let Ok(table) = toml::table_from_str(alloc, text) else {
         return Err(AllocError);
     };
-    match key {
-        Key::Peers => peers_words(alloc, &table),
-        Key::Seed => seed_words(alloc, &table),
-        other => asked_words(alloc, other),
-    }
+    table_words(alloc, text, &table, key)
 }

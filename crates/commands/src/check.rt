@@ -1,21 +1,22 @@
 //! The command `check`: what a member's settings say, and how many records its journal has.
 
-ghost use Rattle.std.specs.Prelude.{◌≡◌, List, length, Err, IfErr, IfOk, OnOk, string_bytes};
+ghost use Rattle.std.specs.Prelude.{◌≡◌, List, length, Err, IfErr, IfOk, OnOk, codes, option_map, string_bytes};
 ghost use Rattle.std.specs.List.{flat_map};
 ghost use Rattle.std.specs.Io.KnownBytes.{Appends};
 ghost use Rattle.journal.specs.Faults.{IsOfFile};
 ghost use Rattle.journal.specs.File.{Holds, RefusesFile};
 ghost use Rattle.journal.specs.declared.fault.JournalFault.{JournalFault};
+ghost use Rattle.migration.specs.OldOutcomes.{IsUntouched};
 ghost use Rattle.terms_prelude.specs.Terms.{Record};
-ghost use Rattle.commands.specs.Checks.{peer_line, records_line, settings_text};
+ghost use Rattle.commands.specs.Checks.{option_line, options_lines, peer_line, records_line, settings_text};
+ghost use Rattle.settings.specs.Texts.{address_text};
 ghost use Rattle.commands.specs.Objects.{check_object};
 ghost use Rattle.commands.specs.Faults.{IsOfDump, IsOfPrint};
 
-use crate::dump::header_line;
+use crate::dump::{header_line, read_records};
 use crate::fault::DumpFault;
 use crate::objects::check_object;
 use disk::Disk;
-use journal::Journal;
 use settings::{Address, Settings, address_text};
 use std::alloc::{AllocError, Global};
 use std::io::Write;
@@ -39,21 +40,51 @@ fn peer_lines(alloc: Global, peers: &[Address]) -> Result<String, AllocError>
     Ok(text)
 }
 
+/// The line of the address that is listened at, if there is one.
+fn listen_line(alloc: Global, listen: &Option<Address>) -> Result<String, AllocError>
+    ensures { IfOk result (λ text. string_bytes text ≡ option_line (codes "listen") (option_map address_text listen.now)) }
+{
+    match listen {
+        Some(address) => format!(in alloc; "listen {}\n", address_text(alloc, address)?),
+        None => Ok(String::new(alloc)),
+    }
+}
+
+/// The line of the path of a Unix socket, if there is one.
+fn socket_line(alloc: Global, socket: &Option<String>) -> Result<String, AllocError>
+    ensures { IfOk result (λ text. string_bytes text ≡ option_line (codes "desk-socket") (option_map string_bytes socket.now)) }
+{
+    match socket {
+        Some(path) => format!(in alloc; "desk-socket {path}\n"),
+        None => Ok(String::new(alloc)),
+    }
+}
+
+/// The lines of the keys that may be left out.
+fn options_lines(alloc: Global, settings: &Settings) -> Result<String, AllocError>
+    ensures { IfOk result (λ text. string_bytes text ≡ options_lines settings.now) }
+{
+    let listen = listen_line(alloc, &settings.listen)?;
+    let socket = socket_line(alloc, &settings.desk_socket)?;
+    format!(in alloc; "{listen}{socket}")
+}
+
 /// What the settings say, but for the seed.
 fn settings_text(alloc: Global, settings: &Settings) -> Result<String, AllocError>
     ensures { IfOk result (λ text. string_bytes text ≡ settings_text settings.now) }
 {
     format!(in alloc;
-        "{}journal {}\n{}desk {}\n",
+        "{}journal {}\n{}desk {}\n{}",
         header_line(alloc, &settings.header)?,
         settings.journal,
         peer_lines(alloc, &settings.peers)?,
-        address_text(alloc, &settings.desk)?
+        address_text(alloc, &settings.desk)?,
+        options_lines(alloc, settings)?
     )
 }
 
 /// Writes what the settings say: the line of `dump` for whose journal it is, the journal's path, the address of each
-/// member, in order, and that of the desk. The seed is secret and not written.
+/// member, in order, that of the desk, and `listen` and `desk-socket` if they are given. The seed is secret and not written.
 ///
 /// [`DumpFault::Stream`] and [`DumpFault::Memory`]: the write or a growth failed.
 pub fn print_settings<W: Write>(
@@ -82,21 +113,22 @@ fn records_line(alloc: Global, count: usize) -> Result<String, AllocError>
 ///
 /// [`DumpFault::Journal`]: it can't, or the disk failed; nothing was written. [`DumpFault::Stream`] and
 /// [`DumpFault::Memory`]: the write or a growth failed.
-pub fn check_journal<D: Disk + Drop, W: Write>(
+pub fn check_journal<D: Disk, W: Write>(
     alloc: Global,
     header: &Header,
-    disk: D,
+    disk: &mut D,
     output: &mut W,
 ) -> Result<u8, DumpFault>
     ensures status { IfOk result (λ status. status ≡ 0) }
-    ensures all { D.keeps disk → OnOk result ((records : List Record)
-        × Holds header.now records (D.state disk).seen
+    ensures all { D.keeps disk.old → OnOk result ((records : List Record)
+        × Holds header.now records (D.state disk.old).seen
         × Appends (W.contents output.old) (W.contents output.new) (records_line (length records))) }
-    ensures fault { D.keeps disk → (fault : JournalFault) → result ≡ Err (DumpFault.Journal fault) → IsOfFile fault → RefusesFile header.now fault (D.state disk).seen }
+    ensures fault { D.keeps disk.old → (fault : JournalFault) → result ≡ Err (DumpFault.Journal fault) → IsOfFile fault → RefusesFile header.now fault (D.state disk.old).seen }
     ensures nothing { (fault : JournalFault) → result ≡ Err (DumpFault.Journal fault) → output.new ≡ output.old }
     ensures only { IfErr result IsOfDump }
+    ensures untouched { IsUntouched D.Disk disk.old disk.new }
 {
-    let (_journal, records) = Journal::open(alloc, disk, header)?;
+    let records = read_records(alloc, disk, header)?;
     let text = records_line(alloc, records.len())?;
     output.write_all(text.as_bytes())?;
     output.flush()?;
@@ -105,21 +137,22 @@ pub fn check_journal<D: Disk + Drop, W: Write>(
 
 /// Writes what the settings say, but for the seed, and how many records the journal that the disk has holds, if a member of
 /// these settings can run on it: one object of JSON in a line. The status is 0. The faults are those of [`check_journal`].
-pub fn print_check<D: Disk + Drop, W: Write>(
+pub fn print_check<D: Disk, W: Write>(
     alloc: Global,
     settings: &Settings,
-    disk: D,
+    disk: &mut D,
     output: &mut W,
 ) -> Result<u8, DumpFault>
     ensures status { IfOk result (λ status. status ≡ 0) }
-    ensures all { D.keeps disk → OnOk result ((records : List Record)
-        × Holds settings.now.header records (D.state disk).seen
+    ensures all { D.keeps disk.old → OnOk result ((records : List Record)
+        × Holds settings.now.header records (D.state disk.old).seen
         × Appends (W.contents output.old) (W.contents output.new) (check_object settings.now (length records))) }
-    ensures fault { D.keeps disk → (fault : JournalFault) → result ≡ Err (DumpFault.Journal fault) → IsOfFile fault → RefusesFile settings.now.header fault (D.state disk).seen }
+    ensures fault { D.keeps disk.old → (fault : JournalFault) → result ≡ Err (DumpFault.Journal fault) → IsOfFile fault → RefusesFile settings.now.header fault (D.state disk.old).seen }
     ensures nothing { (fault : JournalFault) → result ≡ Err (DumpFault.Journal fault) → output.new ≡ output.old }
     ensures only { IfErr result IsOfDump }
+    ensures untouched { IsUntouched D.Disk disk.old disk.new }
 {
-    let (_journal, records) = Journal::open(alloc, disk, &settings.header)?;
+    let records = read_records(alloc, disk, &settings.header)?;
     let text = check_object(alloc, settings, records.len())?;
     output.write_all(&text)?;
     output.flush()?;

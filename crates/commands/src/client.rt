@@ -3,12 +3,12 @@
 ghost use Rattle.std.specs.Prelude.{ℕ, List, [], ◌≡◌, ◌∷◌, ◌++◌, ◌↔◌, IsTrue, IfOk, IfErr, IfSome, ◌≢◌, string_bytes, codes, Err};
 ghost use Rattle.std.specs.Io.KnownBytes.{Appends, Consumes};
 ghost use Rattle.numerals.specs.Lines.{NoEnd};
-ghost use Rattle.commands.specs.Talks.{propose_line, ask_line, status_line, member_line, member_words, IsUp, IsGood, HasStatus};
+ghost use Rattle.commands.specs.Talks.{propose_line, ask_line, links_line, status_line, member_line, member_words, IsUp, IsGood, HasReadyStatus, HasStatus};
 ghost use Rattle.commands.specs.Replies.{IsReply, SaysSame};
 ghost use Rattle.commands.specs.declared.fault.TalkFault.TheVariants.{NoAnswer};
 
 use crate::fault::TalkFault;
-use crate::replies::{counts, is_reply, object_of};
+use crate::replies::{counts, has_links, is_ready, is_reply, object_of};
 use numerals::is;
 use std::alloc::{AllocError, Global};
 use std::io::{Read, Write};
@@ -37,6 +37,13 @@ pub fn status_line() -> &'static str
     "STATUS\n"
 }
 
+/// The line that asks how many links of a member come in and go out.
+pub fn links_line() -> &'static str
+    ensures { result.now ≡ links_line }
+{
+    "LINKS\n"
+}
+
 /// Whether the reply says that the member is up.
 fn is_up(reply: &[u8]) -> bool
     ensures { IsTrue result ↔ IsUp reply.now }
@@ -55,6 +62,7 @@ fn is_good(reply: &[u8]) -> bool
         || is(reply, "DECIDED 1")
         || is(reply, "UNDECIDED")
         || is_up(reply)
+        || has_links(reply)
 }
 
 /// The status for a reply.
@@ -62,6 +70,14 @@ fn status_of(reply: &[u8]) -> u8
     ensures { HasStatus reply.now result }
 {
     if is_good(reply) { 0 } else { 1 }
+}
+
+/// Returns the status for the reply of a member that is to be ready: 0 if it is `LINKS i o n w` with w links at least that come
+/// in and that go out, and 1 else.
+pub fn ready_status(reply: &[u8]) -> u8
+    ensures { HasReadyStatus reply.now result }
+{
+    if is_ready(reply) { 0 } else { 1 }
 }
 
 /// The next byte of the connection, if there is one.
@@ -129,7 +145,7 @@ pub fn exchange<R: Read, S: Write>(
     }
 }
 
-/// Writes a reply with its end. The status is 0 for `OK`, `HAVE b`, `DECIDED b`, `UNDECIDED` and `UP m d`, and 1 for any other
+/// Writes a reply with its end. The status is 0 for `OK`, `HAVE b`, `DECIDED b`, `UNDECIDED`, `UP m d` and `LINKS i o n w`, and 1 for any other
 /// reply.
 ///
 /// [`TalkFault::Stream`]: the write failed. [`TalkFault::Memory`]: memory was refused.
@@ -199,7 +215,7 @@ pub fn is_undecided(reply: &[u8]) -> bool
 }
 
 /// Sends the line over a connection to a member's desk, reads one reply, and writes it with its end. The status is 0 for
-/// `OK`, `HAVE b`, `DECIDED b`, `UNDECIDED` and `UP m d`, and 1 for any other reply.
+/// `OK`, `HAVE b`, `DECIDED b`, `UNDECIDED`, `UP m d` and `LINKS i o n w`, and 1 for any other reply.
 ///
 /// [`TalkFault::NoAnswer`]: the connection failed or ended before a whole line came, or the line is no reply of a desk, and
 /// nothing was written. [`TalkFault::Stream`]: the write failed. [`TalkFault::Memory`]: memory was refused.

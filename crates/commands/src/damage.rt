@@ -1,13 +1,13 @@
 //! Where the bytes of a journal go wrong, and which stand there.
 
-ghost use Rattle.std.specs.Prelude.{◌≡◌, ◌<◌, ◌++◌, ◌∷◌, [], ℕ, drop, false, true, length, IfOk, IfSome, IsNone, List, string_bytes};
+ghost use Rattle.std.specs.Prelude.{◌≡◌, ◌<◌, ◌++◌, ◌∷◌, [], ℕ, drop, take, false, true, length, IfOk, IfSome, IsNone, List, string_bytes};
 ghost use Rattle.disk.specs.Memory.{memory_state};
 ghost use Rattle.terms_prelude.specs.Terms.{Header, Record};
 ghost use Rattle.journal.specs.declared.fault.JournalFault.{JournalFault};
 ghost use Rattle.journal.specs.File.{HasHeader, Holds, RefusesFile};
 ghost use Rattle.journal.specs.Texts.{header_text};
 ghost use Rattle.journal.specs.WellFormed.{IsHeader};
-ghost use Rattle.commands.specs.Damage.{BeginsWithBatch, IsChunk, IsGoodUpTo, IsPlaceOf, IsSkipped, NoBatch, NoChunk, byte_word, hex_words, shown_bytes};
+ghost use Rattle.commands.specs.Damage.{BeginsWithBatch, IsBadAlone, IsBadPlace, IsBadRecord, IsChunk, IsGoodUpTo, IsPlaceOf, IsSkipped, NoBatch, NoChunk, byte_word, hex_words, shown_bytes};
 
 use disk::{Disk, MemDisk};
 use journal::{Journal, JournalFault};
@@ -15,10 +15,10 @@ use std::alloc::{AllocError, Global};
 use terms::{Header, Memory};
 
 /// The length of a journal's header.
-const HEADER: usize = 24;
+pub(crate) const HEADER: usize = 24;
 
 /// The length of a batch's gate and its count.
-const HEAD: usize = 3;
+pub(crate) const HEAD: usize = 3;
 
 /// The length of a record.
 const RECORD: usize = 6;
@@ -71,7 +71,7 @@ fn split_batch(bytes: &[u8]) -> Option<(&[u8], &[u8])>
 }
 
 /// The header's bytes, these, and a closed gate.
-fn file_of(alloc: Global, front: &[u8], bytes: &[u8]) -> Result<Vec<u8>, AllocError>
+pub(crate) fn file_of(alloc: Global, front: &[u8], bytes: &[u8]) -> Result<Vec<u8>, AllocError>
     ensures { IfOk result (λ file. file.items ≡ front.now ++ bytes.now ++ 0 ∷ []) }
 {
     let mut file = Vec::new(alloc);
@@ -149,9 +149,85 @@ fn good_length(alloc: Global, file: &[u8]) -> Result<usize, Memory>
     Ok(file.len() - rest.len())
 }
 
+/// A gate, the count 1, and these bytes.
+pub(crate) fn batch_of(alloc: Global, bytes: &[u8]) -> Result<Vec<u8>, AllocError>
+    ensures { IfOk result (λ batch. batch.items ≡ 1 ∷ 0 ∷ 1 ∷ bytes.now) }
+{
+    let mut batch = Vec::new(alloc);
+    batch.extend_from_slice(&[1, 0, 1])?;
+    batch.extend_from_slice(bytes)?;
+    Ok(batch)
+}
+
+/// Whether a batch of these bytes alone is refused.
+fn is_bad_alone(alloc: Global, header: &Header, front: &[u8], bytes: &[u8]) -> Result<bool, Memory>
+    ensures { IfOk result (λ bad. bad ≡ true → IsBadAlone header.now front.now bytes.now) }
+{
+    let batch = batch_of(alloc, bytes)?;
+    let good = is_journal(alloc, header, front, &batch)?;
+    Ok(!good)
+}
+
+/// The bytes of a record at that place of the file, if there are as many.
+fn record_at(file: &[u8], place: usize) -> Option<&[u8]>
+    ensures { IfSome result (λ bytes. bytes.now ≡ take 6 (drop place file.now)) }
+{
+    let behind = &file[place.min(file.len())..];
+    if behind.len() < RECORD {
+        return None;
+    }
+    Some(&behind[..RECORD])
+}
+
+/// How many records the batch has that begins at that place, by its count.
+pub(crate) fn count_at(file: &[u8], place: usize) -> usize
+    ensures { result < 65536 }
+{
+    match &file[place.min(file.len())..] {
+        [_, high, low, ..] => usize::from(*high) * 256 + usize::from(*low),
+        _ => 0,
+    }
+}
+
+/// The place of the first record that is refused alone, of the batch that begins behind that place.
+fn bad_record(
+    alloc: Global,
+    header: &Header,
+    file: &[u8],
+    end: usize,
+) -> Result<Option<usize>, Memory>
+    ensures { IfOk result (λ found. IfSome found (IsBadRecord header.now end file.now)) }
+{
+    let front = &file[..HEADER.min(file.len())];
+    for index in 0..count_at(file, end) {
+        let place = end.saturating_add(HEAD + RECORD * index);
+        let Some(record) = record_at(file, place) else {
+            return Ok(None);
+        };
+        if is_bad_alone(alloc, header, front, record)? {
+            return Ok(Some(place));
+        }
+    }
+    Ok(None)
+}
+
+/// The place behind the whole batches of a file, or of the first record behind it that is refused alone.
+fn bad_place(alloc: Global, file: &[u8]) -> Result<usize, Memory>
+    ensures { IfOk result (IsBadPlace file.now) }
+{
+    let end = good_length(alloc, file)?;
+    let Some(header) = header_of(alloc, file)? else {
+        return Ok(end);
+    };
+    match bad_record(alloc, &header, file, end)? {
+        Some(place) => Ok(place),
+        None => Ok(end),
+    }
+}
+
 /// The place of the byte, counted from 0, at which a journal's file goes wrong by this fault: its start for the faults of
-/// the header and a file that should have been empty, and behind the last whole batch for those of a batch. None for a
-/// fault that isn't the file's.
+/// the header and a file that should have been empty; for those of a batch the place behind the last whole batch, or, where a
+/// record isn't well formed, that of the first such record. None for a fault that isn't the file's.
 ///
 /// [`Memory`]: memory was refused.
 pub fn fault_place(alloc: Global, fault: JournalFault, file: &[u8]) -> Result<Option<usize>, Memory>
@@ -162,7 +238,8 @@ pub fn fault_place(alloc: Global, fault: JournalFault, file: &[u8]) -> Result<Op
         | JournalFault::BadHeader
         | JournalFault::OtherHeader
         | JournalFault::OldVersion => Ok(Some(0)),
-        JournalFault::BadRecord | JournalFault::CutShort => Ok(Some(good_length(alloc, file)?)),
+        JournalFault::BadRecord => Ok(Some(bad_place(alloc, file)?)),
+        JournalFault::CutShort => Ok(Some(good_length(alloc, file)?)),
         JournalFault::Device | JournalFault::Memory | JournalFault::Stopped | JournalFault::Full =>
             Ok(None),
     }

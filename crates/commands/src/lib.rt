@@ -10,7 +10,9 @@ mod fault;
 mod init;
 mod migrate;
 mod objects;
+mod old_damage;
 mod owners;
+mod patience;
 mod replies;
 mod shown;
 mod simulate;
@@ -20,15 +22,21 @@ mod transcript;
 pub use asked::{asked_words, key_words};
 pub use check::{check_journal, print_check, print_settings};
 pub use client::{
-    ask_line, exchange, is_undecided, propose_line, status_line, talk, tell, tell_object, tell_of,
+    ask_line, exchange, is_undecided, links_line, propose_line, ready_status, status_line, talk,
+    tell, tell_object, tell_of,
 };
 pub use damage::{bytes_at, fault_place};
 pub use dump::{dump_count, dump_count_object, dump_lines, dump_objects};
 pub use fault::{DumpFault, InitFault, MigrationFault, SimulateFault, TalkFault};
 pub use init::init_disk;
 pub use migrate::migrate_disks;
+pub use old_damage::old_fault_place;
 pub use owners::{long_owner, other_owner, owner};
+pub use patience::milliseconds;
+pub use report::Choice;
 pub use shown::{Shelf, SimulationEnd, show_simulation};
 pub use simulate::{Simulation, print, print_verdicts, simulate_text, takes_output};
-pub use text_lines::{line_at, line_of_byte, line_of_key, lines_in, text_fault};
+pub use text_lines::{
+    line_at, line_in_table, line_of_byte, line_of_key, line_of_name, lines_in, text_fault,
+};
 pub use transcript::{fetch_transcript, transcript_line};

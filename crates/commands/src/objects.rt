@@ -1,8 +1,8 @@
 //! Objects of JSON: of headers and records, and of what `check` says.
 
-ghost use Rattle.std.specs.Prelude.{ℕ, List, ◌≡◌, ◌<◌, ◌++◌, IfOk, drop, length, string_bytes};
+ghost use Rattle.std.specs.Prelude.{ℕ, List, ◌≡◌, ◌<◌, ◌++◌, IfOk, drop, length, option_map, string_bytes};
 ghost use Rattle.std.specs.List.{flat_map};
-ghost use Rattle.commands.specs.Objects.{check_front, check_object, check_rest, count_object, escaped, escaped_byte, header_fields, header_object, hex_digit, listed, peer_item, place_fields, record_object, statement_object};
+ghost use Rattle.commands.specs.Objects.{check_doors, check_end, check_front, check_object, check_rest, count_object, escaped, escaped_byte, header_fields, header_object, hex_digit, listed, peer_item, place_fields, record_object, socket_field, statement_object};
 ghost use Rattle.report.specs.Records.{value_word};
 
 use report::kind_word;
@@ -187,14 +187,58 @@ fn check_front(alloc: Global, settings: &Settings) -> Result<Vec<u8>, AllocError
     Ok(bytes)
 }
 
-/// What stands behind the peers: the desk, and the number of records.
-fn check_rest(alloc: Global, desk: &Address, count: usize) -> Result<String, AllocError>
-    ensures { IfOk result (λ text. string_bytes text ≡ check_rest desk.now count) }
+/// What stands behind the peers: the desk, and the address that is listened at, if there is one.
+fn check_doors(
+    alloc: Global,
+    desk: &Address,
+    listen: &Option<Address>,
+) -> Result<String, AllocError>
+    ensures { IfOk result (λ text. string_bytes text ≡ check_doors desk.now listen.now) }
 {
-    format!(in alloc;
-        "],\"desk\":\"{}\",\"records\":{count}}}\n",
-        address_text(alloc, desk)?
-    )
+    let desk = address_text(alloc, desk)?;
+    match listen {
+        Some(listen) => format!(in alloc;
+            "],\"desk\":\"{desk}\",\"listen\":\"{}\"",
+            address_text(alloc, listen)?
+        ),
+        None => format!(in alloc; "],\"desk\":\"{desk}\""),
+    }
+}
+
+/// The field of the path of a Unix socket, if there is one.
+fn socket_field(alloc: Global, socket: &Option<String>) -> Result<Vec<u8>, AllocError>
+    ensures { IfOk result (λ bytes. bytes.items ≡ socket_field (option_map string_bytes socket.now)) }
+{
+    let mut bytes = Vec::new(alloc);
+    let Some(path) = socket else {
+        return Ok(bytes);
+    };
+    let path = escaped(alloc, path.as_bytes())?;
+    bytes.extend_from_slice(b",\"desk-socket\":\"")?;
+    bytes.extend_from_slice(&path)?;
+    bytes.extend_from_slice(b"\"")?;
+    Ok(bytes)
+}
+
+/// What stands at the end: the number of records.
+fn check_end(alloc: Global, count: usize) -> Result<String, AllocError>
+    ensures { IfOk result (λ text. string_bytes text ≡ check_end count) }
+{
+    format!(in alloc; ",\"records\":{count}}}\n")
+}
+
+/// What stands behind the peers: where the member listens, and the number of records.
+fn check_rest(alloc: Global, settings: &Settings, count: usize) -> Result<Vec<u8>, AllocError>
+    ensures { IfOk result (λ bytes. bytes.items ≡ check_rest settings.now count) }
+{
+    let doors = check_doors(alloc, &settings.desk, &settings.listen)?;
+    let socket = socket_field(alloc, &settings.desk_socket)?;
+    let end = check_end(alloc, count)?;
+    let mut bytes = Vec::new(alloc);
+    bytes.extend_from_slice(doors.as_bytes())?;
+    bytes.extend_from_slice(&socket)?;
+    bytes.extend_from_slice(end.as_bytes())?;
+    Ok(bytes)
 }
 
 /// What stands behind the first byte.
@@ -214,7 +258,7 @@ pub fn check_object(alloc: Global, settings: &Settings, count: usize) -> Result<
     let mut bytes = check_front(alloc, settings)?;
     let peers = peer_items(alloc, &settings.peers)?;
     bytes.extend_from_slice(behind_first(peers.as_bytes()))?;
-    let rest = check_rest(alloc, &settings.desk, count)?;
-    bytes.extend_from_slice(rest.as_bytes())?;
+    let rest = check_rest(alloc, settings, count)?;
+    bytes.extend_from_slice(&rest)?;
     Ok(bytes)
 }

@@ -1,7 +1,8 @@
 //! The replies of a desk: which lines are some, and the objects of JSON that say the same.
 
-ghost use Rattle.std.specs.Prelude.{ℕ, List, ◌≡◌, ◌↔◌, IfOk, IfSome, IsNone, IsTrue, Some, string_bytes};
-ghost use Rattle.commands.specs.Replies.{AreCounts, HasCounts, IsCount, SaysFixed, SaysDone, SaysSame, SaysWhyNot, IsReply, up_object};
+ghost use Rattle.std.specs.Prelude.{ℕ, List, ◌≡◌, ◌≤◌, ◌↔◌, IfOk, IfSome, IsNone, IsTrue, MatchOption, Some, string_bytes};
+ghost use Rattle.commands.specs.Replies.{AreCounts, AreFour, HasCounts, HasFirst, HasLinks, IsCount, IsLinks, IsPlainReply, IsReady, IsReply, SaysDone, SaysFixed, SaysPlain, SaysSame, SaysWhyNot, links_object, up_object};
+ghost use Rattle.commands.specs.declared.replies.Links.{Links};
 
 use numerals::{behind, is, number, split_at_space};
 use std::alloc::{AllocError, Global};
@@ -42,6 +43,80 @@ pub fn counts(reply: &[u8]) -> Option<(u64, u64)>
     match behind(reply, "UP ") {
         Some(words) => two_counts(words),
         None => None,
+    }
+}
+
+/// The links of a member, as the reply to `LINKS` says them.
+#[derive(Clone, Copy, Debug, PartialEq, Eq)]
+pub struct Links {
+    /// How many links come in.
+    pub coming: u64,
+    /// How many go out and are welcomed.
+    pub going: u64,
+    /// How many members there are.
+    pub members: u64,
+    /// How many links have to come in and to go out for the member to decide: n - t.
+    pub needed: u64,
+}
+
+/// The number before the first space, and what stands behind the space.
+fn count_before(words: &[u8]) -> Option<(u64, &[u8])>
+    ensures some { IfSome result (λ found. HasFirst words.now found.0 found.1.now) }
+    ensures exact { (n : ℕ) (rest : List ℕ) → HasFirst words.now n rest →
+        MatchOption result ⊥ (λ found. (found.0 ≡ n) × (found.1.now ≡ rest)) }
+{
+    let (first, rest) = split_at_space(words)?;
+    Some((count(first)?, rest))
+}
+
+/// The links that the words write.
+fn four_counts(words: &[u8]) -> Option<Links>
+    ensures some { IfSome result (AreFour words.now) }
+    ensures exact { (links : Links) → AreFour words.now links → result ≡ Some links }
+{
+    let (coming, rest) = count_before(words)?;
+    let (going, rest) = count_before(rest)?;
+    let (members, needed) = two_counts(rest)?;
+    Some(Links {
+        coming,
+        going,
+        members,
+        needed,
+    })
+}
+
+/// The links that the reply says, where it is `LINKS i o n w`.
+pub(crate) fn links_of(reply: &[u8]) -> Option<Links>
+    ensures some { IfSome result (HasLinks reply.now) }
+    ensures exact { (links : Links) → HasLinks reply.now links → result ≡ Some links }
+{
+    match behind(reply, "LINKS ") {
+        Some(words) => four_counts(words),
+        None => None,
+    }
+}
+
+/// Whether the reply is `LINKS i o n w`.
+pub(crate) fn has_links(reply: &[u8]) -> bool
+    ensures { IsTrue result ↔ IsLinks reply.now }
+{
+    links_of(reply).is_some()
+}
+
+/// Whether as many links come in and go out as are needed.
+fn are_enough(links: &Links) -> bool
+    ensures { IsTrue result ↔ ((links.now.needed ≤ links.now.coming) × (links.now.needed ≤ links.now.going)) }
+{
+    links.needed <= links.coming && links.needed <= links.going
+}
+
+/// Whether the reply says that as many links come in and go out as are needed.
+pub fn is_ready(reply: &[u8]) -> bool
+    ensures { IsTrue result ↔ IsReady reply.now }
+{
+    match links_of(reply) {
+        Some(links) => are_enough(&links),
+        None => false,
     }
 }
 
@@ -107,10 +182,10 @@ fn up_object(alloc: Global, statements: u64, decided: u64) -> Result<String, All
     format!(in alloc; "{{\"up\":true,\"statements\":{statements},\"decided\":{decided}}}")
 }
 
-/// The object that says the same as the reply; none where the line is no reply.
-pub fn object_of(alloc: Global, reply: &[u8]) -> Result<Option<String>, AllocError>
-    ensures some { IfOk result (λ found. IfSome found (λ text. SaysSame reply.now (string_bytes text))) }
-    ensures none { IfOk result (λ found. IsNone found → IsReply reply.now → ⊥) }
+/// The object that says the same as a reply that isn't of links; none where the line is no such reply.
+fn plain_object(alloc: Global, reply: &[u8]) -> Result<Option<String>, AllocError>
+    ensures some { IfOk result (λ found. IfSome found (λ text. SaysPlain reply.now (string_bytes text))) }
+    ensures none { IfOk result (λ found. IsNone found → IsPlainReply reply.now → ⊥) }
 {
     if let Some(object) = fixed_object(reply) {
         return Ok(Some(String::from_str(alloc, object)?));
@@ -121,11 +196,42 @@ pub fn object_of(alloc: Global, reply: &[u8]) -> Result<Option<String>, AllocErr
     }
 }
 
-/// Whether the line is a reply of a desk.
-pub fn is_reply(line: &[u8]) -> bool
-    ensures { IsTrue result ↔ IsReply line.now }
+/// The object of `LINKS i o n w`.
+fn links_object(alloc: Global, links: &Links) -> Result<String, AllocError>
+    ensures { IfOk result (λ text. string_bytes text ≡ links_object links.now) }
+{
+    let coming = links.coming;
+    let going = links.going;
+    let members = links.members;
+    let needed = links.needed;
+    format!(in alloc;
+        "{{\"state\":\"links\",\"in\":{coming},\"out\":{going},\"members\":{members},\"needed\":{needed}}}"
+    )
+}
+
+/// The object that says the same as the reply; none where the line is no reply.
+pub fn object_of(alloc: Global, reply: &[u8]) -> Result<Option<String>, AllocError>
+    ensures some { IfOk result (λ found. IfSome found (λ text. SaysSame reply.now (string_bytes text))) }
+    ensures none { IfOk result (λ found. IsNone found → IsReply reply.now → ⊥) }
+{
+    match links_of(reply) {
+        Some(links) => Ok(Some(links_object(alloc, &links)?)),
+        None => plain_object(alloc, reply),
+    }
+}
+
+/// Whether the line is a reply of a desk that isn't of links.
+fn is_plain_reply(line: &[u8]) -> bool
+    ensures { IsTrue result ↔ IsPlainReply line.now }
 {
     let fixed = fixed_object(line);
     let found = counts(line);
     fixed.is_some() | found.is_some()
+}
+
+/// Whether the line is a reply of a desk.
+pub fn is_reply(line: &[u8]) -> bool
+    ensures { IsTrue result ↔ IsReply line.now }
+{
+    is_plain_reply(line) || has_links(line)
 }

@@ -20,7 +20,7 @@ ghost use Rattle.commands.specs.Simulations.{verdict_line, line_of_counts, simul
 use crate::fault::SimulateFault;
 use disk::MemDisk;
 use numerals::is;
-use report::{is_skipped, write_chart, write_trace};
+use report::{Choice, Run, is_skipped, write_chart, write_trace};
 use script::{Script, Source};
 use sim::{Cluster, Event, Mark, Outcome, SimFault};
 use std::alloc::{AllocError, Global};
@@ -228,20 +228,25 @@ impl Simulation {
         )
     }
 
-    /// Writes its chart, a picture in SVG, as it is made. The errors are those of [`write_chart`].
-    pub fn write_chart<W: Write>(&self, alloc: Global, output: &mut W) -> io::Result<()>
-        ensures { length self.now.script.events.items ≤ MOST_EVENTS → OnOk result ((picture : List ℕ)
-            × IsChartOf self.now picture × Appends (W.contents output.old) (W.contents output.new) picture) }
+    /// Writes its chart with the events that are chosen, a picture in SVG, as it is made, and returns how many rows the chart has.
+    /// The errors are those of [`write_chart`].
+    pub fn write_chart<W: Write>(
+        &self,
+        alloc: Global,
+        choice: Choice,
+        output: &mut W,
+    ) -> io::Result<u64>
+        ensures { length self.now.script.events.items ≤ MOST_EVENTS → IfOk result (λ rows. (picture : List ℕ)
+            × IsChartOf choice self.now rows picture × Appends (W.contents output.old) (W.contents output.new) picture) }
     {
-        write_chart(
-            alloc,
-            self.script.size,
-            &self.script.liars,
-            &self.script.events,
-            &self.outcome.marks,
-            &self.outcome.saved,
-            output,
-        )
+        let run = Run {
+            size: self.script.size,
+            liars: &self.script.liars,
+            events: &self.script.events,
+            marks: &self.outcome.marks,
+            saved: &self.outcome.saved,
+        };
+        write_chart(alloc, &run, choice, output)
     }
 }
 

@@ -1,9 +1,9 @@
 //! Where in a text a fault is.
 
-ghost use Rattle.std.specs.Prelude.{◌≡◌, ◌-◌, ◌↔◌, IfOk, IfSome, IsNone, IsSome, IsTrue, None, length, option_map, slice_get, take};
+ghost use Rattle.std.specs.Prelude.{◌≡◌, ◌-◌, ◌<◌, ◌≤◌, ◌↔◌, IfOk, IfSome, IsNone, IsSome, IsSomeAnd, IsTrue, None, length, option_map, slice_get, take};
 ghost use Rattle.settings.specs.Keys.{key_text};
 ghost use Rattle.toml.specs.Parse.{parse_document};
-ghost use Rattle.commands.specs.TextLines.{EndsKey, IsFirstLine, IsLineIn, SaysKey, lines_in, texts};
+ghost use Rattle.commands.specs.TextLines.{EndsKey, IsFirstLine, IsHead, IsLineIn, IsLineInTable, SaysKey, lines_in, texts};
 
 use numerals::is;
 use settings::Key;
@@ -65,6 +65,69 @@ pub fn line_of_key(alloc: Global, text: &[u8], key: Key) -> Result<Option<usize>
 {
     let lines = lines_in(alloc, text)?;
     Ok(first_line(&lines, key.text()))
+}
+
+/// The number of the first line, counted from 1, that gives a key of that name a value at its beginning; none where no line does.
+pub fn line_of_name(alloc: Global, text: &[u8], name: &str) -> Result<Option<usize>, AllocError>
+    ensures { IfOk result (IsFirstLine (SaysKey name.now) (lines_in text.now)) }
+{
+    let lines = lines_in(alloc, text)?;
+    Ok(first_line(&lines, name))
+}
+
+/// Whether a table begins at the line.
+fn is_head(line: &[u8]) -> bool
+    ensures { IsTrue result ↔ IsHead line.now }
+{
+    match line.first() {
+        Some(byte) => *byte == b'[',
+        None => false,
+    }
+}
+
+/// The place of the first line at which a table begins; none where none does.
+fn first_head(lines: &[&[u8]]) -> Option<usize>
+    ensures { IfSome result (λ place. IsSomeAnd (slice_get (texts lines.now) place) IsHead) }
+{
+    for (index, line) in lines.iter().enumerate() {
+        if is_head(line) {
+            return Some(index);
+        }
+    }
+    None
+}
+
+/// Whether the line at this index stands behind that place, or at it, and gives the key of that name a value.
+fn is_behind(index: usize, place: usize, line: &[u8], name: &str) -> bool
+    ensures place { IsTrue result → place ≤ index }
+    ensures says { IsTrue result → SaysKey name.now line.now }
+{
+    index >= place && says(line, name)
+}
+
+/// The number of the first line behind that place, counted from 1, that gives the key of that name a value.
+fn line_behind(lines: &[&[u8]], name: &str, place: usize) -> Option<usize>
+    ensures { IfSome result (λ number. (place < number) × IsSomeAnd (slice_get (texts lines.now) (number - 1)) (SaysKey name.now)) }
+{
+    for (index, line) in lines.iter().enumerate() {
+        if is_behind(index, place, line, name) {
+            let number = index + 1;
+            return Some(number);
+        }
+    }
+    None
+}
+
+/// The number of the first line below the head of a table, counted from 1, that gives a key of that name a value; none where no
+/// line does.
+pub fn line_in_table(alloc: Global, text: &[u8], name: &str) -> Result<Option<usize>, AllocError>
+    ensures { IfOk result (λ found. IfSome found (IsLineInTable name.now (lines_in text.now))) }
+{
+    let lines = lines_in(alloc, text)?;
+    match first_head(&lines) {
+        Some(head) => Ok(line_behind(&lines, name, head)),
+        None => Ok(None),
+    }
 }
 
 /// The number of the line, counted from 1, in which the byte at this place stands.

@@ -1,14 +1,15 @@
 -- What a chart keeps.
-use Rattle.std.proofs.Common.{ℕ, suc, ◌≡◌, ◌+◌, ◌<◌, refl, sym, ap, ◌∙◌, subst, arith, append_assoc, append-nil, Result, OnOk, Option, codes, List, [], ◌∷◌, ◌++◌, length, take, get_or}
+use Rattle.std.proofs.Common.{ℕ, suc, ◌≡◌, ◌+◌, ◌<◌, refl, sym, ap, ◌∙◌, subst, arith, append_assoc, append-nil, Bool, Option, codes, List, [], ◌∷◌, ◌++◌, length, take, get_or}
 use Rattle.std.specs.Global.{Vec}
-use Rattle.std.proofs.lemmas.Result.{IfOk-weaker}
 use Rattle.std.proofs.Math.Seq.{take-suc}
 use Rattle.terms_prelude.specs.Terms.{Record, Said, Decided, Statement, Size}
 use Rattle.std.specs.Io.KnownBytes.{Appends}
 use Rattle.std.proofs.KnownBytes.{Appends-trans}
 use Rattle.sim.specs.declared.events.Event.{Event}
 use Rattle.sim.specs.declared.events.Mark.{Mark}
+use Rattle.report.specs.declared.chart.choice.Choice.{Choice}
 use Rattle.report.specs.Charts.{statements_said, IsSvg}
+use Rattle.report.specs.Choices.{AreChosen}
 use Rattle.report.specs.Lives.{lines_of_run, whole_lines}
 use Rattle.report.specs.Places.{column_x, row_y}
 use Rattle.report.specs.Runs.{size_text, page_text, legend_text, picture_top, picture_end, chart_picture, AreRows, IsChart}
@@ -51,19 +52,19 @@ behind_five : (a b c d e : List ℕ) → (a ++ b) ++ (c ++ (d ++ e)) ≡ a ++ ((
 behind_five a b c d e = simp append_assoc
 
 -- a chart from what was written, one behind the other
-pub chart_written : {E : Type 0} (r : Result (Unit {0}) E) (a b c d : Option (List ℕ)) (size : Size) (liars : List ℕ) (events : List Event) (marks : List Mark) (saved : List (Vec Record))
-    (width bottom : ℕ) (lines : List ℕ) → width ≡ column_x size.n → bottom ≡ row_y (lines_of_run size.n liars events marks saved).rows
-    → lines ≡ whole_lines size.n (lines_of_run size.n liars events marks saved) → Appends a b (picture_top width bottom lines)
-    → ((rows : List ℕ) × AreRows size liars events marks saved rows × Appends b c rows) → OnOk r (Appends c d (picture_end bottom))
-    → OnOk r ((text : List ℕ) × IsChart size liars events marks saved text × IsSvg text × Appends a d text)
-chart_written r a b c d size liars events marks saved width bottom lines w h l one rows last =
-    let run = lines_of_run size.n liars events marks saved in
+pub chart_written : (a b c d : Option (List ℕ)) (choice : Choice) (size : Size) (liars : List ℕ) (events : List Event) (marks : List Mark) (saved : List (Vec Record)) (chosen : List Bool)
+    (width bottom count : ℕ) (lines : List ℕ) → AreChosen choice size liars events marks saved chosen
+    → width ≡ column_x size.n → bottom ≡ row_y (lines_of_run size.n liars events marks saved chosen).rows
+    → count ≡ (lines_of_run size.n liars events marks saved chosen).rows
+    → lines ≡ whole_lines size.n (lines_of_run size.n liars events marks saved chosen) → Appends a b (picture_top width bottom lines)
+    → ((rows : List ℕ) × AreRows size liars events marks saved chosen rows × Appends b c rows) → Appends c d (picture_end bottom)
+    → (text : List ℕ) × IsChart choice size liars events marks saved count text × IsSvg text × Appends a d text
+chart_written a b c d choice size liars events marks saved chosen width bottom count lines are w h n l one rows three =
+    let run = lines_of_run size.n liars events marks saved chosen in
     let is : picture_top width bottom lines ++ (rows.0 ++ picture_end bottom) ≡ chart_picture size.n run rows.0 =
-    λ t. picture_top (w t) (h t) (l t) ++ (rows.0 ++ picture_end (h t)) in
-    IfOk-weaker r (λ _. Appends c d (picture_end bottom)) (λ _. (text : List ℕ) × IsChart size liars events marks saved text × IsSvg text × Appends a d text)
-    (λ _ three. (
+    λ t. picture_top (w t) (h t) (l t) ++ (rows.0 ++ picture_end (h t)) in (
       chart_picture size.n run rows.0,
-      (rows.0, rows.1, refl),
+      record { chosen = chosen; rows = rows.0; choose = are; drawn = rows.1; counted = n; is = refl },
       (
         (size_text (column_x size.n) (row_y run.rows + 196) ++ (page_text (column_x size.n) (row_y run.rows + 196) ++ whole_lines size.n run)) ++ (rows.0 ++ legend_text (row_y run.rows + 36)),
         behind_five (codes "<svg ") (size_text (column_x size.n) (row_y run.rows + 196) ++ (page_text (column_x size.n) (row_y run.rows + 196) ++ whole_lines size.n run)) rows.0
@@ -71,4 +72,4 @@ chart_written r a b c d size liars events marks saved width bottom lines w h l o
       ),
       subst (λ (t : List ℕ). Appends a d t) is
           (Appends-trans a b d (picture_top width bottom lines) (rows.0 ++ picture_end bottom) one (Appends-trans b c d rows.0 (picture_end bottom) rows.2 three)),
-    )) last
+    )

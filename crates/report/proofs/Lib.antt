@@ -6,3 +6,4 @@ pub mod Picturing
 pub mod Elements
 pub mod Running
 pub mod Living
+pub mod Choosing

@@ -1,5 +1,5 @@
 -- Lifelines in the making, event by event.
-use Rattle.std.proofs.Common.{ℕ, ◌≡◌, ◌+◌, ◌<◌, ◌≤◌, ◌⊎◌, inl, inr, true, false, refl, sym, ap, ◌∙◌, arith, Some, List, [], ◌∷◌, ◌++◌, length, drop}
+use Rattle.std.proofs.Common.{ℕ, ◌≡◌, ◌+◌, ◌<◌, ◌≤◌, ◌⊎◌, inl, inr, Bool, true, false, if◌then◌else◌, refl, sym, ap, ◌∙◌, arith, Some, List, [], ◌∷◌, ◌++◌, length, drop}
 use Rattle.std.specs.Global.{Vec}
 use Rattle.std.proofs.Math.ListN.{drop_of_length-le}
 use Rattle.terms_prelude.specs.Terms.{Record}
@@ -29,45 +29,63 @@ pub whole_is : (drawn run : Lines) (n members bottom : ℕ) → drawn ≡ run �
 whole_is drawn run n members bottom d m b = λ t. (d t).text ++ picture_text (last_pieces (m t) (d t).lives (b t))
 
 -- a skipped event
-pub stays : (event : Event) (mark : Mark) (lines : Lines) → is_skipped mark ≡ true → lines ≡ lines_behind event mark lines
-stays event Done lines e = cc
-stays event Failed lines e = cc
-stays event (Skipped reason) lines e = refl
+pub stays : (event : Event) (mark : Mark) (is : Bool) (lines : Lines) → is_skipped mark ≡ true → lines ≡ lines_behind event mark is lines
+stays event Done is lines e = cc
+stays event Failed is lines e = cc
+stays event (Skipped reason) is lines e = refl
 
 -- another one
-pub rows_on : (event : Event) (mark : Mark) (lines : Lines) → is_skipped mark ≡ false → with_row event mark lines ≡ lines_behind event mark lines
-rows_on event Done lines e = refl
-rows_on event Failed lines e = refl
-rows_on event (Skipped reason) lines e = cc
+pub rows_on : (event : Event) (mark : Mark) (is : Bool) (lines : Lines) → is_skipped mark ≡ false → with_row event mark is lines ≡ lines_behind event mark is lines
+rows_on event Done is lines e = refl
+rows_on event Failed is lines e = refl
+rows_on event (Skipped reason) is lines e = cc
+
+perhaps_one : (is : Bool) (rows : ℕ) → (if is then rows + 1 else rows) ≤ rows + 1
+perhaps_one true rows = omega arith
+perhaps_one false rows = omega arith
 
 -- at most one row more
-pub rows_few : (event : Event) (mark : Mark) (lines : Lines) → (lines_behind event mark lines).rows ≤ lines.rows + 1
-rows_few event Done lines = omega arith
-rows_few event Failed lines = omega arith
-rows_few event (Skipped reason) lines = omega arith
+pub rows_few : (event : Event) (mark : Mark) (is : Bool) (lines : Lines) → (lines_behind event mark is lines).rows ≤ lines.rows + 1
+rows_few event Done is lines = perhaps_one is lines.rows
+rows_few event Failed is lines = perhaps_one is lines.rows
+rows_few event (Skipped reason) is lines = omega arith
 
 -- one event more
-pub lines_on : (i : ℕ) (events : List Event) (marks : List Mark) (saved : List (Vec Record)) (old new all : Lines) (event : Event) (mark : Mark) (records : Vec Record)
-    → drop i events ≡ event ∷ drop (i + 1) events → drop i marks ≡ mark ∷ drop (i + 1) marks → drop i saved ≡ records ∷ drop (i + 1) saved
-    → new ≡ lines_behind event mark old → lines_after (drop i events) (drop i marks) (drop i saved) old ≡ all
-    → lines_after (drop (i + 1) events) (drop (i + 1) marks) (drop (i + 1) saved) new ≡ all
-lines_on i events marks saved old new all event mark records a b d is before =
-    ap (lines_after (drop (i + 1) events) (drop (i + 1) marks) (drop (i + 1) saved)) is ∙ sym (λ t. lines_after (a t) (b t) (d t) old) ∙ before
+pub lines_on : (i : ℕ) (events : List Event) (marks : List Mark) (saved : List (Vec Record)) (chosen : List Bool) (old new all : Lines) (event : Event) (mark : Mark) (records : Vec Record)
+    (is : Bool) → drop i events ≡ event ∷ drop (i + 1) events → drop i marks ≡ mark ∷ drop (i + 1) marks → drop i saved ≡ records ∷ drop (i + 1) saved
+    → drop i chosen ≡ is ∷ drop (i + 1) chosen
+    → new ≡ lines_behind event mark is old → lines_after (drop i events) (drop i marks) (drop i saved) (drop i chosen) old ≡ all
+    → lines_after (drop (i + 1) events) (drop (i + 1) marks) (drop (i + 1) saved) (drop (i + 1) chosen) new ≡ all
+lines_on i events marks saved chosen old new all event mark records is a b d f step before =
+    ap (lines_after (drop (i + 1) events) (drop (i + 1) marks) (drop (i + 1) saved) (drop (i + 1) chosen)) step ∙ sym (λ t. lines_after (a t) (b t) (d t) (f t) old) ∙ before
 
-no_marks : (events : List Event) (saved : List (Vec Record)) (lines : Lines) → lines_after events [] saved lines ≡ lines
-no_marks [] saved lines = refl
-no_marks (e ∷ events) saved lines = refl
+no_marks : (events : List Event) (saved : List (Vec Record)) (chosen : List Bool) (lines : Lines) → lines_after events [] saved chosen lines ≡ lines
+no_marks [] saved chosen lines = refl
+no_marks (e ∷ events) saved chosen lines = refl
 
-no_saved : (events : List Event) (marks : List Mark) (lines : Lines) → lines_after events marks [] lines ≡ lines
-no_saved [] marks lines = refl
-no_saved (e ∷ events) [] lines = refl
-no_saved (e ∷ events) (m ∷ marks) lines = refl
+no_saved : (events : List Event) (marks : List Mark) (chosen : List Bool) (lines : Lines) → lines_after events marks [] chosen lines ≡ lines
+no_saved [] marks chosen lines = refl
+no_saved (e ∷ events) [] chosen lines = refl
+no_saved (e ∷ events) (m ∷ marks) chosen lines = refl
+
+no_chosen : (events : List Event) (marks : List Mark) (saved : List (Vec Record)) (lines : Lines) → lines_after events marks saved [] lines ≡ lines
+no_chosen [] marks saved lines = refl
+no_chosen (e ∷ events) [] saved lines = refl
+no_chosen (e ∷ events) (m ∷ marks) [] lines = refl
+no_chosen (e ∷ events) (m ∷ marks) (r ∷ saved) lines = refl
 
 -- behind the shortest list nothing is drawn
-pub none_left : (k : ℕ) (events : List Event) (marks : List Mark) (saved : List (Vec Record)) (lines : Lines)
-    → (length events ≤ k) ⊎ ((length marks ≤ k) ⊎ (length saved ≤ k)) → lines_after (drop k events) (drop k marks) (drop k saved) lines ≡ lines
-none_left k events marks saved lines (inl h) = ap (λ (l : List Event). lines_after l (drop k marks) (drop k saved) lines) (drop_of_length-le events h)
-none_left k events marks saved lines (inr (inl h)) =
-    ap (λ (l : List Mark). lines_after (drop k events) l (drop k saved) lines) (drop_of_length-le marks h) ∙ no_marks (drop k events) (drop k saved) lines
-none_left k events marks saved lines (inr (inr h)) =
-    ap (λ (l : List (Vec Record)). lines_after (drop k events) (drop k marks) l lines) (drop_of_length-le saved h) ∙ no_saved (drop k events) (drop k marks) lines
+pub none_left : (k : ℕ) (events : List Event) (marks : List Mark) (saved : List (Vec Record)) (chosen : List Bool) (lines : Lines)
+    → (length events ≤ k) ⊎ ((length marks ≤ k) ⊎ ((length saved ≤ k) ⊎ (length chosen ≤ k)))
+    → lines_after (drop k events) (drop k marks) (drop k saved) (drop k chosen) lines ≡ lines
+none_left k events marks saved chosen lines (inl h) =
+    ap (λ (l : List Event). lines_after l (drop k marks) (drop k saved) (drop k chosen) lines) (drop_of_length-le events h)
+none_left k events marks saved chosen lines (inr (inl h)) =
+    ap (λ (l : List Mark). lines_after (drop k events) l (drop k saved) (drop k chosen) lines) (drop_of_length-le marks h)
+    ∙ no_marks (drop k events) (drop k saved) (drop k chosen) lines
+none_left k events marks saved chosen lines (inr (inr (inl h))) =
+    ap (λ (l : List (Vec Record)). lines_after (drop k events) (drop k marks) l (drop k chosen) lines) (drop_of_length-le saved h)
+    ∙ no_saved (drop k events) (drop k marks) (drop k chosen) lines
+none_left k events marks saved chosen lines (inr (inr (inr h))) =
+    ap (λ (l : List Bool). lines_after (drop k events) (drop k marks) (drop k saved) l lines) (drop_of_length-le chosen h)
+    ∙ no_chosen (drop k events) (drop k marks) (drop k saved) lines

@@ -65,3 +65,10 @@ took_of size its end last bytes old new seen feeds same begun none all =
     (subst (λ (l : List Message). Took size bytes l new last) none
     (subst (λ (e : End). Feeds size e bytes old new last) begun
     (subst (λ (z : Size). Feeds z end bytes old new last) same feeds)))
+
+-- bytes are the frame of one statement at most
+pub one_frame : (size : Size) (bytes : List ℕ) (s other : Statement) → IsSize size → IsFrameOf size bytes s → IsFrameOf size bytes other → s ≡ other
+one_frame size bytes s other ok one two =
+    let same = reads_once size bytes (message.Statement s ∷ []) (message.Statement other ∷ []) (Rest []) (Rest []) ok one two in
+    let list : (message.Statement s ∷ []) ≡ (message.Statement other ∷ []) = same.0 in
+    cc

@@ -18,7 +18,7 @@ use Rattle.report.specs.declared.chart.drawing.Words.{Words}
 use Rattle.report.specs.declared.chart.drawing.Words.TheVariants as words
 use Rattle.report.specs.declared.chart.drawing.Sign.TheVariants as sign
 use Rattle.report.specs.Drawings.{Element, SignAt, BadgeAt, Arrow, Loop, words_at, Grows}
-use Rattle.report.specs.Pictures.{also_part, listed, decision, decisions, on_question, arrow_words, arrow_elements, lie_words, lie_elements, proposal_elements, is_said_of, counted, said_parts, said_text, said_verb, said_elements, saved_elements, failure_elements, decided_text, heads_again, IsShown, IsRow}
+use Rattle.report.specs.Pictures.{also_part, listed, decision, decisions, on_question, arrow_words, arrow_elements, far_words, lie_words, lie_elements, proposal_elements, is_said_of, counted, said_parts, said_text, said_verb, said_elements, saved_elements, failure_elements, decided_text, heads_again, IsShown, IsRow}
 use Rattle.report.specs.Places.{column_x, of_members}
 use Rattle.report.proofs.Elements.{grows_more}
 use Rattle.report.specs.Charts.{member_of, IsLieLabel}
@@ -65,9 +65,10 @@ pub loop_is : (from to x y : ℕ) (carried : List ℕ) → (from == to) ≡ true
 loop_is from to x y carried same e = rw (same, e) refl
 
 -- one to another
-pub arrow_is : (from to start end y : ℕ) (carried : List ℕ) (what : Words) → (from == to) ≡ false → start ≡ column_x from → end ≡ column_x to
-    → what ≡ arrow_words (nat_lt from to) → (Arrow false start end y ∷ words_at what start y carried) ≡ arrow_elements from to carried y
-arrow_is from to start end y carried what other a b w = rw (other, a, b, w) refl
+pub arrow_is : (from to start end y : ℕ) (carried : List ℕ) (what there : Words) → (from == to) ≡ false → start ≡ column_x from → end ≡ column_x to
+    → what ≡ arrow_words (nat_lt from to) → there ≡ arrow_words (nat_lt to from)
+    → (Arrow false start end y ∷ (words_at what start y carried ++ far_words there from to carried y)) ≡ arrow_elements from to carried y
+arrow_is from to start end y carried what there other a b w f = rw (other, a, b, w, f) refl
 
 -- a proposal
 pub proposal_is : (questions member question : ℕ) (bit : Bool) (x y : ℕ) (text : List ℕ) → x ≡ column_x member
@@ -93,9 +94,10 @@ shown_some {A} r old new size columns event given outcome y P elements e is h =
     (λ _ told. (elements told.0, subst (λ (v : Event). IsShown size columns v outcome y (elements told.0)) (sym e) (is told.0 told.1), told.2)) h
 
 -- a lie
-pub lie_is : (liar to start end at y : ℕ) (text label : List ℕ) (what : Words) → start ≡ column_x liar → end ≡ column_x to → at ≡ column_x liar
-    → what ≡ lie_words (nat_lt liar to) → text ≡ label → (Arrow true start end y ∷ words_at what at y text) ≡ lie_elements liar to label y
-lie_is liar to start end at y text label what a b d w t = rw (a, b, d, w, t) refl
+pub lie_is : (liar to start end at y : ℕ) (label : List ℕ) (what there : Words) → start ≡ column_x liar → end ≡ column_x to → at ≡ column_x liar
+    → what ≡ lie_words (nat_lt liar to) → there ≡ lie_words (nat_lt to liar)
+    → (Arrow true start end y ∷ (words_at what at y label ++ far_words there liar to label y)) ≡ lie_elements liar to label y
+lie_is liar to start end at y label what there a b d w f = rw (a, b, d, w, f) refl
 
 pub lie_drawn : (r : Result (Unit {0}) AllocError) (old new : Drawing) (size : Size) (bytes label : List ℕ) (liar to y : ℕ) → IsLieLabel size bytes label
     → OnOk r (Grows old new (lie_elements liar to label y))

@@ -74,3 +74,21 @@ ended xs b c count k e h =
     let within : count ≤ length xs = omega (arith, e, min-le_left (min (length xs) b) c, min-le_left (length xs) b) in
     let long : length (take count xs) ≡ count = length-take-le count xs within in
     omega (arith, e, long, h)
+
+-- one of four numbers isn't above their least
+pub one_of_four : (a b c d k : ℕ) → min (min (min a b) c) d ≤ k → (a ≤ k) ⊎ ((b ≤ k) ⊎ ((c ≤ k) ⊎ (d ≤ k)))
+one_of_four a b c d k h = elim (le_or_above (min (min a b) c) k) [
+  | inl x ↦ elim (one_is_least a b c k x) [ inl y ↦ inl y | inr y ↦ elim y [ inl z ↦ inr (inl z) | inr z ↦ inr (inr (inl z)) ] ]
+  | inr x ↦ elim (le_or_above d k) [
+    | inl y ↦ inr (inr (inr y))
+    | inr y ↦ let most : suc k ≤ min (min (min a b) c) d = le-min x y in absurd (omega (arith, most, h))
+  ]
+]
+
+-- the first events are at an end where the shortest of four lists is
+pub ended_of_four : {A : Type 0} (xs : List A) (b c d count k : ℕ) → count ≡ min (min (min (length xs) b) c) d → length (take count xs) ≤ k
+    → (length xs ≤ k) ⊎ ((b ≤ k) ⊎ ((c ≤ k) ⊎ (d ≤ k)))
+ended_of_four xs b c d count k e h =
+    let within : count ≤ length xs = omega (arith, e, min-le_left (min (min (length xs) b) c) d, min-le_left (min (length xs) b) c, min-le_left (length xs) b) in
+    let long : length (take count xs) ≡ count = length-take-le count xs within in
+    one_of_four (length xs) b c d k (omega (arith, e, long, h))

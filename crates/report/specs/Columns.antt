@@ -1,5 +1,6 @@
 -- What the chart knows of a member.
-use Rattle.std.specs.Prelude.{ℕ, ◌≡◌, ◌++◌, Bool, Option, Some, None, List, [], length, replicate, slice_get}
+use Rattle.std.specs.Prelude.{ℕ, ◌≡◌, ◌==◌, ◌++◌, Bool, Option, Some, None, List, [], length, replicate, slice_get}
+use Rattle.std.specs.List.{list_any}
 use Rattle.terms_prelude.specs.Terms.{Record}
 use Rattle.sim.specs.declared.events.Event.{Event}
 use Rattle.sim.specs.declared.events.Event.TheVariants.{DeliverAll}
@@ -12,6 +13,11 @@ pub record IsNew (n : ℕ) (liar : Bool) (column : Column) : Type 0 where
   pub side : column.is_liar ≡ liar
   pub silent : column.said.items ≡ []
   pub at_start : column.places.items ≡ replicate n 0
+
+-- the members before the first event
+pub record AreNew (n members : ℕ) (liars : List ℕ) (columns : List Column) : Type 0 where
+  pub count : length columns ≡ members
+  pub each : (k : ℕ) (column : Column) → slice_get columns k ≡ Some column → IsNew n (list_any (λ liar. liar == k) liars) column
 
 -- how many statements a member has said, if there is one
 abbrev pub count_said : Option Column → ℕ

@@ -2,6 +2,7 @@ pub mod Records
 pub mod Traces
 pub mod Charts
 pub mod Columns
+pub mod Choices
 pub mod Drawings
 pub mod Places
 pub mod Lives

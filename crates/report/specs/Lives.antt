@@ -83,29 +83,30 @@ pub record Lines : Type 0 where
 abbrev pub first_lines : ℕ → List ℕ → Lines
 first_lines n liars = record { lives = first_lives n liars; rows = 0; text = [] }
 
--- an event that wasn't skipped has a row of its own
-abbrev pub with_row : Event → Mark → Lines → Lines
-with_row event mark lines = record {
+-- an event that is chosen has a row of its own; where another one changes a member, the lifeline turns where the next row stands
+abbrev pub with_row : Event → Mark → Bool → Lines → Lines
+with_row event mark is lines = record {
   lives = lives_after event mark (row_y lines.rows) lines.lives;
-  rows = lines.rows + 1;
+  rows = if is then lines.rows + 1 else lines.rows;
   text = lines.text ++ picture_text (piece_elements (slice_get lines.lives (member_of event)) event mark (row_y lines.rows));
 }
 
--- behind an event
-abbrev pub lines_behind : Event → Mark → Lines → Lines
-lines_behind event (Skipped reason) lines = lines
-lines_behind event mark lines = with_row event mark lines
+-- behind an event, which is chosen or isn't
+abbrev pub lines_behind : Event → Mark → Bool → Lines → Lines
+lines_behind event (Skipped reason) is lines = lines
+lines_behind event mark is lines = with_row event mark is lines
 
 -- behind all events, as far as the shortest of the lists goes
-abbrev pub lines_after : List Event → List Mark → List (Vec Record) → Lines → Lines
-lines_after [] marks saved lines = lines
-lines_after (event ∷ events) [] saved lines = lines
-lines_after (event ∷ events) (mark ∷ marks) [] lines = lines
-lines_after (event ∷ events) (mark ∷ marks) (records ∷ saved) lines = lines_after events marks saved (lines_behind event mark lines)
+abbrev pub lines_after : List Event → List Mark → List (Vec Record) → List Bool → Lines → Lines
+lines_after [] marks saved chosen lines = lines
+lines_after (event ∷ events) [] saved chosen lines = lines
+lines_after (event ∷ events) (mark ∷ marks) [] chosen lines = lines
+lines_after (event ∷ events) (mark ∷ marks) (records ∷ saved) [] lines = lines
+lines_after (event ∷ events) (mark ∷ marks) (records ∷ saved) (is ∷ chosen) lines = lines_after events marks saved chosen (lines_behind event mark is lines)
 
 -- those of a run of n members
-abbrev pub lines_of_run : ℕ → List ℕ → List Event → List Mark → List (Vec Record) → Lines
-lines_of_run n liars events marks saved = lines_after events marks saved (first_lines n liars)
+abbrev pub lines_of_run : ℕ → List ℕ → List Event → List Mark → List (Vec Record) → List Bool → Lines
+lines_of_run n liars events marks saved chosen = lines_after events marks saved chosen (first_lines n liars)
 
 -- the text of the lifelines, down to the bottom of the picture
 abbrev pub whole_lines : ℕ → Lines → List ℕ

@@ -1,5 +1,5 @@
 -- What is drawn of an event, into its row.
-use Rattle.std.specs.Prelude.{ℕ, ◌-◌, ◌%◌, ◌&&◌, ◌≡◌, ◌==◌, nat_lt, Bool, true, false, if◌then◌else◌, Option, Some, List, [], ◌∷◌, ◌++◌, codes, length, slice_get, None}
+use Rattle.std.specs.Prelude.{ℕ, ◌+◌, ◌-◌, ◌%◌, ◌&&◌, ◌||◌, ◌≡◌, ◌==◌, nat_lt, Bool, true, false, if◌then◌else◌, Option, Some, List, [], ◌∷◌, ◌++◌, codes, length, slice_get, None}
 use Rattle.std.specs.List.{flat_map, count_by}
 use Rattle.std.specs.Fmt.{decimal}
 use Rattle.disk.specs.declared.crash.Pick.{Pick}
@@ -78,16 +78,22 @@ abbrev pub lie_words : Bool → Words
 lie_words true = words.LieRightward
 lie_words false = words.LieLeftward
 
+-- what an arrow carries stands at its head too, where it crosses two columns or more
+abbrev pub far_words : Words → ℕ → ℕ → List ℕ → ℕ → List Element
+far_words what from to carried y = if nat_lt (from + 1) to || nat_lt (to + 1) from then words_at what (column_x to) y carried else []
+
 -- an arrow of a correct member, from its column to the receiver's, and what it carries
 abbrev pub arrow_elements : ℕ → ℕ → List ℕ → ℕ → List Element
 arrow_elements from to carried y =
     if from == to then Loop (column_x from) y ∷ words_at words.Turn (column_x from) y carried
-    else Arrow false (column_x from) (column_x to) y ∷ words_at (arrow_words (nat_lt from to)) (column_x from) y carried
+    else Arrow false (column_x from) (column_x to) y
+    ∷ (words_at (arrow_words (nat_lt from to)) (column_x from) y carried ++ far_words (arrow_words (nat_lt to from)) from to carried y)
 
 -- an arrow of a liar
 abbrev pub lie_elements : ℕ → ℕ → List ℕ → ℕ → List Element
 lie_elements liar to label y =
-    Arrow true (column_x liar) (column_x to) y ∷ words_at (lie_words (nat_lt liar to)) (column_x liar) y label
+    Arrow true (column_x liar) (column_x to) y
+    ∷ (words_at (lie_words (nat_lt liar to)) (column_x liar) y label ++ far_words (lie_words (nat_lt to liar)) liar to label y)
 
 -- a fuse that is set or taken out
 abbrev pub fuse_elements : ℕ → Option ℕ → ℕ → List Element

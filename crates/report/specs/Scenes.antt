@@ -1,12 +1,13 @@
 -- A chart in the making.
-use Rattle.std.specs.Prelude.{ℕ, ◌≡◌, List, string_bytes}
+use Rattle.std.specs.Prelude.{ℕ, ◌≡◌, Bool, List, string_bytes}
 use Rattle.terms_prelude.specs.Terms.{Record, Size}
 use Rattle.sim.specs.declared.events.Event.{Event}
 use Rattle.sim.specs.declared.events.Mark.{Mark}
 use Rattle.report.specs.declared.chart.Canvas.{Canvas}
 use Rattle.report.specs.Drawings.{Element, picture_text, Grows}
 use Rattle.report.specs.Pictures.{heads}
-use Rattle.report.specs.Runs.{Stage, AreNew, IsTaken, IsDrawn}
+use Rattle.report.specs.Columns.{AreNew}
+use Rattle.report.specs.Runs.{Stage, IsTaken, IsDrawn}
 
 -- elements may have been drawn, and all else is as it was
 abbrev pub DrawsOnly : Canvas → Canvas → Type 0
@@ -30,9 +31,9 @@ pub record Draws (number : ℕ) (event : Event) (outcome : Mark) (saved : List R
   pub is : IsTaken old.size number event outcome saved (stage_of old) (stage_of new) row
   pub events : Grows old.events new.events row
 
--- an event is drawn, if it wasn't skipped
-pub record DrawsUnlessSkipped (number : ℕ) (event : Event) (outcome : Mark) (saved : List Record) (old new : Canvas) : Type 0 where
+-- an event is drawn, if it is chosen and wasn't skipped
+pub record DrawsIf (is : Bool) (number : ℕ) (event : Event) (outcome : Mark) (saved : List Record) (old new : Canvas) : Type 0 where
   pub row : List Element
   pub size_is : new.size ≡ old.size
-  pub is : IsDrawn old.size number event outcome saved (stage_of old) (stage_of new) row
+  pub drawn : IsDrawn old.size number event outcome saved is (stage_of old) (stage_of new) row
   pub events : Grows old.events new.events row

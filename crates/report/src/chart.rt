@@ -1,15 +1,17 @@
 //! What `simulate --chart` draws: the events of a run as a sequence chart in SVG.
 
-ghost use Rattle.std.specs.Prelude.{ℕ, ◌≡◌, ◌+◌, ◌*◌, ◌/◌, ◌^◌, ◌<◌, ◌≤◌, min, IfOk, OnOk, List, [], ◌∷◌, ◌++◌, length, slice_get, string_bytes};
+ghost use Rattle.std.specs.Prelude.{ℕ, ◌≡◌, ◌+◌, ◌*◌, ◌/◌, ◌^◌, ◌<◌, ◌≤◌, ◌||◌, nat_lt, min, IfOk, OnOk, List, [], ◌∷◌, ◌++◌, length, slice_get, string_bytes};
 ghost use Rattle.std.specs.List.{count_by};
 ghost use Rattle.sim.specs.declared.TheConstants.{MOST_EVENTS};
 ghost use Rattle.sim.specs.Texts.{calls_text, pick_text};
 ghost use Rattle.std.specs.Io.KnownBytes.{Appends};
-ghost use Rattle.report.specs.Runs.{AreNew, AreRows, size_text, page_text, legend_text, picture_top, picture_end, IsChart};
+ghost use Rattle.report.specs.Runs.{AreRows, size_text, page_text, legend_text, picture_top, picture_end, IsChart};
 ghost use Rattle.report.specs.Charts.{IsSvg};
+ghost use Rattle.report.specs.Columns.{AreNew, FollowAll, said_before};
 ghost use Rattle.report.specs.Drawings.{Grows};
 ghost use Rattle.report.specs.Pictures.{heads, head_elements, head_text, arrow_words, lie_words, on_question, decision, listed, is_said_of, counted, said_text, said_verb, decided_text};
 
+mod choice;
 mod column;
 mod drawing;
 mod lie;
@@ -17,6 +19,8 @@ mod lifelines;
 
 use crate::records::{kind_word, statement_text};
 use crate::trace::is_skipped;
+pub use choice::Choice;
+use choice::chosen_of;
 use column::{Column, member_of};
 use disk::Pick;
 use drawing::{Drawing, Sign, Words};
@@ -60,7 +64,7 @@ path{fill:none;stroke:#111;stroke-width:1.5}.page{fill:#fff}\
 /// What the signs mean, a line each.
 const LEGEND: &str = "<path class=\"dot\" d=\"M40 0m-5 0a5 5 0 1 0 10 0a5 5 0 1 0 -10 0z\"/>\
 <text x=\"66\" y=\"4\">a proposal comes</text>\n\
-<path class=\"arrow\" d=\"M20 20H60m0 0l-8 -4v8z\"/><text x=\"66\" y=\"24\">a statement arrives</text>\n\
+<path class=\"arrow\" d=\"M20 20H60m0 0l-8 -4v8z\"/><text x=\"66\" y=\"24\">a statement arrives: question, origin, round, step</text>\n\
 <path class=\"liar\" d=\"M20 40H60m0 0l-8 -4v8z\"/><text x=\"66\" y=\"44\">bytes of a liar arrive</text>\n\
 <path class=\"cross\" d=\"M40 60m-7 -7l14 14m0 -14l-14 14\"/><text x=\"66\" y=\"64\">a crash, and what it leaves</text>\n\
 <path class=\"triangle\" d=\"M40 80m0 -8l8 13h-16z\"/><text x=\"66\" y=\"84\">opened again</text>\n\
@@ -227,6 +231,13 @@ fn lie_words(is_rightward: bool) -> Words
     }
 }
 
+/// Returns `true` if an arrow crosses two columns or more.
+fn is_long(from: u8, to: u8) -> bool
+    ensures { result ≡ (nat_lt (from + 1) to || nat_lt (to + 1) from) }
+{
+    from.abs_diff(to) > 1
+}
+
 /// The name of a member, and whether it lies.
 fn head_text(alloc: Global, member: u8, is_liar: bool) -> Result<String, AllocError>
     ensures { IfOk result (λ text. string_bytes text ≡ head_text member is_liar) }
@@ -285,6 +296,36 @@ fn new_columns(alloc: Global, n: u8, liars: &[u8]) -> Result<Vec<Column>, AllocE
     Ok(columns)
 }
 
+/// Counts the statements that the sender of a group has said; other events go by no such count.
+fn said_before(columns: &[Column], event: &Event) -> usize
+    ensures { result ≡ said_before event.now columns.now }
+{
+    let Event::DeliverAll { from, .. } = event else {
+        return 0;
+    };
+    match columns.get(usize::from(*from)) {
+        Some(column) => column.said_count(),
+        None => 0,
+    }
+}
+
+/// Follows the event with the columns of all members.
+fn follow_all(
+    columns: &mut Vec<Column>,
+    event: &Event,
+    mark: Mark,
+    saved: &[Record],
+) -> Result<(), AllocError>
+    ensures follow { OnOk result (FollowAll event.now mark saved.now columns.old.items columns.new.items) }
+    ensures count { OnOk result (length columns.new.items ≡ length columns.old.items) }
+{
+    let said = said_before(columns, event);
+    match columns.get_mut(usize::from(member_of(event))) {
+        None => Ok(()),
+        Some(column) => column.follow(said, event, mark, saved),
+    }
+}
+
 /// The rows of a run, as far as they are drawn, and those of them that aren't written yet.
 #[derive(Drop)]
 struct Canvas {
@@ -299,11 +340,11 @@ impl Canvas {
     ghost use Rattle.std.specs.Prelude.{ℕ, ◌≡◌, ◌+◌, ◌<◌, IfOk, OnOk, Some, List, length, slice_get, string_bytes};
     ghost use Rattle.sim.specs.declared.TheConstants.{MOST_EVENTS};
     ghost use Rattle.std.specs.Io.KnownBytes.{Appends};
-    ghost use Rattle.report.specs.Scenes.{DrawsOnly, IsBegun, Draws, DrawsUnlessSkipped};
+    ghost use Rattle.report.specs.Scenes.{DrawsOnly, IsBegun, Draws, DrawsIf};
     ghost use Rattle.report.specs.Charts.{delivered, group_count, group_text, text_if, IsLieLabel};
-    ghost use Rattle.report.specs.Columns.{FollowAll, said_before};
+    ghost use Rattle.report.specs.Columns.{FollowAll};
     ghost use Rattle.report.specs.Drawings.{Element, Grows};
-    ghost use Rattle.report.specs.Pictures.{Carries, CarriesGroup, IsShown, IsRow, heads, heads_again, proposal_elements, arrow_elements, lie_elements, fuse_elements, crash_elements, restart_elements, reset_elements, failure_elements, saved_elements};
+    ghost use Rattle.report.specs.Pictures.{Carries, CarriesGroup, IsShown, IsRow, heads, heads_again, proposal_elements, arrow_elements, far_words, lie_elements, fuse_elements, crash_elements, restart_elements, reset_elements, failure_elements, saved_elements};
     ghost use Rattle.report.specs.declared.chart.column.Column.{Column};
 
     /// The columns, before the first event.
@@ -363,17 +404,22 @@ impl Canvas {
         Ok(())
     }
 
-    /// Draws an event, unless it was skipped.
-    fn draw_unless_skipped(
+    /// Takes an event: draws it if it is chosen, and follows it, unless it was skipped.
+    fn take(
         &mut self,
         number: usize,
         event: &Event,
         mark: Mark,
         saved: &[Record],
+        is_chosen: bool,
     ) -> Result<(), AllocError>
-        ensures { OnOk result (self.old.rows < MOST_EVENTS → DrawsUnlessSkipped number event.now mark saved.now self.old self.new) }
+        ensures { OnOk result (self.old.rows < MOST_EVENTS → DrawsIf is_chosen number event.now mark saved.now self.old self.new) }
     {
         if is_skipped(&mark) {
+            return Ok(());
+        }
+        if !is_chosen {
+            self.follow(event, mark, saved)?;
             return Ok(());
         }
         self.draw(number, event, mark, saved)?;
@@ -526,7 +572,27 @@ impl Canvas {
             return self.events.words(Words::Turn, start, y, carried);
         }
         self.events.arrow(false, start, end, y)?;
-        self.events.words(arrow_words(from < to), start, y, carried)
+        self.events
+            .words(arrow_words(from < to), start, y, carried)?;
+        self.show_far(arrow_words(to < from), from, to, carried, y)
+    }
+
+    /// Writes what an arrow carries at its head too, where it is long.
+    fn show_far(
+        &mut self,
+        what: Words,
+        from: u8,
+        to: u8,
+        carried: &str,
+        y: u64,
+    ) -> Result<(), AllocError>
+        ensures only { DrawsOnly self.old self.new }
+        ensures drawn { OnOk result (Grows self.old.events self.new.events (far_words what from to carried.now y)) }
+    {
+        if !is_long(from, to) {
+            return Ok(());
+        }
+        self.events.words(what, x_of(to), y, carried)
     }
 
     /// Draws a lie.
@@ -536,9 +602,18 @@ impl Canvas {
             Grows self.old.events self.new.events (lie_elements liar to label y)) }
     {
         let label = lie_label(self.alloc, self.size, bytes)?;
+        self.show_lie_of(liar, to, label.as_str(), y)
+    }
+
+    /// Draws an arrow of a liar, and what it carries.
+    fn show_lie_of(&mut self, liar: u8, to: u8, label: &str, y: u64) -> Result<(), AllocError>
+        ensures only { DrawsOnly self.old self.new }
+        ensures drawn { OnOk result (Grows self.old.events self.new.events (lie_elements liar to label.now y)) }
+    {
         self.events.arrow(true, x_of(liar), x_of(to), y)?;
         self.events
-            .words(lie_words(liar < to), x_of(liar), y, label.as_str())
+            .words(lie_words(liar < to), x_of(liar), y, label)?;
+        self.show_far(lie_words(to < liar), liar, to, label, y)
     }
 
     /// Draws a fuse that is set or taken out.
@@ -614,32 +689,13 @@ impl Canvas {
         self.events.badge(x, y, decided.as_str(), said.as_str())
     }
 
-    /// How many statements the sender of a group has said; other events go by no such count.
-    fn said_before(&self, event: &Event) -> usize
-        ensures { result ≡ said_before event.now self.now.columns.items }
-    {
-        let Event::DeliverAll { from, .. } = event else {
-            return 0;
-        };
-        match self.columns.get(usize::from(*from)) {
-            Some(column) => column.said_count(),
-            None => 0,
-        }
-    }
-
     /// Follows the event.
     fn follow(&mut self, event: &Event, mark: Mark, saved: &[Record]) -> Result<(), AllocError>
         ensures follow { OnOk result (FollowAll event.now mark saved.now self.old.columns.items self.new.columns.items) }
-        ensures row { OnOk result (self.new.rows ≡ self.old.rows) }
         ensures count { OnOk result (length self.new.columns.items ≡ length self.old.columns.items) }
-        ensures size { self.new.size ≡ self.old.size }
-        ensures events { self.new.events ≡ self.old.events }
+        ensures rest { self.new ≡ record self.old { columns = self.new.columns } }
     {
-        let said = self.said_before(event);
-        match self.columns.get_mut(usize::from(member_of(event))) {
-            None => Ok(()),
-            Some(column) => column.follow(said, event, mark, saved),
-        }
+        follow_all(&mut self.columns, event, mark, saved)
     }
 
     /// Writes what is drawn and wasn't written yet.
@@ -707,64 +763,88 @@ fn write_bottom<W: Write>(alloc: Global, bottom: u64, output: &mut W) -> io::Res
     output.write_all(end.as_bytes())
 }
 
-/// How many events are drawn: as many as the shortest of the lists has.
-fn shortest(events: &[Event], marks: &[Mark], saved: &[Vec<Record>]) -> usize
-    ensures { result ≡ min (min (length events.now) (length marks.now)) (length saved.now) }
-{
-    events.len().min(marks.len()).min(saved.len())
+/// A run of a cluster: its size, its liars, its events, and of each what became of it and what was saved because of it.
+#[derive(Clone, Copy)]
+pub struct Run<'a> {
+    /// The size of the cluster.
+    pub size: Size,
+    /// The members that lie.
+    pub liars: &'a [u8],
+    /// The events, in order.
+    pub events: &'a [Event],
+    /// The outcome of each event.
+    pub marks: &'a [Mark],
+    /// The records that were saved because of each event.
+    pub saved: &'a [Vec<Record>],
 }
 
-/// Writes the heads of the columns, and the rows of the events, each as soon as it is drawn.
+/// How many events are drawn: as many as the shortest of the lists has.
+fn shortest(run: &Run<'_>) -> usize
+    ensures { result ≡ min (min (length run.now.events.now) (length run.now.marks.now)) (length run.now.saved.now) }
+{
+    run.events.len().min(run.marks.len()).min(run.saved.len())
+}
+
+/// Writes the heads of the columns, and the rows of the events that are chosen, each as soon as it is drawn.
 fn write_rows<W: Write>(
     alloc: Global,
-    size: Size,
-    liars: &[u8],
-    events: &[Event],
-    marks: &[Mark],
-    saved: &[Vec<Record>],
+    run: &Run<'_>,
+    chosen: &[bool],
     output: &mut W,
 ) -> io::Result<()>
-    ensures { length events.now ≤ MOST_EVENTS → OnOk result ((rows : List ℕ)
-        × AreRows size liars.now events.now marks.now saved.now rows
+    ensures { length run.now.events.now ≤ MOST_EVENTS → OnOk result ((rows : List ℕ)
+        × AreRows run.now.size run.now.liars.now run.now.events.now run.now.marks.now run.now.saved.now chosen.now rows
         × Appends (W.contents output.old) (W.contents output.new) rows) }
 {
-    let count = shortest(events, marks, saved);
-    let mut canvas = Canvas::new(alloc, size, liars)?;
+    let count = shortest(run).min(chosen.len());
+    let mut canvas = Canvas::new(alloc, run.size, run.liars)?;
     canvas.write_out(output)?;
-    for (index, event) in events[..count].iter().enumerate() {
-        canvas.draw_unless_skipped(index + 1, event, marks[index], &saved[index])?;
+    for (index, event) in run.events[..count].iter().enumerate() {
+        let number = index + 1;
+        canvas.take(
+            number,
+            event,
+            run.marks[index],
+            &run.saved[index],
+            chosen[index],
+        )?;
         canvas.write_out(output)?;
     }
     Ok(())
 }
 
-/// Draws the events that weren't skipped as a sequence chart in SVG, each in a row with its number, counted from 1. A
-/// member's lifeline is solid while it runs, and dashed while it is down or stopped. The columns have their heads at the top
-/// and again after each 40 rows; below stands what the signs mean. On a dark page the picture is dark. Where the lists are
-/// of unequal lengths the chart goes as far as the shortest.
+/// Draws the events of a run that are chosen and weren't skipped as a sequence chart in SVG, each in a row with its number,
+/// counted from 1, and returns how many rows there are. A member's lifeline is solid while it runs, and dashed while it is
+/// down or stopped. The columns have their heads at the top and again after each 40 rows; below stands what the signs mean.
+/// On a dark page the picture is dark. If the lists are of unequal lengths the chart goes as far as the shortest.
 ///
-/// It is written row by row as it is drawn, so that a long one takes no memory but for the lifelines.
+/// Events that aren't drawn still count: an arrow carries what it carried in the run, and a lifeline turns where the next row
+/// stands.
+///
+/// The chart is written row by row as it is drawn, so that a long one takes no memory but for the lifelines and a byte for each
+/// event.
 ///
 /// # Errors
 ///
-/// Those of the writer, and [`io::ErrorKind::OutOfMemory`] where a growth failed: a part of the chart may be written then.
+/// Those of the writer, and [`io::ErrorKind::OutOfMemory`] if a growth failed: a part of the chart may be written then.
 pub fn write_chart<W: Write>(
     alloc: Global,
-    size: Size,
-    liars: &[u8],
-    events: &[Event],
-    marks: &[Mark],
-    saved: &[Vec<Record>],
+    run: &Run<'_>,
+    choice: Choice,
     output: &mut W,
-) -> io::Result<()>
-    ensures { length events.now ≤ MOST_EVENTS → OnOk result ((text : List ℕ)
-        × IsChart size liars.now events.now marks.now saved.now text × IsSvg text
-        × Appends (W.contents output.old) (W.contents output.new) text) }
+) -> io::Result<u64>
+    ensures { length run.now.events.now ≤ MOST_EVENTS → IfOk result (λ rows. (text : List ℕ)
+        × IsChart choice run.now.size run.now.liars.now run.now.events.now run.now.marks.now run.now.saved.now rows text
+        × IsSvg text × Appends (W.contents output.old) (W.contents output.new) text) }
 {
-    let mut lines = lifelines_of(alloc, size.n(), liars, events, marks, saved)?;
-    let bottom = y_of(lines.rows());
+    let size = run.size;
+    let chosen = chosen_of(alloc, run, choice)?;
+    let mut lines = lifelines_of(alloc, run, &chosen)?;
+    let rows = lines.rows();
+    let bottom = y_of(rows);
     lines.end(size.n(), bottom)?;
     write_top(alloc, x_of(size.n()), bottom, lines.as_str(), output)?;
-    write_rows(alloc, size, liars, events, marks, saved, output)?;
-    write_bottom(alloc, bottom, output)
+    write_rows(alloc, run, &chosen, output)?;
+    write_bottom(alloc, bottom, output)?;
+    Ok(rows)
 }

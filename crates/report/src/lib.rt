@@ -5,6 +5,6 @@ mod chart;
 mod records;
 mod trace;
 
-pub use chart::write_chart;
+pub use chart::{Choice, Run, write_chart};
 pub use records::{kind_word, record_text, statement_text};
 pub use trace::{is_skipped, write_trace};

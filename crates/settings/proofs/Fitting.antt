@@ -1,13 +1,13 @@
 -- Entries that don't fit one another, and settings without a fault.
-use Rattle.std.proofs.Common.{◌≡◌, ◌<◌, ◌≤◌, refl, sym, subst, arith, Bool, true, false, cond, ◌==◌, nat_lt, Option, Some, None, Result, Ok, Err, IfErr, length, ◌⊎◌, inl, inr, string_bytes, eq-eqb}
+use Rattle.std.proofs.Common.{◌≡◌, ◌<◌, ◌≤◌, refl, sym, subst, arith, Bool, true, false, cond, ◌==◌, nat_lt, Option, Some, None, Result, Ok, Err, IfErr, length, ◌⊎◌, inl, inr, option_map, string_bytes, eq-eqb}
 use Rattle.std.proofs.lemmas.Bool.Decides.{nat_tests}
 use Rattle.toml.specs.Data.{Members}
 use Rattle.terms_prelude.specs.Terms.{size_fault, SizeFault}
-use Rattle.settings.specs.Words.{Entries, Me, Peers, Settings, SettingsFault, AllSuit, HasNumbers, IsOfMany, IsFault, SaysEntries, unfit, misfit, size_or}
+use Rattle.settings.specs.Words.{Entries, Me, Peers, Settings, SettingsFault, AllSuit, HasNumbers, IsOfMany, IsFault, SaysEntries, unfit, misfit, size_or, keys}
 use Rattle.settings.specs.declared.fault.SettingsFault.TheVariants as fault
 
 -- all keys of what the entries say have values of their own
-pub all_suit : (ms : Members) (e : Entries) → SaysEntries ms e → AllSuit ms
+pub all_suit : (ms : Members) (e : Entries) → SaysEntries ms e → AllSuit keys ms
 all_suit ms e says = (
   (e.cluster, says.cluster),
   (
@@ -24,7 +24,7 @@ all_suit ms e says = (
               (e.peers.items, says.peers),
               (
                 (e.desk, says.desk),
-                ((e.seed, says.seed), tt),
+                ((e.seed, says.seed), ((e.listen, says.listen), ((option_map string_bytes e.desk_socket, says.desk_socket), tt))),
               ),
             ),
           ),
@@ -34,14 +34,14 @@ all_suit ms e says = (
   ),
 )
 
-numbers : (ms : Members) (e : Entries) → SaysEntries ms e → HasNumbers ms e.n e.t e.questions
+numbers : (ms : Members) (e : Entries) → SaysEntries ms e → HasNumbers keys ms e.n e.t e.questions
 numbers ms e says = record { suit = all_suit ms e says; n_is = says.n.0; t_is = says.t.0; questions_is = says.questions.0 }
 
 -- what is wrong with entries is a fault of the document
 pub unfit_fault : (ms : Members) (e : Entries) (ends : SettingsFault) → SaysEntries ms e → unfit e ≡ Some ends → IsFault (Some ms) ends
 unfit_fault ms e ends says h = by_size (size_fault e.n e.t e.questions) refl h
   where
-    of_many : size_fault e.n e.t e.questions ≡ None → IsOfMany ms e.n
+    of_many : size_fault e.n e.t e.questions ≡ None → IsOfMany keys ms e.n
     of_many none = (e.t, e.questions, numbers ms e says, none)
 
     by_peers : (b : Bool) → (length e.peers.items == e.n) ≡ b → e.me < e.n → size_fault e.n e.t e.questions ≡ None

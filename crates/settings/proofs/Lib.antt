@@ -5,3 +5,4 @@ pub mod Fitting
 pub mod Single
 pub mod Linking
 pub mod Liking
+pub mod Clients

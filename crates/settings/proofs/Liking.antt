@@ -6,7 +6,7 @@ use Rattle.std.proofs.lemmas.Bool.Decides.{Decides-and, Decides-eqb}
 use Rattle.std.proofs.lemmas.Slice.Eq.{slice_eq-Decides}
 use Rattle.terms_prelude.specs.Terms.{Header, size_fault}
 use Rattle.toml.specs.Data.{Members}
-use Rattle.settings.specs.Words.{Address, Settings, Cluster, N, T, Questions, Me, Journal, Peers, Desk, Seed, HasNumber, HasPath, HasAddress, HasAddresses, GivesSettings, IsSettings}
+use Rattle.settings.specs.Words.{Address, Settings, Cluster, N, T, Questions, Me, Journal, Peers, Desk, Seed, Listen, DeskSocket, HasNumber, HasPath, HasAddress, HasAddresses, GivesSettings, IsSettings, MayHaveAddress, MayHavePath}
 use Rattle.settings.specs.Settings.{HasSmall, HasSeed}
 use Rattle.settings.specs.Texts.{IsLike}
 
@@ -39,6 +39,8 @@ gives_like ms read s like g = record {
   count = sym (ap (λ (peers : List Address). length peers) like.peers) ∙ (g.count ∙ ap (λ (h : Header). h.size.n) like.header);
   desk = subst (λ (desk : Address). HasAddress ms Desk desk) like.desk g.desk;
   seed = subst (λ (seed : List ℕ). HasSeed ms Seed seed) like.seed g.seed;
+  listen = subst (λ (listen : Option Address). MayHaveAddress ms Listen listen) like.listen g.listen;
+  desk_socket = subst (λ (path : Option (List ℕ)). MayHavePath ms DeskSocket path) like.desk_socket g.desk_socket;
 }
 
 -- a document that gives the one gives the other

@@ -1,14 +1,14 @@
 -- What the keys say, each by itself.
-use Rattle.std.specs.Prelude.{ℕ, ◌≡◌, ◌⊎◌, ◌==◌, nat_lt, Option, Some, None, length, if◌then◌else◌, string_bytes}
+use Rattle.std.specs.Prelude.{ℕ, ◌≡◌, ◌⊎◌, ◌==◌, nat_lt, Option, Some, None, List, length, if◌then◌else◌, option_map, string_bytes}
 use Rattle.terms_prelude.specs.Terms.{new_size, size_fault, new_header, SizeFault}
 use Rattle.settings.specs.declared.document.Settings.{Settings}
 use Rattle.toml.specs.Data.{Members}
 use Rattle.settings.specs.declared.keys.Key.{Key}
-use Rattle.settings.specs.declared.keys.Key.TheVariants.{Cluster, N, T, Questions, Me, Journal, Peers, Desk, Seed}
+use Rattle.settings.specs.declared.keys.Key.TheVariants.{Cluster, N, T, Questions, Me, Journal, Peers, Desk, Seed, Listen, DeskSocket}
 use Rattle.settings.specs.declared.fault.SettingsFault.{SettingsFault}
 use Rattle.settings.specs.declared.fault.SettingsFault.TheVariants as fault
 use Rattle.settings.specs.declared.entries.Entries.{Entries}
-use Rattle.settings.specs.Settings.{HasNumber, HasSmall, HasPath, HasAddress, HasAddresses, HasSeed, IsFirstBad}
+use Rattle.settings.specs.Settings.{HasNumber, HasSmall, HasPath, HasAddress, HasAddresses, HasSeed, MayHaveAddress, MayHavePath, IsFirstBad}
 
 -- the entries are what the keys say
 pub record SaysEntries (ms : Members) (e : Entries) : Type 0 where
@@ -21,6 +21,8 @@ pub record SaysEntries (ms : Members) (e : Entries) : Type 0 where
   pub peers : HasAddresses ms Peers e.peers.items
   pub desk : HasAddress ms Desk e.desk
   pub seed : HasSeed ms Seed e.seed
+  pub listen : MayHaveAddress ms Listen e.listen
+  pub desk_socket : MayHavePath ms DeskSocket (option_map string_bytes e.desk_socket)
 
 -- the fault names the key, which has no such value
 abbrev pub IsLack : {A : Type 0} → Key → (A → Type 0) → SettingsFault → Type 0
@@ -30,9 +32,9 @@ IsLack {A} key Has ends = (ends ≡ fault.Key key) × ((value : A) → Has value
 abbrev pub IsLackOrMemory : {A : Type 0} → Key → (A → Type 0) → SettingsFault → Type 0
 IsLackOrMemory key Has ends = IsLack key Has ends ⊎ (ends ≡ fault.Memory)
 
--- the fault names the first key that has no value of its own, or memory was refused
-abbrev pub IsOfFirst : Members → SettingsFault → Type 0
-IsOfFirst ms ends = ((key : Key) × (ends ≡ fault.Key key) × IsFirstBad ms key) ⊎ (ends ≡ fault.Memory)
+-- the fault names the first key of a list that has no value of its own, or memory was refused
+abbrev pub IsOfFirst : List Key → Members → SettingsFault → Type 0
+IsOfFirst all ms ends = ((key : Key) × (ends ≡ fault.Key key) × IsFirstBad all ms key) ⊎ (ends ≡ fault.Memory)
 
 -- what is wrong with a member and peers of n members
 abbrev pub misfit : ℕ → ℕ → ℕ → Option SettingsFault
@@ -56,3 +58,5 @@ pub record FitsEntries (e : Entries) (s : Settings) : Type 0 where
   pub peers : s.peers ≡ e.peers
   pub desk : s.desk ≡ e.desk
   pub seed : s.seed ≡ e.seed
+  pub listen : s.listen ≡ e.listen
+  pub desk_socket : s.desk_socket ≡ e.desk_socket

@@ -6,3 +6,5 @@ pub mod Entries
 pub mod Words
 pub mod Texts
 pub mod Clusters
+pub mod Clients
+pub mod Strays

@@ -1,21 +1,21 @@
 -- What the members of a TOML table say of a member's settings, and the first thing that is wrong with them.
-use Rattle.std.specs.Prelude.{ℕ, pos, ◌≡◌, ◌≢◌, ◌<◌, ◌≤◌, ◌⊎◌, Option, Some, None, Ok, List, [], ◌∷◌, ◌++◌, length, string_bytes}
+use Rattle.std.specs.Prelude.{ℕ, pos, ◌≡◌, ◌≢◌, ◌<◌, ◌≤◌, ◌⊎◌, Option, Some, None, Ok, List, [], ◌∷◌, ◌++◌, length, option_map, string_bytes}
 use Rattle.std.specs.List.{AllByRecursion}
 use Rattle.toml.specs.Data.{Data, Items, Members, string, integer, array, no_items, item, get_member}
 use Rattle.hex.specs.Hex.{decode_of}
 use Rattle.terms_prelude.specs.Terms.{size_fault, SizeFault}
 use Rattle.settings.specs.declared.address.Address.{Address}
 use Rattle.settings.specs.declared.keys.Key.{Key}
-use Rattle.settings.specs.declared.keys.Key.TheVariants.{Cluster, N, T, Questions, Me, Journal, Peers, Desk, Seed}
+use Rattle.settings.specs.declared.keys.Key.TheVariants.{Cluster, N, T, Questions, Me, Journal, Peers, Desk, Seed, Listen, DeskSocket, Desks}
 use Rattle.settings.specs.declared.document.Settings.{Settings}
 use Rattle.settings.specs.declared.fault.SettingsFault.{SettingsFault}
 use Rattle.settings.specs.declared.fault.SettingsFault.TheVariants as fault
 use Rattle.settings.specs.Keys.{key_text}
 use Rattle.settings.specs.Addresses.{IsAddress}
 
--- the keys in the order in which they are looked at
+-- a member's keys in the order in which they are looked at
 abbrev pub keys : List Key
-keys = Cluster ∷ N ∷ T ∷ Questions ∷ Me ∷ Journal ∷ Peers ∷ Desk ∷ Seed ∷ []
+keys = Cluster ∷ N ∷ T ∷ Questions ∷ Me ∷ Journal ∷ Peers ∷ Desk ∷ Seed ∷ Listen ∷ DeskSocket ∷ []
 
 -- the key has this value
 abbrev pub HasValue : Members → Key → Data → Type 0
@@ -55,6 +55,16 @@ HasAddresses ms key addresses = (items : Items) × HasValue ms key (array items)
 abbrev pub HasSeed : Members → Key → List ℕ → Type 0
 HasSeed ms key seed = (digits : List ℕ) × HasValue ms key (string digits) × (length digits ≡ 64) × (decode_of digits ≡ Ok seed)
 
+-- an address, where the table has the key
+abbrev pub MayHaveAddress : Members → Key → Option Address → Type 0
+MayHaveAddress ms key None = get_member (key_text key) ms ≡ None
+MayHaveAddress ms key (Some address) = HasAddress ms key address
+
+-- a text that isn't empty, where the table has the key
+abbrev pub MayHavePath : Members → Key → Option (List ℕ) → Type 0
+MayHavePath ms key None = get_member (key_text key) ms ≡ None
+MayHavePath ms key (Some path) = HasPath ms key path
+
 -- the key has a value of its own type and range
 abbrev pub Suits : Members → Key → Type 0
 Suits ms Cluster = (number : ℕ) × HasNumber ms Cluster number
@@ -66,34 +76,37 @@ Suits ms Journal = (path : List ℕ) × HasPath ms Journal path
 Suits ms Peers = (addresses : List Address) × HasAddresses ms Peers addresses
 Suits ms Desk = (address : Address) × HasAddress ms Desk address
 Suits ms Seed = (seed : List ℕ) × HasSeed ms Seed seed
+Suits ms Listen = (address : Option Address) × MayHaveAddress ms Listen address
+Suits ms DeskSocket = (path : Option (List ℕ)) × MayHavePath ms DeskSocket path
+Suits ms Desks = (addresses : List Address) × HasAddresses ms Desks addresses
 
--- all keys have
-abbrev pub AllSuit : Members → Type 0
-AllSuit ms = AllByRecursion (Suits ms) keys
+-- all keys of a list have
+abbrev pub AllSuit : List Key → Members → Type 0
+AllSuit all ms = AllByRecursion (Suits ms) all
 
--- this key hasn't, and all before it have
-pub record IsFirstBad (ms : Members) (key : Key) : Type 0 where
+-- this key of a list hasn't, and all before it have
+pub record IsFirstBad (all : List Key) (ms : Members) (key : Key) : Type 0 where
   pub before : List Key
   pub behind : List Key
-  pub order : keys ≡ before ++ key ∷ behind
+  pub order : all ≡ before ++ key ∷ behind
   pub good : AllByRecursion (Suits ms) before
   pub bad : Suits ms key → ⊥
 
 -- all keys have, and these are the numbers of a size
-pub record HasNumbers (ms : Members) (n t questions : ℕ) : Type 0 where
-  pub suit : AllSuit ms
+pub record HasNumbers (all : List Key) (ms : Members) (n t questions : ℕ) : Type 0 where
+  pub suit : AllSuit all ms
   pub n_is : HasNumber ms N n
   pub t_is : HasNumber ms T t
   pub questions_is : HasNumber ms Questions questions
 
 -- the numbers make no size
-abbrev pub IsBadSize : Members → SizeFault → Type 0
-IsBadSize ms fault =
-    (n : ℕ) × (t : ℕ) × (questions : ℕ) × HasNumbers ms n t questions × (size_fault n t questions ≡ Some fault)
+abbrev pub IsBadSize : List Key → Members → SizeFault → Type 0
+IsBadSize all ms fault =
+    (n : ℕ) × (t : ℕ) × (questions : ℕ) × HasNumbers all ms n t questions × (size_fault n t questions ≡ Some fault)
 
 -- they make one of n members
-abbrev pub IsOfMany : Members → ℕ → Type 0
-IsOfMany ms n = (t : ℕ) × (questions : ℕ) × HasNumbers ms n t questions × (size_fault n t questions ≡ None)
+abbrev pub IsOfMany : List Key → Members → ℕ → Type 0
+IsOfMany all ms n = (t : ℕ) × (questions : ℕ) × HasNumbers all ms n t questions × (size_fault n t questions ≡ None)
 
 -- they make one, and this key's value doesn't fit it: there is no such member, or else there aren't as many peers
 abbrev pub IsMisfit : Members → Key → Type 0
@@ -101,25 +114,32 @@ IsMisfit ms Cluster = ⊥
 IsMisfit ms N = ⊥
 IsMisfit ms T = ⊥
 IsMisfit ms Questions = ⊥
-IsMisfit ms Me = (n : ℕ) × (me : ℕ) × IsOfMany ms n × HasNumber ms Me me × (n ≤ me)
+IsMisfit ms Me = (n : ℕ) × (me : ℕ) × IsOfMany keys ms n × HasNumber ms Me me × (n ≤ me)
 IsMisfit ms Journal = ⊥
 IsMisfit ms Peers =
     (n : ℕ) × (me : ℕ) × (peers : List Address)
-    × IsOfMany ms n × HasNumber ms Me me × (me < n) × HasAddresses ms Peers peers × (length peers ≢ n)
+    × IsOfMany keys ms n × HasNumber ms Me me × (me < n) × HasAddresses ms Peers peers × (length peers ≢ n)
 IsMisfit ms Desk = ⊥
 IsMisfit ms Seed = ⊥
+IsMisfit ms Listen = ⊥
+IsMisfit ms DeskSocket = ⊥
+IsMisfit ms Desks = ⊥
 
--- what is wrong with a text that is this document, or no TOML at all. One of these is true at most. Memory isn't any of
--- the text's faults
+-- what is wrong with a text that is this document, or no TOML at all, where these are its keys and so they fit one another. One
+-- of these is true at most. Memory isn't any of the text's faults
+abbrev pub IsFaultOf : List Key → (Members → Key → Type 0) → Option Members → SettingsFault → Type 0
+IsFaultOf all Misfit None fault.Text = Unit {0}
+IsFaultOf all Misfit None (fault.Key key) = ⊥
+IsFaultOf all Misfit None (fault.Size fault) = ⊥
+IsFaultOf all Misfit None fault.Memory = ⊥
+IsFaultOf all Misfit (Some ms) fault.Text = ⊥
+IsFaultOf all Misfit (Some ms) (fault.Key key) = IsFirstBad all ms key ⊎ Misfit ms key
+IsFaultOf all Misfit (Some ms) (fault.Size fault) = IsBadSize all ms fault
+IsFaultOf all Misfit (Some ms) fault.Memory = ⊥
+
+-- what is wrong with a member's
 abbrev pub IsFault : Option Members → SettingsFault → Type 0
-IsFault None fault.Text = Unit {0}
-IsFault None (fault.Key key) = ⊥
-IsFault None (fault.Size fault) = ⊥
-IsFault None fault.Memory = ⊥
-IsFault (Some ms) fault.Text = ⊥
-IsFault (Some ms) (fault.Key key) = IsFirstBad ms key ⊎ IsMisfit ms key
-IsFault (Some ms) (fault.Size fault) = IsBadSize ms fault
-IsFault (Some ms) fault.Memory = ⊥
+IsFault document ends = IsFaultOf keys IsMisfit document ends
 
 -- the settings are what the keys say, and they fit one another
 pub record GivesSettings (ms : Members) (s : Settings) : Type 0 where
@@ -135,6 +155,8 @@ pub record GivesSettings (ms : Members) (s : Settings) : Type 0 where
   pub count : length s.peers.items ≡ s.header.size.n
   pub desk : HasAddress ms Desk s.desk
   pub seed : HasSeed ms Seed s.seed
+  pub listen : MayHaveAddress ms Listen s.listen
+  pub desk_socket : MayHavePath ms DeskSocket (option_map string_bytes s.desk_socket)
 
 -- the document gives the settings
 abbrev pub IsSettings : Option Members → Settings → Type 0

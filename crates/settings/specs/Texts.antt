@@ -1,13 +1,13 @@
 -- The text of settings, as `new-cluster` writes it.
-use Rattle.std.specs.Prelude.{ℕ, ◌≡◌, List, ◌∷◌, ◌++◌, codes, get_or, string_bytes}
+use Rattle.std.specs.Prelude.{ℕ, ◌≡◌, List, ◌∷◌, ◌++◌, [], Option, None, Some, codes, get_or, option_map, string_bytes}
 use Rattle.std.specs.List.{flat_map}
 use Rattle.std.specs.Fmt.{decimal}
 use Rattle.hex.specs.Hex.{encode_lower}
-use Rattle.terms_prelude.specs.Terms.{Header}
+use Rattle.terms_prelude.specs.Terms.{Header, Size}
 use Rattle.settings.specs.Keys.{key_text}
 use Rattle.settings.specs.declared.address.Address.{Address}
 use Rattle.settings.specs.declared.keys.Key.{Key}
-use Rattle.settings.specs.declared.keys.Key.TheVariants.{Cluster, Desk, Journal, Me, N, Questions, Seed, T}
+use Rattle.settings.specs.declared.keys.Key.TheVariants.{Cluster, Desk, DeskSocket, Journal, Listen, Me, N, Questions, Seed, T}
 use Rattle.settings.specs.declared.document.Settings.{Settings}
 
 -- the number of the host at that place
@@ -31,11 +31,24 @@ number_line key number = key_text key ++ (codes " = " ++ (decimal number ++ code
 abbrev pub text_line : Key → List ℕ → List ℕ
 text_line key value = key_text key ++ (codes " = \"" ++ (value ++ codes "\"\n"))
 
+-- the line of a key with a text, where there is one
+abbrev pub option_line : Key → Option (List ℕ) → List ℕ
+option_line key None = []
+option_line key (Some value) = text_line key value
+
+-- the lines of a cluster's number and its size
+abbrev pub sized_text : ℕ → Size → List ℕ
+sized_text cluster size =
+    ((number_line Cluster cluster ++ number_line N size.n) ++ number_line T size.t) ++ number_line Questions size.questions
+
 -- the lines of the header
 abbrev pub head_text : Header → List ℕ
-head_text h =
-    (((number_line Cluster h.cluster ++ number_line N h.size.n) ++ number_line T h.size.t) ++ number_line Questions h.size.questions)
-    ++ number_line Me h.me
+head_text h = sized_text h.cluster h.size ++ number_line Me h.me
+
+-- those of the keys that may be left out
+abbrev pub options_text : Settings → List ℕ
+options_text s =
+    option_line Listen (option_map address_text s.listen) ++ option_line DeskSocket (option_map string_bytes s.desk_socket)
 
 -- those of the desk and of the seed
 abbrev pub own_text : Settings → List ℕ
@@ -47,7 +60,7 @@ own_text s =
 abbrev pub toml_text : Settings → List ℕ
 toml_text s =
     head_text s.header ++ (text_line Journal (string_bytes s.journal)
-    ++ (codes "peers = [\n" ++ (flat_map peer_entry s.peers.items ++ (codes "]\n" ++ own_text s))))
+    ++ (codes "peers = [\n" ++ (flat_map peer_entry s.peers.items ++ (codes "]\n" ++ (options_text s ++ own_text s)))))
 
 -- settings of the same values
 pub record IsLike (read s : Settings) : Type 0 where
@@ -56,3 +69,5 @@ pub record IsLike (read s : Settings) : Type 0 where
   pub peers : read.peers.items ≡ s.peers.items
   pub desk : read.desk ≡ s.desk
   pub seed : read.seed ≡ s.seed
+  pub listen : read.listen ≡ s.listen
+  pub desk_socket : option_map string_bytes read.desk_socket ≡ option_map string_bytes s.desk_socket

@@ -1,8 +1,8 @@
 //! The settings of the members of a new cluster.
 
-ghost use Rattle.std.specs.Prelude.{◌≡◌, ◌+◌, IfOk, IfSome};
+ghost use Rattle.std.specs.Prelude.{◌≡◌, ◌+◌, ◌<◌, ◌≤◌, IfOk, IfSome, Some};
 ghost use Rattle.settings.specs.Addresses.{IsHost};
-ghost use Rattle.settings.specs.Clusters.{AreLinks, IsNewSettings, desk_port};
+ghost use Rattle.settings.specs.Clusters.{AreInRow, IsNewSettings, desk_gap};
 ghost use Rattle.numerals.specs.Sentences.{texts};
 
 use crate::address::{Address, octets};
@@ -12,71 +12,82 @@ use crate::keys::Key;
 use std::alloc::{AllocError, Global};
 use terms::Header;
 
-/// The port of the first member's links.
-const LINKS: u16 = 7100;
+/// How many ports lie between the first link's and the first desk's, in a cluster of at most so many members.
+const GAP: u16 = 10;
 
-/// The port of the first member's desk, where so many members have one below the next row of ports.
-const DESKS: u16 = 7110;
+/// How many lie between them in a greater cluster.
+const FAR_GAP: u16 = 100;
 
-/// The port of the first member's desk in a greater cluster.
-const FAR_DESKS: u16 = 7200;
-
-/// Where the members of a new cluster listen to one another: at these hosts, in order, the first at port 7100 and each other
-/// at the port behind the last one's. None where a text is neither `localhost` nor four numbers with points between them, or
-/// there are more hosts than ports.
-pub fn new_links(alloc: Global, hosts: &[&str]) -> Result<Option<Vec<Address>>, AllocError>
-    ensures { IfOk result (λ found. IfSome found (λ links. AreLinks 7100 (texts hosts.now) links.items)) }
+/// Returns the addresses at these hosts, in order: the first at the port `first`, and each other at the port after the last one's.
+/// `None` if a text is neither `localhost` nor four numbers with points between them, or there are more hosts than ports.
+pub fn addresses_from(
+    alloc: Global,
+    hosts: &[&str],
+    first: u16,
+) -> Result<Option<Vec<Address>>, AllocError>
+    ensures { IfOk result (λ found. IfSome found (λ addresses. AreInRow first (texts hosts.now) addresses.items)) }
 {
-    let mut links = Vec::new(alloc);
+    let mut addresses = Vec::new(alloc);
     for host in hosts {
-        let Some(link) = new_link(host, links.len()) else {
+        let Some(address) = address_at(host, first, addresses.len()) else {
             return Ok(None);
         };
-        links.push(link)?;
+        addresses.push(address)?;
     }
-    Ok(Some(links))
+    Ok(Some(addresses))
 }
 
-/// Where the member of that number listens to the others, at this host.
-fn new_link(host: &str, member: usize) -> Option<Address>
-    ensures { IfSome result (λ link. IsHost host.now link.octets × (link.port ≡ 7100 + member)) }
+/// The address of the member of that number, at this host.
+fn address_at(host: &str, first: u16, member: usize) -> Option<Address>
+    ensures { IfSome result (λ address. IsHost host.now address.octets × (address.port ≡ first + member)) }
 {
     let octets = octets(host)?;
-    let port = LINKS.checked_add(u16::try_from(member).ok()?)?;
+    let port = first.checked_add(u16::try_from(member).ok()?)?;
     Some(Address { octets, port })
 }
 
-/// The port of a member's desk, 7110 and the member's number, or 7200 and that where the ports of links reach that far.
-fn desk_port(header: &Header) -> u16
-    ensures { result ≡ desk_port header.now }
+/// How many ports lie between the first link's and the first desk's.
+fn desk_gap(n: u8) -> u16
+    ensures { result ≡ desk_gap n }
 {
-    let me = u16::from(header.me());
-    if u16::from(header.size().n()) > DESKS - LINKS {
-        FAR_DESKS + me
-    } else {
-        DESKS + me
-    }
+    if u16::from(n) > GAP { FAR_GAP } else { GAP }
 }
 
-/// The settings of the member of this header in a new cluster whose members listen there, with this seed: its journal is
-/// `member-M.journal`, and its desk at the host of its links.
+/// Returns the port of the first member's desk in a new cluster of `n` members whose links are at the ports from `first` on:
+/// `first` + 10, or `first` + 100 if `n` is above 10. `None` if `first` is 0 or the last desk's port would be above 65535.
+pub fn desk_base(first: u16, n: u8) -> Option<u16>
+    ensures some { IfSome result (λ port. (port ≡ first + desk_gap n) × (0 < first) × (port + n ≤ 65536)) }
+    ensures exact { 0 < first → 0 < n → first + desk_gap n + n ≤ 65536 → result ≡ Some (first + desk_gap n) }
+{
+    let Some(base) = first.checked_add(desk_gap(n)) else {
+        return None;
+    };
+    if first == 0 || u32::from(base) + u32::from(n) > 65536 {
+        return None;
+    }
+    Some(base)
+}
+
+/// Returns the settings of the member of this header in a new cluster whose members listen to one another and to their clients
+/// there, with this seed. Its journal is `member-M.journal`.
 ///
-/// [`SettingsFault::Key`]: there is no such link. [`SettingsFault::Memory`]: memory was refused.
+/// # Errors
+///
+/// - [`SettingsFault::Key`] with `me` if there is no such desk;
+/// - [`SettingsFault::Memory`] if an allocation failed.
 pub fn new_settings(
     alloc: Global,
     header: Header,
     links: &[Address],
+    desks: &[Address],
     seed: [u8; 32],
 ) -> Result<Settings, SettingsFault>
-    ensures { IfOk result (IsNewSettings header links.now seed) }
+    ensures { IfOk result (IsNewSettings header links.now desks.now seed) }
 {
-    let Some(own) = links.get(usize::from(header.me())) else {
+    let Some(desk) = desks.get(usize::from(header.me())) else {
         return Err(SettingsFault::Key(Key::Me));
     };
-    let desk = Address {
-        octets: own.octets,
-        port: desk_port(&header),
-    };
+    let desk = *desk;
     let me = header.me();
     let journal = format!(in alloc; "member-{me}.journal")?;
     let mut peers = Vec::new(alloc);
@@ -87,5 +98,7 @@ pub fn new_settings(
         peers,
         desk,
         seed,
+        listen: None,
+        desk_socket: None,
     })
 }

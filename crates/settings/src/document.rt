@@ -24,6 +24,10 @@ pub struct Settings {
     pub desk: Address,
     /// What the member tosses its coins by.
     pub seed: [u8; 32],
+    /// Where the member listens to the others, if that isn't its own entry of the peers.
+    pub listen: Option<Address>,
+    /// The path of the Unix socket at which the member answers clients too, which isn't empty.
+    pub desk_socket: Option<String>,
 }
 
 impl Settings {
@@ -31,7 +35,7 @@ impl Settings {
     ghost use Rattle.settings.specs.declared.fault.SettingsFault.{SettingsFault};
 
     /// The settings that the TOML text gives, or the first thing that is wrong with it. Keys of other names are left
-    /// alone.
+    /// alone: [`strays_of`](crate::strays_of) names them.
     pub fn parse(alloc: Global, text: &str) -> Result<Settings, SettingsFault>
         ensures ok { IfOk result (IsSettings (parse_document text.now)) }
         ensures fault { IfErr result (λ ends. IsFault (parse_document text.now) ends ⊎ (ends ≡ SettingsFault.Memory)) }
@@ -44,7 +48,7 @@ impl Settings {
 }
 
 /// The table that a TOML text is.
-fn table(alloc: Global, text: &str) -> Result<Table, SettingsFault>
+pub(crate) fn table(alloc: Global, text: &str) -> Result<Table, SettingsFault>
     ensures ok { IfOk result (λ table. parse_document text.now ≡ Some (table_view table)) }
     ensures fault { IfErr result (λ ends. ((ends ≡ SettingsFault.Text) × (parse_document text.now ≡ None)) ⊎ (ends ≡ SettingsFault.Memory)) }
 {

@@ -1,10 +1,10 @@
 //! What the keys of a table say, each by itself.
 
-ghost use Rattle.std.specs.Prelude.{List, ◌≡◌, ◌<◌, None, Some, IfOk, IfErr, IfSome, string_bytes, IsSome, MatchOption, ◌↔◌};
+ghost use Rattle.std.specs.Prelude.{List, ◌≡◌, ◌<◌, None, Some, IfOk, IfErr, IfSome, option_map, string_bytes, IsSome, MatchOption, ◌↔◌};
 ghost use Rattle.toml.specs.Data.{get_member};
 ghost use Rattle.toml.specs.View.{view, table_view, items_view};
 ghost use Rattle.settings.specs.Keys.{key_text};
-ghost use Rattle.settings.specs.Settings.{HasNumber, HasSmall, HasPath, HasAddress, HasAddresses, IsAddressText, AreAddresses, HasSeed};
+ghost use Rattle.settings.specs.Settings.{HasNumber, HasSmall, HasPath, HasAddress, HasAddresses, IsAddressText, AreAddresses, HasSeed, MayHaveAddress, MayHavePath};
 ghost use Rattle.settings.specs.Entries.{IsLack, IsLackOrMemory};
 ghost use Rattle.terms_prelude.specs.Terms.{new_header};
 
@@ -28,7 +28,7 @@ fn value_at(table: &Table, key: Key) -> Option<&Value>
 }
 
 /// The integer at a key, which isn't negative.
-fn number(table: &Table, key: Key) -> Result<u64, SettingsFault>
+pub(crate) fn number(table: &Table, key: Key) -> Result<u64, SettingsFault>
     ensures ok { IfOk result (HasNumber (table_view table.now) key) }
     ensures fault { IfErr result (IsLack key (HasNumber (table_view table.now) key)) }
 {
@@ -39,7 +39,7 @@ fn number(table: &Table, key: Key) -> Result<u64, SettingsFault>
 }
 
 /// The integer at a key, 0 to 65535.
-fn small(table: &Table, key: Key) -> Result<u16, SettingsFault>
+pub(crate) fn small(table: &Table, key: Key) -> Result<u16, SettingsFault>
     ensures ok { IfOk result (HasSmall (table_view table.now) key) }
     ensures fault { IfErr result (IsLack key (HasSmall (table_view table.now) key)) }
 {
@@ -94,26 +94,56 @@ fn addresses_of(alloc: Global, values: &[Value]) -> Result<Option<Vec<Address>>,
     Ok(Some(addresses))
 }
 
-/// The peers, or that their key has none.
-fn peers(alloc: Global, table: &Table) -> Result<Vec<Address>, SettingsFault>
-    ensures ok { IfOk result (λ peers. HasAddresses (table_view table.now) Key.Peers peers.items) }
-    ensures fault { IfErr result (IsLackOrMemory Key.Peers (HasAddresses (table_view table.now) Key.Peers)) }
+/// The addresses at a key, or that it has none.
+pub(crate) fn addresses(
+    alloc: Global,
+    table: &Table,
+    key: Key,
+) -> Result<Vec<Address>, SettingsFault>
+    ensures ok { IfOk result (λ addresses. HasAddresses (table_view table.now) key addresses.items) }
+    ensures fault { IfErr result (IsLackOrMemory key (HasAddresses (table_view table.now) key)) }
 {
-    let fault = SettingsFault::Key(Key::Peers);
-    let values = value_at(table, Key::Peers)
-        .and_then(Value::as_array)
-        .ok_or(fault)?;
+    let fault = SettingsFault::Key(key);
+    let values = value_at(table, key).and_then(Value::as_array).ok_or(fault)?;
     addresses_of(alloc, values)?.ok_or(fault)
 }
 
-/// The path of the journal, or that its key has none.
-fn journal(alloc: Global, table: &Table) -> Result<String, SettingsFault>
-    ensures ok { IfOk result (λ path. HasPath (table_view table.now) Key.Journal (string_bytes path)) }
-    ensures fault { IfErr result (IsLackOrMemory Key.Journal (HasPath (table_view table.now) Key.Journal)) }
+/// The path at a key, or that it has none.
+fn path(alloc: Global, table: &Table, key: Key) -> Result<String, SettingsFault>
+    ensures ok { IfOk result (λ path. HasPath (table_view table.now) key (string_bytes path)) }
+    ensures fault { IfErr result (IsLackOrMemory key (HasPath (table_view table.now) key)) }
 {
-    match value_at(table, Key::Journal).and_then(Value::as_str) {
+    match value_at(table, key).and_then(Value::as_str) {
         Some(path) if !path.is_empty() => Ok(String::from_str(alloc, path)?),
-        _ => Err(SettingsFault::Key(Key::Journal)),
+        _ => Err(SettingsFault::Key(key)),
+    }
+}
+
+/// The address at a key, if the table has the key.
+fn optional_address(table: &Table, key: Key) -> Result<Option<Address>, SettingsFault>
+    ensures ok { IfOk result (MayHaveAddress (table_view table.now) key) }
+    ensures fault { IfErr result (IsLack key (MayHaveAddress (table_view table.now) key)) }
+{
+    match value_at(table, key) {
+        None => Ok(None),
+        Some(_value) => match address(table, key) {
+            Ok(address) => Ok(Some(address)),
+            Err(fault) => Err(fault),
+        },
+    }
+}
+
+/// The path at a key, if the table has the key.
+fn optional_path(alloc: Global, table: &Table, key: Key) -> Result<Option<String>, SettingsFault>
+    ensures ok { IfOk result (λ path. MayHavePath (table_view table.now) key (option_map string_bytes path)) }
+    ensures fault { IfErr result (IsLackOrMemory key (MayHavePath (table_view table.now) key)) }
+{
+    match value_at(table, key) {
+        None => Ok(None),
+        Some(_value) => match path(alloc, table, key) {
+            Ok(path) => Ok(Some(path)),
+            Err(fault) => Err(fault),
+        },
     }
 }
 
@@ -129,15 +159,18 @@ pub struct Entries {
     peers: Vec<Address>,
     desk: Address,
     seed: [u8; 32],
+    listen: Option<Address>,
+    desk_socket: Option<String>,
 }
 
 impl Entries {
     ghost use Rattle.settings.specs.Entries.{SaysEntries, IsOfFirst, FitsEntries, unfit};
+    ghost use Rattle.settings.specs.Settings.{keys};
 
     /// What the keys say, or the first of them, in the order of [`Key`], that has no value of its own type and range.
     pub fn read(alloc: Global, table: &Table) -> Result<Entries, SettingsFault>
         ensures ok { IfOk result (SaysEntries (table_view table.now)) }
-        ensures fault { IfErr result (IsOfFirst (table_view table.now)) }
+        ensures fault { IfErr result (IsOfFirst keys (table_view table.now)) }
     {
         Ok(Entries {
             cluster: number(table, Key::Cluster)?,
@@ -145,10 +178,12 @@ impl Entries {
             t: small(table, Key::T)?,
             questions: small(table, Key::Questions)?,
             me: number(table, Key::Me)?,
-            journal: journal(alloc, table)?,
-            peers: peers(alloc, table)?,
+            journal: path(alloc, table, Key::Journal)?,
+            peers: addresses(alloc, table, Key::Peers)?,
             desk: address(table, Key::Desk)?,
             seed: seed(table, Key::Seed)?,
+            listen: optional_address(table, Key::Listen)?,
+            desk_socket: optional_path(alloc, table, Key::DeskSocket)?,
         })
     }
 
@@ -168,6 +203,8 @@ impl Entries {
             peers: self.peers,
             desk: self.desk,
             seed: self.seed,
+            listen: self.listen,
+            desk_socket: self.desk_socket,
         })
     }
 }

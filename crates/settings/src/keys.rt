@@ -5,7 +5,7 @@ ghost use Rattle.settings.specs.Keys.{key_text};
 
 use std::fmt;
 
-/// A key of the settings. The keys are looked at in this order.
+/// A key of a member's or a client's settings. The keys are looked at in this order.
 #[derive(Clone, Copy, Debug, PartialEq, Eq)]
 pub enum Key {
     /// The cluster's number, an integer that isn't negative.
@@ -26,6 +26,12 @@ pub enum Key {
     Desk,
     /// What the member tosses coins by: a text of 64 hexadecimal digits.
     Seed,
+    /// Where the member listens to the others if not at its own entry of the peers: a text `HOST:PORT`. It may be left out.
+    Listen,
+    /// The path of a Unix socket at which the member answers clients too, a text that isn't empty. It may be left out.
+    DeskSocket,
+    /// Where the members listen to their clients, in a client's settings: an array of n texts `HOST:PORT`.
+    Desks,
 }
 
 impl Key {
@@ -43,6 +49,9 @@ impl Key {
             Key::Peers => "peers",
             Key::Desk => "desk",
             Key::Seed => "seed",
+            Key::Listen => "listen",
+            Key::DeskSocket => "desk-socket",
+            Key::Desks => "desks",
         }
     }
 }

@@ -1,10 +1,11 @@
 //! The text of settings, as `new-cluster` writes it.
 
-ghost use Rattle.std.specs.Prelude.{◌≡◌, IfOk, IsTrue, List, string_bytes};
+ghost use Rattle.std.specs.Prelude.{◌≡◌, IfOk, IsTrue, List, option_map, string_bytes};
 ghost use Rattle.std.specs.List.{flat_map};
 ghost use Rattle.toml.specs.Parse.{parse_document};
 ghost use Rattle.settings.specs.Settings.{IsSettings};
-ghost use Rattle.settings.specs.Texts.{IsLike, address_text, head_text, number_line, own_text, peer_entry, text_line, toml_text};
+ghost use Rattle.settings.specs.declared.keys.Key.TheVariants.{DeskSocket, Listen};
+ghost use Rattle.settings.specs.Texts.{IsLike, address_text, head_text, number_line, option_line, options_text, own_text, peer_entry, sized_text, text_line, toml_text};
 
 use crate::address::Address;
 use crate::document::Settings;
@@ -12,7 +13,7 @@ use crate::fault::SettingsFault;
 use crate::keys::Key;
 use hex::encode;
 use std::alloc::{AllocError, Global};
-use terms::Header;
+use terms::{Header, Size};
 
 /// The text of an address, `HOST:PORT`.
 pub fn address_text(alloc: Global, address: &Address) -> Result<String, AllocError>
@@ -33,7 +34,7 @@ fn peer_entry(alloc: Global, peer: &Address) -> Result<String, AllocError>
 }
 
 /// The lines of the peers, in order.
-fn peer_entries(alloc: Global, peers: &[Address]) -> Result<String, AllocError>
+pub(crate) fn peer_entries(alloc: Global, peers: &[Address]) -> Result<String, AllocError>
     ensures { IfOk result (λ text. string_bytes text ≡ flat_map peer_entry peers.now) }
 {
     let mut text = String::new(alloc);
@@ -57,17 +58,53 @@ fn text_line(alloc: Global, key: Key, value: &str) -> Result<String, AllocError>
     format!(in alloc; "{} = \"{}\"\n", key.text(), value)
 }
 
+/// The lines of a cluster's number and its size.
+pub(crate) fn sized_text(alloc: Global, cluster: u64, size: Size) -> Result<String, AllocError>
+    ensures { IfOk result (λ text. string_bytes text ≡ sized_text cluster size) }
+{
+    let mut text = number_line(alloc, Key::Cluster, cluster)?;
+    text.push_str(number_line(alloc, Key::N, u64::from(size.n()))?.as_str())?;
+    text.push_str(number_line(alloc, Key::T, u64::from(size.t()))?.as_str())?;
+    text.push_str(number_line(alloc, Key::Questions, u64::from(size.questions()))?.as_str())?;
+    Ok(text)
+}
+
 /// The lines of the header.
 fn head_text(alloc: Global, header: &Header) -> Result<String, AllocError>
     ensures { IfOk result (λ text. string_bytes text ≡ head_text header.now) }
 {
-    let size = header.size();
-    let mut text = number_line(alloc, Key::Cluster, header.cluster())?;
-    text.push_str(number_line(alloc, Key::N, u64::from(size.n()))?.as_str())?;
-    text.push_str(number_line(alloc, Key::T, u64::from(size.t()))?.as_str())?;
-    text.push_str(number_line(alloc, Key::Questions, u64::from(size.questions()))?.as_str())?;
+    let mut text = sized_text(alloc, header.cluster(), header.size())?;
     text.push_str(number_line(alloc, Key::Me, u64::from(header.me()))?.as_str())?;
     Ok(text)
+}
+
+/// The line of the address that is listened at, if there is one.
+fn listen_line(alloc: Global, listen: &Option<Address>) -> Result<String, AllocError>
+    ensures { IfOk result (λ text. string_bytes text ≡ option_line Listen (option_map address_text listen.now)) }
+{
+    match listen {
+        Some(address) => text_line(alloc, Key::Listen, address_text(alloc, address)?.as_str()),
+        None => Ok(String::new(alloc)),
+    }
+}
+
+/// The line of the path of a Unix socket, if there is one.
+fn socket_line(alloc: Global, socket: &Option<String>) -> Result<String, AllocError>
+    ensures { IfOk result (λ text. string_bytes text ≡ option_line DeskSocket (option_map string_bytes socket.now)) }
+{
+    match socket {
+        Some(path) => text_line(alloc, Key::DeskSocket, path.as_str()),
+        None => Ok(String::new(alloc)),
+    }
+}
+
+/// The lines of the keys that may be left out.
+fn options_text(alloc: Global, settings: &Settings) -> Result<String, AllocError>
+    ensures { IfOk result (λ text. string_bytes text ≡ options_text settings.now) }
+{
+    let listen = listen_line(alloc, &settings.listen)?;
+    let socket = socket_line(alloc, &settings.desk_socket)?;
+    format!(in alloc; "{listen}{socket}")
 }
 
 /// The lines of the desk and the seed.
@@ -92,8 +129,9 @@ fn toml_text(alloc: Global, settings: &Settings) -> Result<String, AllocError>
     let head = head_text(alloc, &settings.header)?;
     let journal = text_line(alloc, Key::Journal, settings.journal.as_str())?;
     let peers = peer_entries(alloc, &settings.peers)?;
+    let options = options_text(alloc, settings)?;
     let own = own_text(alloc, settings)?;
-    format!(in alloc; "{head}{journal}peers = [\n{peers}]\n{own}")
+    format!(in alloc; "{head}{journal}peers = [\n{peers}]\n{options}{own}")
 }
 
 /// Whether the two have the same journal and the same peers.
@@ -114,11 +152,44 @@ fn has_same_values(read: &Settings, settings: &Settings) -> bool
     read.header == settings.header && read.desk == settings.desk && read.seed == settings.seed
 }
 
+/// Whether the two paths are the same, or both are missing.
+fn is_same_path(read: &Option<String>, path: &Option<String>) -> bool
+    ensures { IsTrue result → option_map string_bytes read.now ≡ option_map string_bytes path.now }
+{
+    match (read, path) {
+        (None, None) => true,
+        (Some(read), Some(path)) => read.as_str() == path.as_str(),
+        _ => false,
+    }
+}
+
+/// Whether the two addresses are the same, or both are missing.
+fn is_same_address(read: &Option<Address>, address: &Option<Address>) -> bool
+    ensures { IsTrue result → read.now ≡ address.now }
+{
+    match (read, address) {
+        (None, None) => true,
+        (Some(read), Some(address)) => *read == *address,
+        _ => false,
+    }
+}
+
+/// Whether the two have the same values of the keys that may be left out.
+fn has_same_options(read: &Settings, settings: &Settings) -> bool
+    ensures listen { IsTrue result → read.now.listen ≡ settings.now.listen }
+    ensures desk_socket { IsTrue result → option_map string_bytes read.now.desk_socket ≡ option_map string_bytes settings.now.desk_socket }
+{
+    is_same_address(&read.listen, &settings.listen)
+        && is_same_path(&read.desk_socket, &settings.desk_socket)
+}
+
 /// Whether what was read is what was to be written.
 fn is_like(read: &Settings, settings: &Settings) -> bool
     ensures { IsTrue result → IsLike read.now settings.now }
 {
-    has_same_values(read, settings) && has_same_lists(read, settings)
+    has_same_values(read, settings)
+        && has_same_lists(read, settings)
+        && has_same_options(read, settings)
 }
 
 impl Settings {

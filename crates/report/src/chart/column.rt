@@ -1,6 +1,6 @@
 //! A member of a chart, as far as the chart has come.
 
-ghost use Rattle.std.specs.Prelude.{◌≡◌, ◌+◌, ◌-◌, ◌^◌, ◌<◌, ◌++◌, OnOk};
+ghost use Rattle.std.specs.Prelude.{◌≡◌, ◌+◌, ◌-◌, ◌^◌, ◌<◌, ◌++◌, OnOk, length, take, drop};
 ghost use Rattle.report.specs.Charts.{member_of, place_after, group_count, statements_said, delivered, AreMoved};
 
 use sim::{Event, MOST_IN_GROUP, Mark, Which};
@@ -73,6 +73,16 @@ fn add_statements(said: &mut Vec<Statement>, saved: &[Record]) -> Result<(), All
     Ok(())
 }
 
+/// The statements of a group of at most so many, of all that their sender has said, over a link at that place.
+fn group_at(said: &[Statement], place: usize, count: u16) -> &[Statement]
+    ensures { result.now ≡ take (group_count (length said.now) place count) (drop place said.now) }
+{
+    if place >= said.len() {
+        return &said[..0];
+    }
+    &said[place..place + group_count(said.len(), place, count)]
+}
+
 /// Which statement a delivery is of, over a link that is at that place.
 fn delivered(said: &[Statement], place: usize, which: Which) -> Option<Statement>
     ensures { result ≡ delivered said.now place which }
@@ -93,7 +103,8 @@ pub(crate) struct Column {
 
 impl Column {
     ghost use Rattle.std.specs.Prelude.{ℕ, ◌≡◌, IfOk, OnOk, Some, length, slice_get};
-    ghost use Rattle.report.specs.Charts.{group_count, delivered};
+    ghost use Rattle.report.specs.Charts.{group_count};
+    ghost use Rattle.report.specs.Choices.{brought_over, group_over};
     ghost use Rattle.report.specs.Columns.{IsNew, Follows};
 
     /// A member of a cluster of n before the first event.
@@ -109,13 +120,31 @@ impl Column {
         })
     }
 
+    /// Returns the place of the link from that sender, if there is one.
+    fn place_from(&self, from: u8) -> Option<usize>
+        ensures { result ≡ slice_get self.now.places.items from }
+    {
+        self.places.get(usize::from(from)).copied()
+    }
+
     /// Which statement of a sender's column is delivered here.
     pub(crate) fn takes(&self, from: u8, sender: &Column, which: Which) -> Option<Statement>
-        ensures { (place : ℕ) → slice_get self.now.places.items from ≡ Some place →
-            result ≡ delivered sender.now.said.items place which }
+        ensures { result ≡ brought_over sender.now.said.items (slice_get self.now.places.items from) which }
     {
-        let place = *self.places.get(usize::from(from))?;
-        delivered(&sender.said, place, which)
+        match self.place_from(from) {
+            None => None,
+            Some(place) => delivered(&sender.said, place, which),
+        }
+    }
+
+    /// The statements of a sender's column that come here as one group of at most so many.
+    pub(crate) fn group_from<'a>(&self, from: u8, sender: &'a Column, count: u16) -> &'a [Statement]
+        ensures { result.now ≡ group_over sender.now.said.items (slice_get self.now.places.items from) count }
+    {
+        match self.place_from(from) {
+            None => &sender.said[..0],
+            Some(place) => group_at(&sender.said, place, count),
+        }
     }
 
     /// How many statements of a sender's column come here as one group of at most so many.

@@ -25,7 +25,11 @@ fn first_statement(messages: &[Message]) -> Option<Statement>
 }
 
 /// The statement whose frame the bytes are, if they are one and nothing else.
-fn statement_in(alloc: Global, size: Size, bytes: &[u8]) -> Result<Option<Statement>, AllocError>
+pub(crate) fn statement_in(
+    alloc: Global,
+    size: Size,
+    bytes: &[u8],
+) -> Result<Option<Statement>, AllocError>
     ensures some { IfOk result (λ found. IfSome found (IsFrameOf size bytes.now)) }
     ensures none { IfOk result (λ found. found ≡ None → (s : Statement) → IsFrameOf size bytes.now s → ⊥) }
 {

@@ -1,6 +1,6 @@
 //! The members' lifelines: the pieces that each of them has, from an opening to a crash or a failure.
 
-ghost use Rattle.std.specs.Prelude.{◌≡◌, ◌+◌, ◌<◌, ◌≤◌, ◌++◌, IfOk, OnOk, Some, length, slice_get, string_bytes};
+ghost use Rattle.std.specs.Prelude.{◌≡◌, ◌+◌, ◌<◌, ◌≤◌, ◌++◌, if◌then◌else◌, IfOk, OnOk, Some, length, slice_get, string_bytes};
 ghost use Rattle.sim.specs.declared.TheConstants.{MOST_EVENTS};
 ghost use Rattle.report.specs.Charts.{member_of};
 ghost use Rattle.report.specs.Drawings.{Grows, picture_text};
@@ -8,11 +8,10 @@ ghost use Rattle.report.specs.Lives.{runs_after, first_lives, piece_elements, la
 
 use crate::chart::column::member_of;
 use crate::chart::drawing::{Drawing, Lifeline};
-use crate::chart::{LIFE, shortest, x_of, y_of};
+use crate::chart::{LIFE, Run, shortest, x_of, y_of};
 use crate::trace::is_skipped;
 use sim::{Event, Mark};
 use std::alloc::{AllocError, Global};
-use terms::Record;
 
 /// Whether the event's member runs after it, if it ran before or not.
 fn runs_after(event: &Event, mark: Mark, runs: bool) -> bool
@@ -23,6 +22,17 @@ fn runs_after(event: &Event, mark: Mark, runs: bool) -> bool
         (_, Mark::Failed) | (Event::Crash { .. }, Mark::Done) => false,
         (Event::Restart { .. }, Mark::Done) => true,
         (_, Mark::Done) => runs,
+    }
+}
+
+/// Counts the rows after an event: one more if it is chosen.
+fn rows_after(rows: u64, is_chosen: bool) -> u64
+    ensures { rows < MOST_EVENTS → result ≡ (if is_chosen then rows + 1 else rows) }
+{
+    if is_chosen {
+        rows.saturating_add(1)
+    } else {
+        rows
     }
 }
 
@@ -201,17 +211,18 @@ impl Lifelines {
         Ok(())
     }
 
-    /// Follows an event, which has a row of its own unless it was skipped.
-    fn follow(&mut self, event: &Event, mark: Mark) -> Result<(), AllocError>
+    /// Follows an event, which has a row of its own if it is chosen and wasn't skipped. A lifeline turns at that row, or where the
+    /// next one stands.
+    fn follow(&mut self, event: &Event, mark: Mark, is_chosen: bool) -> Result<(), AllocError>
         ensures { self.old.rows < MOST_EVENTS →
-            OnOk result (drawn_lines self.new ≡ lines_behind event.now mark (drawn_lines self.old)) }
+            OnOk result (drawn_lines self.new ≡ lines_behind event.now mark is_chosen (drawn_lines self.old)) }
     {
         if is_skipped(&mark) {
             return Ok(());
         }
         let y = y_of(self.rows);
         self.turn(event, mark, y)?;
-        self.rows = self.rows.saturating_add(1);
+        self.rows = rows_after(self.rows, is_chosen);
         Ok(())
     }
 
@@ -224,23 +235,20 @@ impl Lifelines {
     }
 }
 
-/// The lifelines of n members behind all events, but for their last pieces.
+/// The lifelines of a run's members behind all events, but for their last pieces.
 pub(crate) fn lifelines_of(
     alloc: Global,
-    n: u8,
-    liars: &[u8],
-    events: &[Event],
-    marks: &[Mark],
-    saved: &[Vec<Record>],
+    run: &Run<'_>,
+    chosen: &[bool],
 ) -> Result<Lifelines, AllocError>
-    ensures drawn { length events.now ≤ MOST_EVENTS →
-        IfOk result (λ lines. drawn_lines lines ≡ lines_of_run n liars.now events.now marks.now saved.now) }
-    ensures few { length events.now ≤ MOST_EVENTS → IfOk result (λ lines. lines.rows ≤ length events.now) }
+    ensures drawn { length run.now.events.now ≤ MOST_EVENTS → IfOk result (λ lines. drawn_lines lines
+        ≡ lines_of_run run.now.size.n run.now.liars.now run.now.events.now run.now.marks.now run.now.saved.now chosen.now) }
+    ensures few { length run.now.events.now ≤ MOST_EVENTS → IfOk result (λ lines. lines.rows ≤ length run.now.events.now) }
 {
-    let count = shortest(events, marks, saved);
-    let mut lines = Lifelines::new(alloc, n, liars)?;
-    for (index, event) in events[..count].iter().enumerate() {
-        lines.follow(event, marks[index])?;
+    let count = shortest(run).min(chosen.len());
+    let mut lines = Lifelines::new(alloc, run.size.n(), run.liars)?;
+    for (index, event) in run.events[..count].iter().enumerate() {
+        lines.follow(event, run.marks[index], chosen[index])?;
     }
     Ok(lines)
 }

@@ -5,4 +5,5 @@ pub returns : goal.returns
 returns c =
     let script = c.with_arg-command.ensures _ _ c.named-command.ensures c.word.ensures refl in
     let trace = c.with_arg-command-2.ensures _ _ script c.file.ensures refl in
-    c.with_arg.ensures _ _ trace c.file-2.ensures refl
+    let chart = c.with_arg-command-3.ensures _ _ trace c.file-2.ensures refl in
+    c.with_choice.ensures _ chart

@@ -1,29 +1,16 @@
-use Rattle.std.proofs.Common.{◌≡◌, rules, sym, subst}
-use Rattle.disk.specs.Model.{State}
-use Rattle.journal.specs.File.{RefusesFile}
-use Rattle.commands.specs.declared.fault.DumpFault.TheVariants as dump
-use Rattle.commands.specs.Faults.{of_opening}
-use Rattle.commands.proofs.Dumping.{headless, unreadable}
+use Rattle.std.proofs.Common.{◌≡◌, ◌∙◌, ℕ, List, rules, sym, ap, subst}
+use Rattle.std.specs.Io.KnownBytes.{Appends}
+use Rattle.terms_prelude.specs.Terms.{Record}
+use Rattle.journal.specs.File.{Holds}
+use Rattle.commands.specs.Dumps.{count_text}
 use Rattle.commands.proofs.dump.print_count.Goals as goal
 
--- the file is still as it was when the header was read
-pub returns-in_err-_journal-clause-fault : goal.returns-in_err-_journal-clause-fault
-returns-in_err-_journal-clause-fault g c = λ keeps named is.
-    let gave = c.from_residual-in_err-_journal.ensures in
-    let gives : dump.Journal named ≡ of_opening c.in_err-_journal.field-0.0 = search (rules, gave, is) in
-    unreadable c.in_ok-header.header c.in_err-_journal.field-0.0 named (g.D.Disk.state c.args.disk).seen
-    (c.in_ok-header.ensures.header keeps)
-    (λ of. subst (λ (s : State). RefusesFile c.in_ok-header.header c.in_err-_journal.field-0.0 s.seen) (c.in_ok-header.ensures.same keeps)
-    (c.in_err-_journal.ensures.fault.1.refused (c.in_ok-header.ensures.kept.0 keeps) of))
-    c.in_err-_journal.ensures.fault.1.only (sym gives)
-
--- nor does one that has no header of this version
-pub returns-in_err-header-clause-fault : goal.returns-in_err-header-clause-fault
-returns-in_err-header-clause-fault g c = λ keeps named is.
-    let gave = c.from_residual.ensures in
-    let gives : dump.Journal named ≡ of_opening c.in_err-header.field-0.0 = search (rules, gave, is) in
-    headless c.in_err-header.field-0.0 named (g.D.Disk.state c.args.disk).seen (search (rules, c.in_err-header.ensures.only))
-    (λ e. c.in_err-header.ensures.bad_header keeps (search (rules, e)))
-    (λ e. c.in_err-header.ensures.not_old keeps (search (rules, e)))
-    (λ e. c.in_err-header.ensures.old_version keeps (search (rules, e)))
-    (sym gives)
+pub returns-clause-all : goal.returns-clause-all
+returns-clause-all g c = λ keeps.
+    let left = c.in_ok-_header.ensures.held in
+    let records = c.in_ok-records.records.items in
+    let holds = subst (λ (l : List Record). Holds c.in_ok-_header._header l (g.D.Disk.state c.args.disk.now).seen) (sym (c.in_ok-records.ensures left.0 left.1)) (left.2 keeps) in
+    let bytes : c.as_bytes.result.now ≡ count_text c.args.form records =
+    c.as_bytes.ensures.value ∙ (c.in_ok-text.ensures ∙ ap (λ (l : List Record). count_text c.args.form l) c.deref.ensures.value) in
+    let written : Appends (g.W.Write.contents c.args.output.now) (g.W.Write.contents c.flush.new.self) c.as_bytes.result.now = search (rules, c.in_ok-write_all.ensures.bytes, c.in_ok-flush.ensures) in
+    (c.in_ok-_header._header, records, holds, subst (λ (t : List ℕ). Appends (g.W.Write.contents c.args.output.now) (g.W.Write.contents c.flush.new.self) t) bytes written)

@@ -1,8 +1,7 @@
 use Rattle.std.proofs.Common.{◌≡◌, ◌+◌, ◌==◌, List, sym, subst}
 use Rattle.std.specs.List.{list_any}
 use Rattle.report.specs.declared.chart.column.Column.{Column}
-use Rattle.report.specs.Columns.{IsNew}
-use Rattle.report.specs.Runs.{AreNew}
+use Rattle.report.specs.Columns.{IsNew, AreNew}
 use Rattle.report.proofs.Running.{new_more}
 use Rattle.report.proofs.chart.new_columns.Goals as goal
 

@@ -1,4 +1,4 @@
-use Rattle.report.specs.Runs.{AreNew}
+use Rattle.report.specs.Columns.{AreNew}
 use Rattle.report.proofs.chart.new_columns.Given as goal
 
 -- the members so far are new

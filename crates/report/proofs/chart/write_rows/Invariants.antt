@@ -6,4 +6,5 @@ use Rattle.report.proofs.chart.write_rows.Given as goal
 -- the rows of the events so far are written
 abbrev pub invariant-loop-index : goal.invariant-loop-index
 invariant-loop-index g l =
-    length l.events ≤ MOST_EVENTS → IsFar l.fn.size l.liars l.events l.marks l.saved l.index l.canvas (g.W.Write.contents l.fn.output) (g.W.Write.contents l.output)
+    length l.run.events.now ≤ MOST_EVENTS
+    → IsFar l.run.size l.run.liars.now l.run.events.now l.run.marks.now l.run.saved.now l.chosen l.index l.canvas (g.W.Write.contents l.fn.output) (g.W.Write.contents l.output)

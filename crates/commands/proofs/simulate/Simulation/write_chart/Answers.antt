@@ -11,15 +11,16 @@ use Rattle.commands.proofs.simulate.Simulation.write_chart.Goals as goal
 pub returns : goal.returns
 returns g c few =
     let ran = c.args.self.now in
+    let choice = c.args.choice in
     let size = ran.script.size in
     let short : length c.deref-2.result.now ≤ MOST_EVENTS = subst (λ (l : List Event). length l ≤ MOST_EVENTS) (sym c.deref-2.ensures.value) few in
-    IfOk-weaker c.write_chart.result _ _ (λ _ told. (
+    IfOk-weaker c.write_chart.result _ _ (λ rows told. (
       told.0,
       (
-        subst (λ (l : List ℕ). IsChart size l ran.script.events.items ran.outcome.marks.items ran.outcome.saved.items told.0) c.deref.ensures.value
-            (subst (λ (l : List Event). IsChart size c.deref.result.now l ran.outcome.marks.items ran.outcome.saved.items told.0) c.deref-2.ensures.value
-            (subst (λ (l : List Mark). IsChart size c.deref.result.now c.deref-2.result.now l ran.outcome.saved.items told.0) c.deref-3.ensures.value
-            (subst (λ (l : List (Vec Record)). IsChart size c.deref.result.now c.deref-2.result.now c.deref-3.result.now l told.0) c.deref-4.ensures.value told.1))),
+        subst (λ (l : List ℕ). IsChart choice size l ran.script.events.items ran.outcome.marks.items ran.outcome.saved.items rows told.0) c.deref.ensures.value
+            (subst (λ (l : List Event). IsChart choice size c.deref.result.now l ran.outcome.marks.items ran.outcome.saved.items rows told.0) c.deref-2.ensures.value
+            (subst (λ (l : List Mark). IsChart choice size c.deref.result.now c.deref-2.result.now l ran.outcome.saved.items rows told.0) c.deref-3.ensures.value
+            (subst (λ (l : List (Vec Record)). IsChart choice size c.deref.result.now c.deref-2.result.now c.deref-3.result.now l rows told.0) c.deref-4.ensures.value told.1))),
         told.2,
       ),
       told.3,

@@ -29,12 +29,12 @@ returns-clause-draws c few =
     let done = c.in_ok-follow.ensures in
     record {
       row = shown.0;
-      size_is = done.size ∙ size;
+      size_is = ap (λ (s : Canvas). s.size) done.rest ∙ size;
       is = record {
         follow = subst (λ (l : List Column). FollowAll event c.args.mark c.args.saved.now l c.follow.new.self.columns.items) columns done.follow;
         count = done.count ∙ ap length columns;
-        below = done.row ∙ rows;
+        below = ap (λ (s : Canvas). s.rows) done.rest ∙ rows;
         drawn = subst (λ at. IsRow before.size before.columns.items before.rows at c.args.number event c.args.mark c.args.saved.now shown.0) y shown.1;
       };
-      events = subst (λ (d : Drawing). Grows before.events d shown.0) (sym done.events) shown.2;
+      events = subst (λ (d : Drawing). Grows before.events d shown.0) (sym (ap (λ (s : Canvas). s.events) done.rest)) shown.2;
     }

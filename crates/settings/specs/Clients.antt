@@ -1,0 +1,76 @@
+-- What the members of a TOML table say of a client's settings, and the first thing that is wrong with them.
+use Rattle.std.specs.Prelude.{ℕ, ◌≡◌, ◌≢◌, ◌==◌, Option, Some, None, List, [], ◌∷◌, ◌++◌, codes, length, if◌then◌else◌}
+use Rattle.std.specs.List.{flat_map}
+use Rattle.toml.specs.Data.{Members}
+use Rattle.terms_prelude.specs.Terms.{new_size, size_fault}
+use Rattle.settings.specs.declared.address.Address.{Address}
+use Rattle.settings.specs.declared.client.ClientSettings.{ClientSettings}
+use Rattle.settings.specs.declared.client_entries.ClientEntries.{ClientEntries}
+use Rattle.settings.specs.declared.keys.Key.{Key}
+use Rattle.settings.specs.declared.keys.Key.TheVariants.{Cluster, N, T, Questions, Desks}
+use Rattle.settings.specs.declared.fault.SettingsFault.{SettingsFault}
+use Rattle.settings.specs.declared.fault.SettingsFault.TheVariants as fault
+use Rattle.settings.specs.Entries.{size_or}
+use Rattle.settings.specs.Settings.{HasAddresses, HasNumber, HasSmall, IsFaultOf, IsOfMany}
+use Rattle.settings.specs.Texts.{peer_entry, sized_text}
+
+-- a client's keys in the order in which they are looked at
+abbrev pub client_keys : List Key
+client_keys = Cluster ∷ N ∷ T ∷ Questions ∷ Desks ∷ []
+
+-- the entries are what the keys say
+pub record SaysClientEntries (ms : Members) (e : ClientEntries) : Type 0 where
+  pub cluster : HasNumber ms Cluster e.cluster
+  pub n : HasSmall ms N e.n
+  pub t : HasSmall ms T e.t
+  pub questions : HasSmall ms Questions e.questions
+  pub desks : HasAddresses ms Desks e.desks.items
+
+-- what is wrong with desks of n members
+abbrev pub desks_misfit : ℕ → ℕ → Option SettingsFault
+desks_misfit n desks = if desks == n then None else Some (fault.Key Desks)
+
+-- the first thing in which the entries don't fit one another
+abbrev pub unfit_client : ClientEntries → Option SettingsFault
+unfit_client e = size_or (size_fault e.n e.t e.questions) (desks_misfit e.n (length e.desks.items))
+
+-- the settings have what the entries say
+pub record FitsClientEntries (e : ClientEntries) (s : ClientSettings) : Type 0 where
+  pub cluster : s.cluster ≡ e.cluster
+  pub size : s.size ≡ new_size e.n e.t e.questions
+  pub desks : s.desks ≡ e.desks
+
+-- the numbers make a size, and there aren't as many desks as members
+abbrev pub IsClientMisfit : Members → Key → Type 0
+IsClientMisfit ms key =
+    (key ≡ Desks) × (n : ℕ) × (desks : List Address) × IsOfMany client_keys ms n × HasAddresses ms Desks desks × (length desks ≢ n)
+
+-- what is wrong with a text that is this document, or no TOML at all. One of these is true at most
+abbrev pub IsClientFault : Option Members → SettingsFault → Type 0
+IsClientFault document ends = IsFaultOf client_keys IsClientMisfit document ends
+
+-- the settings are what the keys say, and they fit one another
+pub record GivesClients (ms : Members) (s : ClientSettings) : Type 0 where
+  pub cluster : HasNumber ms Cluster s.cluster
+  pub n : HasSmall ms N s.size.n
+  pub t : HasSmall ms T s.size.t
+  pub questions : HasSmall ms Questions s.size.questions
+  pub lawful : size_fault s.size.n s.size.t s.size.questions ≡ None
+  pub desks : HasAddresses ms Desks s.desks.items
+  pub count : length s.desks.items ≡ s.size.n
+
+-- the document gives the settings
+abbrev pub IsClientSettings : Option Members → ClientSettings → Type 0
+IsClientSettings None s = ⊥
+IsClientSettings (Some ms) s = GivesClients ms s
+
+-- the text of a client's settings
+abbrev pub client_text : ClientSettings → List ℕ
+client_text s =
+    sized_text s.cluster s.size ++ (codes "desks = [\n" ++ (flat_map peer_entry s.desks.items ++ codes "]\n"))
+
+-- settings of the same values
+pub record IsLikeClient (read s : ClientSettings) : Type 0 where
+  pub cluster : read.cluster ≡ s.cluster
+  pub size : read.size ≡ s.size
+  pub desks : read.desks.items ≡ s.desks.items
