@@ -2,7 +2,8 @@
 ghost use Rattle.std.specs.Prelude.{◌≡◌, ◌⊎◌, ◌<◌, ◌≤◌, ◌∷◌, ◌++◌, length, List, [], ℕ, true, false, IfOk, IfErr, IsErrOf, OnOk, OnErr};
 ghost use Rattle.wire.specs.Reading.{AreBytes};
 ghost use Rattle.node.specs.Groups.{said_in, heard_from};
-ghost use Rattle.node.specs.Lines.{WasTaken};
+ghost use Rattle.node.specs.Firsts.{IsLawfulSeat};
+ghost use Rattle.node.specs.Lines.{WasHeard};
 ghost use Rattle.links.specs.Groups.{RefusesGroup, end_of};
 ghost use Rattle.links.specs.Tosses.{Draws, tosses_in};
 ghost use Rattle.links.specs.Handing.{in_order, all_in_place, HandsInSome, HandsInFewer, HandsInAll, ReadsLink};
@@ -172,9 +173,9 @@ struct Reader<'a, D: Disk, J: Naming, G, R> {
 
 impl<D: Disk, J: Naming, G: Gate, R: Wait> Reader<'_, D, J, G, R> {
     /// Hands in one group. When it returns the member has answered it, and what it says of it is on its way.
-    fn hand_in_group(&self, seat: &mut Seat, group: &[(Statement, Toss)]) -> Result<(), LinkEnd>
+    fn hand_in_group(&self, seat: &mut Seat<J>, group: &[(Statement, Toss)]) -> Result<(), LinkEnd>
         requires { length group.now ≤ 256 }
-        ensures taken { OnOk result (0 < length group.now → WasTaken D (heard_from seat.old.peer group.now)) }
+        ensures heard { OnOk result (0 < length group.now → WasHeard (heard_from seat.old.peer group.now) seat.new.log) }
         ensures refused { IfErr result (RefusesGroup D self.now.hub.now.size (heard_from seat.old.peer group.now)) }
         ensures ok { OnOk result (HandsInAll seat.old seat.new (said_in group.now)) }
         ensures err { OnErr result (seat.new ≡ seat.old) }
@@ -190,7 +191,11 @@ impl<D: Disk, J: Naming, G: Gate, R: Wait> Reader<'_, D, J, G, R> {
     }
 
     /// Hands in the statements, each with its toss, in groups of at most 256.
-    fn hand_in_groups(&self, seat: &mut Seat, events: &[(Statement, Toss)]) -> Result<(), LinkEnd>
+    fn hand_in_groups(
+        &self,
+        seat: &mut Seat<J>,
+        events: &[(Statement, Toss)],
+    ) -> Result<(), LinkEnd>
         ensures ok { OnOk result (HandsInAll seat.old seat.new (said_in events.now)) }
         ensures some { OnErr result (HandsInSome seat.old seat.new (said_in events.now)) }
         ensures refused { OnErr result (HandsInFewer seat.old seat.new (said_in events.now)) }
@@ -212,7 +217,7 @@ impl<D: Disk, J: Naming, G: Gate, R: Wait> Reader<'_, D, J, G, R> {
     /// Hands in the statements of these messages, up to one that is out of place.
     fn hand_in<T: Tosser>(
         &self,
-        seat: &mut Seat,
+        seat: &mut Seat<J>,
         messages: &[Message],
         tosser: &mut T,
     ) -> Result<(), LinkEnd>
@@ -242,7 +247,7 @@ impl<D: Disk, J: Naming, G: Gate, R: Wait> Reader<'_, D, J, G, R> {
     /// Reads a piece, and hands in what it gives: `on` where the session goes on, `off` where it ended.
     fn turn<S: Stream, T: Tosser>(
         &self,
-        seat: &mut Seat,
+        seat: &mut Seat<J>,
         stream: &mut S,
         feeder: &mut Feeder,
         messages: &mut Vec<Message>,
@@ -278,10 +283,10 @@ impl<D: Disk, J: Naming, G: Gate, R: Wait> Reader<'_, D, J, G, R> {
     /// A session but for the closing of its stream.
     fn read_session<S: Stream, T: Tosser>(
         &self,
-        mut seat: Seat,
+        mut seat: Seat<J>,
         stream: &mut S,
         tosser: &mut T,
-    ) -> (Seat, LinkEnd)
+    ) -> (Seat<J>, LinkEnd)
         ensures { ReadsLink self.now.version self.now.hub.now.size (S.told stream.old) (S.told stream.new) seat result.0 result.1 }
     {
         seat.recall();
@@ -323,16 +328,19 @@ pub fn read_link<D: Disk, J: Naming, S: Stream, G: Gate, T: Tosser, R: Wait>(
     rt: &R,
     alloc: Global,
     hub: &Hub<D, J>,
-    seat: Seat,
+    seat: Seat<J>,
     stream: &mut S,
     version: Version,
     gate: &G,
     tosser: &mut T,
-) -> (Seat, LinkEnd)
+) -> (Seat<J>, LinkEnd)
+    // The number in its Welcome is that of statements which the account of the hub's book has of this peer.
+    ensures counted { IsLawfulSeat seat }
     // It hands in what it read.
     ensures reads { ReadsLink version hub.now.size (S.told stream.old) (S.told stream.new) seat result.0 result.1 }
     ensures closed { S.is_closed stream.new ≡ true }
 {
+    seat.recall();
     let reader = Reader {
         rt,
         alloc,

@@ -1,3 +1,6 @@
+pub mod Fronts
+pub mod Appending
+pub mod Counting
 pub mod Blocks
 pub mod Cells
 pub mod Rulings
@@ -5,9 +8,12 @@ pub mod Published
 pub mod Settling
 pub mod Members
 pub mod Thin
+pub mod Dossiers
 pub mod Replaying
+pub mod Tallying
 pub mod Handing
 pub mod Grouping
+pub mod Refusing
 pub mod Numbers
 pub mod Linking
 pub mod Living

@@ -1,5 +1,5 @@
 -- Parts of a group, and what came of them.
-use Rattle.std.proofs.Common.{eqb-true, ◌≡◌, ℕ, zero, suc, arith, Bool, true, false, ◌&&◌, ◌==◌, List, [], ◌∷◌, ◌++◌, refl, sym, ap, subst, ◌∙◌, append_assoc, append-nil, inl, inr, ◌⊎◌, ⊎_elim, ◌<◌, length, get_or}
+use Rattle.std.proofs.Common.{eqb-true, ◌≡◌, ℕ, zero, suc, arith, Bool, true, false, ◌&&◌, ◌==◌, List, [], ◌∷◌, ◌++◌, refl, sym, ap, subst, ◌∙◌, append_assoc, append-nil, inl, inr, ⊎_elim, ◌<◌, length, length-append, Result, Ok, Err}
 use Rattle.std.specs.List.{All}
 use Rattle.std.proofs.lemmas.List.{map-append}
 use Rattle.std.proofs.lemmas.List.Elements.{All-append}
@@ -7,13 +7,12 @@ use Rattle.terms_prelude.specs.Terms.{Statement, statement_eq}
 use Rattle.terms.proofs.Same.{statement_eq-true}
 use Rattle.rounds.specs.declared.tosses.Toss.{Toss}
 use Rattle.member.specs.Words.{hearing_of, hearings}
-use Rattle.member.specs.declared.fault.MemberFault.TheVariants.{Memory}
+use Rattle.member.specs.declared.fault.MemberFault.{MemberFault}
 use Rattle.node.specs.Groups.{heard_from}
-use Rattle.node.specs.Lines.{HasCome, WasTaken, WasRefused, is_of, are_of}
+use Rattle.node.specs.Accounts.{Group}
+use Rattle.node.specs.Lines.{HasCome, WasRefused, is_of, are_of}
 use Rattle.node.specs.Parts.{IsPartOf, AreParts}
 use Rattle.node.specs.declared.batch.Part.{Part}
-use Rattle.node.specs.declared.outcome.Outcome.{Outcome}
-use Rattle.node.specs.declared.outcome.Outcome.TheVariants.{Taken, Refused}
 
 -- a part of what is then the front of something longer
 longer_whole : {X : Type 0} (part whole more : List X) → IsPartOf part whole → IsPartOf part (whole ++ more)
@@ -57,17 +56,16 @@ heard_part part whole is = record {
   is = ap (λ l. hearings is.before ++ l) (sym (map-append hearing_of part is.behind)) ∙ sym (map-append hearing_of is.before (part ++ is.behind)) ∙ ap hearings is.is;
 }
 
+-- where there is a part there is a whole
+some_of_whole : {X : Type 0} (part whole : List X) → IsPartOf part whole → 0 < length part → 0 < length whole
+some_of_whole part whole is some = let all = ap length is.is in omega (arith, some, all, length-append is.before (part ++ is.behind), length-append part is.behind)
+
 -- what came of a group came of each part of it
-pub came_of_part : (D : Type 0) (part whole : List (ℕ × Statement × Toss)) (outcome : Outcome) → IsPartOf part whole → HasCome D (hearings whole) outcome → HasCome D (hearings part) outcome
-came_of_part D part whole Taken is came = record {
-  group = came.group;
-  part = part_of_part (hearings part) (hearings whole) came.group (heard_part part whole is) came.part;
-  answers = came.answers;
-  old = came.old;
-  new = came.new;
-  applies = came.applies;
-}
-came_of_part D part whole (Refused fault) is came = ⊎_elim (λ refused. inl (weaker refused)) (λ memory. inr memory) came
+pub came_of_part : (D : Type 0) (part whole : List (ℕ × Statement × Toss)) (outcome : Result (List Group) MemberFault) → IsPartOf part whole → HasCome D (hearings whole) outcome → HasCome D (hearings part) outcome
+came_of_part D part whole (Ok after) is came = λ some.
+    let was = came (some_of_whole (hearings part) (hearings whole) (heard_part part whole is) some) in
+    record { base = was.base; group = was.group; ends = was.ends; part = part_of_part (hearings part) (hearings whole) was.group (heard_part part whole is) was.part }
+came_of_part D part whole (Err fault) is came = ⊎_elim (λ refused. inl (weaker refused)) (λ memory. inr memory) came
   where
     weaker : WasRefused D (hearings whole) fault → WasRefused D (hearings part) fault
     weaker came = record {
@@ -112,6 +110,6 @@ pub others_of_all : {X : Type 0} (P : X → Type 0) (x : X) (all others : List X
 others_of_all P x all others is holds = λ k d lt. (subst (λ l. All P l) is holds) (suc k) d (omega (arith, lt))
 
 -- what came of a group came of all of its parts
-pub came_of_all : (D : Type 0) (parts : List Part) (whole : List (ℕ × Statement × Toss)) (outcome : Outcome) → AreParts parts whole → HasCome D (hearings whole) outcome
+pub came_of_all : (D : Type 0) (parts : List Part) (whole : List (ℕ × Statement × Toss)) (outcome : Result (List Group) MemberFault) → AreParts parts whole → HasCome D (hearings whole) outcome
     → All (λ (part : Part). HasCome D (hearings part.events.items) outcome) parts
 came_of_all D parts whole outcome are came = λ k d lt. came_of_part D _ whole outcome (are k d lt) came

@@ -7,7 +7,7 @@ use Rattle.questions.proofs.Showing.{replay_shows}
 use Rattle.disk.specs.declared.device.Disk.{Ghosts as DiskGhosts}
 use Rattle.member.specs.declared.member.Member.{Member}
 use Rattle.member.specs.Words.{bit_of, verdict_of, member_header, member_saved}
-use Rattle.node.specs.Words.{IsKept, heard_on}
+use Rattle.node.specs.Words.{IsKept, TallyView, heard_on}
 
 -- the pairs on a question are all on it
 on_again : (q : ℕ) (pairs : List (ℕ × Statement)) → pairs_on q (pairs_on q pairs) ≡ pairs_on q pairs
@@ -57,10 +57,10 @@ not_thin size me opening saved history replayed named question asked bit verdict
     Shown size q bit l = (round : ℕ) × AtLeast size.n (2 * size.t + 1) (λ a. IsValid size (Accepted size l) q round 3 a (sure bit))
 
 -- what a book heard is proof of what it decided since its opening
-pub kept_shows : {D : Type 0} (disk : DiskGhosts D) (names : List ℕ) (header : Header) (cells : List ℕ) (m : Member D) (opened : ℕ) (history : List Entry) (known : List (Option Bool))
-    → IsKept disk names header cells m opened history known → (question : ℕ) (bit : Bool) → question < (member_header m).size.questions
+pub kept_shows : {D : Type 0} (disk : DiskGhosts D) (names : List ℕ) (header : Header) (cells : List ℕ) (m : Member D) (opened : ℕ) (history : List Entry) (known : List (Option Bool)) (tally : TallyView)
+    → IsKept disk names header cells m opened history known tally → (question : ℕ) (bit : Bool) → question < (member_header m).size.questions
     → verdict_of (member_saved m) question ≡ Some bit → verdict_of (take opened (member_saved m)) question ≡ None
     → IsProof (member_header m).size question bit (heard_on question history)
-kept_shows disk names header cells m opened history known kept question bit asked verdict before =
+kept_shows disk names header cells m opened history known tally kept question bit asked verdict before =
     not_thin (member_header m).size (member_header m).me (take opened (member_saved m)) (member_saved m) history kept.replayed.records
     (subst (λ (h : Header). AreOfMembers h.size (entry_statements history)) (sym kept.header_is) kept.named) question asked bit verdict before

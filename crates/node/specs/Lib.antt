@@ -1,10 +1,13 @@
+pub mod Accounts
 pub mod Compact
 pub mod Entries
 pub mod Verdicts
 pub mod Firsts
 pub mod Views
 pub mod Books
+pub mod Tallies
 pub mod Keeps
+pub mod Standings
 pub mod Histories
 pub mod Settled
 pub mod Groups
@@ -15,3 +18,4 @@ pub mod Lives
 pub mod Marks
 pub mod Transcripts
 pub mod Words
+pub mod Links

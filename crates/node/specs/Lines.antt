@@ -1,48 +1,45 @@
 -- What comes of statements that links hand in while the book is in another thread's hands.
-use Rattle.std.specs.Prelude.{ℕ, ◌≡◌, ◌⊎◌, ◌==◌, ◌&&◌, Bool, true, false, Some, List, [], ◌∷◌}
+use Rattle.std.specs.Prelude.{ℕ, ◌≡◌, ◌⊎◌, ◌==◌, ◌<◌, ◌&&◌, Bool, true, false, Some, Result, Ok, Err, List, [], ◌∷◌, ◌++◌, length}
 use Rattle.terms_prelude.specs.Terms.{Size, Statement, statement_eq}
 use Rattle.rounds.specs.declared.tosses.Toss.{Toss}
 use Rattle.questions.specs.declared.answer.Answer.{Answer}
 use Rattle.member.specs.declared.fault.MemberFault.{MemberFault}
 use Rattle.member.specs.declared.fault.MemberFault.TheVariants.{Memory}
 use Rattle.member.specs.Groups.{bad_number}
-use Rattle.node.specs.declared.outcome.Outcome.{Outcome}
-use Rattle.node.specs.declared.outcome.Outcome.TheVariants.{Taken, Refused}
+use Rattle.node.specs.Accounts.{Group}
 use Rattle.node.specs.Groups.{AppliesAll, RefusesAll}
 use Rattle.node.specs.Parts.{IsPartOf}
 use Rattle.node.specs.Views.{BookView}
 
--- a book answered these statements, as a part of one group that it heard
-pub record WasTaken (D : Type 0) (es : List (ℕ × Statement × ℕ)) : Type 0 where
-  pub group : List (ℕ × Statement × ℕ)
+-- a book heard these: its account, as far as it was seen, ends with a group of which they are a part
+pub record WasHeard (es : Group) (after : List Group) : Type 0 where
+  pub base : List Group
+  pub group : Group
+  pub ends : after ≡ base ++ group ∷ []
   pub part : IsPartOf es group
-  pub answers : List Answer
-  pub old : BookView D
-  pub new : BookView D
-  pub applies : AppliesAll old group answers new
 
 -- a book refused these statements with that fault, as a part of one group
-pub record WasRefused (D : Type 0) (es : List (ℕ × Statement × ℕ)) (fault : MemberFault) : Type 0 where
-  pub group : List (ℕ × Statement × ℕ)
+pub record WasRefused (D : Type 0) (es : Group) (fault : MemberFault) : Type 0 where
+  pub group : Group
   pub part : IsPartOf es group
   pub old : BookView D
   pub new : BookView D
   pub refuses : RefusesAll old group fault new
 
 -- what a book does with a group, and no more: it answers it, or refuses it
-abbrev pub ComesOf : {D : Type 0} → BookView D → List (ℕ × Statement × ℕ) → Outcome → BookView D → Type 0
-ComesOf old group Taken new = (answers : List Answer) × AppliesAll old group answers new
-ComesOf old group (Refused fault) new = RefusesAll old group fault new
+abbrev pub ComesOf : {D : Type 0} → BookView D → Group → Result (List Group) MemberFault → BookView D → Type 0
+ComesOf old group (Ok after) new = (answers : List Answer) × AppliesAll old group answers new
+ComesOf old group (Err fault) new = RefusesAll old group fault new
 
--- what came of them: a book took them or refused them, or there was no memory to hand them in
-abbrev pub HasCome : (D : Type 0) → List (ℕ × Statement × ℕ) → Outcome → Type 0
-HasCome D es Taken = WasTaken D es
-HasCome D es (Refused fault) = WasRefused D es fault ⊎ (fault ≡ Memory)
+-- what came of them: the book of that account heard them, a book refused them, or there was no memory to hand them in
+abbrev pub HasCome : (D : Type 0) → Group → Result (List Group) MemberFault → Type 0
+HasCome D es (Ok after) = 0 < length es → WasHeard es after
+HasCome D es (Err fault) = WasRefused D es fault ⊎ (fault ≡ Memory)
 
 -- why statements that are handed in aren't taken: one of them names a question or a member that there isn't, there was no
 -- memory to hand them in, or a book refused them
-abbrev pub IsRefusal : (D : Type 0) → Size → List (ℕ × Statement × ℕ) → MemberFault → Type 0
-IsRefusal D size es fault = (bad_number size es ≡ Some fault) ⊎ HasCome D es (Refused fault)
+abbrev pub IsRefusal : (D : Type 0) → Size → Group → MemberFault → Type 0
+IsRefusal D size es fault = (bad_number size es ≡ Some fault) ⊎ HasCome D es (Err fault)
 
 -- whether this is the statement with its toss, as it is heard from the peer
 abbrev pub is_of : ℕ × Statement × Toss → ℕ → Statement × Toss → Bool

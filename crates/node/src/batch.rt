@@ -8,7 +8,7 @@ use std::marker::Model;
 use terms::Statement;
 
 /// The most statements that a member hears as one group.
-const GROUP: usize = 256;
+pub(crate) const GROUP: usize = 256;
 
 /// The statements of one link in a group, and the place in the line where their answer belongs.
 #[derive(Drop)]

@@ -1,28 +1,32 @@
 //! The book: a member, what happened since its opening, and what it published. Begin at `Book`.
-ghost use Rattle.std.specs.Prelude.{◌≡◌, ◌⊎◌, ◌↔◌, ◌+◌, ◌<◌, ◌≤◌, ◌^◌, ℕ, List, [], ◌∷◌, ◌++◌, length, take, drop, Bool, true, false, IfOk, IfErr, IfSome, OnOk, OnErr, Some, None, IsErrOf, IsSome, IfNone, slice_get, vec_len};
+ghost use Rattle.std.specs.Prelude.{◌≡◌, ◌⊎◌, ◌↔◌, ◌+◌, ◌<◌, ◌≤◌, ◌^◌, ℕ, List, [], ◌∷◌, ◌++◌, length, take, drop, Bool, true, false, IfOk, IfErr, IfSome, OnOk, OnErr, Some, None, IsErrOf, IsSome, IfNone, MatchBool, slice_get, vec_len};
 ghost use Rattle.std.specs.Arc.{arc_value};
+ghost use mathlib.Core.List.{IsPrefix};
 ghost use Rattle.terms_prelude.specs.Terms.{Hearing, Proposal, records_of, records_of_all, Header};
 ghost use Rattle.questions.specs.Replay.Entry.{Heard, Proposed};
 ghost use Rattle.questions.specs.Replies.{reply_of};
 ghost use Rattle.world.specs.World.{World, IsCorrect};
 ghost use Rattle.member.specs.Answers.{verdict_of, IsFull};
-ghost use Rattle.member.specs.Groups.{hearings, replies_of, AllCome, IsFullOfAll, MayAllBeCutOff};
+ghost use Rattle.member.specs.Groups.{hearing_of, hearings, replies_of, AllCome, IsFullOfAll, MayAllBeCutOff};
 ghost use Rattle.member.specs.Life.{MemberIsAt, DoesStep, Comes, MayBeCutOff};
 ghost use Rattle.world.specs.World.Step.{Hears};
 ghost use Rattle.member.specs.Outcomes.{HasSaved, StaysOn};
 ghost use Rattle.member.specs.Sealed.{sealed_from};
 ghost use Rattle.member.specs.Sound.{IsSound};
 ghost use Rattle.member.specs.Readers.{member_disk, member_header, member_saved, member_is_stopped, MemberStandsFor};
+ghost use Rattle.node.specs.Accounts.{with_group};
 ghost use Rattle.node.specs.Books.{Applies, RefusesEvent, IsJustOpened, IsReplayed, lengthened, is_numbered, decided_below};
 ghost use Rattle.node.specs.Entries.{noted};
 ghost use Rattle.node.specs.Firsts.{HandsIn};
 ghost use Rattle.node.specs.Groups.{heard_from, said_in, AppliesAll, RefusesAll, LivesOnAll};
-ghost use Rattle.node.specs.Keeps.{AreDecided};
+ghost use Rattle.node.specs.Keeps.{AreDecided, IsTied};
 ghost use Rattle.node.specs.Lives.{LivesOn, Spares};
 ghost use Rattle.node.specs.Settled.{is_settled};
-ghost use Rattle.node.specs.Transcripts.{IsTranscript, HasNoTranscript};
+ghost use Rattle.node.specs.Standings.{status_of};
+ghost use Rattle.node.specs.Transcripts.{IsDossier, IsTranscript, HasNoDossier, HasNoTranscript};
 ghost use Rattle.node.specs.Verdicts.{known_at, KnowsMore};
 
+use crate::account::{Account, Witness};
 use crate::board::{Board, Pass};
 use crate::entry::Entry;
 use crate::group::{add_all_taken, prepare};
@@ -32,21 +36,24 @@ use crate::notes::Notes;
 use crate::seat::Seat;
 use crate::settle::is_settled;
 use crate::shown::part;
-use crate::transcript::{Transcript, TranscriptFault, heard_on};
+use crate::tally::Tally;
+use crate::transcript::{Dossier, Transcript, TranscriptFault};
 use disk::Disk;
-use member::{Member, MemberFault, Sealed, records_in};
-use questions::{Answer, audit};
+use member::{Member, MemberFault, Sealed, bad_number, records_in};
+use questions::Answer;
 use rounds::Toss;
 use std::alloc::Global;
-use std::marker::{Brand, Model, PhantomData};
+use std::marker::{Brand, Model};
 use std::sync::Arc;
 use terms::{Header, Memory, Record, Statement};
 
-/// Which hub it is, by the names of its board's cells and the header of its member: contracts say by it that a book, its
-/// hub and a pass are of one board, and that a book and its hub are of one member of one cluster. A program is generic
-/// over it, and is called at `Brand`.
+/// Names a hub, by its board and the header of its member: contracts say by it that a book, its hub and a pass are of one
+/// board, that a seat counts by the account of the book behind its hub's lock, and that a book and its hub are of one member of
+/// one cluster. A program is generic over it, and is called at `Brand`.
 pub trait Naming {
-    ghost names: { List ℕ };
+    ghost use Rattle.node.specs.Accounts.{BoardName};
+
+    ghost names: { BoardName };
 
     ghost header: { Header };
 }
@@ -54,7 +61,7 @@ pub trait Naming {
 impl Naming for Brand {
     ghost use Rattle.std.specs.Prelude.{[]};
 
-    ghost names = { [] };
+    ghost names = { record { cells = []; account = record { number = 0; log_name = 0; cells_name = 0 } } };
 
     ghost header = { record { cluster = 0; size = record { n = 0; t = 0; questions = 0 }; me = 0 } };
 }
@@ -74,7 +81,8 @@ pub struct Book<D: Disk, J: Naming> {
     opened: usize,
     history: History,
     notes: Notes,
-    of: PhantomData<J>,
+    tally: Tally,
+    account: Account<J>,
 }
 
 impl<D: Disk, J: Naming> Model for Book<D, J> {
@@ -84,11 +92,11 @@ impl<D: Disk, J: Naming> Model for Book<D, J> {
 
     ghost Value = { BookView D };
 
-    ghost use Rattle.node.specs.Keeps.{IsKept};
+    ghost use Rattle.node.specs.Keeps.{IsKept, IsTied};
 
-    ghost view = { λ b. record { member = b.member; opening = take b.opened (member_saved b.member); history = b.history.entries; known = b.notes.known } };
+    ghost view = { λ b. record { member = b.member; opening = take b.opened (member_saved b.member); history = b.history.entries; known = b.notes.known; log = b.account } };
 
-    ghost invariant = { λ b. IsKept D.Disk J.names J.header b.notes.cells b.member b.opened b.history.entries b.notes.known };
+    ghost invariant = { λ b. IsKept D.Disk J.names.cells J.header b.notes.cells b.member b.opened b.history.entries b.notes.known b.tally × IsTied b.member b.history.entries b.account };
 }
 
 impl<D: Disk, J: Naming> Book<D, J> {
@@ -98,17 +106,20 @@ impl<D: Disk, J: Naming> Book<D, J> {
         alloc: Global,
         member: Member<D>,
         board: Arc<Board>,
+        account: Account<J>,
     ) -> Result<Book<D, J>, Memory>
     where
         D: Drop,
         requires sound { IsSound D.Disk member }
         requires fresh { member_is_stopped member ≡ false → MemberStandsFor member (member_saved member) [] }
         requires header { member_header member ≡ J.header }
-        requires board { arc_value board ≡ J.names }
+        requires board { arc_value board ≡ J.names.cells }
+        requires account { account ≡ [] }
         ensures { IfOk result (λ book. IsJustOpened member book) }
     {
         let opened = member.records().len();
         let mut notes = Notes::new(alloc, board)?;
+        let tally = Tally::of(alloc, &member)?;
         publish(&member, &mut notes, member.records());
         Ok(Book {
             alloc,
@@ -116,19 +127,20 @@ impl<D: Disk, J: Naming> Book<D, J> {
             opened,
             history: History::new(alloc),
             notes,
-            of: PhantomData,
+            tally,
+            account,
         })
     }
 
     /// Hands in a statement of the seat's peer, with this toss. The answer is that of [`Member::hear`]; one that takes the
     /// statement lengthens the history by it. Each answer counts for the seat, and a fault doesn't.
     ///
-    /// Room in history and seat is made first: where a member that isn't stopped has none, it is stopped, with
-    /// [`MemberFault::Memory`], and no call of the device is made. The other faults are the member's, and those that stop
+    /// Room in history and seat is made first, and the account gains the statement: where a member that isn't stopped has no room,
+    /// it is stopped, with [`MemberFault::Memory`], and no call of the device is made. The other faults are the member's, and those that stop
     /// it stop the book. After each fault the records, the history and the seat are as they were.
     pub fn apply(
         &mut self,
-        seat: &mut Seat,
+        seat: &mut Seat<J>,
         statement: &Statement,
         toss: Toss,
     ) -> Result<Answer, MemberFault>
@@ -153,14 +165,26 @@ impl<D: Disk, J: Naming> Book<D, J> {
         if self.member.is_stopped() {
             return Err(MemberFault::Stopped);
         }
-        if !make_room_for_both(&mut self.history, &mut seat.firsts) {
+        let group = [(seat.peer, *statement, toss)];
+        if let Some(fault) = bad_number(self.member.header().size(), &group) {
+            return Err(fault);
+        }
+        if !make_ready_for_one(
+            &mut self.history,
+            &mut seat.firsts,
+            &mut self.account,
+            &seat.seen,
+            &(seat.peer, *statement, toss),
+        ) {
             self.member.stop();
             return Err(MemberFault::Memory);
         }
+        let before = self.member.records().len();
         match self.member.hear(seat.peer, statement, toss) {
             Ok(answer) => {
                 seat.firsts.keep(seat.peer, statement);
                 seat.next = seat.next.saturating_add(1);
+                seat.seen = self.account.witness();
                 add_if_taken(
                     &mut self.history,
                     Entry::Heard {
@@ -171,6 +195,7 @@ impl<D: Disk, J: Naming> Book<D, J> {
                     &answer,
                 );
                 publish(&self.member, &mut self.notes, records_in(&answer));
+                self.tally.add_behind(self.member.records(), before);
                 Ok(answer)
             }
             Err(fault) => Err(fault),
@@ -185,7 +210,7 @@ impl<D: Disk, J: Naming> Book<D, J> {
     /// history and the seat are as they were.
     pub fn apply_all(
         &mut self,
-        seat: &mut Seat,
+        seat: &mut Seat<J>,
         events: &[(Statement, Toss)],
     ) -> Result<Vec<Answer>, MemberFault>
         requires few { length events.now ≤ 256 }
@@ -221,10 +246,15 @@ impl<D: Disk, J: Naming> Book<D, J> {
             self.member.stop();
             return Err(MemberFault::Memory);
         };
+        if !goes_on(&self.account, &seat.seen, events) {
+            self.member.stop();
+            return Err(MemberFault::Memory);
+        }
         match self.hear_all(&group) {
             Ok(answers) => {
                 keep_all(&mut seat.firsts, seat.peer, events);
                 seat.next = seat.next.saturating_add(events.len() as u64);
+                see(&mut seat.seen, self.witness(), events);
                 Ok(answers)
             }
             Err(fault) => Err(fault),
@@ -237,11 +267,15 @@ impl<D: Disk, J: Naming> Book<D, J> {
     ///
     /// Room in the history is made first: where a member that isn't stopped has none, it is stopped, with
     /// [`MemberFault::Memory`], and no call of the device is made. The other faults are the member's, and those that stop it
-    /// stop the book. After each fault the records and the history are as they were.
-    pub fn hear_all(&mut self, events: &[(u8, Statement, Toss)]) -> Result<Vec<Answer>, MemberFault>
-        requires few { length events.now ≤ 256 }
-        ensures answer { IfOk result (λ answers. AppliesAll self.old (hearings events.now) answers.items self.new) }
-        ensures length { IfOk result (λ answers. length answers.items ≡ length events.now) }
+    /// stop the book. After each fault the records and the history are as they were. The account has the group before the member
+    /// hears it, so a member that refuses it then, for another cause than a bad number, is stopped.
+    pub(crate) fn hear_all(
+        &mut self,
+        group: &Vec<(u8, Statement, Toss)>,
+    ) -> Result<Vec<Answer>, MemberFault>
+        requires few { length group.now.items ≤ 256 }
+        ensures answer { IfOk result (λ answers. AppliesAll self.old (hearings group.now.items) answers.items self.new) }
+        ensures length { IfOk result (λ answers. length answers.items ≡ length group.now.items) }
         ensures saved { IfOk result (λ answers.
             HasSaved D.Disk self.old.member (records_of_all (replies_of answers.items)) self.new.member) }
         ensures four_calls { D.keeps (member_disk self.old.member) → IfOk result (λ answers.
@@ -249,30 +283,36 @@ impl<D: Disk, J: Naming> Book<D, J> {
             D.moment (member_disk self.new.member) ≡ D.moment (member_disk self.old.member) + 4) }
         // In the world it is the member's event, or the member hears nothing and goes down.
         ensures life { (header : Header) (liars : ℕ → Bool) (w : World) → IsCorrect header.size liars header.me →
-            MemberIsAt D.Disk header w self.old.member → AllCome w (hearings events.now) →
-            LivesOnAll D.Disk header liars w (hearings events.now) result self.old.member self.new.member }
+            MemberIsAt D.Disk header w self.old.member → AllCome w (hearings group.now.items) →
+            LivesOnAll D.Disk header liars w (hearings group.now.items) result self.old.member self.new.member }
         // A crash within the call: it made no call of the device, or it is that event with all records in doubt.
         ensures cut { (header : Header) (liars : ℕ → Bool) (w : World) → IsCorrect header.size liars header.me →
-            MemberIsAt D.Disk header w self.old.member → AllCome w (hearings events.now) →
-            MayAllBeCutOff D.Disk header liars w (hearings events.now) self.old.member self.new.member }
+            MemberIsAt D.Disk header w self.old.member → AllCome w (hearings group.now.items) →
+            MayAllBeCutOff D.Disk header liars w (hearings group.now.items) self.old.member self.new.member }
 
-        ensures fault { IfErr result (λ f. RefusesAll self.old (hearings events.now) f self.new) }
+        ensures fault { IfErr result (λ f. RefusesAll self.old (hearings group.now.items) f self.new) }
         ensures disk { IfErr result (λ f. Spares D.Disk
-            (IsFullOfAll self.old.member (hearings events.now)) f self.old.member self.new.member) }
-        ensures memory_only_at_some { IsErrOf result MemberFault.Memory → 0 < length events.now }
+            (IsFullOfAll self.old.member (hearings group.now.items)) f self.old.member self.new.member) }
+        ensures memory_only_at_some { IsErrOf result MemberFault.Memory → 0 < length group.now.items }
         ensures stays { StaysOn D.Disk self.old.member self.new.member }
     {
         if self.member.is_stopped() {
             return Err(MemberFault::Stopped);
         }
-        if !self.history.make_room(events.len()) {
+        let events = group.as_slice();
+        if let Some(fault) = bad_number(self.member.header().size(), events) {
+            return Err(fault);
+        }
+        if !make_ready(&mut self.history, &mut self.account, group) {
             self.member.stop();
             return Err(MemberFault::Memory);
         }
+        let before = self.member.records().len();
         match self.member.hear_all(events) {
             Ok(answers) => {
                 add_all_taken(&mut self.history, events, &answers);
                 publish_all(&self.member, &mut self.notes, &answers);
+                self.tally.add_behind(self.member.records(), before);
                 Ok(answers)
             }
             Err(fault) => Err(fault),
@@ -309,6 +349,7 @@ impl<D: Disk, J: Naming> Book<D, J> {
             self.member.stop();
             return Err(MemberFault::Memory);
         }
+        let before = self.member.records().len();
         match self.member.propose(question, bit, toss) {
             Ok(answer) => {
                 add_if_taken(
@@ -321,6 +362,7 @@ impl<D: Disk, J: Naming> Book<D, J> {
                     &answer,
                 );
                 publish(&self.member, &mut self.notes, records_in(&answer));
+                self.tally.add_behind(self.member.records(), before);
                 Ok(answer)
             }
             Err(fault) => Err(fault),
@@ -332,6 +374,8 @@ impl<D: Disk, J: Naming> Book<D, J> {
         ensures saved { result.now ≡ member_saved self.now.member }
         ensures replay { IsReplayed self.now.member self.now.opening self.now.history }
         ensures sound { IsSound D.Disk self.now.member }
+        // While it isn't stopped it has of each link just the firsts of what its account has of it.
+        ensures account { IsTied self.now.member self.now.history self.now.log }
     {
         self.member.records()
     }
@@ -360,7 +404,7 @@ impl<D: Disk, J: Naming> Book<D, J> {
         ensures decided { result ≡ verdict_of (member_saved self.now.member) question }
         ensures asked { (member_header self.now.member).size.questions ≤ question → result ≡ None }
     {
-        self.member.verdict(question)
+        self.tally.verdict(question)
     }
 
     /// What was heard of a question that is decided, since the member was opened: the bit, and each statement on the question
@@ -374,19 +418,30 @@ impl<D: Disk, J: Naming> Book<D, J> {
         ensures ok { IfOk result (IsTranscript self.now question) }
         ensures err { IfErr result (HasNoTranscript self.now question) }
     {
+        match self.dossier(question) {
+            Ok(dossier) => dossier.transcript(),
+            Err(fault) => Err(fault),
+        }
+    }
+
+    /// What a transcript of a question that is decided is made of ([`Dossier::transcript`]), without the book: what takes long is
+    /// done once the book was given back. It goes through no more than the last block of the history.
+    ///
+    /// Refused with the first that holds: [`TranscriptFault::NoSuchQuestion`]; [`TranscriptFault::Undecided`];
+    /// [`TranscriptFault::Memory`].
+    pub fn dossier(&self, question: u16) -> Result<Dossier, TranscriptFault>
+        ensures ok { IfOk result (IsDossier self.now question) }
+        ensures err { IfErr result (HasNoDossier self.now question) }
+    {
         let size = self.member.header().size();
         if question >= size.questions() {
             return Err(TranscriptFault::NoSuchQuestion);
         }
-        let Some(bit) = self.member.verdict(question) else {
+        let Some(bit) = self.verdict(question) else {
             return Err(TranscriptFault::Undecided);
         };
-        let Ok(heard) = heard_on(self.alloc, &self.history, question) else {
-            return Err(TranscriptFault::Memory);
-        };
-        match audit(self.alloc, size, question, bit, &heard) {
-            Ok(true) => Ok(Transcript { bit, heard }),
-            Ok(false) => Err(TranscriptFault::Thin),
+        match Dossier::of(self.alloc, size, question, bit, &self.history) {
+            Ok(dossier) => Ok(dossier),
             Err(_) => Err(TranscriptFault::Memory),
         }
     }
@@ -398,6 +453,13 @@ impl<D: Disk, J: Naming> Book<D, J> {
         self.member.is_stopped()
     }
 
+    /// Its account as it is, for who is to know that it was reached.
+    pub(crate) fn witness(&self) -> Witness<J>
+        ensures { result ≡ self.now.log }
+    {
+        self.account.witness()
+    }
+
     /// Stops its member: each later event is refused. What it saved and what happened stay, and no call of the device is made.
     pub fn stop(&mut self)
         ensures stopped { member_is_stopped self.new.member ≡ true }
@@ -405,6 +467,7 @@ impl<D: Disk, J: Naming> Book<D, J> {
         ensures disk { member_disk self.new.member ≡ member_disk self.old.member }
         ensures history { self.new.history ≡ self.old.history }
         ensures opening { self.new.opening ≡ self.old.opening }
+        ensures log { self.new.log ≡ self.old.log }
         // In the world a member that is up hears nothing and goes down, with no record in doubt.
         ensures life { (header : Header) (liars : ℕ → Bool) (w : World) → IsCorrect header.size liars header.me →
             MemberIsAt D.Disk header w self.old.member → member_is_stopped self.old.member ≡ false →
@@ -421,18 +484,19 @@ impl<D: Disk, J: Naming> Book<D, J> {
         self.member.header()
     }
 
-    /// How many statements are in the outbox, and how many questions are decided; none where the member is stopped. It
-    /// asks once for each question, and goes through no records.
+    /// How many statements are in the outbox, and how many questions are decided; none where the member is stopped. It goes
+    /// through no records and no questions.
     pub fn status(&self) -> Option<(u64, u16)>
         ensures outbox { IfSome result (λ status. status.0 ≡ length (sealed_from 0 (member_saved self.now.member))) }
         ensures decided { IfSome result (λ status.
             status.1 ≡ decided_below (member_header self.now.member).size.questions (member_saved self.now.member)) }
         ensures up { IsSome result ↔ (member_is_stopped self.now.member ≡ false) }
+        ensures status { result ≡ status_of self.now }
     {
         if self.member.is_stopped() {
             return None;
         }
-        Some((self.outbox().len() as u64, decided(&self.member)))
+        Some((self.outbox().len() as u64, self.tally.decided()))
     }
 
     /// How many events the history has.
@@ -451,7 +515,7 @@ impl<D: Disk, J: Naming> Book<D, J> {
     }
 
     /// Whether the seats are those of all members, each with the link part of its peer.
-    pub(crate) fn is_settled(&self, seats: &[Seat]) -> bool
+    pub(crate) fn is_settled(&self, seats: &[Seat<J>]) -> bool
         ensures { result ≡ is_settled (member_header self.now.member).size.n self.now.history seats.now }
     {
         is_settled(self.member.header().size().n(), &self.history, seats)
@@ -460,7 +524,7 @@ impl<D: Disk, J: Naming> Book<D, J> {
     /// What the book knows to stand on its board for the question is its decision, and a pass of the board that knows a
     /// verdict of the question knows the same one. Nothing changes.
     pub fn meet(&mut self, pass: &mut Pass, question: u16)
-        requires { pass.old.cells ≡ J.names }
+        requires { pass.old.cells ≡ J.names.cells }
         ensures same { (self.new ≡ self.old) × (pass.new ≡ pass.old) }
         ensures decision { IfSome (known_at self.old.known question) (λ b.
             verdict_of (member_saved self.old.member) question ≡ Some b) }
@@ -471,13 +535,66 @@ impl<D: Disk, J: Naming> Book<D, J> {
     }
 }
 
-/// Makes room for one more entry and one more statement, if there is memory. Both lists stay.
-fn make_room_for_both(history: &mut History, firsts: &mut Firsts) -> bool
+/// Notes a group in the account once there is room for as many entries. Where there isn't, or the account is full, it stays.
+fn make_ready<J: Naming>(
+    history: &mut History,
+    account: &mut Account<J>,
+    events: &Vec<(u8, Statement, Toss)>,
+) -> bool
+    ensures entries { history.new.entries ≡ history.old.entries }
+    ensures room { result ≡ true → length events.now.items ≤ history.new.room }
+    ensures account { MatchBool result (account.new ≡ with_group account.old (hearings events.now.items)) (account.new ≡ account.old) }
+    ensures some { result ≡ false → 0 < length events.now.items }
+{
+    if !history.make_room(events.len()) {
+        return false;
+    }
+    events.is_empty() || account.add(events)
+}
+
+/// Tells whether there is nothing to count, or the account is no shorter than it was seen.
+fn goes_on<J: Naming>(account: &Account<J>, seen: &Witness<J>, events: &[(Statement, Toss)]) -> bool
+    ensures begins { result ≡ true → 0 < length events.now → IsPrefix seen.now account.now }
+    ensures some { result ≡ false → 0 < length events.now }
+{
+    events.is_empty() || account.begins_with(seen)
+}
+
+/// Keeps how far the account is seen then, if there was anything to count.
+fn see<J: Naming>(seen: &mut Witness<J>, after: Witness<J>, events: &[(Statement, Toss)])
+    ensures none { length events.now ≡ 0 → seen.new ≡ seen.old }
+    ensures some { 0 < length events.now → seen.new ≡ after }
+{
+    if !events.is_empty() {
+        *seen = after;
+    }
+}
+
+/// Notes a statement in the account, as a group, once there is room for one more entry and one more first, where the account is
+/// no shorter than it was seen. Else, or where the account is full, it stays.
+fn make_ready_for_one<J: Naming>(
+    history: &mut History,
+    firsts: &mut Firsts,
+    account: &mut Account<J>,
+    seen: &Witness<J>,
+    one: &(u8, Statement, Toss),
+) -> bool
     ensures history { history.new.entries ≡ history.old.entries }
     ensures firsts { firsts.new.said ≡ firsts.old.said }
     ensures room { result ≡ true → (0 < history.new.room) × (0 < firsts.new.room) }
+    ensures begins { result ≡ true → IsPrefix seen.now account.old }
+    ensures account { MatchBool result (account.new ≡ account.old ++ (hearing_of one.now ∷ []) ∷ []) (account.new ≡ account.old) }
 {
-    history.make_room(1) && firsts.make_room(1)
+    if !history.make_room(1) {
+        return false;
+    }
+    if !firsts.make_room(1) {
+        return false;
+    }
+    if !account.begins_with(seen) {
+        return false;
+    }
+    account.add_one(one)
 }
 
 /// Adds the entry where the answer takes it.
@@ -530,18 +647,4 @@ fn publish_one<D: Disk>(member: &Member<D>, notes: &mut Notes, question: u16)
     if let Some(ruling) = member.ruling(question) {
         notes.publish(ruling);
     }
-}
-
-/// How many questions the member has decided.
-fn decided<D: Disk>(member: &Member<D>) -> u16
-    requires { IsSound D.Disk member.now }
-    ensures { result ≡ decided_below (member_header member.now).size.questions (member_saved member.now) }
-{
-    let mut count = 0;
-    for question in 0..member.header().size().questions() {
-        if member.verdict(question).is_some() {
-            count += 1;
-        }
-    }
-    count
 }

@@ -1,9 +1,10 @@
 //! An entry of a history in fifteen bytes.
-ghost use Rattle.std.specs.Prelude.{◌≡◌};
+ghost use Rattle.std.specs.Prelude.{ℕ, ◌≡◌, ◌≢◌, [], ◌∷◌};
 ghost use Rattle.terms_prelude.specs.Terms.{new_place};
 ghost use Rattle.questions.specs.Replay.Entry.{Heard, Proposed};
 ghost use Rattle.node.specs.Compact.{packed, kind_in, value_in};
 ghost use Rattle.node.specs.Entries.{noted};
+ghost use Rattle.node.specs.Transcripts.{heard_on};
 
 use crate::entry::Entry;
 use rounds::Toss;
@@ -77,6 +78,14 @@ impl Noted {
         Noted {
             bytes: packed(tag, 0, question, 0, 0, 0, toss),
         }
+    }
+
+    /// Reads the entry's question, and nothing else of it.
+    pub(crate) fn question(&self) -> u16
+        ensures { (question : ℕ) → question ≢ result → heard_on question (self.now ∷ []) ≡ [] }
+    {
+        let [_, _, high, low, ..] = self.bytes;
+        u16::from_be_bytes([high, low])
     }
 
     /// The entry of these bytes.

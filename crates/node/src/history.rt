@@ -3,6 +3,7 @@ ghost use Rattle.std.specs.Prelude.{◌≡◌, ◌+◌, ◌<◌, ◌≤◌, ◌+
 ghost use Rattle.node.specs.Entries.{noted};
 ghost use Rattle.node.specs.Histories.{joined};
 
+use crate::block::Block;
 use crate::compact::Noted;
 use crate::entry::Entry;
 use std::alloc::Global;
@@ -16,7 +17,7 @@ const BLOCK: usize = 4096;
 #[derive(Drop)]
 pub(crate) struct History {
     alloc: Global,
-    full: Vec<Vec<Noted>>,
+    full: Vec<Block>,
     behind: usize,
     last: Vec<Noted>,
 }
@@ -64,12 +65,20 @@ impl History {
         if behind.checked_add(k).is_none() || self.full.reserve(1).is_err() {
             return false;
         }
-        let Ok(block) = Vec::with_capacity(self.alloc, k) else {
+        let Ok(next) = Vec::with_capacity(self.alloc, k) else {
             return false;
         };
-        self.full.push_reserved(replace(&mut self.last, block));
-        self.behind = behind;
-        true
+        match Block::of(self.alloc, replace(&mut self.last, next)) {
+            Ok(block) => {
+                self.full.push_reserved(block);
+                self.behind = behind;
+                true
+            }
+            Err(last) => {
+                self.last = last;
+                false
+            }
+        }
     }
 
     /// Notes an entry, for which there is room.
@@ -95,10 +104,11 @@ impl History {
     {
         let mut left = at;
         for block in &self.full {
-            if left < block.len() {
-                return Some(block[left].entry());
+            let entries = block.entries();
+            if left < entries.len() {
+                return Some(entries[left].entry());
             }
-            left -= block.len();
+            left -= entries.len();
         }
         if left < self.last.len() {
             Some(self.last[left].entry())
@@ -108,7 +118,7 @@ impl History {
     }
 
     /// The blocks before the last one, and the last one.
-    pub(crate) fn parts(&self) -> (&[Vec<Noted>], &[Noted])
+    pub(crate) fn parts(&self) -> (&[Block], &[Noted])
         ensures { self.now.entries ≡ joined result.0.now ++ result.1.now }
     {
         (self.full.as_slice(), self.last.as_slice())

@@ -3,7 +3,9 @@
 //! [`Board`], which takes no lock.
 #![tactic(auto)]
 
+mod account;
 mod batch;
+mod block;
 mod board;
 mod book;
 mod compact;
@@ -13,20 +15,25 @@ mod history;
 mod hub;
 pub mod laws;
 mod line;
+mod link_table;
 mod marks;
 mod notes;
-mod outcome;
+mod pace;
 mod rack;
 mod seat;
 mod settle;
+mod showing;
 mod shown;
+mod tally;
 mod transcript;
+mod voice;
 
-pub use board::{Board, Pass};
+pub use board::{Board, NewBoard, Pass};
 pub use book::{Book, Naming};
 pub use entry::Entry;
 pub use hub::Hub;
+pub use link_table::LinkCount;
 pub use rack::Rack;
 pub use seat::Seat;
 pub use settle::{Closing, close};
-pub use transcript::{Transcript, TranscriptFault};
+pub use transcript::{Dossier, Transcript, TranscriptFault};

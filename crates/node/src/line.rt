@@ -1,13 +1,15 @@
 //! The line in front of the book: what several links hand in while a batch is on its way to the disk is heard as one group.
 //! Begin at `Line`, and at `hear`, last.
-ghost use Rattle.std.specs.Prelude.{◌≡◌, IfSome, IsTrue};
+ghost use Rattle.std.specs.Prelude.{◌≡◌, IfSome, IsTrue, List, Result};
 ghost use Rattle.member.specs.Groups.{hearings};
+ghost use Rattle.member.specs.declared.fault.MemberFault.{MemberFault};
+ghost use Rattle.node.specs.Accounts.{Group};
 ghost use Rattle.node.specs.Groups.{heard_from};
 ghost use Rattle.node.specs.Lines.{ComesOf, HasCome, are_of, is_of};
 
-use crate::batch::{Batch, Part};
+use crate::account::Witness;
+use crate::batch::{Batch, GROUP, Part};
 use crate::book::{Book, Naming};
-use crate::outcome::Outcome;
 use crate::settle::is_same;
 use disk::Disk;
 use member::MemberFault;
@@ -20,15 +22,32 @@ use terms::{Memory, Statement};
 /// For how many groups in a row the bell isn't rung, at most.
 const QUIET: u32 = 7;
 
+/// The most statements that a read of a link gives: it is of 512 bytes, and each takes seven.
+const READ: usize = 73;
+
+/// The outcome of statements that wait for the book: it heard them, and this is its account then; or it refused them, or there
+/// was no memory to hand them in.
+pub(crate) type Outcome<J> = Result<Witness<J>, MemberFault>;
+
+/// The same for one more.
+fn again<J: Naming>(outcome: &Outcome<J>) -> Outcome<J>
+    ensures { result ≡ outcome.now }
+{
+    match outcome {
+        Ok(after) => Ok(after.again()),
+        Err(fault) => Err(*fault),
+    }
+}
+
 /// A group and what came of it.
 #[derive(Drop)]
-pub(crate) struct Heard<D> {
+pub(crate) struct Heard<D, J: Naming> {
     batch: Batch,
-    outcome: Outcome,
+    outcome: Outcome<J>,
     of: PhantomData<D>,
 }
 
-impl<D> Model for Heard<D> {
+impl<D, J: Naming> Model for Heard<D, J> {
     ghost use Rattle.member.specs.Groups.{hearings};
     ghost use Rattle.node.specs.Lines.{HasCome};
 
@@ -41,13 +60,13 @@ impl<D> Model for Heard<D> {
 
 /// What a link handed in, and what came of it.
 #[derive(Drop)]
-struct Answered<D> {
+struct Answered<D, J: Naming> {
     events: Vec<(u8, Statement, Toss)>,
-    outcome: Outcome,
+    outcome: Outcome<J>,
     of: PhantomData<D>,
 }
 
-impl<D> Model for Answered<D> {
+impl<D, J: Naming> Model for Answered<D, J> {
     ghost use Rattle.member.specs.Groups.{hearings};
     ghost use Rattle.node.specs.Lines.{HasCome};
 
@@ -60,7 +79,7 @@ impl<D> Model for Answered<D> {
 
 /// The place of a link in the line.
 #[derive(Drop)]
-enum Slot<D> {
+enum Slot<D, J: Naming> {
     /// The link hands nothing in.
     Free,
     /// This waits for the book.
@@ -68,13 +87,13 @@ enum Slot<D> {
     /// What waited is on its way through the book.
     Away,
     /// The book has answered.
-    Answered(Answered<D>),
+    Answered(Answered<D, J>),
 }
 
 /// A place for each link. Who serves the line takes what waits, has the book hear it as one group, and leaves the answers.
 #[derive(Drop)]
-pub(crate) struct Line<D> {
-    slots: Vec<Slot<D>>,
+pub(crate) struct Line<D, J: Naming> {
+    slots: Vec<Slot<D, J>>,
     /// The place with which the next group begins, so that each link has its turn.
     first: usize,
     /// How many groups in a row were taken for which the bell isn't rung.
@@ -85,9 +104,9 @@ pub(crate) struct Line<D> {
     pub(crate) has_server: bool,
 }
 
-impl<D> Line<D> {
+impl<D, J: Naming> Line<D, J> {
     /// A line of so many links, in which nothing waits.
-    pub(crate) fn new(alloc: Global, links: u8) -> Result<Line<D>, Memory> {
+    pub(crate) fn new(alloc: Global, links: u8) -> Result<Line<D, J>, Memory> {
         let mut slots = Vec::new(alloc);
         for _ in 0..links {
             slots.push(Slot::Free)?;
@@ -113,7 +132,7 @@ impl<D> Line<D> {
     }
 
     /// What came of these statements of the link, if they were answered; its place is free then.
-    pub(crate) fn leave(&mut self, link: u8, events: &[(Statement, Toss)]) -> Option<Outcome>
+    pub(crate) fn leave(&mut self, link: u8, events: &[(Statement, Toss)]) -> Option<Outcome<J>>
         ensures { IfSome result (λ outcome. HasCome D (heard_from link events.now) outcome) }
     {
         let slot = self.slots.get_mut(usize::from(link))?;
@@ -125,6 +144,15 @@ impl<D> Line<D> {
     /// Whether something waits.
     pub(crate) fn has_waiting(&self) -> bool {
         self.slots.iter().any(|slot| slot.waits())
+    }
+
+    /// Whether what waits may be all that a group takes: what one more read gives might have no room in it.
+    pub(crate) fn is_full(&self) -> bool {
+        let mut waiting = 0usize;
+        for slot in &self.slots {
+            waiting = waiting.saturating_add(slot.count());
+        }
+        waiting > GROUP - READ
     }
 
     /// Takes what waits as one group, link by link: as much of it as the group has room and memory for.
@@ -175,7 +203,7 @@ impl<D> Line<D> {
     }
 
     /// Leaves the answers of a group that was heard. What waits for want of memory, so that it is in no group, is refused.
-    pub(crate) fn give(&mut self, heard: Heard<D>) {
+    pub(crate) fn give(&mut self, heard: Heard<D, J>) {
         let Heard {
             batch,
             outcome,
@@ -190,7 +218,7 @@ impl<D> Line<D> {
             if let Some(slot) = self.slots.get_mut(at) {
                 *slot = Slot::Answered(Answered {
                     events,
-                    outcome,
+                    outcome: again(&outcome),
                     of: PhantomData,
                 });
             }
@@ -222,10 +250,18 @@ impl<D> Line<D> {
     }
 }
 
-impl<D> Slot<D> {
+impl<D, J: Naming> Slot<D, J> {
     /// Whether something waits there.
     fn waits(&self) -> bool {
         matches!(self, Slot::Waits(_))
+    }
+
+    /// How many statements wait there.
+    fn count(&self) -> usize {
+        match self {
+            Slot::Waits(events) => events.len(),
+            _ => 0,
+        }
     }
 
     /// Whether the book has answered.
@@ -234,7 +270,7 @@ impl<D> Slot<D> {
     }
 
     /// What came of these statements of the peer, if they were answered.
-    fn outcome_of(&self, peer: u8, events: &[(Statement, Toss)]) -> Option<Outcome>
+    fn outcome_of(&self, peer: u8, events: &[(Statement, Toss)]) -> Option<Outcome<J>>
         ensures { IfSome result (λ outcome. HasCome D (heard_from peer events.now) outcome) }
     {
         match self {
@@ -249,7 +285,7 @@ impl<D> Slot<D> {
             Slot::Waits(events) => {
                 *self = Slot::Answered(Answered {
                     events,
-                    outcome: Outcome::Refused(MemberFault::Memory),
+                    outcome: Err(MemberFault::Memory),
                     of: PhantomData,
                 });
             }
@@ -258,13 +294,13 @@ impl<D> Slot<D> {
     }
 }
 
-impl<D> Answered<D> {
+impl<D, J: Naming> Answered<D, J> {
     /// What came of these statements of the peer, if it is these that were answered.
-    fn outcome_of(&self, peer: u8, events: &[(Statement, Toss)]) -> Option<Outcome>
+    fn outcome_of(&self, peer: u8, events: &[(Statement, Toss)]) -> Option<Outcome<J>>
         ensures { IfSome result (λ outcome. HasCome D (heard_from peer events.now) outcome) }
     {
         if are_of(&self.events, peer, events) {
-            Some(self.outcome)
+            Some(again(&self.outcome))
         } else {
             None
         }
@@ -293,18 +329,18 @@ fn is_of(heard: &(u8, Statement, Toss), peer: u8, event: &(Statement, Toss)) -> 
 }
 
 /// Has the book hear a group, and does nothing else to it.
-pub(crate) fn hear<D: Disk, J: Naming>(book: &mut Book<D, J>, batch: Batch) -> Heard<D>
-    ensures { (outcome : Outcome) × ComesOf book.old (hearings batch) outcome book.new }
+pub(crate) fn hear<D: Disk, J: Naming>(book: &mut Book<D, J>, batch: Batch) -> Heard<D, J>
+    ensures { (outcome : Result (List Group) MemberFault) × ComesOf book.old (hearings batch) outcome book.new }
 {
     match book.hear_all(&batch.events) {
         Ok(_) => Heard {
             batch,
-            outcome: Outcome::Taken,
+            outcome: Ok(book.witness()),
             of: PhantomData,
         },
         Err(fault) => Heard {
             batch,
-            outcome: Outcome::Refused(fault),
+            outcome: Err(fault),
             of: PhantomData,
         },
     }

@@ -10,14 +10,14 @@ pub returns-in-None : goal.returns-in-None
 returns-in-None c =
     sym (c.loop-block.invariant
     ∙ ap (λ (l : List Statement). same_statements l c.loop-block.rest.now)
-    (link_left c.args.peer c.parts.result.0.now c.loop-block.block-index c.block-item.result c.as_slice.result.now c.parts.result.1.now c.block-item.is (search (rules)) c.as_slice.ensures.value)
+    (link_left c.args.peer c.parts.result.0.now c.loop-block.block-index c.block-item.result c.entries.result.now c.parts.result.1.now c.block-item.is (search (rules)) c.entries.ensures)
     ∙ c.in-None.ensures.none (link_part c.args.peer (joined (drop (c.loop-block.block-index + 1) c.parts.result.0.now) ++ c.parts.result.1.now)))
 
 pub loop-block-preserved : goal.loop-block-preserved
 loop-block-preserved c =
     c.loop-block.invariant
     ∙ ap (λ (l : List Statement). same_statements l c.loop-block.rest.now)
-    (link_left c.args.peer c.parts.result.0.now c.loop-block.block-index c.block-item.result c.as_slice.result.now c.parts.result.1.now c.block-item.is (search (rules)) c.as_slice.ensures.value)
+    (link_left c.args.peer c.parts.result.0.now c.loop-block.block-index c.block-item.result c.entries.result.now c.parts.result.1.now c.block-item.is (search (rules)) c.entries.ensures)
     ∙ c.in-Some.ensures.some (link_part c.args.peer (joined (drop (c.loop-block.block-index + 1) c.parts.result.0.now) ++ c.parts.result.1.now))
 
 pub returns-in-Some-behind : goal.returns-in-Some-behind

@@ -1,18 +1,13 @@
-use Rattle.std.proofs.Common.{rules, ◌≡◌, ◌<◌, Some, None, subst}
-use Rattle.member.specs.Words.{member_saved, verdict_of}
-use Rattle.node.specs.Words.{BookView, IsHeardProof, questions_of}
-use Rattle.node.proofs.Thin.{kept_shows}
+use Rattle.node.proofs.Dossiers.{transcript_given, transcript_withheld, none_without}
 use Rattle.node.proofs.book.Book.transcript.Goals as goal
 
-pub returns-in-Ok-false-clause-err : goal.returns-in-Ok-false-clause-err
-returns-in-Ok-false-clause-err g c =
-    let verdict : verdict_of (member_saved c.args.self.now.member) c.args.question ≡ Some c.in-Some.bit = search rules in
-    let no : IsHeardProof c.args.self.now c.args.question c.in-Some.bit → ⊥ = search rules in
-    let asked : c.args.question < questions_of c.args.self.now = search rules in
-    let shows : (c.args.question < questions_of c.args.self.now) → verdict_of (member_saved c.args.self.now.member) c.args.question ≡ Some c.in-Some.bit
-    → verdict_of c.args.self.now.opening c.args.question ≡ None → IsHeardProof c.args.self.now c.args.question c.in-Some.bit =
-    subst (λ (b : BookView g.row.D.Denot). (c.args.question < questions_of b) → verdict_of (member_saved b.member) c.args.question ≡ Some c.in-Some.bit
-    → verdict_of b.opening c.args.question ≡ None → IsHeardProof b c.args.question c.in-Some.bit) c.self.view_is
-    (kept_shows g.D.Disk g.J.Naming.names g.J.Naming.header c.self.inside.notes.cells c.self.inside.member c.self.inside.opened c.self.inside.history.entries c.self.inside.notes.known
-    c.self.invariant c.args.question c.in-Some.bit) in
-    (c.in-Some.bit, verdict, no, λ before. no (shows asked verdict before))
+pub returns-in-Ok-clause-ok : goal.returns-in-Ok-clause-ok
+returns-in-Ok-clause-ok g c =
+    transcript_given c.args.self.now c.args.question c.in-Ok.dossier c.transcript.result c.in-Ok.ensures.ok c.transcript.ensures.bit c.transcript.ensures.heard c.transcript.ensures.proof
+
+pub returns-in-Ok-clause-err : goal.returns-in-Ok-clause-err
+returns-in-Ok-clause-err g c =
+    transcript_withheld c.args.self.now c.args.question c.in-Ok.dossier c.transcript.result c.in-Ok.ensures.ok c.transcript.ensures.err
+
+pub returns-in-Err-clause-err : goal.returns-in-Err-clause-err
+returns-in-Err-clause-err g c = none_without c.args.self.now c.args.question c.in-Err.fault c.in-Err.ensures.err

@@ -9,4 +9,4 @@ pub returns-then-are_of : goal.returns-then-are_of
 returns-then-are_of g c =
     let same : are_of c.self.inside.events.items c.args.peer c.args.events.now ≡ true =
     ap (λ (l : List (ℕ × Statement × Toss)). are_of l c.args.peer c.args.events.now) (sym c.deref.ensures.value) ∙ sym c.are_of.ensures ∙ c.if-are_of.true in
-    subst (λ (l : List (ℕ × Statement × ℕ)). HasCome g.row.D.Denot l c.self.inside.outcome) (are_heard c.self.inside.events.items c.args.peer c.args.events.now same) c.self.invariant
+    rw c.again.ensures (subst (λ (l : List (ℕ × Statement × ℕ)). HasCome g.row.D.Denot l c.self.inside.outcome) (are_heard c.self.inside.events.items c.args.peer c.args.events.now same) c.self.invariant)

@@ -1,4 +1,4 @@
-use Rattle.std.proofs.Common.{rules, ◌≡◌, ◌∷◌, List, ℕ, subst, sym}
+use Rattle.std.proofs.Common.{List, ℕ, subst, sym}
 use Rattle.std.specs.List.{All}
 use Rattle.terms_prelude.specs.Terms.{Statement}
 use Rattle.rounds.specs.declared.tosses.Toss.{Toss}
@@ -8,9 +8,10 @@ use Rattle.node.specs.declared.batch.Part.{Part}
 use Rattle.node.proofs.Shares.{first_of_all, others_of_all, came_of_all}
 use Rattle.node.proofs.line.Line.give.Goals as goal
 
-pub invariant_of-t-27 : goal.invariant_of-t-27
-invariant_of-t-27 g c =
-    first_of_all (λ (part : Part). HasCome g.row.D.Denot (hearings part.events.items) c.heard.inside.outcome) c.in-Some.part _ _ c.in-Some.ensures.steps.0 c.loop-part.invariant.came
+pub invariant_of-t-29 : goal.invariant_of-t-29
+invariant_of-t-29 g c =
+    subst (λ o. HasCome g.row.D.Denot (hearings c.in-Some.part.events.items) o) (sym c.again.ensures)
+    (first_of_all (λ (part : Part). HasCome g.row.D.Denot (hearings part.events.items) c.heard.inside.outcome) c.in-Some.part _ _ c.in-Some.ensures.steps.0 c.loop-part.invariant.came)
 
 pub loop-part-init : goal.loop-part-init
 loop-part-init g c = record {
@@ -37,6 +38,13 @@ loop-part-preserved-in-Some-get_mut-2 g c = record {
 
 pub loop-part-preserved-in-Some-get_mut-3 : goal.loop-part-preserved-in-Some-get_mut-3
 loop-part-preserved-in-Some-get_mut-3 g c = record {
+  can_next = tt;
+  is_finite = tt;
+  came = others_of_all (λ (part : Part). HasCome g.row.D.Denot (hearings part.events.items) c.heard.inside.outcome) c.in-Some.part _ _ c.in-Some.ensures.steps.0 c.loop-part.invariant.came;
+}
+
+pub loop-part-preserved-in-Some-get_mut-4 : goal.loop-part-preserved-in-Some-get_mut-4
+loop-part-preserved-in-Some-get_mut-4 g c = record {
   can_next = tt;
   is_finite = tt;
   came = others_of_all (λ (part : Part). HasCome g.row.D.Denot (hearings part.events.items) c.heard.inside.outcome) c.in-Some.part _ _ c.in-Some.ensures.steps.0 c.loop-part.invariant.came;

@@ -1,0 +1,30 @@
+-- How far the member of a book is.
+use Rattle.std.specs.Prelude.{ℕ, ◌≡◌, List, Option, Some, None, length, if◌then◌else◌}
+use Rattle.terms_prelude.specs.Terms.{Header}
+use Rattle.member.specs.Sealed.{sealed_from}
+use Rattle.member.specs.Readers.{member_header, member_saved, member_is_stopped}
+use Rattle.member.specs.declared.sealed.Sealed.{Sealed}
+use Rattle.node.specs.Books.{IsReplayed, decided_below}
+use Rattle.node.specs.Views.{BookView}
+
+-- how many statements are in its outbox, and how many questions it has decided; none where it is stopped
+abbrev pub status_of : {D : Type 0} → BookView D → Option (ℕ × ℕ)
+status_of b =
+    if member_is_stopped b.member then None
+    else Some (length (sealed_from 0 (member_saved b.member)), decided_below (member_header b.member).size.questions (member_saved b.member))
+
+-- the book is of the hub with that header: its member has it, and is the replay of its history over its opening records
+pub record IsBookOf {D : Type 0} (header : Header) (b : BookView D) : Type 0 where
+  pub header_is : member_header b.member ≡ header
+  pub replayed : IsReplayed b.member b.opening b.history
+
+-- that far is the member of some book of that hub
+pub record IsStanding (D : Type 0) (header : Header) (status : Option (ℕ × ℕ)) : Type 0 where
+  pub book : BookView D
+  pub book_is : IsBookOf header book
+  pub status_is : status ≡ status_of book
+
+-- what a hub shows: statements of its book's outbox, and how far the member is
+pub record PublishedView : Type 0 where
+  pub items : List Sealed
+  pub status : Option (ℕ × ℕ)

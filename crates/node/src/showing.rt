@@ -1,0 +1,104 @@
+//! What a hub shows of its book to whoever doesn't take the book.
+ghost use Rattle.std.specs.Prelude.{◌≡◌, ◌+◌, ◌<◌, ◌≤◌, ◌^◌, ◌++◌, length, take, drop, true, IfOk, IsTrue, IsFalse, vec_len};
+ghost use Rattle.member.specs.Readers.{member_saved};
+ghost use Rattle.member.specs.Sealed.{sealed_from};
+ghost use Rattle.node.specs.Books.{is_numbered};
+ghost use Rattle.node.specs.Standings.{IsBookOf, IsStanding, status_of};
+
+use crate::book::{Book, Naming};
+use crate::shown::Shown;
+use disk::Disk;
+use member::Sealed;
+use std::alloc::Global;
+use std::marker::{Model, PhantomData};
+use terms::Memory;
+
+/// What is shown of a book's outbox, and how far its member is. Both are of one book, since both change under one lock.
+/// Contracts see the statements and the status.
+#[derive(Drop)]
+pub(crate) struct Published<D: Disk, J: Naming> {
+    shown: Shown,
+    status: Option<(u64, u16)>,
+    disk: PhantomData<D>,
+    of: PhantomData<J>,
+}
+
+impl<D: Disk, J: Naming> Model for Published<D, J> {
+    ghost use Rattle.node.specs.Standings.{PublishedView, IsStanding};
+
+    ghost Value = { PublishedView };
+
+    ghost view = { λ p. record { items = p.shown; status = p.status } };
+
+    ghost invariant = { λ p. IsStanding D J.header p.status };
+}
+
+impl<D: Disk, J: Naming> Published<D, J> {
+    /// Shows a book.
+    pub(crate) fn of(alloc: Global, book: &Book<D, J>) -> Result<Published<D, J>, Memory>
+        ensures items { IfOk result (λ published. published.items ≡ sealed_from 0 (member_saved book.now.member)) }
+        ensures status { IfOk result (λ published. published.status ≡ status_of book.now) }
+    {
+        let shown = Shown::of(alloc, book.outbox())?;
+        Ok(Published {
+            shown,
+            status: status_of(book),
+            disk: PhantomData,
+            of: PhantomData,
+        })
+    }
+
+    /// Shows how far the book's member is, and what the outbox has behind what is shown. Where there is no memory no more
+    /// statements are shown.
+    pub(crate) fn show(&mut self, book: &Book<D, J>) -> bool
+        ensures items { IsTrue result →
+            self.new.items ≡ self.old.items ++ drop (length self.old.items) (sealed_from 0 (member_saved book.now.member)) }
+        ensures same { IsFalse result → self.new.items ≡ self.old.items }
+        ensures status { self.new.status ≡ status_of book.now }
+    {
+        self.status = status_of(book);
+        self.shown.show(book.outbox())
+    }
+
+    /// How far the member was when the book was shown last: how many statements were in its outbox, and how many questions it
+    /// had decided; none where it was stopped.
+    pub(crate) fn status(&self) -> Option<(u64, u16)>
+        ensures status { result ≡ self.now.status }
+        ensures standing { IsStanding D J.header result }
+    {
+        self.status
+    }
+
+    /// How many statements are shown.
+    pub(crate) fn len(&self) -> usize
+        ensures { result ≡ length self.now.items }
+    {
+        self.shown.len()
+    }
+
+    /// Whether the statement with that number is shown.
+    pub(crate) fn has(&self, number: u64) -> bool
+        ensures { IsTrue result → number < length self.now.items }
+    {
+        self.shown.has(number)
+    }
+
+    /// The statements from that number on, at most so many: none where it is past what is shown.
+    pub(crate) fn part(&self, alloc: Global, from: u64, max: usize) -> Result<Vec<Sealed>, Memory>
+        ensures items { IfOk result (λ v. v.items ≡ take max (drop from self.now.items)) }
+        ensures numbered { IfOk result (λ v. is_numbered from v.items ≡ true) }
+        ensures fits { IfOk result (λ v. 0 < vec_len v → from + vec_len v < 2 ^ 64) }
+    {
+        self.shown.part(alloc, from, max)
+    }
+}
+
+/// How far the book's member is. The book is one of its hub's.
+fn status_of<D: Disk, J: Naming>(book: &Book<D, J>) -> Option<(u64, u16)>
+    ensures status { result ≡ status_of book.now }
+    ensures book { IsBookOf J.header book.now }
+{
+    let _named = book.header();
+    let _replayed = book.records();
+    book.status()
+}
