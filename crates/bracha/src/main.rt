@@ -8,16 +8,16 @@ ghost use Rattle.std.specs.Prelude.{◌≡◌, ◌≢◌, ◌⊎◌, IfOk};
 
 use clap::error::ErrorKind;
 use command_line::{Task, command};
-use numerals::size_from;
 use running::Machine;
 use std::convert::AsStr;
 use std::io;
 use std::net::{TcpListener, TcpStream};
 use std::process::ExitCode;
 use system::{
-    Failure, Fault, HeldStreams, NewCluster, ask_at, audit_file, await_at, check_file, dump_file,
-    hear_input, hold_streams, init_file, migrate_file, new_cluster, own_words, propose_at,
-    propose_to_all, run_file, simulate_file, status_at, transcript_at, wants_quiet,
+    Choice, Failure, Fault, HeldStreams, NewCluster, ask_at, audit_file, await_at, check_file,
+    dump_file, hear_end, hear_input, hold_streams, init_file, links_at, log_form, migrate_file,
+    new_cluster, number_words, own_words, patience_of, propose_at, propose_to_all, run_file,
+    simulate_file, size_of, status_at, transcript_at, wants_quiet,
 };
 
 /// Does the task, and gives the status to end with.
@@ -29,8 +29,9 @@ fn work<R: Machine>(rt: &R, host: &HostRuntime, task: Task) -> Result<u8, Failur
             questions,
             me,
         } => {
-            let size = size_from(n, t, questions).map_err(|fault| Fault::Size(fault))?;
-            Ok(hear_input(host, size, me)?)
+            let size = size_of(host.alloc(), n, t, questions)?;
+            let ended = hear_input(host, size, me);
+            hear_end(host.alloc(), size.n(), me, ended)
         }
         Task::NewCluster {
             n,
@@ -39,8 +40,10 @@ fn work<R: Machine>(rt: &R, host: &HostRuntime, task: Task) -> Result<u8, Failur
             cluster,
             folder,
             hosts,
+            port,
+            desk,
         } => {
-            let size = size_from(n, t, questions).map_err(|fault| Fault::Size(fault))?;
+            let size = size_of(host.alloc(), n, t, questions)?;
             let cluster = u64::from(cluster);
             new_cluster(
                 host,
@@ -49,6 +52,8 @@ fn work<R: Machine>(rt: &R, host: &HostRuntime, task: Task) -> Result<u8, Failur
                     cluster,
                     folder,
                     hosts,
+                    port,
+                    desk,
                 },
             )
         }
@@ -58,53 +63,93 @@ fn work<R: Machine>(rt: &R, host: &HostRuntime, task: Task) -> Result<u8, Failur
             settings,
             stay,
             log,
+            log_json,
             any_host,
-        } => run_file(rt, host, settings, stay, log, any_host),
+        } => run_file(rt, host, settings, stay, log_form(log, log_json), any_host),
         Task::Propose {
             address,
             question,
             bit,
             all: false,
             timeout,
-        } => propose_at(host, address, question, bit, timeout),
+        } => propose_at(
+            host,
+            address,
+            question,
+            bit,
+            patience_of(host.alloc(), timeout)?,
+        ),
         Task::Propose {
             address,
             question,
             bit,
             all: true,
             timeout,
-        } => propose_to_all(host, address, question, bit, timeout),
+        } => propose_to_all(
+            host,
+            address,
+            question,
+            bit,
+            patience_of(host.alloc(), timeout)?,
+        ),
         Task::Ask {
             address,
             question,
             wait: false,
             json,
             timeout,
-        } => ask_at(host, address, question, json, timeout),
+        } => ask_at(
+            host,
+            address,
+            question,
+            json,
+            patience_of(host.alloc(), timeout)?,
+        ),
         Task::Ask {
             address,
             question,
             wait: true,
             json,
             timeout,
-        } => await_at(host, address, question, json, timeout),
+        } => await_at(
+            host,
+            address,
+            question,
+            json,
+            patience_of(host.alloc(), timeout)?,
+        ),
         Task::Status {
             address,
+            links: false,
+            ready: false,
             json,
             timeout,
-        } => status_at(host, address, json, timeout),
+        } => status_at(host, address, json, patience_of(host.alloc(), timeout)?),
+        Task::Status {
+            address,
+            links: _,
+            ready,
+            json,
+            timeout,
+        } => links_at(
+            host,
+            address,
+            ready,
+            json,
+            patience_of(host.alloc(), timeout)?,
+        ),
         Task::Transcript {
             address,
             question,
             timeout,
-        } => transcript_at(host, address, question, timeout),
+        } => transcript_at(host, address, question, patience_of(host.alloc(), timeout)?),
         Task::Audit {
             file,
             n,
             t,
             questions,
         } => {
-            let size = size_from(n, t, questions).map_err(|fault| Fault::Size(fault))?;
+            let size = size_of(host.alloc(), n, t, questions)?;
             audit_file(host, file, size)
         }
         Task::Dump {
@@ -117,7 +162,19 @@ fn work<R: Machine>(rt: &R, host: &HostRuntime, task: Task) -> Result<u8, Failur
             script,
             trace,
             chart,
-        } => simulate_file(host, script, trace, chart),
+            question,
+            member,
+            from,
+            to,
+        } => {
+            let choice = Choice {
+                question,
+                member,
+                from,
+                to,
+            };
+            simulate_file(host, script, trace, chart, choice)
+        }
     }
 }
 
@@ -128,6 +185,20 @@ fn status_of(error: &clap::Error) -> u8
     ensures fault { kind_of error.now ≢ DisplayHelp → kind_of error.now ≢ DisplayVersion → result ≡ 2 }
 {
     error.exit_code() as u8
+}
+
+/// Prints what a number of the words has to be, if the error is about one and the environment doesn't ask for less.
+fn print_number(host: &HostRuntime, error: &clap::Error) -> io::Result<()> {
+    if error.kind() != ErrorKind::ValueValidation || wants_quiet(host) {
+        return Ok(());
+    }
+    let Ok(said) = format!(in host.alloc(); "{error}") else {
+        return Ok(());
+    };
+    match number_words(said.as_str()) {
+        Some(words) => eprintln!(host; "{words}"),
+        None => Ok(()),
+    }
 }
 
 /// Does what the words ask for, the program's name first among them, while no file can get the number of a standard stream.
@@ -147,6 +218,7 @@ fn run<R: Machine, S: AsStr>(
         Err(error) if error.kind() == ErrorKind::OutOfMemory => Err(Failure::from(Fault::Memory)),
         Err(error) => {
             error.print(host).map_err(|error| Fault::from(error))?;
+            print_number(host, &error).map_err(|error| Fault::from(error))?;
             Ok(status_of(&error))
         }
     }

@@ -24,7 +24,7 @@ const ALL_LIE: &str = "n 1\nt 0\nquestions 1\nliars 0\nseed 1\n";
 /// Runs a script with its trace in the file, and tells whether that is then all that the file has.
 fn is_replaced(rt: &HostRuntime, script: &str, trace: &str) -> Result<bool, Fail> {
     fs::write(rt, SCRIPT, script)?;
-    let is_done = simulate_file(rt, SCRIPT, Some(PAGE), None).is_ok();
+    let is_done = simulate_file(rt, SCRIPT, Some(PAGE), None, Choice::all()).is_ok();
     Ok(is_done && fs::read(rt, PAGE)?.as_slice() == trace.as_bytes())
 }
 
@@ -34,7 +34,7 @@ fn a_page_replaces_what_was_there(rt: HostRuntime) -> Result<(), Fail> {
     assert!(rt; is_replaced(&rt, PROPOSALS, trace)?);
     assert!(rt; is_replaced(&rt, NOTHING, "")?);
     fs::remove_file(&rt, PAGE)?;
-    let is_done = simulate_file(&rt, SCRIPT, None, None).is_ok();
+    let is_done = simulate_file(&rt, SCRIPT, None, None, Choice::all()).is_ok();
     fs::remove_file(&rt, SCRIPT)?;
     assert!(rt; is_done && fs::metadata(&rt, PAGE).is_err());
     Ok(())
@@ -62,7 +62,7 @@ fn a_run_of_a_fault_writes_no_file(rt: HostRuntime) -> Result<(), Fail> {
         (ALL_LIE, Some(PAGE), Some(NOWHERE), "sim BadLiars"),
     ] {
         fs::write(&rt, SCRIPT, script)?;
-        let run = simulate_file(&rt, SCRIPT, trace, chart);
+        let run = simulate_file(&rt, SCRIPT, trace, chart, Choice::all());
         let fault = told_fault(rt.alloc(), run)?;
         let is_there = fs::metadata(&rt, PAGE).is_ok();
         assert!(rt; fault.as_str() == want && !is_there, "{fault}");

@@ -2,3 +2,5 @@ mod Words
 mod Exchanging
 mod Blocks
 mod Requests
+pub mod Standing
+pub mod Dossiers

@@ -1,7 +1,7 @@
 -- The replies to commands.
 use Rattle.std.specs.Prelude.{ℕ, ◌≡◌, ◌⊎◌, ◌<◌, ◌≤◌, nat_lt, Bool, true, false, Option, Some, None, length, if◌then◌else◌}
 use Rattle.terms.specs.Reply.{Reply as Answers}
-use Rattle.terms_prelude.specs.Terms.{Proposal}
+use Rattle.terms_prelude.specs.Terms.{Proposal, Size}
 use Rattle.terms.specs.Reply.Reply.{Foreign as AsForeign, Repeat as AsRepeat, Have as AsHave, Taken as AsTaken}
 use Rattle.questions.specs.Replay.Entry.{Proposed}
 use Rattle.questions.specs.Replies.{reply_of}
@@ -12,11 +12,13 @@ use Rattle.member.specs.Readers.{member_disk, member_header, member_saved, membe
 use Rattle.member.specs.declared.fault.MemberFault.{MemberFault}
 use Rattle.member.specs.declared.fault.MemberFault.TheVariants as member
 use Rattle.node.specs.Books.{Applies, RefusesEvent, decided_below}
-use Rattle.node.specs.Transcripts.{HasNoTranscript, IsTranscript, questions_of}
+use Rattle.questions.specs.Audits.{IsProof}
+use Rattle.node.specs.Transcripts.{DossierView, HasNoTranscript, IsTranscript, ShowsNothing, questions_of}
 use Rattle.node.specs.Views.{BookView}
+use Rattle.node.specs.declared.link_table.LinkCount.{LinkCount}
 use Rattle.node.specs.declared.transcript.TranscriptFault.TheVariants as thin
 use Rattle.desk.specs.declared.reply.Reply.{Reply}
-use Rattle.desk.specs.declared.reply.Reply.TheVariants.{Taken, Have, Stopped, Decided, Undecided, Up, Transcript, Thin, BadLine, BadQuestion, BadBit, Memory}
+use Rattle.desk.specs.declared.reply.Reply.TheVariants.{Taken, Have, Stopped, Decided, Undecided, Up, Transcript, Links, Thin, BadLine, BadQuestion, BadBit, Memory}
 
 -- the reply to a proposal that the member answered so; it calls none foreign or a repeat
 abbrev pub IsReplyFor : Answers → Reply → Type 0
@@ -63,10 +65,41 @@ status_reply b =
     if member_is_stopped b.member then Stopped
     else Up (length (sealed_from 0 (member_saved b.member))) (decided_below (member_header b.member).size.questions (member_saved b.member))
 
+-- the same, by what is told of how far the member is; none where it is stopped
+abbrev pub standing_reply : Option (ℕ × ℕ) → Reply
+standing_reply None = Stopped
+standing_reply (Some status) = Up status.0 status.1
+
+-- so many links are up, if the member is
+abbrev pub links_reply : {D : Type 0} → BookView D → LinkCount → Reply
+links_reply b count = if member_is_stopped b.member then Stopped else Links count (member_header b.member).size
+
+-- the same, by what is told of how far the member is
+abbrev pub standing_links : Option (ℕ × ℕ) → LinkCount → Size → Reply
+standing_links None count size = Stopped
+standing_links (Some status) count size = Links count size
+
 -- the question is the book's, and its member isn't stopped
 pub record MayBeShown {D : Type 0} (b : BookView D) (question : ℕ) : Type 0 where
   pub asked : question < questions_of b
   pub is_up : member_is_stopped b.member ≡ false
+
+-- the reply by what a transcript is made of: what was heard is no proof; memory was refused; or the transcript
+abbrev pub IsDossierReply : DossierView → Reply → Type 0
+IsDossierReply d Thin = ShowsNothing d thin.Thin
+IsDossierReply d Memory = ShowsNothing d thin.Memory
+IsDossierReply d (Transcript asked transcript) =
+    (asked ≡ d.question) × (transcript.bit ≡ d.bit) × (transcript.heard.items ≡ d.heard) × IsProof d.size d.question d.bit d.heard
+IsDossierReply d BadQuestion = ⊥
+IsDossierReply d Stopped = ⊥
+IsDossierReply d Undecided = ⊥
+IsDossierReply d Taken = ⊥
+IsDossierReply d (Have bit) = ⊥
+IsDossierReply d (Decided bit) = ⊥
+IsDossierReply d (Up statements decided) = ⊥
+IsDossierReply d (Links count size) = ⊥
+IsDossierReply d BadLine = ⊥
+IsDossierReply d BadBit = ⊥
 
 -- the reply to a transcript's asking, the first that holds: there is no such question; the member is stopped; the question
 -- isn't decided; what was heard is no proof; memory was refused; or the transcript
@@ -81,5 +114,6 @@ IsTranscriptReply b question Taken = ⊥
 IsTranscriptReply b question (Have bit) = ⊥
 IsTranscriptReply b question (Decided bit) = ⊥
 IsTranscriptReply b question (Up statements decided) = ⊥
+IsTranscriptReply b question (Links count size) = ⊥
 IsTranscriptReply b question BadLine = ⊥
 IsTranscriptReply b question BadBit = ⊥

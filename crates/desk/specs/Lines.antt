@@ -3,7 +3,7 @@ use Rattle.std.specs.Prelude.{ℕ, ◌≡◌, ◌-◌, ◌<◌, ◌≤◌, ◌==
 use Rattle.std.specs.Str.Parse.{IsNumeral, digits_value}
 use Rattle.numerals.specs.Spaces.{NoSpace}
 use Rattle.desk.specs.declared.line.LineRequest.{LineRequest}
-use Rattle.desk.specs.declared.line.LineRequest.TheVariants.{Propose, Ask, Status, Transcript}
+use Rattle.desk.specs.declared.line.LineRequest.TheVariants.{Propose, Ask, Status, Transcript, Links}
 
 -- decimal digits alone, one to five of them, that write the number
 pub record IsQuestion (digits : List ℕ) (question : ℕ) : Type 0 where
@@ -37,6 +37,7 @@ Asks text (Propose question bit) = (rest : List ℕ) × (text ≡ codes "PROPOSE
 Asks text (Ask question) = (digits : List ℕ) × (text ≡ codes "ASK " ++ digits) × IsQuestion digits question
 Asks text Status = text ≡ codes "STATUS"
 Asks text (Transcript question) = (digits : List ℕ) × (text ≡ codes "TRANSCRIPT " ++ digits) × IsQuestion digits question
+Asks text Links = text ≡ codes "LINKS"
 
 -- what is asked is a proposal
 abbrev pub IsPropose : LineRequest → Type 0
@@ -44,6 +45,7 @@ IsPropose (Propose question bit) = Unit {0}
 IsPropose (Ask question) = ⊥
 IsPropose Status = ⊥
 IsPropose (Transcript question) = ⊥
+IsPropose Links = ⊥
 
 -- a byte 13
 abbrev pub is_return : Option ℕ → Bool

@@ -2,16 +2,18 @@
 use Rattle.std.specs.Prelude.{ℕ, ◌≡◌, ◌⊎◌, ◌<◌, ◌≤◌, Bool, Option, Result, Ok, Err, List, [], ◌∷◌, ◌++◌, length}
 use Rattle.std.specs.List.{All, flat_map}
 use Rattle.numerals.specs.Lines.{NoEnd, line}
+use Rattle.node.specs.declared.link_table.LinkCount.{LinkCount}
 use Rattle.node.specs.Verdicts.{known_at, KnowsMore}
 use Rattle.node.specs.Views.{BookView}
+use Rattle.member.specs.Readers.{member_header}
 use Rattle.links.specs.Told.{Told, has_written, has_failed, has_ended, BreaksOff}
 use Rattle.desk.specs.Lines.{LineAsks, IsRequest}
 use Rattle.desk.specs.Commands.{AsksNothing, command_for}
-use Rattle.desk.specs.Answers.{IsTranscriptReply, Proposes, status_reply, verdict_reply}
+use Rattle.desk.specs.Answers.{IsTranscriptReply, Proposes, links_reply, status_reply, verdict_reply}
 use Rattle.desk.specs.Replies.{reply_text}
 use Rattle.desk.specs.declared.line.LineRequest.{LineRequest}
 use Rattle.desk.specs.declared.command.Command.{Command}
-use Rattle.desk.specs.declared.command.Command.TheVariants.{Propose, Ask, Status, Transcript}
+use Rattle.desk.specs.declared.command.Command.TheVariants.{Propose, Ask, Status, Transcript, Links}
 use Rattle.desk.specs.declared.reply.Reply.{Reply}
 use Rattle.desk.specs.declared.reply.Reply.TheVariants.{BadLine}
 use Rattle.desk.specs.declared.serving.DeskEnd.{DeskEnd}
@@ -40,6 +42,14 @@ pub record IsStatusReply {T : Type 0} (D : Type 0) (may_toss : T → ℕ → T �
   pub book : BookView D
   pub status : reply ≡ status_reply book
 
+-- how many links are up, each way no more than there are members, where a book is asked whether its member is
+pub record IsLinksReply (D : Type 0) (reply : Reply) : Type 0 where
+  pub book : BookView D
+  pub count : LinkCount
+  pub incoming : count.incoming ≤ (member_header book.member).size.n
+  pub outgoing : count.outgoing ≤ (member_header book.member).size.n
+  pub links : reply ≡ links_reply book count
+
 -- the reply to a command
 abbrev pub AnswersCommand : {T : Type 0} → Type 0 → (T → ℕ → T → Type 0) → Sitting T → Command → Reply → Sitting T → Type 0
 AnswersCommand D may_toss before (Propose question bit) reply after =
@@ -52,6 +62,7 @@ AnswersCommand D may_toss before Status reply after =
 -- no toss is drawn
 AnswersCommand D may_toss before (Transcript question) reply after =
     (after ≡ before) × (book : BookView D) × IsTranscriptReply book question reply
+AnswersCommand D may_toss before Links reply after = (after ≡ before) × IsLinksReply D reply
 
 -- the reply to a command, or the refusal where there is none
 abbrev pub AnswersRequest : {T : Type 0} → Type 0 → (T → ℕ → T → Type 0) → Sitting T → Result Command Reply → Reply → Sitting T → Type 0

@@ -1,18 +1,26 @@
 //! The replies to commands.
 
-ghost use Rattle.std.specs.Prelude.{ℕ, ◌≡◌, Bool};
+ghost use Rattle.std.specs.Prelude.{ℕ, ◌≡◌, Bool, IfOk, IfErr};
 ghost use Rattle.member.specs.Readers.{member_disk};
-ghost use Rattle.desk.specs.Answers.{IsTranscriptReply, Proposes, WhyStopped, verdict_reply, asking_reply, status_reply, refusal_reply};
-ghost use Rattle.desk.specs.declared.command.Command.TheVariants.{Propose, Ask, Status, Transcript};
+ghost use Rattle.node.specs.Transcripts.{IsDossier};
+ghost use Rattle.desk.specs.Answers.{IsDossierReply, IsTranscriptReply, MayBeShown, Proposes, WhyStopped, verdict_reply, asking_reply, links_reply, status_reply, standing_reply, standing_links, refusal_reply};
+ghost use Rattle.desk.specs.declared.command.Command.TheVariants.{Propose, Ask, Status, Transcript, Links};
 ghost use Rattle.desk.specs.declared.reply.Reply.TheVariants as reply;
 
 use crate::command::Command;
 use crate::reply::Reply;
 use disk::Disk;
 use member::MemberFault;
-use node::{Book, Naming, TranscriptFault};
+use node::{Book, Dossier, LinkCount, Naming, TranscriptFault};
 use questions::Answer;
 use rounds::Toss;
+use terms::Size;
+
+/// What a book alone counts of links.
+const NO_LINKS: LinkCount = LinkCount {
+    incoming: 0,
+    outgoing: 0,
+};
 
 /// The reply where the member refuses.
 fn refusal_reply(fault: MemberFault) -> Reply
@@ -29,7 +37,12 @@ fn refusal_reply(fault: MemberFault) -> Reply
 }
 
 /// The reply to a proposal.
-fn propose<D: Disk, J: Naming>(book: &mut Book<D, J>, question: u16, bit: bool, toss: Toss) -> Reply
+pub(crate) fn propose<D: Disk, J: Naming>(
+    book: &mut Book<D, J>,
+    question: u16,
+    bit: bool,
+    toss: Toss,
+) -> Reply
     ensures reply { Proposes book.old question bit toss.0 result book.new }
     ensures stopped { result ≡ reply.Stopped → WhyStopped D.failures book.old question bit toss.0 book.new }
     ensures memory { result ≡ reply.Memory → member_disk book.new.member ≡ member_disk book.old.member }
@@ -64,11 +77,11 @@ fn ask<D: Disk, J: Naming>(book: &Book<D, J>, question: u16) -> Reply
     }
 }
 
-/// How far the member is.
-fn status<D: Disk, J: Naming>(book: &Book<D, J>) -> Reply
-    ensures { result ≡ status_reply book.now }
+/// The reply for how far a member is.
+pub(crate) fn standing_reply(status: Option<(u64, u16)>) -> Reply
+    ensures { result ≡ standing_reply status }
 {
-    match book.status() {
+    match status {
         Some((statements, decided)) => Reply::Up {
             statements,
             decided,
@@ -77,17 +90,63 @@ fn status<D: Disk, J: Naming>(book: &Book<D, J>) -> Reply
     }
 }
 
-/// What was heard of a question, if it shows the decision.
-pub(crate) fn transcribe<D: Disk, J: Naming>(book: &Book<D, J>, question: u16) -> Reply
-    ensures { IsTranscriptReply book.now question result }
+/// How far the member is.
+fn status<D: Disk, J: Naming>(book: &Book<D, J>) -> Reply
+    ensures { result ≡ status_reply book.now }
 {
-    if question >= book.header().size().questions() {
-        return Reply::BadQuestion;
+    standing_reply(book.status())
+}
+
+/// The reply that so many links of a member of a cluster of that size are up, if the member is, of which is told how far it is.
+pub(crate) fn standing_links(status: Option<(u64, u16)>, count: LinkCount, size: Size) -> Reply
+    ensures { result ≡ standing_links status count size }
+{
+    match status {
+        Some(_) => Reply::Links { count, size },
+        None => Reply::Stopped,
     }
+}
+
+/// That so many links are up, if the member is.
+fn links_reply<D: Disk, J: Naming>(book: &Book<D, J>, count: LinkCount) -> Reply
+    ensures { result ≡ links_reply book.now count }
+{
     if book.is_stopped() {
         return Reply::Stopped;
     }
-    match book.transcript(question) {
+    let size = book.header().size();
+    Reply::Links { count, size }
+}
+
+/// What a transcript of a question is made of, or the reply where there is none.
+pub(crate) fn dossier_of<D: Disk, J: Naming>(
+    book: &Book<D, J>,
+    question: u16,
+) -> Result<Dossier, Reply>
+    ensures ok { IfOk result (λ dossier. MayBeShown book.now question × IsDossier book.now question dossier) }
+    ensures err { IfErr result (IsTranscriptReply book.now question) }
+{
+    if question >= book.header().size().questions() {
+        return Err(Reply::BadQuestion);
+    }
+    if book.is_stopped() {
+        return Err(Reply::Stopped);
+    }
+    match book.dossier(question) {
+        Ok(dossier) => Ok(dossier),
+        Err(TranscriptFault::NoSuchQuestion) => Err(Reply::BadQuestion),
+        Err(TranscriptFault::Undecided) => Err(Reply::Undecided),
+        Err(TranscriptFault::Thin) => Err(Reply::Thin),
+        Err(TranscriptFault::Memory) => Err(Reply::Memory),
+    }
+}
+
+/// What was heard of a question, if it shows the decision.
+pub(crate) fn transcript_reply(dossier: Dossier) -> Reply
+    ensures { IsDossierReply dossier result }
+{
+    let question = dossier.question();
+    match dossier.transcript() {
         Ok(transcript) => Reply::Transcript {
             question,
             transcript,
@@ -96,6 +155,16 @@ pub(crate) fn transcribe<D: Disk, J: Naming>(book: &Book<D, J>, question: u16) -
         Err(TranscriptFault::Undecided) => Reply::Undecided,
         Err(TranscriptFault::Thin) => Reply::Thin,
         Err(TranscriptFault::Memory) => Reply::Memory,
+    }
+}
+
+/// What was heard of a question, if it shows the decision.
+fn transcribe<D: Disk, J: Naming>(book: &Book<D, J>, question: u16) -> Reply
+    ensures { IsTranscriptReply book.now question result }
+{
+    match dossier_of(book, question) {
+        Ok(dossier) => transcript_reply(dossier),
+        Err(reply) => reply,
     }
 }
 
@@ -108,7 +177,7 @@ pub(crate) fn transcribe<D: Disk, J: Naming>(book: &Book<D, J>, question: u16) -
 /// - [`Reply::Memory`] where memory was refused: the disk is as it was, and the member is stopped from now on;
 /// - [`Reply::BadQuestion`] where there is no such question, which changes nothing.
 ///
-/// The other commands change nothing. A stopped member still answers [`Command::Ask`] from what it saved, and
+/// The other commands change nothing. A book knows no links, so by it none is up: [`crate::serve`] counts them. A stopped member still answers [`Command::Ask`] from what it saved, and
 /// [`Command::Transcript`] with [`Reply::Stopped`]. A transcript takes memory for what was heard of its question and for the
 /// audit of it; where that is refused, the reply is [`Reply::Memory`], and the member goes on.
 pub fn answer<D: Disk, J: Naming>(book: &mut Book<D, J>, command: &Command, toss: Toss) -> Reply
@@ -123,11 +192,14 @@ pub fn answer<D: Disk, J: Naming>(book: &mut Book<D, J>, command: &Command, toss
     ensures status { command.now ≡ Status → (book.new ≡ book.old) × (result ≡ status_reply book.old) }
     ensures transcript { (question : ℕ) → command.now ≡ Transcript question →
         (book.new ≡ book.old) × IsTranscriptReply book.old question result }
+    ensures links { command.now ≡ Links →
+        (book.new ≡ book.old) × (result ≡ links_reply book.old (record { incoming = 0; outgoing = 0 })) }
 {
     match *command {
         Command::Propose { question, bit } => propose(book, question, bit, toss),
         Command::Ask { question } => ask(book, question),
         Command::Status => status(book),
         Command::Transcript { question } => transcribe(book, question),
+        Command::Links => links_reply(book, NO_LINKS),
     }
 }

@@ -32,6 +32,8 @@ pub enum Command {
         /// The question, counted from 0, as in a proposal.
         question: u16,
     },
+    /// How many of the member's links are up.
+    Links,
 }
 
 /// The question, if there are so many.
@@ -51,6 +53,7 @@ fn command_for(asked: LineRequest, questions: u16) -> Result<Command, Reply>
 {
     match asked {
         LineRequest::Status => Ok(Command::Status),
+        LineRequest::Links => Ok(Command::Links),
         LineRequest::Ask { question } => match below(question, questions) {
             Ok(question) => Ok(Command::Ask { question }),
             Err(refusal) => Err(refusal),
@@ -73,7 +76,7 @@ fn command_for(asked: LineRequest, questions: u16) -> Result<Command, Reply>
 /// before the end of the input; one byte 13 at its end is dropped. It takes no memory.
 ///
 /// Refused with the first that holds: [`Reply::BadLine`], where the line has more than 4,096 bytes or is none of
-/// `PROPOSE q v`, `ASK q`, `STATUS` and `TRANSCRIPT q`, with one space between two words and one to five decimal digits for q;
+/// `PROPOSE q v`, `ASK q`, `STATUS`, `TRANSCRIPT q` and `LINKS`, with one space between two words and one to five decimal digits for q;
 /// [`Reply::BadQuestion`], where there is no such question; [`Reply::BadBit`], where v is neither `0` nor `1`.
 pub fn parse(line: &[u8], size: Size) -> Result<Command, Reply>
     ensures asked { (asked : LineRequest) → LineAsks line.now asked → result ≡ command_for size.questions asked }

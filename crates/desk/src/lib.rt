@@ -5,6 +5,7 @@
 //! | `PROPOSE q v` | `OK` where the bit v is taken, `HAVE b` with the bit that stands, or `STOPPED` |
 //! | `ASK q` | `DECIDED b` or `UNDECIDED` |
 //! | `STATUS` | `UP m d`, with m statements in the outbox and d questions decided, or `STOPPED` |
+//! | `LINKS` | `LINKS i o n w`: links come in from i of n members, o go out, w = n - t are needed each way; or `STOPPED` |
 //! | `TRANSCRIPT q` | `STOPPED`, `UNDECIDED`, `THIN`, or `transcript q bit b count c` and c lines, each a sender and a frame |
 //!
 //! Refusals, the first that holds: `ERR 1 line`, `ERR 2 question`, `ERR 3 bit`; `ERR 4 memory` where memory is refused.

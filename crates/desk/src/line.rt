@@ -20,6 +20,8 @@ pub(crate) enum LineRequest {
     Status,
     /// What was heard of a question that is decided.
     Transcript { question: u64 },
+    /// How many links are up.
+    Links,
 }
 
 /// The number that one to five decimal digits write.
@@ -102,6 +104,9 @@ fn asked(text: &[u8]) -> Option<LineRequest>
 {
     if is(text, "STATUS") {
         return Some(LineRequest::Status);
+    }
+    if is(text, "LINKS") {
+        return Some(LineRequest::Links);
     }
     match behind(text, "ASK ") {
         Some(digits) => match question(digits) {

@@ -1,7 +1,10 @@
 //! The replies to lines.
 
-use node::Transcript;
+ghost use Rattle.std.specs.Prelude.{◌≡◌, ◌-◌};
+
+use node::{LinkCount, Transcript};
 use std::fmt;
+use terms::Size;
 use transcripts::TranscriptText;
 
 /// The reply to a line, one variant for each. Its text has no byte 10 at its end.
@@ -31,6 +34,13 @@ pub enum Reply {
         /// Its decision, and what was heard of it.
         transcript: Transcript,
     },
+    /// How many of the member's links are up, the one to itself among them.
+    Links {
+        /// How many of them.
+        count: LinkCount,
+        /// The size of the cluster: there are n links each way, and n - t of them are needed to decide.
+        size: Size,
+    },
     /// The question was decided in an earlier life, and what was heard since then is no proof of the decision.
     Thin,
     /// 1: there is no such line.
@@ -41,6 +51,14 @@ pub enum Reply {
     BadBit,
     /// 4: memory was refused in this call. Where it was refused to the member, that is stopped from now on.
     Memory,
+}
+
+/// How many links each way a member of a cluster of that size needs to decide.
+pub(crate) fn needed(size: Size) -> u8
+    ensures { result ≡ size.n - size.t }
+{
+    size.recall();
+    size.n() - size.t()
 }
 
 impl fmt::Display for Reply {
@@ -72,6 +90,15 @@ impl fmt::Display for Reply {
                     pairs: &transcript.heard,
                 };
                 write!(f, "{text}")
+            }
+            Reply::Links { count, size } => {
+                let LinkCount { incoming, outgoing } = *count;
+                write!(
+                    f,
+                    "LINKS {incoming} {outgoing} {} {}",
+                    size.n(),
+                    needed(*size)
+                )
             }
             Reply::Thin => f.write_str("THIN"),
             Reply::BadLine => f.write_str("ERR 1 line"),

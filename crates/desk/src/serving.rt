@@ -1,16 +1,16 @@
 //! A client's session: begin at `serve`, last.
 
-ghost use Rattle.std.specs.Prelude.{◌≡◌, ◌∷◌, ℕ, List, [], Bool, false, length, IfErr, OnOk};
-ghost use Rattle.member.specs.Readers.{member_saved};
+ghost use Rattle.std.specs.Prelude.{◌≡◌, ◌∷◌, ℕ, List, [], IfErr, OnOk};
 ghost use Rattle.node.specs.Verdicts.{KnowsMore, known_at};
 ghost use Rattle.links.specs.Told.{Told, has_ended};
 ghost use Rattle.node.specs.Views.{BookView};
-ghost use Rattle.desk.specs.Answers.{IsTranscriptReply, Proposes, verdict_reply, status_reply};
-ghost use Rattle.desk.specs.Sessions.{Sitting, sitting, AnswersLine, IsProposalReply, IsStatusReply, Serves};
+ghost use Rattle.desk.specs.Answers.{IsTranscriptReply, verdict_reply};
+ghost use Rattle.desk.specs.Sessions.{Sitting, sitting, AnswersLine, IsLinksReply, IsProposalReply, IsStatusReply, Serves};
 ghost use Rattle.desk.specs.Turns.{FailsToSay, Refuses, Says, Serving};
-ghost use Rattle.desk.specs.declared.command.Command.TheVariants.{Propose, Status};
 
-use crate::answering::{answer, transcribe, verdict_reply};
+use crate::answering::{
+    dossier_of, propose, standing_links, standing_reply, transcript_reply, verdict_reply,
+};
 use crate::command::{Command, parse};
 use crate::held::{HeldLine, LineStep};
 use crate::reply::Reply;
@@ -18,8 +18,8 @@ use crate::request::is_request;
 use crate::writing::write_reply;
 use disk::Disk;
 use links::Stream;
-use node::{Board, Book, Hub, Naming, Pass};
-use rounds::{Toss, Tosser};
+use node::{Board, Hub, Naming, Pass};
+use rounds::Tosser;
 use std::sync::Wait;
 
 /// The most bytes of a read.
@@ -41,31 +41,13 @@ pub enum DeskEnd {
 
 /// What the board has of a question. It takes no lock.
 fn ask<D: Disk, J: Naming>(hub: &Hub<D, J>, pass: &mut Pass, question: u16) -> Reply
-    requires { pass.old.cells ≡ J.names }
-    ensures cells { pass.new.cells ≡ J.names }
+    requires { pass.old.cells ≡ J.names.cells }
+    ensures cells { pass.new.cells ≡ J.names.cells }
     ensures more { KnowsMore pass.old.known pass.new.known }
     ensures reply { result ≡ verdict_reply (known_at pass.new.known question) }
 {
     let board: &Board = hub.board();
     verdict_reply(board.ask(pass, question))
-}
-
-/// Does a command on the book, once, and says whether the member has more records than before.
-fn answer_once<D: Disk, J: Naming>(
-    book: &mut Book<D, J>,
-    command: &Command,
-    toss: Toss,
-) -> (Reply, bool)
-    ensures propose { (question : ℕ) (bit : Bool) → command.now ≡ Propose question bit →
-        Proposes book.old question bit toss.0 result.0 book.new }
-    ensures status { command.now ≡ Status → (book.new ≡ book.old) × (result.0 ≡ status_reply book.old) }
-    ensures quiet { result.1 ≡ false →
-        length (member_saved book.new.member) ≡ length (member_saved book.old.member) }
-{
-    let before = book.records().len();
-    let reply = answer(book, command, toss);
-    let after = book.records().len();
-    (reply, after != before)
 }
 
 /// Answers a line that ends the session with [`Reply::BadLine`], and says why it ended.
@@ -86,44 +68,63 @@ struct Server<'a, D: Disk, J: Naming, R> {
 }
 
 impl<D: Disk, J: Naming, R: Wait> Server<'_, D, J, R> {
-    /// Does a command under the lock. Where the member has more records than before, what it says is shown to who writes links.
-    fn answer_alone<T: Tosser>(&self, tosser: &mut T, command: &Command) -> Reply
-        ensures propose { (question : ℕ) (bit : Bool) → command.now ≡ Propose question bit →
-            IsProposalReply D T.may_toss tosser.old question bit result tosser.new }
-        ensures status { command.now ≡ Status → IsStatusReply D T.may_toss tosser.old result tosser.new }
-    {
-        let toss = tosser.toss();
-        let mut book = self.hub.lock(self.rt);
-        let (reply, has_news) = answer_once(&mut *book, command, toss);
-        if has_news {
-            self.hub.post(self.rt, &book);
-        }
-        reply
-    }
-
-    /// What was heard of a question, if it shows the decision. The lock is held until it is copied, and not while it is written.
+    /// What was heard of a question, if it shows the decision. The lock is held until it is known where it stands, and not while
+    /// it is gone through and written.
     fn transcript_of(&self, question: u16) -> Reply
         ensures { (book : BookView D) × IsTranscriptReply book question result }
     {
-        let book = self.hub.lock(self.rt);
-        transcribe(&*book, question)
+        let book = self.hub.read(self.rt);
+        let asked = dossier_of(&*book, question);
+        drop(book);
+        match asked {
+            Ok(dossier) => transcript_reply(dossier),
+            Err(reply) => reply,
+        }
+    }
+
+    /// Proposes a bit, once the member speaks. What comes of it is shown to others before the book is given back.
+    fn propose<T: Tosser>(&self, tosser: &mut T, question: u16, bit: bool) -> Reply
+        ensures { IsProposalReply D T.may_toss tosser.old question bit result tosser.new }
+    {
+        self.hub.await_voice(self.rt);
+        let toss = tosser.toss();
+        let mut book = self.hub.lock(self.rt);
+        let reply = propose(&mut *book, question, bit, toss);
+        self.hub.post(self.rt, &book);
+        reply
+    }
+
+    /// How far the member is, by what the hub shows of it. A toss is drawn, as for a proposal.
+    fn status<T: Tosser>(&self, tosser: &mut T) -> Reply
+        ensures { IsStatusReply D T.may_toss tosser.old result tosser.new }
+    {
+        let _toss = tosser.toss();
+        standing_reply(self.hub.status(self.rt))
+    }
+
+    /// How many links are up, if the member is, by what the hub shows of it.
+    fn links(&self) -> Reply
+        ensures { IsLinksReply D result }
+    {
+        let count = self.hub.links(self.rt);
+        let size = self.hub.header().size();
+        standing_links(self.hub.status(self.rt), count, size)
     }
 
     /// The reply to a line.
     fn reply_to<T: Tosser>(&self, pass: &mut Pass, tosser: &mut T, line: &[u8]) -> Reply
-        requires { pass.old.cells ≡ J.names }
-        ensures cells { pass.new.cells ≡ J.names }
+        requires { pass.old.cells ≡ J.names.cells }
+        ensures cells { pass.new.cells ≡ J.names.cells }
         ensures reply { AnswersLine D T.may_toss self.now.hub.now.size.questions (sitting pass.old.known tosser.old) line.now result
             (sitting pass.new.known tosser.new) }
     {
         match parse(line, self.hub.header().size()) {
             Err(refusal) => refusal,
             Ok(Command::Ask { question }) => ask(self.hub, pass, question),
-            Ok(Command::Propose { question, bit }) => {
-                self.answer_alone(tosser, &Command::Propose { question, bit })
-            }
-            Ok(Command::Status) => self.answer_alone(tosser, &Command::Status),
+            Ok(Command::Propose { question, bit }) => self.propose(tosser, question, bit),
+            Ok(Command::Status) => self.status(tosser),
             Ok(Command::Transcript { question }) => self.transcript_of(question),
+            Ok(Command::Links) => self.links(),
         }
     }
 
@@ -135,8 +136,8 @@ impl<D: Disk, J: Naming, R: Wait> Server<'_, D, J, R> {
         held: &mut HeldLine,
         stream: &mut S,
     ) -> Result<(), DeskEnd>
-        requires { pass.old.cells ≡ J.names }
-        ensures cells { pass.new.cells ≡ J.names }
+        requires { pass.old.cells ≡ J.names.cells }
+        ensures cells { pass.new.cells ≡ J.names.cells }
         ensures held { held.new ≡ [] }
         ensures ok { OnOk result (Says (λ said. AnswersLine D T.may_toss self.now.hub.now.size.questions (sitting pass.old.known tosser.old)
             held.old said (sitting pass.new.known tosser.new)) (S.told stream.old) (S.told stream.new)) }
@@ -158,8 +159,8 @@ impl<D: Disk, J: Naming, R: Wait> Server<'_, D, J, R> {
         stream: &mut S,
         byte: u8,
     ) -> Result<(), DeskEnd>
-        requires { pass.old.cells ≡ J.names }
-        ensures cells { pass.new.cells ≡ J.names }
+        requires { pass.old.cells ≡ J.names.cells }
+        ensures cells { pass.new.cells ≡ J.names.cells }
         ensures on { (begun : Sitting T) (old : Told) (more : List ℕ) →
             Serving (AnswersLine D T.may_toss self.now.hub.now.size.questions) begun (sitting pass.old.known tosser.old) old (S.told stream.old) held.old (byte ∷ more) →
             OnOk result (Serving (AnswersLine D T.may_toss self.now.hub.now.size.questions) begun (sitting pass.new.known tosser.new) old (S.told stream.new) held.new more) }
@@ -188,8 +189,8 @@ impl<D: Disk, J: Naming, R: Wait> Server<'_, D, J, R> {
         stream: &mut S,
         piece: &[u8],
     ) -> Result<(), DeskEnd>
-        requires { pass.old.cells ≡ J.names }
-        ensures cells { pass.new.cells ≡ J.names }
+        requires { pass.old.cells ≡ J.names.cells }
+        ensures cells { pass.new.cells ≡ J.names.cells }
         ensures on { (begun : Sitting T) (old : Told) →
             Serving (AnswersLine D T.may_toss self.now.hub.now.size.questions) begun (sitting pass.old.known tosser.old) old (S.told stream.old) held.old piece.now →
             OnOk result (Serving (AnswersLine D T.may_toss self.now.hub.now.size.questions) begun (sitting pass.new.known tosser.new) old (S.told stream.new) held.new []) }
@@ -213,8 +214,8 @@ impl<D: Disk, J: Naming, R: Wait> Server<'_, D, J, R> {
         held: &mut HeldLine,
         stream: &mut S,
     ) -> DeskEnd
-        requires { pass.old.cells ≡ J.names }
-        ensures cells { pass.new.cells ≡ J.names }
+        requires { pass.old.cells ≡ J.names.cells }
+        ensures cells { pass.new.cells ≡ J.names.cells }
         ensures off { (begun : Sitting T) (old : Told) (before : Told) → S.told stream.old ≡ has_ended before →
             Serving (AnswersLine D T.may_toss self.now.hub.now.size.questions) begun (sitting pass.old.known tosser.old) old before held.old [] →
             Serves (AnswersLine D T.may_toss self.now.hub.now.size.questions) begun (sitting pass.new.known tosser.new) old (S.told stream.new) result }
@@ -236,8 +237,8 @@ impl<D: Disk, J: Naming, R: Wait> Server<'_, D, J, R> {
         held: &mut HeldLine,
         stream: &mut S,
     ) -> Result<(), DeskEnd>
-        requires { pass.old.cells ≡ J.names }
-        ensures cells { pass.new.cells ≡ J.names }
+        requires { pass.old.cells ≡ J.names.cells }
+        ensures cells { pass.new.cells ≡ J.names.cells }
         ensures on { (begun : Sitting T) (old : Told) →
             Serving (AnswersLine D T.may_toss self.now.hub.now.size.questions) begun (sitting pass.old.known tosser.old) old (S.told stream.old) held.old [] →
             OnOk result (Serving (AnswersLine D T.may_toss self.now.hub.now.size.questions) begun (sitting pass.new.known tosser.new) old (S.told stream.new) held.new []) }
@@ -258,9 +259,10 @@ impl<D: Disk, J: Naming, R: Wait> Server<'_, D, J, R> {
 /// stream fails.
 ///
 /// A line ends at the byte 10, and bytes behind the last one are a line too. `ASK` goes by the board and takes no lock;
-/// `PROPOSE` and `STATUS` take the book's, and a toss each; `TRANSCRIPT` takes the lock and no toss. What the member says
-/// because of a proposal is shown to who writes links. Replies are written without memory, and no lock is held while they are. The pass is of the hub's
-/// board, and knows each decision that was written, so a decision that was told is told again.
+/// `PROPOSE`, which waits until the member speaks, and `TRANSCRIPT` take the book's; `STATUS` and `LINKS` only that of what the
+/// hub shows, behind which nobody waits for a disk. `PROPOSE` and `STATUS` take a toss each. What comes of a proposal is shown
+/// before its reply is written, so a `STATUS` behind it counts it. Replies are written without memory, and no lock is held while
+/// they are. The pass is of the hub's board, and knows each decision that was written, so a decision that was told is told again.
 ///
 /// It may wait for the stream and for the lock. The stream stays open.
 pub fn serve<D: Disk, J: Naming, S: Stream, T: Tosser, R: Wait>(
@@ -270,8 +272,8 @@ pub fn serve<D: Disk, J: Naming, S: Stream, T: Tosser, R: Wait>(
     tosser: &mut T,
     stream: &mut S,
 ) -> DeskEnd
-    requires { pass.old.cells ≡ J.names }
-    ensures cells { pass.new.cells ≡ J.names }
+    requires { pass.old.cells ≡ J.names.cells }
+    ensures cells { pass.new.cells ≡ J.names.cells }
     // Each reply is that to its line, by what the pass knows then and with the tosses of the tosser, one a command.
     ensures serves { Serves (AnswersLine D T.may_toss hub.now.size.questions) (sitting pass.old.known tosser.old)
         (sitting pass.new.known tosser.new) (S.told stream.old) (S.told stream.new) result }

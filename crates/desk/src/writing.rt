@@ -7,11 +7,12 @@ ghost use Rattle.links.specs.Told.{has_written, BreaksOff};
 ghost use Rattle.desk.specs.Replies.{reply_text};
 ghost use Rattle.desk.specs.declared.reply.Reply.TheVariants as reply;
 
-use crate::reply::Reply;
+use crate::reply::{Reply, needed};
 use crate::serving::DeskEnd;
 use itoa::Buffer;
 use links::{Stream, write_all};
-use node::Transcript;
+use node::{LinkCount, Transcript};
+use terms::Size;
 use transcripts::{Block, put, put_head, put_pair};
 
 /// The most bytes of a line of a transcript.
@@ -40,6 +41,26 @@ fn write_up<S: Stream>(stream: &mut S, statements: u64, decided: u16) -> Result<
     put(&mut block, digits.format(statements).as_bytes());
     put(&mut block, b" ");
     put(&mut block, digits.format(decided).as_bytes());
+    put(&mut block, b"\n");
+    write_bytes(stream, &block)
+}
+
+/// Writes how many links are up, of a member of a cluster of that size.
+fn write_links<S: Stream>(stream: &mut S, count: LinkCount, size: Size) -> Result<(), DeskEnd>
+    ensures ok { OnOk result (S.told stream.new ≡ has_written (S.told stream.old) (line (reply_text (reply.Links count size)))) }
+    ensures err { IfErr result (λ why. (why ≡ DeskEnd.Lost)
+        × BreaksOff (S.told stream.old) (S.told stream.new) (line (reply_text (reply.Links count size)))) }
+{
+    let mut digits = Buffer::new();
+    let mut block = Block::new();
+    put(&mut block, b"LINKS ");
+    put(&mut block, digits.format(count.incoming).as_bytes());
+    put(&mut block, b" ");
+    put(&mut block, digits.format(count.outgoing).as_bytes());
+    put(&mut block, b" ");
+    put(&mut block, digits.format(size.n()).as_bytes());
+    put(&mut block, b" ");
+    put(&mut block, digits.format(needed(size)).as_bytes());
     put(&mut block, b"\n");
     write_bytes(stream, &block)
 }
@@ -112,6 +133,7 @@ pub(crate) fn write_reply<S: Stream>(stream: &mut S, reply: &Reply) -> Result<()
             question,
             transcript,
         } => write_transcript(stream, *question, transcript),
+        Reply::Links { count, size } => write_links(stream, *count, *size),
         Reply::Thin => write_bytes(stream, b"THIN\n"),
         Reply::BadLine => write_bytes(stream, b"ERR 1 line\n"),
         Reply::BadQuestion => write_bytes(stream, b"ERR 2 question\n"),

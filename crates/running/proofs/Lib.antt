@@ -1,5 +1,7 @@
 mod Beginnings
 mod Coming
+mod Greeted
 mod Hellos
+mod Lives
 mod Looking
 mod Tables

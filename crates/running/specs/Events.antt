@@ -9,6 +9,7 @@ use Rattle.wire.specs.declared.message.WireFault.TheVariants.{BadLength, BadType
 use Rattle.links.specs.declared.ends.LinkEnd.{LinkEnd}
 use Rattle.links.specs.declared.ends.LinkEnd.TheVariants as cause
 use Rattle.running.specs.Callers.{caller_text}
+use Rattle.running.specs.Dialling.{dial_fault_text}
 use Rattle.running.specs.declared.callers.Caller.{Caller}
 use Rattle.running.specs.declared.refusals.Refusal.{Refusal}
 use Rattle.running.specs.declared.refusals.Refusal.TheVariants as refusal
@@ -61,6 +62,12 @@ abbrev pub refused_text : Refusal → Option Caller → ℕ → List ℕ
 refused_text (refusal.From host end) caller count =
     codes "refused from " ++ (ip_text host ++ (codes " " ++ (cause_text end ++ (said_text caller ++ times_text count))))
 refused_text (refusal.By peer) caller count = codes "link-to " ++ (decimal peer ++ (codes " refused" ++ times_text count))
+refused_text (refusal.Unreachable peer fault) caller count =
+    codes "link-to " ++ (decimal peer ++ (codes " unreachable: " ++ (dial_fault_text fault ++ times_text count)))
+refused_text (refusal.Displaced host) caller count =
+    codes "client from " ++ (ip_text host ++ (codes " closed for another" ++ times_text count))
+refused_text (refusal.Unsteady peer) caller count = codes "links of " ++ (decimal peer ++ (codes " come and go" ++ times_text count))
+refused_text refusal.Threadless caller count = codes "thread refused" ++ times_text count
 
 abbrev pub refusal_text : RefusalCount → List ℕ
 refusal_text refused = refused_text refused.refusal refused.caller refused.count

@@ -11,6 +11,7 @@ ghost use Rattle.running.specs.Hosts.{MaySpeak};
 ghost use Rattle.running.specs.declared.callers.Claim.{Claim};
 
 use crate::hosts::{Peers, may_speak};
+use crate::life::Life;
 use std::fmt;
 use std::net::IpAddr;
 use terms::Header;
@@ -93,8 +94,13 @@ impl Claim {
     }
 
     /// In what it differs from what the header's member, with these peers, expects from that host.
-    fn difference(&self, header: &Header, peers: &Peers, host: IpAddr) -> Option<Difference>
-        ensures { Differs self.now header.now (MaySpeak peers.now.addresses.items peers.now.hosts self.now.from host) result }
+    fn difference<J: Life>(
+        &self,
+        header: &Header,
+        peers: &Peers<J>,
+        host: IpAddr,
+    ) -> Option<Difference>
+        ensures { Differs self.now header.now (MaySpeak J.addresses J.hosts self.now.from host) result }
     {
         if self.version != 1 && self.version != 2 {
             return Some(Difference::Version(self.version));
@@ -153,10 +159,14 @@ pub struct Caller {
 
 impl Caller {
     /// Who that is, to the header's member with these peers, from that host.
-    pub(crate) fn of(claim: &Claim, header: &Header, peers: &Peers, host: IpAddr) -> Caller
+    pub(crate) fn of<J: Life>(
+        claim: &Claim,
+        header: &Header,
+        peers: &Peers<J>,
+        host: IpAddr,
+    ) -> Caller
         ensures member { result.member ≡ claim.now.from }
-        ensures differs { Differs claim.now header.now
-            (MaySpeak peers.now.addresses.items peers.now.hosts claim.now.from host) result.differs }
+        ensures differs { Differs claim.now header.now (MaySpeak J.addresses J.hosts claim.now.from host) result.differs }
     {
         Caller {
             member: claim.from,

@@ -2,7 +2,10 @@
 
 ghost use Rattle.links.specs.Net.{told_net, is_closed_net};
 
+use crate::doors::Listener;
+use crate::life::Life;
 use crate::machine::Machine;
+use crate::refusals::Refusal;
 use crate::shared::{Chair, Shared};
 use crate::slots::Slots;
 use crate::sockets::client_stream;
@@ -10,8 +13,7 @@ use desk::{DeskEnd, serve};
 use disk::Disk;
 use links::{NetStream, Stream, StreamFault};
 use member::Sealed;
-use node::{Board, Naming};
-use std::net::TcpListener;
+use node::Board;
 use std::sync::{Mutex, Wait};
 use std::thread;
 
@@ -55,12 +57,12 @@ impl<R: Wait> Stream for Client<'_, R> {
 }
 
 /// Answers the client in a chair; none where there is no memory for its pass, or its socket can't be set up.
-fn serve_chair<D: Disk, J: Naming, R: Machine>(
+fn serve_chair<D: Disk, J: Life, R: Machine>(
     rt: &R,
     it: &Shared<D, J>,
     chair: Chair,
 ) -> Option<DeskEnd> {
-    let tosser = it.desk_tossers.get(usize::from(chair.slot))?;
+    let tosser = it.desk_tossers.get(usize::from(chair.slot.slot()))?;
     let copy = it.sockets.lock(rt).copy(chair.socket)?;
     let Ok(stream) = client_stream(copy) else {
         return None;
@@ -69,7 +71,7 @@ fn serve_chair<D: Disk, J: Naming, R: Machine>(
         rt,
         stream,
         slots: &it.slots,
-        slot: chair.slot,
+        slot: chair.slot.slot(),
     };
     let board: &Board = it.hub.board();
     let Ok(mut pass) = board.pass() else {
@@ -81,20 +83,16 @@ fn serve_chair<D: Disk, J: Naming, R: Machine>(
 }
 
 /// A session of the client in a chair.
-pub(crate) fn answer_client<D: Disk, J: Naming, R: Machine>(
-    rt: &R,
-    it: &Shared<D, J>,
-    chair: Chair,
-) {
+pub(crate) fn answer_client<D: Disk, J: Life, R: Machine>(rt: &R, it: &Shared<D, J>, chair: Chair) {
     let _end = serve_chair(rt, it, chair);
     it.leave_chair(rt, chair);
 }
 
 /// Takes clients in, each in a thread of its own, until the end.
-pub(crate) fn accept_clients<D: Disk + Send, J: Naming + Send + Sync, R: Machine>(
+pub(crate) fn accept_clients<D: Disk + Send, J: Life + Send + Sync, R: Machine>(
     rt: &R,
     it: &Shared<D, J>,
-    listener: &TcpListener,
+    listener: &Listener,
 ) {
     thread::scope(thread::scope_env(), rt, |scope| {
         for _ in 0..u64::MAX {
@@ -103,6 +101,7 @@ pub(crate) fn accept_clients<D: Disk + Send, J: Naming + Send + Sync, R: Machine
                 break;
             };
             if scope.spawn(move || answer_client(rt, it, chair)).is_err() {
+                it.log_refusal(rt, Refusal::Threadless, None);
                 it.leave_chair(rt, chair);
             }
         }

@@ -3,6 +3,7 @@
 ghost use Rattle.std.specs.Prelude.{◌≡◌};
 ghost use Rattle.running.specs.Events.{cause_text, fault_text, version_text};
 
+use crate::dialling::dial_fault_text;
 use crate::refusals::{Refusal, RefusalCount};
 use links::LinkEnd;
 use std::fmt;
@@ -24,8 +25,8 @@ pub enum LogEvent {
     LinkUpAhead(u8, u64, Version),
     /// A link to this member isn't written any more, for this cause.
     LinkDownTo(u8, LinkEnd),
-    /// Connections to the links' address were closed before they became links, or a peer closed links to it before it
-    /// welcomed them.
+    /// Connections to the links' address were closed before they became links, or links to a peer came to nothing, or clients
+    /// were closed for others.
     Refused(RefusalCount),
     /// A question was decided for this bit.
     Decided(u16, bool),
@@ -145,6 +146,18 @@ impl fmt::Display for RefusalCount {
                 write!(f, "refused from {host} {}{times}", cause_text(end))
             }
             (Refusal::By(peer), _) => write!(f, "link-to {peer} refused{times}"),
+            (Refusal::Unreachable(peer, fault), _) => {
+                write!(
+                    f,
+                    "link-to {peer} unreachable: {}{times}",
+                    dial_fault_text(fault)
+                )
+            }
+            (Refusal::Displaced(host), _) => {
+                write!(f, "client from {host} closed for another{times}")
+            }
+            (Refusal::Unsteady(peer), _) => write!(f, "links of {peer} come and go{times}"),
+            (Refusal::Threadless, _) => write!(f, "thread refused{times}"),
         }
     }
 }

@@ -3,6 +3,8 @@ ghost use Rattle.std.specs.Prelude.{◌≡◌, ◌↔◌, IsTrue, IfSome, IfNone
 ghost use Rattle.std.specs.Net.Socket.{socket_ip};
 ghost use Rattle.running.specs.Hosts.{MaySpeak};
 
+use crate::life::Life;
+use std::marker::PhantomData;
 use std::net::{IpAddr, SocketAddr};
 
 /// From where links are taken. A link's sender is the member that its Hello names; who may say so is all that ties the name
@@ -15,14 +17,37 @@ pub enum Hosts {
     Any,
 }
 
-/// The members' addresses, by their numbers, and from where their links are taken.
+/// The members' addresses, by their numbers, and from where their links are taken: those that the run was given, and no
+/// others.
 #[derive(Drop)]
-pub(crate) struct Peers {
-    pub(crate) addresses: Vec<SocketAddr>,
-    pub(crate) hosts: Hosts,
+pub(crate) struct Peers<J: Life> {
+    addresses: Vec<SocketAddr>,
+    hosts: Hosts,
+    of: PhantomData<J>,
+    ghost addresses_given: { addresses.items ≡ J.addresses },
+    ghost hosts_given: { hosts ≡ J.hosts },
 }
 
-impl Peers {
+impl<J: Life> Peers<J> {
+    /// The peers that the run was given.
+    pub(crate) fn new(addresses: Vec<SocketAddr>, hosts: Hosts) -> Peers<J>
+        requires addresses { addresses.items ≡ J.addresses }
+        requires hosts { hosts ≡ J.hosts }
+    {
+        Peers {
+            addresses,
+            hosts,
+            of: PhantomData,
+        }
+    }
+
+    /// Returns the address at which the member of that number listens, or `None` for a number past the last.
+    pub(crate) fn address_of(&self, peer: u8) -> Option<SocketAddr>
+        ensures { result ≡ slice_get J.addresses peer }
+    {
+        self.addresses.get(usize::from(peer)).copied()
+    }
+
     /// The first member of the host, which stands for all that comes from there; none where no member is of it. From any
     /// host it is member 0.
     pub(crate) fn first_of(&self, host: IpAddr) -> Option<u8> {
@@ -52,10 +77,13 @@ impl Peers {
     }
 }
 
-/// A member whose link comes from a host that may speak for it.
-#[derive(Clone, Copy, Drop)]
-pub(crate) struct Sender {
+/// A member whose link comes from a host that may speak for it, by the peers that the run was given.
+#[derive(Drop)]
+pub(crate) struct Sender<J: Life> {
     peer: u8,
+    host: IpAddr,
+    of: PhantomData<J>,
+    ghost may_speak: { MaySpeak J.addresses J.hosts peer host },
 }
 
 /// The host of a member's address, if it has one.
@@ -69,8 +97,8 @@ fn host_of(addresses: &[SocketAddr], peer: u8) -> Option<IpAddr>
 }
 
 /// Whether a link that names this member in its Hello may come from the host.
-pub(crate) fn may_speak(peers: &Peers, peer: u8, host: IpAddr) -> bool
-    ensures { IsTrue result ↔ MaySpeak peers.now.addresses.items peers.now.hosts peer host }
+pub(crate) fn may_speak<J: Life>(peers: &Peers<J>, peer: u8, host: IpAddr) -> bool
+    ensures { IsTrue result ↔ MaySpeak J.addresses J.hosts peer host }
 {
     match peers.hosts {
         Hosts::OfMembers => host_of(&peers.addresses, peer) == Some(host),
@@ -78,24 +106,37 @@ pub(crate) fn may_speak(peers: &Peers, peer: u8, host: IpAddr) -> bool
     }
 }
 
-impl Sender {
+impl<J: Life> Sender<J> {
     /// The member that greeted from the host, if that may speak for it.
-    pub(crate) fn of(peers: &Peers, peer: u8, host: IpAddr) -> Option<Sender>
-        ensures some { IfSome result (λ sender. MaySpeak peers.now.addresses.items peers.now.hosts peer host) }
+    pub(crate) fn of(peers: &Peers<J>, peer: u8, host: IpAddr) -> Option<Sender<J>>
+        ensures some { IfSome result (λ sender. MaySpeak J.addresses J.hosts peer host) }
         ensures peer { IfSome result (λ sender. sender.peer ≡ peer) }
-        ensures none { IfNone result (MaySpeak peers.now.addresses.items peers.now.hosts peer host → ⊥) }
+        ensures host { IfSome result (λ sender. sender.host ≡ host) }
+        ensures none { IfNone result (MaySpeak J.addresses J.hosts peer host → ⊥) }
     {
         if may_speak(peers, peer, host) {
-            Some(Sender { peer })
+            Some(Sender {
+                peer,
+                host,
+                of: PhantomData,
+            })
         } else {
             None
         }
     }
 
-    /// Its number.
-    pub(crate) fn peer(self) -> u8
-        ensures { result ≡ self.peer }
+    /// Returns its number.
+    pub(crate) fn peer(&self) -> u8
+        ensures number { result ≡ self.now.peer }
+        ensures may_speak { MaySpeak J.addresses J.hosts result self.now.host }
     {
         self.peer
+    }
+
+    /// Returns the host from which its link comes.
+    pub(crate) fn host(&self) -> IpAddr
+        ensures { result ≡ self.now.host }
+    {
+        self.host
     }
 }

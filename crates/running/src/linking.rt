@@ -1,40 +1,48 @@
-//! The threads of links: begin at `accept_links` and `serve_guest`, last, and at `dial_all`.
+//! The threads of links: begin at `accept_links` and `serve_guest`, last, and at `dial_on`.
 //!
 //! The socket of a session is in `sockets` from `enter_to` or `enter_to_greet` to `leave`, which shuts it down. `dial_once` and
 //! `serve_guest` call that as their last step, however the session ended. Its stream has a copy of the socket: `greet`,
 //! `read_link` and `write_link` close it as soon as they end, so that the peer learns of it before the rest is done.
 
-ghost use Rattle.std.specs.Prelude.{◌≡◌, take, IfSome};
+ghost use Rattle.std.specs.Prelude.{◌≡◌, take, IfOk, IfSome};
+ghost use Rattle.links.specs.Greeting.{hello_from};
 ghost use Rattle.links.specs.Net.{told_net};
-ghost use Rattle.links.specs.Told.{nothing};
+ghost use Rattle.links.specs.Told.{has_read, nothing};
+ghost use Rattle.wire.specs.Texts.{frame_bytes};
 ghost use Rattle.running.specs.Callers.{claim_bytes, Differs};
 ghost use Rattle.running.specs.Hosts.{MaySpeak};
-ghost use Rattle.running.specs.Versions.{next_version, was_refused};
 ghost use Rattle.running.specs.declared.callers.Claim.{Claim};
 
 use crate::callers::Caller;
+use crate::dialling::DialFault;
+use crate::doors::Listener;
 use crate::events::LogEvent;
 use crate::hosts::Sender;
 use crate::incoming::Incoming;
+use crate::life::Life;
 use crate::machine::Machine;
 use crate::outgoing::{Outgoing, Peer};
 use crate::refusals::Refusal;
+use crate::seats::Seated;
 use crate::shared::{Guest, Shared};
+use crate::tossers::LifeTosser;
+use crate::versions::{Choice, Reception};
 use disk::Disk;
-use links::{LinkEnd, NetStream, Open, greet, read_link, write_link};
-use node::{Naming, Seat};
-use rounds::ChaChaTosser;
-use std::net::{IpAddr, SocketAddr, TcpListener, TcpStream};
+use links::{LinkEnd, NetStream, Open, greet, write_link};
+use std::net::{IpAddr, SocketAddr, TcpStream};
 use std::sync::Wait;
 use std::thread;
 use std::time::Duration;
 use wire::Version;
 
-/// How many seconds a link waits for its peer, which says something once a second.
+/// How many seconds a link waits for its peer to say more of its Hello, and to take what is written.
 const PATIENCE: u64 = 10;
 
+/// How many seconds a link that was dialled waits for its Welcome.
+const WELCOME_PATIENCE: u64 = 4;
+
 /// A stream over the socket of that number.
-fn stream_at<D: Disk, J: Naming, R: Machine>(
+fn stream_at<D: Disk, J: Life, R: Machine>(
     rt: &R,
     it: &Shared<D, J>,
     socket: usize,
@@ -48,31 +56,15 @@ fn stream_at<D: Disk, J: Naming, R: Machine>(
     }
 }
 
-/// Whether the peer refused a session of that version: it ended so, without a Welcome, that many seconds after it began. One of
-/// version 2 may have ended for its version alone. A read fails too where the peer has said nothing for ten seconds, which
-/// is no refusal.
-fn was_refused(version: Version, end: LinkEnd, waited: u64) -> bool
-    ensures { result ≡ was_refused version end waited }
-{
-    match (version, end) {
-        (Version::Two, _) => false,
-        (Version::One, LinkEnd::Lost) => waited < PATIENCE / 2,
-        (Version::One, end) => matches!(
-            end,
-            LinkEnd::Ended | LinkEnd::Broken(_) | LinkEnd::OutOfOrder
-        ),
-    }
-}
-
-/// Writes the link to another member over the stream, and answers whether it was welcomed. That it comes up, and that it
-/// goes down again, is to be told, and that it was refused.
-fn write_told<D: Disk, J: Naming, R: Machine>(
+/// Writes the link to a peer over the stream, and answers what came of it. That it comes up, and that it goes down again, is to
+/// be told, and that it was refused.
+fn write_told<D: Disk, J: Life, R: Machine>(
     rt: &R,
     it: &Shared<D, J>,
     peer: u8,
     stream: NetStream,
     version: Version,
-) -> bool {
+) -> Reception {
     let said = it.hub.said();
     let to = Peer {
         number: peer,
@@ -80,132 +72,94 @@ fn write_told<D: Disk, J: Naming, R: Machine>(
         size: it.hub.header().size(),
         version,
     };
-    let mut outgoing = Outgoing::new(rt, it.alloc, stream, &it.telling, &it.ahead, to);
+    let mut outgoing = Outgoing::new(rt, it, stream, to);
     let start = it.second(rt);
     let (end, welcomed) = write_link(rt, it.alloc, &it.hub, peer, &mut outgoing, version, &Open);
+    it.hub.set_outgoing(rt, peer, false);
     if outgoing.is_up() {
-        it.log_link(rt, LogEvent::LinkDownTo(peer, end));
+        it.log_of_peer(rt, peer, LogEvent::LinkDownTo(peer, end));
     }
     let waited = it.second(rt).saturating_sub(start);
-    if !welcomed && was_refused(version, end, waited) {
+    let reception = Reception::of(end, welcomed, waited);
+    if reception.is_told(version) {
         it.log_refusal(rt, Refusal::By(peer), None);
     }
-    welcomed
+    reception
 }
 
-/// Writes the link to a peer over the socket of that number, and answers whether it was welcomed; none where that is gone.
-/// The link from the member to itself is none of the log's.
-fn write_at<D: Disk, J: Naming, R: Machine>(
+/// Writes the link to a peer over the socket of that number, and answers what came of it; none where that is gone.
+fn write_at<D: Disk, J: Life, R: Machine>(
     rt: &R,
     it: &Shared<D, J>,
     peer: u8,
     socket: usize,
     version: Version,
-) -> Option<bool> {
-    let mut stream = stream_at(rt, it, socket)?;
-    if peer == it.hub.header().me() {
-        let (_end, welcomed) = write_link(rt, it.alloc, &it.hub, peer, &mut stream, version, &Open);
-        return Some(welcomed);
-    }
+) -> Option<Reception> {
+    let stream = stream_at(rt, it, socket)?;
+    let limit = Duration::from_secs(WELCOME_PATIENCE);
+    it.sockets.lock(rt).limit_reads(socket, limit);
     Some(write_told(rt, it, peer, stream, version))
 }
 
-/// One session of that version of the link to a peer, and whether it was welcomed; none where nobody listens there.
-fn dial_once<D: Disk, J: Naming, R: Machine>(
+/// One session of that version of the link to a peer, which is dialled at that tick, and what came of it; none where nobody
+/// listens there.
+fn dial_once<D: Disk, J: Life, R: Machine>(
     rt: &R,
     it: &Shared<D, J>,
     peer: u8,
     address: SocketAddr,
     version: Version,
-) -> Option<bool> {
-    let Ok(dialled) = TcpStream::connect_timeout(rt, &address, Duration::from_secs(1)) else {
-        return None;
+    tick: u64,
+) -> Option<Reception> {
+    let dialled = match TcpStream::connect_timeout(rt, &address, Duration::from_secs(1)) {
+        Ok(dialled) => dialled,
+        Err(error) => {
+            let refusal = Refusal::Unreachable(peer, DialFault::of(error.kind()));
+            it.log_refusal(rt, refusal, None);
+            return None;
+        }
     };
-    let socket = it.sockets.lock(rt).enter_to(dialled, peer)?;
-    let welcomed = write_at(rt, it, peer, socket, version);
+    let socket = it.sockets.lock(rt).enter_to(dialled, peer, tick)?;
+    let reception = write_at(rt, it, peer, socket, version);
     it.sockets.lock(rt).leave(socket);
-    welcomed
+    reception
 }
 
-/// The version of the session behind one: the same where that was welcomed, else the other, since its peer may know that
-/// alone.
-fn next_version(version: Version, welcomed: bool) -> Version
-    ensures { result ≡ next_version version welcomed }
-{
-    if welcomed {
-        return version;
-    }
-    match version {
-        Version::One => Version::Two,
-        Version::Two => Version::One,
-    }
-}
-
-/// The link to a peer: a session, of version 2 at first, and at the next tick another, until the end.
-fn dial_on<D: Disk, J: Naming, R: Machine>(
+/// The link to a peer: a session, of version 2 at first, and another once it has ended, until the end. It is dialled once a
+/// second at most, and once more where a link of the peer begins.
+pub(crate) fn dial_on<D: Disk, J: Life, R: Machine>(
     rt: &R,
     it: &Shared<D, J>,
     peer: u8,
     address: SocketAddr,
 ) {
-    let mut version = Version::Two;
+    let mut choice = Choice::first();
     for _ in rt.forever() {
         if it.is_closing() {
             return;
         }
-        if let Some(welcomed) = dial_once(rt, it, peer, address, version) {
-            version = next_version(version, welcomed);
+        let second = it.second(rt);
+        if let Some(reception) = dial_once(rt, it, peer, address, choice.version, second) {
+            choice = choice.after(reception);
         }
-        it.wait_tick(rt);
+        it.wait_to_dial(rt, peer, second);
     }
     unreachable!()
 }
 
 /// Where the member of that number listens; none once the own member ends, and for a number past the last.
-fn address_of<D: Disk, J: Naming>(it: &Shared<D, J>, peer: u8) -> Option<SocketAddr> {
+pub(crate) fn address_of<D: Disk, J: Life>(it: &Shared<D, J>, peer: u8) -> Option<SocketAddr> {
     if it.is_closing() || peer >= it.hub.header().size().n() {
         return None;
     }
-    it.peers.addresses.get(usize::from(peer)).copied()
-}
-
-/// Dials each member, itself too, in a thread of its own, until the end. A thread that the system refuses is asked for
-/// again at the next tick.
-pub(crate) fn dial_all<D: Disk + Send, J: Naming + Send + Sync, R: Machine>(
-    rt: &R,
-    it: &Shared<D, J>,
-) {
-    thread::scope(thread::scope_env(), rt, |scope| {
-        let mut peer = 0u8;
-        for _ in 0..u64::MAX {
-            let Some(address) = address_of(it, peer) else {
-                break;
-            };
-            if scope.spawn(move || dial_on(rt, it, peer, address)).is_ok() {
-                peer = peer.saturating_add(1);
-            } else {
-                it.wait_tick(rt);
-            }
-        }
-    });
-}
-
-/// The event of the link from a peer is to be told. The link from the member to itself is none of the log's.
-fn log_peer<D: Disk, J: Naming, R: Machine>(rt: &R, it: &Shared<D, J>, peer: u8, event: LogEvent) {
-    if peer != it.hub.header().me() {
-        it.log_link(rt, event);
-    }
+    it.peers.address_of(peer)
 }
 
 /// Who dialled from that host, by the Hello that it said, if it said one.
-fn caller_at<D: Disk, J: Naming>(
-    it: &Shared<D, J>,
-    host: IpAddr,
-    stream: &Incoming,
-) -> Option<Caller>
+fn caller_at<D: Disk, J: Life>(it: &Shared<D, J>, host: IpAddr, stream: &Incoming) -> Option<Caller>
     ensures { IfSome result (λ caller. (claim : Claim) × (take 18 (told_net stream.now.stream).taken ≡ claim_bytes claim)
         × (caller.member ≡ claim.from)
-        × Differs claim it.now.hub (MaySpeak it.now.peers.addresses.items it.now.peers.hosts claim.from host) caller.differs) }
+        × Differs claim it.now.hub (MaySpeak J.addresses J.hosts claim.from host) caller.differs) }
 {
     match stream.claim() {
         Some(claim) => Some(Caller::of(&claim, &it.hub.header(), &it.peers, host)),
@@ -214,16 +168,17 @@ fn caller_at<D: Disk, J: Naming>(
 }
 
 /// Who greets on the stream, from a host that may speak for that member, and with which version; else a stranger, to whom
-/// nothing is written. The peer has greeted then, or is gone.
-fn greeted<D: Disk, J: Naming, R: Machine>(
-    rt: &R,
+/// nothing is written.
+fn greeted<D: Disk, J: Life>(
     it: &Shared<D, J>,
     guest: Guest,
     stream: &mut Incoming,
-) -> Result<(Sender, Version), LinkEnd> {
-    let hello = greet(it.alloc, stream, &it.hub.header());
-    it.end_greeting(rt, guest.socket);
-    match hello {
+) -> Result<(Sender<J>, Version), LinkEnd>
+    ensures hello { IfOk result (λ greeted. told_net stream.new.stream
+        ≡ has_read (told_net stream.old.stream) (frame_bytes (hello_from it.now.hub greeted.1 greeted.0.peer))) }
+    ensures host { IfOk result (λ greeted. greeted.0.host ≡ guest.host) }
+{
+    match greet(it.alloc, stream, &it.hub.header()) {
         Ok((peer, version)) => match Sender::of(&it.peers, peer, guest.host) {
             Some(sender) => Ok((sender, version)),
             None => Err(LinkEnd::Stranger),
@@ -232,55 +187,78 @@ fn greeted<D: Disk, J: Naming, R: Machine>(
     }
 }
 
-/// Reads the link of a peer with its seat and its tosser, and gives the seat back. Where the link is lost the own link to that
-/// peer is cut too: after a cut of the network a writer wouldn't notice until the system's next attempt to send again, and the
-/// dialler begins anew at its next tick.
-fn read_seated<D: Disk, J: Naming, R: Machine>(
+/// Who greets on the stream, and with which version, and the seat of that member; none where the member is stopped, since it
+/// reads no link. That isn't told: each peer dials again once a second.
+fn seated<D: Disk, J: Life, R: Machine>(
     rt: &R,
     it: &Shared<D, J>,
-    seat: Seat,
-    version: Version,
+    guest: Guest,
     stream: &mut Incoming,
-    tosser: &mut ChaChaTosser,
-) {
-    let peer = seat.peer();
-    log_peer(rt, it, peer, LogEvent::LinkUp(peer, version));
-    let (seat, end) = read_link(rt, it.alloc, &it.hub, seat, stream, version, &Open, tosser);
-    it.rack.put(rt, seat);
-    log_peer(rt, it, peer, LogEvent::LinkDown(peer, end));
-    if end == LinkEnd::Lost && peer != it.hub.header().me() {
-        it.sockets.lock(rt).shut_to(peer);
+) -> Result<Option<(Seated<J>, Version)>, LinkEnd>
+    ensures hello { IfOk result (λ seated. IfSome seated (λ seated. told_net stream.new.stream
+        ≡ has_read (told_net stream.old.stream) (frame_bytes (hello_from it.now.hub seated.1 seated.0.seat.peer)))) }
+    ensures host { IfOk result (λ seated. IfSome seated (λ seated. seated.0.host ≡ guest.host)) }
+{
+    let (sender, version) = match greeted(it, guest, stream) {
+        Ok(greeted) => greeted,
+        Err(end) => return Err(end),
+    };
+    if it.hub.lock(rt).is_stopped() {
+        return Ok(None);
+    }
+    match it.take_seat(rt, &sender) {
+        Some(seated) => Ok(Some((seated, version))),
+        None => Err(LinkEnd::Busy),
     }
 }
 
-/// Greets the peer on the stream, and reads its link to the end; or why the link was refused. A stopped member reads none,
-/// which isn't told, since each peer dials again once a second.
-fn read_from<D: Disk, J: Naming, R: Machine>(
+/// Reads the link of a peer with its seat and its tosser, and gives the seat back. Where it begins and where it ends the own
+/// link to that peer is dialled anew, if it is of before.
+fn read_seated<D: Disk, J: Life, R: Machine>(
+    rt: &R,
+    it: &Shared<D, J>,
+    seated: Seated<J>,
+    version: Version,
+    stream: &mut Incoming,
+    tosser: &mut LifeTosser<J>,
+) {
+    let peer = seated.peer();
+    it.hub.set_incoming(rt, peer, true);
+    it.log_of_peer(rt, peer, LogEvent::LinkUp(peer, version));
+    it.renew_link_to(rt, peer);
+    it.call_dialler(rt, peer);
+    let end = seated.read(rt, it, stream, version, tosser);
+    it.hub.set_incoming(rt, peer, false);
+    it.log_of_peer(rt, peer, LogEvent::LinkDown(peer, end));
+    it.renew_link_to(rt, peer);
+}
+
+/// Greets the peer on the stream, and reads its link to the end; or why the link was refused. Until it has its seat it takes one
+/// of the places of those that are to greet.
+fn read_from<D: Disk, J: Life, R: Machine>(
     rt: &R,
     it: &Shared<D, J>,
     guest: Guest,
     stream: &mut Incoming,
 ) -> Result<(), LinkEnd> {
-    let (sender, version) = match greeted(rt, it, guest, stream) {
-        Ok(greeted) => greeted,
+    let seated = seated(rt, it, guest, stream);
+    it.end_greeting(rt, guest.socket);
+    let (seated, version) = match seated {
+        Ok(Some(seated)) => seated,
+        Ok(None) => return Ok(()),
         Err(end) => return Err(end),
     };
-    if it.hub.lock(rt).is_stopped() {
-        return Ok(());
-    }
-    let Some(tosser) = it.link_tossers.get(usize::from(sender.peer())) else {
-        return Err(LinkEnd::Busy);
-    };
-    let Some(seat) = it.rack.take(rt, sender.peer()) else {
+    let Some(tosser) = it.link_tossers.get(usize::from(seated.peer())) else {
+        it.seats.put(rt, seated);
         return Err(LinkEnd::Busy);
     };
     let mut tosser = tosser.lock(rt);
-    read_seated(rt, it, seat, version, stream, &mut tosser);
+    read_seated(rt, it, seated, version, stream, &mut tosser);
     Ok(())
 }
 
 /// One session of a link from a peer.
-pub(crate) fn serve_guest<D: Disk, J: Naming, R: Machine>(rt: &R, it: &Shared<D, J>, guest: Guest) {
+pub(crate) fn serve_guest<D: Disk, J: Life, R: Machine>(rt: &R, it: &Shared<D, J>, guest: Guest) {
     match stream_at(rt, it, guest.socket) {
         Some(stream) => {
             let mut stream = Incoming::new(stream);
@@ -298,10 +276,10 @@ pub(crate) fn serve_guest<D: Disk, J: Naming, R: Machine>(rt: &R, it: &Shared<D,
 }
 
 /// Takes the links in that peers dial, each in a thread of its own, until the end.
-pub(crate) fn accept_links<D: Disk + Send, J: Naming + Send + Sync, R: Machine>(
+pub(crate) fn accept_links<D: Disk + Send, J: Life + Send + Sync, R: Machine>(
     rt: &R,
     it: &Shared<D, J>,
-    listener: &TcpListener,
+    listener: &Listener,
 ) {
     thread::scope(thread::scope_env(), rt, |scope| {
         for _ in 0..u64::MAX {

@@ -4,13 +4,13 @@ ghost use Rattle.std.specs.Prelude.{◌≡◌, true};
 ghost use Rattle.links.specs.Net.{told_net, is_closed_net};
 ghost use Rattle.running.specs.Standings.{after_read, after_written, has_come_up};
 
-use crate::ahead::Ahead;
 use crate::events::LogEvent;
-use crate::watch::Telling;
+use crate::life::Life;
+use crate::shared::Shared;
+use disk::Disk;
 use links::{NetStream, Stream, StreamFault};
 use member::Sealed;
-use std::alloc::Global;
-use std::sync::{Mutex, Wait};
+use std::sync::Wait;
 use terms::Size;
 use wire::{Feeder, Message, Version};
 
@@ -65,40 +65,39 @@ pub(crate) struct Peer {
     pub(crate) version: Version,
 }
 
-/// The stream of a link that is written. Once the link is up its event is to be told, if the member has a log; and where the
-/// peer has heard more of this member than it has said, that is noted.
+/// The stream of a link that is written. The peer's Welcome is noted as soon as it was read, with how much more the peer has
+/// heard of this member than it has said; and once the link is up its event is to be told, if the member has a log.
 #[derive(Drop)]
-pub(crate) struct Outgoing<'a, R> {
+pub(crate) struct Outgoing<'a, D: Disk, J: Life, R> {
     rt: &'a R,
+    it: &'a Shared<D, J>,
     stream: NetStream,
-    telling: &'a Mutex<Option<Telling>>,
-    ahead: &'a Mutex<Ahead>,
     peer: Peer,
     standing: Standing,
     /// What reads the Welcome as it passes.
     feeder: Feeder,
     read: Vec<Message>,
+    /// The Welcome was noted.
+    welcomed: bool,
 }
 
-impl<'a, R: Wait> Outgoing<'a, R> {
+impl<'a, D: Disk, J: Life, R: Wait> Outgoing<'a, D, J, R> {
     /// The stream of a link to this peer.
     pub(crate) fn new(
         rt: &'a R,
-        alloc: Global,
+        it: &'a Shared<D, J>,
         stream: NetStream,
-        telling: &'a Mutex<Option<Telling>>,
-        ahead: &'a Mutex<Ahead>,
         peer: Peer,
-    ) -> Outgoing<'a, R> {
+    ) -> Outgoing<'a, D, J, R> {
         Outgoing {
             rt,
+            it,
             stream,
-            telling,
-            ahead,
             peer,
             standing: Standing::Greeting,
             feeder: Feeder::new(peer.size),
-            read: Vec::new(alloc),
+            read: Vec::new(it.alloc),
+            welcomed: false,
         }
     }
 
@@ -116,19 +115,27 @@ impl<'a, R: Wait> Outgoing<'a, R> {
         }
     }
 
-    /// The link is up: its event is to be told, and a peer that is ahead is noted.
+    /// The link is up: its event is to be told.
     fn log_up(&self) {
         let excess = self.excess();
-        let mut event = LogEvent::LinkUpTo(self.peer.number, self.peer.version);
-        if excess > 0 {
-            event = LogEvent::LinkUpAhead(self.peer.number, excess, self.peer.version);
-            self.ahead
-                .lock(self.rt)
-                .add(self.peer.size, self.peer.number);
+        let event = if excess > 0 {
+            LogEvent::LinkUpAhead(self.peer.number, excess, self.peer.version)
+        } else {
+            LogEvent::LinkUpTo(self.peer.number, self.peer.version)
+        };
+        self.it.log_of_peer(self.rt, self.peer.number, event);
+    }
+
+    /// Notes the Welcome, once it was read.
+    fn note_welcome(&mut self)
+        ensures { self.new.stream ≡ self.old.stream }
+    {
+        if self.welcomed || !matches!(self.read.first(), Some(Message::Welcome { .. })) {
+            return;
         }
-        if let Some(telling) = &mut *self.telling.lock(self.rt) {
-            telling.queue.put(event);
-        }
+        self.welcomed = true;
+        self.it
+            .note_welcome(self.rt, self.peer.number, self.excess());
     }
 
     /// Bytes were read. Until the link is up they are those of the Welcome.
@@ -137,6 +144,7 @@ impl<'a, R: Wait> Outgoing<'a, R> {
     {
         let _unread = self.feeder.feed(bytes, &mut self.read).is_err();
         self.standing = self.standing.read();
+        self.note_welcome();
     }
 
     /// A write took bytes. Where the link is up by that its event is to be told.
@@ -150,7 +158,7 @@ impl<'a, R: Wait> Outgoing<'a, R> {
     }
 }
 
-impl<R: Wait> Stream for Outgoing<'_, R> {
+impl<D: Disk, J: Life, R: Wait> Stream for Outgoing<'_, D, J, R> {
     ghost told = { λ outgoing. told_net outgoing.stream };
 
     ghost is_closed = { λ outgoing. is_closed_net outgoing.stream };

@@ -1,12 +1,14 @@
-//! Refusals, which come again and again, and of which a log is told once a minute: begin at `Refusals::count`, near the end.
+//! Refusals and the like, which come again and again, and of which a log is told once a minute: begin at `Refusals::count`, near the end.
 
-ghost use Rattle.std.specs.Prelude.{ℕ, ◌≡◌, ◌+◌, ◌<◌, true, false, Some, None, slice_set, IfSome, IfNone};
+ghost use Rattle.std.specs.Prelude.{ℕ, ◌≡◌, ◌+◌, ◌<◌, ◌↔◌, true, false, Some, None, slice_set, IfSome, IfNone, IsTrue};
 ghost use Rattle.std.specs.Option.{option_to_list};
 ghost use Rattle.running.specs.Refusals.{IsNoted, IsOldest, IsTable, KeepsAt, Lacks, after_due, counted, counted_by, due_of, dues, empty, events_of, held, is_due, is_older, left_of, place_at};
 ghost use Rattle.running.specs.Queues.{HaveCome};
 ghost use Rattle.running.specs.declared.refusals.KeptRefusal.{KeptRefusal};
+ghost use Rattle.running.specs.declared.refusals.Refusal.TheVariants as kinds;
 
 use crate::callers::Caller;
+use crate::dialling::DialFault;
 use crate::events::LogEvent;
 use crate::log::Queue;
 use links::LinkEnd;
@@ -26,6 +28,14 @@ pub enum Refusal {
     From(IpAddr, LinkEnd),
     /// This member closed a link to it, before it welcomed it.
     By(u8),
+    /// No connection to this member could be made, for this cause.
+    Unreachable(u8, DialFault),
+    /// A client from this host was closed, since all places were taken and it had been silent longest: another has its place.
+    Displaced(IpAddr),
+    /// A link from this member or to it came up or went down, as too many have in this minute for a line of its own.
+    Unsteady(u8),
+    /// The system refused a thread for a session.
+    Threadless,
 }
 
 /// What a line of a log tells of a refusal: how often it came, and who was refused last, if it said who it was.
@@ -107,6 +117,104 @@ impl KeptRefusal {
     }
 }
 
+/// Whether it is the refusal of that host for this cause.
+fn is_from(refusal: Refusal, host: IpAddr, end: LinkEnd) -> bool
+    ensures { IsTrue result ↔ (refusal ≡ kinds.From host end) }
+{
+    match refusal {
+        Refusal::From(other, cause) => other == host && cause == end,
+        Refusal::By(_) => false,
+        Refusal::Unreachable(_, _) => false,
+        Refusal::Displaced(_) => false,
+        Refusal::Unsteady(_) => false,
+        Refusal::Threadless => false,
+    }
+}
+
+/// Whether it is the refusal by that member.
+fn is_by(refusal: Refusal, peer: u8) -> bool
+    ensures { IsTrue result ↔ (refusal ≡ kinds.By peer) }
+{
+    match refusal {
+        Refusal::From(_, _) => false,
+        Refusal::By(other) => other == peer,
+        Refusal::Unreachable(_, _) => false,
+        Refusal::Displaced(_) => false,
+        Refusal::Unsteady(_) => false,
+        Refusal::Threadless => false,
+    }
+}
+
+/// Whether it says that this member can't be reached, for that cause.
+fn is_unreachable(refusal: Refusal, peer: u8, fault: DialFault) -> bool
+    ensures { IsTrue result ↔ (refusal ≡ kinds.Unreachable peer fault) }
+{
+    match refusal {
+        Refusal::From(_, _) => false,
+        Refusal::By(_) => false,
+        Refusal::Unreachable(other, cause) => other == peer && cause == fault,
+        Refusal::Displaced(_) => false,
+        Refusal::Unsteady(_) => false,
+        Refusal::Threadless => false,
+    }
+}
+
+/// Whether it says that a client from that host was closed for another.
+fn is_displaced(refusal: Refusal, host: IpAddr) -> bool
+    ensures { IsTrue result ↔ (refusal ≡ kinds.Displaced host) }
+{
+    match refusal {
+        Refusal::From(_, _) => false,
+        Refusal::By(_) => false,
+        Refusal::Unreachable(_, _) => false,
+        Refusal::Displaced(other) => other == host,
+        Refusal::Unsteady(_) => false,
+        Refusal::Threadless => false,
+    }
+}
+
+/// Whether it says that the links of this member come and go.
+fn is_unsteady(refusal: Refusal, peer: u8) -> bool
+    ensures { IsTrue result ↔ (refusal ≡ kinds.Unsteady peer) }
+{
+    match refusal {
+        Refusal::From(_, _) => false,
+        Refusal::By(_) => false,
+        Refusal::Unreachable(_, _) => false,
+        Refusal::Displaced(_) => false,
+        Refusal::Unsteady(other) => other == peer,
+        Refusal::Threadless => false,
+    }
+}
+
+/// Whether it says that a thread was refused.
+fn is_threadless(refusal: Refusal) -> bool
+    ensures { IsTrue result ↔ (refusal ≡ kinds.Threadless) }
+{
+    match refusal {
+        Refusal::From(_, _) => false,
+        Refusal::By(_) => false,
+        Refusal::Unreachable(_, _) => false,
+        Refusal::Displaced(_) => false,
+        Refusal::Unsteady(_) => false,
+        Refusal::Threadless => true,
+    }
+}
+
+/// Whether these are one refusal.
+fn is_same(one: Refusal, other: Refusal) -> bool
+    ensures { IsTrue result ↔ (one ≡ other) }
+{
+    match other {
+        Refusal::From(host, end) => is_from(one, host, end),
+        Refusal::By(peer) => is_by(one, peer),
+        Refusal::Unreachable(peer, fault) => is_unreachable(one, peer, fault),
+        Refusal::Displaced(host) => is_displaced(one, host),
+        Refusal::Unsteady(peer) => is_unsteady(one, peer),
+        Refusal::Threadless => is_threadless(one),
+    }
+}
+
 /// Where a refusal is kept, and what is kept of it.
 fn find(places: &[Option<KeptRefusal>; PLACES], refusal: Refusal) -> Option<(usize, KeptRefusal)>
     ensures some { IfSome result (λ found. KeepsAt places.now found.0 found.1 × (found.1.refusal ≡ refusal)) }
@@ -115,7 +223,7 @@ fn find(places: &[Option<KeptRefusal>; PLACES], refusal: Refusal) -> Option<(usi
 {
     for (at, kept) in places.iter().enumerate() {
         if let Some(kept) = kept {
-            if kept.refusal == refusal {
+            if is_same(kept.refusal, refusal) {
                 return Some((at, *kept));
             }
         }

@@ -1,48 +1,57 @@
 //! The life of a member, from its opening to its end: begin at `run_member`, last.
 
 ghost use Rattle.std.specs.Prelude.{◌≡◌, ◌*◌, ◌+◌, ◌<◌, ◌^◌, [], false, length, IfOk};
-ghost use Rattle.std.specs.Arc.{arc_value};
 ghost use Rattle.member.specs.Sound.{IsSound};
 ghost use Rattle.member.specs.Readers.{member_header, member_saved, member_is_stopped, MemberStandsFor};
-ghost use Rattle.running.specs.Streams.{streams};
 
-use crate::ahead::Ahead;
+use crate::ahead::{Ahead, Welcomes};
 use crate::clients::accept_clients;
+use crate::doors::{Door, Doors, Listener};
 use crate::events::LogEvent;
 use crate::fault::RunFault;
 use crate::hosts::{Hosts, Peers};
-use crate::linking::{accept_links, dial_all};
+use crate::life::Life;
+use crate::linking::{accept_links, address_of, dial_on};
 use crate::log::Log;
 use crate::machine::Machine;
 use crate::quota::Quota;
+use crate::seats::Seats;
+use crate::seconds::Seconds;
 use crate::shared::Shared;
 use crate::slots::Slots;
-use crate::sockets::{Door, Sockets};
-use crate::tossers::{Tossers, tossers_of};
+use crate::sockets::Sockets;
+use crate::threads::{can_start, least_threads};
+use crate::tossers::lock_tossers;
 use crate::watch::Telling;
 use disk::Disk;
 use member::Member;
-use node::{Board, Hub, Naming, Rack};
-use rounds::ChaChaTosser;
+use node::{Hub, NewBoard};
 use std::alloc::Global;
 use std::marker::Brand;
 use std::net::{SocketAddr, TcpListener};
+use std::os::unix::net::UnixListener;
 use std::sync::atomic::AtomicBool;
-use std::sync::{Arc, Condvar, Mutex, Wait};
+use std::sync::{Condvar, Mutex, Wait};
 use std::{io, thread};
 use terms::Memory;
 
 /// Where the members listen, and who is let in.
 #[derive(Drop)]
 pub struct Addresses {
-    /// The link address of each member, by its number. The own one is listened at and, like the others, dialled.
+    /// The link address of each member, by its number. Each is dialled, the own one too.
     pub peers: Vec<SocketAddr>,
+    /// Where links are listened for, if that isn't the own address of `peers`.
+    pub listen: Option<SocketAddr>,
     /// From where the members' links are taken.
     pub hosts: Hosts,
     /// The own address for clients.
     pub desk: SocketAddr,
+    /// What listens for clients of this machine too, by the rights of a file, if anything does.
+    pub local: Option<UnixListener>,
     /// How many clients are let in at once, 1 to 32. Another number counts as the nearer of these.
     pub clients: u8,
+    /// For how many seconds the member listens at most before it speaks, 0 for not at all.
+    pub patience: u64,
 }
 
 /// Who starts a member and says when it ends.
@@ -65,88 +74,66 @@ pub trait Operator {
     fn unstarted(&mut self) {}
 }
 
-/// Each tosser behind a lock of its own.
-fn locked(alloc: Global, tossers: Vec<ChaChaTosser>) -> Result<Vec<Mutex<ChaChaTosser>>, Memory> {
-    let mut locked = Vec::new(alloc);
-    for tosser in tossers {
-        locked.push(Mutex::new(tosser))?;
-    }
-    Ok(locked)
-}
-
-/// The tossers of a member's life, each behind a lock: those of its links, and those of its desk. They toss from a seed that
-/// the operator takes, and from the streams of this life alone.
-fn lock_tossers<D: Disk, O: Operator>(
-    alloc: Global,
-    _operator: &O,
-    _seed: [u8; 32],
-    _member: &Member<D>,
-    tossers: Tossers,
-) -> Result<(Vec<Mutex<ChaChaTosser>>, Vec<Mutex<ChaChaTosser>>), Memory>
-    requires seed { O.may_toss_from _operator.now _seed }
-    requires links { length (member_saved _member.now) < 2 ^ 55 → tossers.links.items
-        ≡ streams _seed (length (member_saved _member.now) * 256) (member_header _member.now).size.n }
-    requires desk { length (member_saved _member.now) < 2 ^ 55 → tossers.desk.items
-        ≡ streams _seed (length (member_saved _member.now) * 256 + 128) 32 }
-{
-    let Tossers { links, desk } = tossers;
-    Ok((locked(alloc, links)?, locked(alloc, desk)?))
-}
-
-/// A member that was just opened, and what its run begins with: its board, its peers, how many clients it lets in, and the seed
-/// of its tosses.
+/// A member that was just opened, and what its run begins with: its board, where the members listen and from where their links
+/// are taken, how many clients it lets in, and the seed of its tosses.
 struct Opened<D: Disk> {
     alloc: Global,
     member: Member<D>,
-    board: Arc<Board>,
-    peers: Peers,
+    board: NewBoard,
+    addresses: Vec<SocketAddr>,
+    hosts: Hosts,
     clients: u8,
+    patience: u64,
     seed: [u8; 32],
 }
 
-/// What the threads of a member share that was just opened.
-fn share<D: Disk + Drop, J: Naming, O: Operator>(
-    opened: Opened<D>,
-    operator: &O,
-) -> Result<Shared<D, J>, Memory>
-    requires seed { O.may_toss_from operator.now opened.seed }
+/// Makes what the threads of a member share that was just opened. Its peers and its tosses are those that the run was given.
+fn share<D: Disk + Drop, J: Life>(opened: Opened<D>) -> Result<Shared<D, J>, Memory>
+    requires addresses { opened.addresses.items ≡ J.addresses }
+    requires hosts { opened.hosts ≡ J.hosts }
+    requires seed { opened.seed ≡ J.seed }
+    requires records { length (member_saved opened.member) ≡ J.records }
     requires sound { IsSound D.Disk opened.member }
     requires fresh { member_is_stopped opened.member ≡ false → MemberStandsFor opened.member (member_saved opened.member) [] }
     requires header { member_header opened.member ≡ J.header }
-    requires board { arc_value opened.board ≡ J.names }
-    requires cells { length (arc_value opened.board) ≡ (member_header opened.member).size.questions }
+    requires board { opened.board ≡ J.names }
+    requires cells { length opened.board.cells ≡ (member_header opened.member).size.questions }
 {
     let Opened {
         alloc,
         member,
         board,
-        peers,
+        addresses,
+        hosts,
         clients,
+        patience,
         seed,
     } = opened;
-    let tossers = tossers_of(alloc, seed, &member)?;
-    let (link_tossers, desk_tossers) = lock_tossers(alloc, operator, seed, &member, tossers)?;
+    let tossers = lock_tossers::<D, J>(alloc, seed, &member)?;
     let (hub, seats) = Hub::<D, J>::open(alloc, member, board)?;
     Ok(Shared {
         alloc,
-        peers,
+        peers: Peers::new(addresses, hosts),
         hub,
-        rack: Rack::new(seats),
-        link_tossers,
-        desk_tossers,
+        seats: Seats::new(seats),
+        link_tossers: tossers.links,
+        desk_tossers: tossers.desk,
         slots: Mutex::new(Slots::new(clients)),
         greetings: Mutex::new(Quota::new()),
         sockets: Mutex::new(Sockets::new(alloc)),
         ahead: Mutex::new(Ahead::nobody()),
+        welcomes: Mutex::new(Welcomes::none()),
+        patience,
         closing: AtomicBool::new(false),
-        ticks: Mutex::new(0),
+        ended_unheard: AtomicBool::new(false),
+        seconds: Mutex::new(Seconds::new()),
         ticked: Condvar::new(),
         telling: Mutex::new(None),
     })
 }
 
 /// From now on what happens is to be told, and first that the member is ready.
-fn begin_telling<D: Disk, J: Naming, R: Machine>(rt: &R, it: &Shared<D, J>) -> Result<(), Memory> {
+fn begin_telling<D: Disk, J: Life, R: Machine>(rt: &R, it: &Shared<D, J>) -> Result<(), Memory> {
     let book = it.hub.lock(rt);
     let telling = Telling::new(it.alloc, &book)?;
     *it.telling.lock(rt) = Some(telling);
@@ -154,23 +141,32 @@ fn begin_telling<D: Disk, J: Naming, R: Machine>(rt: &R, it: &Shared<D, J>) -> R
     Ok(())
 }
 
-/// Runs all threads until the operator ends the member. Where the system refuses the one that serves the line, links serve it
-/// themselves.
-fn run_threads<D: Disk + Send, J: Naming + Send + Sync, O: Operator, R: Machine>(
+/// Dials each member, itself too, in a thread of its own, and runs the other threads until the operator ends the member, where
+/// all of these were started. Ends all threads.
+fn run_threads<D: Disk + Send, J: Life + Send + Sync, O: Operator, R: Machine>(
     rt: &R,
     operator: &mut O,
     it: &Shared<D, J>,
     doors: &Doors,
 ) -> Result<(), RunFault> {
     thread::scope(thread::scope_env(), rt, |scope| -> Result<(), RunFault> {
-        let dials = scope.spawn(move || dial_all(rt, it)).is_ok();
-        let _served = scope.spawn(move || it.serve_on(rt)).is_ok();
-        run_doors(rt, operator, it, doors, dials)
+        let mut peer = 0u8;
+        for _ in 0..u64::MAX {
+            let Some(address) = address_of(it, peer) else {
+                break;
+            };
+            if scope.spawn(move || dial_on(rt, it, peer, address)).is_err() {
+                break;
+            }
+            peer = peer.saturating_add(1);
+        }
+        run_served(rt, operator, it, doors, address_of(it, peer).is_none())
     })
 }
 
-/// Runs the clock and both doors until the operator ends the member, where the dialler was started, and ends all threads.
-fn run_doors<D: Disk + Send, J: Naming + Send + Sync, O: Operator, R: Machine>(
+/// Runs the thread that serves the line and all others until the operator ends the member, where the diallers were started.
+/// Where the system refuses that thread, links serve the line themselves.
+fn run_served<D: Disk + Send, J: Life + Send + Sync, O: Operator, R: Machine>(
     rt: &R,
     operator: &mut O,
     it: &Shared<D, J>,
@@ -178,27 +174,91 @@ fn run_doors<D: Disk + Send, J: Naming + Send + Sync, O: Operator, R: Machine>(
     dials: bool,
 ) -> Result<(), RunFault> {
     thread::scope(thread::scope_env(), rt, |scope| -> Result<(), RunFault> {
-        let clock = scope.spawn(move || it.tick_on(rt));
-        let (links, clients) = (&doors.links.listener, &doors.desk.listener);
-        let links = scope.spawn(move || accept_links(rt, it, links));
-        let clients = scope.spawn(move || accept_clients(rt, it, clients));
-        let started = dials && clock.is_ok() && links.is_ok() && clients.is_ok();
-        let end = if started {
+        let _served = scope.spawn(move || it.serve_on(rt)).is_ok();
+        run_clock(rt, operator, it, doors, dials)
+    })
+}
+
+/// Takes clients of this machine in, if they have a door, and waits for the operator to end the member, where all other threads
+/// were started. Ends all threads.
+fn run_local<D: Disk + Send, J: Life + Send + Sync, O: Operator, R: Machine>(
+    rt: &R,
+    operator: &mut O,
+    it: &Shared<D, J>,
+    doors: &Doors,
+    started: bool,
+) -> Result<(), RunFault> {
+    thread::scope(thread::scope_env(), rt, |scope| -> Result<(), RunFault> {
+        let locals = match &doors.local {
+            Some(door) => {
+                let listener = &door.listener;
+                scope
+                    .spawn(move || accept_clients(rt, it, listener))
+                    .is_ok()
+            }
+            None => true,
+        };
+        let end = if started && locals {
             operator.until_end()
         } else {
             operator.unstarted();
             Err(RunFault::Memory)
         };
         it.close(rt);
-        doors.links.shut();
-        doors.desk.shut();
+        doors.shut();
         end
+    })
+}
+
+/// Takes clients in until the operator ends the member, where all threads before were started, and ends all threads.
+fn run_desk<D: Disk + Send, J: Life + Send + Sync, O: Operator, R: Machine>(
+    rt: &R,
+    operator: &mut O,
+    it: &Shared<D, J>,
+    doors: &Doors,
+    started: bool,
+) -> Result<(), RunFault> {
+    thread::scope(thread::scope_env(), rt, |scope| -> Result<(), RunFault> {
+        let listener = &doors.desk.listener;
+        let clients = scope
+            .spawn(move || accept_clients(rt, it, listener))
+            .is_ok();
+        run_local(rt, operator, it, doors, started && clients)
+    })
+}
+
+/// Takes links in until the operator ends the member, where all threads before were started, and ends all threads.
+fn run_links<D: Disk + Send, J: Life + Send + Sync, O: Operator, R: Machine>(
+    rt: &R,
+    operator: &mut O,
+    it: &Shared<D, J>,
+    doors: &Doors,
+    started: bool,
+) -> Result<(), RunFault> {
+    thread::scope(thread::scope_env(), rt, |scope| -> Result<(), RunFault> {
+        let listener = &doors.links.listener;
+        let links = scope.spawn(move || accept_links(rt, it, listener)).is_ok();
+        run_desk(rt, operator, it, doors, started && links)
+    })
+}
+
+/// Runs the clock until the operator ends the member, where the diallers were started, and ends all threads.
+fn run_clock<D: Disk + Send, J: Life + Send + Sync, O: Operator, R: Machine>(
+    rt: &R,
+    operator: &mut O,
+    it: &Shared<D, J>,
+    doors: &Doors,
+    dials: bool,
+) -> Result<(), RunFault> {
+    thread::scope(thread::scope_env(), rt, |scope| -> Result<(), RunFault> {
+        let clock = scope.spawn(move || it.tick_on(rt)).is_ok();
+        run_links(rt, operator, it, doors, dials && clock)
     })
 }
 
 /// Runs all threads until the operator ends the member, and one more that tells the log what is to be told. Where the
 /// system refuses that one all is told at the end.
-fn run_logged<D: Disk + Send, J: Naming + Send + Sync, O: Operator, L: Log + Send, R: Machine>(
+fn run_logged<D: Disk + Send, J: Life + Send + Sync, O: Operator, L: Log + Send, R: Machine>(
     rt: &R,
     operator: &mut O,
     log: &Mutex<L>,
@@ -212,8 +272,9 @@ fn run_logged<D: Disk + Send, J: Naming + Send + Sync, O: Operator, L: Log + Sen
     ended
 }
 
-/// Runs a member whose threads share this: tells the operator that it is ready, and then starts them.
-fn run_shared<D: Disk + Send, J: Naming + Send + Sync, O: Operator, L: Log + Send, R: Machine>(
+/// Runs a member whose threads share this: tries whether the system gives them, tells the operator that it is ready, and then
+/// starts them.
+fn run_shared<D: Disk + Send, J: Life + Send + Sync, O: Operator, L: Log + Send, R: Machine>(
     rt: &R,
     operator: &mut O,
     log: Option<&Mutex<L>>,
@@ -223,6 +284,15 @@ fn run_shared<D: Disk + Send, J: Naming + Send + Sync, O: Operator, L: Log + Sen
     if log.is_some() {
         begin_telling(rt, it)?;
     }
+    let size = it.hub.header().size();
+    if !can_start(
+        rt,
+        least_threads(size, log.is_some(), doors.local.is_some()),
+    ) {
+        operator.unstarted();
+        return Err(RunFault::Memory);
+    }
+    it.listen(rt);
     operator.ready()?;
     match log {
         Some(log) => run_logged(rt, operator, log, it, doors)?,
@@ -231,55 +301,46 @@ fn run_shared<D: Disk + Send, J: Naming + Send + Sync, O: Operator, L: Log + Sen
     if it.is_forgotten(rt) {
         return Err(RunFault::Forgotten);
     }
-    if it.hub.lock(rt).is_stopped() {
+    if it.hub.lock(rt).is_stopped() && !it.has_ended_unheard() {
         return Err(RunFault::Stopped);
     }
     Ok(())
 }
 
 /// Runs a member whose board has been named.
-fn run_named<
-    D: Disk + Drop + Send,
-    J: Naming + Send + Sync,
-    O: Operator,
-    L: Log + Send,
-    R: Machine,
->(
+fn run_named<D: Disk + Drop + Send, J: Life + Send + Sync, O: Operator, L: Log + Send, R: Machine>(
     rt: &R,
     opened: Opened<D>,
     doors: Doors,
     operator: &mut O,
     log: Option<&Mutex<L>>,
 ) -> Result<(), RunFault>
-    requires seed { O.may_toss_from operator.old opened.seed }
+    requires may_toss { O.may_toss_from operator.old J.seed }
+    requires addresses { opened.addresses.items ≡ J.addresses }
+    requires hosts { opened.hosts ≡ J.hosts }
+    requires seed { opened.seed ≡ J.seed }
+    requires records { length (member_saved opened.member) ≡ J.records }
     requires sound { IsSound D.Disk opened.member }
     requires fresh { member_is_stopped opened.member ≡ false → MemberStandsFor opened.member (member_saved opened.member) [] }
     requires header { member_header opened.member ≡ J.header }
-    requires board { arc_value opened.board ≡ J.names }
-    requires cells { length (arc_value opened.board) ≡ (member_header opened.member).size.questions }
+    requires board { opened.board ≡ J.names }
+    requires cells { length opened.board.cells ≡ (member_header opened.member).size.questions }
 {
-    let shared = share::<D, J, O>(opened, operator)?;
+    let shared = share::<D, J>(opened)?;
     run_shared(rt, operator, log, &shared, &doors)
 }
 
 /// Tells what is left to tell when all threads have ended, and the end.
-fn tell_end<D: Disk, J: Naming, L: Log, R: Machine>(rt: &R, it: &Shared<D, J>, log: &Mutex<L>) {
+fn tell_end<D: Disk, J: Life, L: Log, R: Machine>(rt: &R, it: &Shared<D, J>, log: &Mutex<L>) {
     it.log_book(rt);
     it.log_due(rt, u64::MAX);
     it.tell(rt, log);
     log.lock(rt).tell(&LogEvent::End);
 }
 
-/// Where links and clients come in.
-#[derive(Drop)]
-struct Doors {
-    links: Door,
-    desk: Door,
-}
-
 /// A listener at this address, and what shuts it down.
 fn door<R: Machine>(rt: &R, address: SocketAddr) -> io::Result<Door> {
-    Door::new(TcpListener::bind(rt, address)?)
+    Door::new(Listener::Tcp(TcpListener::bind(rt, address)?))
 }
 
 /// Binds a listener. The operator is told why there is none.
@@ -299,19 +360,35 @@ fn listen<O: Operator, R: Machine>(
     }
 }
 
+/// The door of clients of this machine, if anything listens for them.
+fn local_door(local: Option<UnixListener>) -> Result<Option<Door>, RunFault> {
+    let Some(listener) = local else {
+        return Ok(None);
+    };
+    match Door::new(Listener::Unix(listener)) {
+        Ok(door) => Ok(Some(door)),
+        Err(_) => Err(RunFault::Listen),
+    }
+}
+
 /// Runs a member that was just opened, over any disk, until its operator ends it.
 ///
-/// It listens at its own two addresses, tells the operator that it is ready, and then starts its threads: a clock, one that
+/// It listens at its own two addresses, tries whether the system gives it its threads, tells the operator that it is ready,
+/// and then starts them: a clock, one that
 /// has the book hear what links hand in, a dialler for each member, one that takes links in and one that takes clients in, and
 /// one for each of these. At the end all of them end, and with them every connection.
+///
+/// **It listens before it speaks**: it makes no record, and answers no proposal, before n - t - 1 other members have welcomed
+/// it, or the seconds of its patience have passed. So a member whose journal was lost is told by those that know more of it
+/// before it contradicts what it said. One whose end comes before that says nothing, and doesn't count as stopped.
 ///
 /// Where there is a log one thread more tells it the member's events, so that no other waits for it. Past 1,024 events that
 /// wait to be told the next ones are counted and not kept. The last event is the end, when all threads have ended.
 ///
 /// # Errors
 ///
-/// [`RunFault::Listen`], [`RunFault::Memory`] and what the operator says when it is told come before any thread starts,
-/// but for `Memory` where a thread is refused. [`RunFault::Stopped`] is told at the end, where the member is stopped by then, and
+/// [`RunFault::Listen`], [`RunFault::Memory`] and what the operator says when it is told come before any thread starts: `Memory`
+/// also where the system doesn't give as many threads as n - t links, the doors and a client want. [`RunFault::Stopped`] is told at the end, where the member is stopped by then, and
 /// [`RunFault::Forgotten`] where that is because more than t members have heard more of it than its journal holds.
 /// Whatever comes, the member is gone with its threads; what it saved is on its disk.
 ///
@@ -333,33 +410,31 @@ pub fn run_member<D: Disk + Drop + Send, O: Operator, L: Log + Send, R: Machine>
 {
     let Addresses {
         peers,
+        listen: elsewhere,
         hosts,
         desk,
+        local,
         clients,
+        patience,
     } = addresses;
     let header = member.header();
     let Some(own) = peers.get(usize::from(header.me())) else {
         return Err(RunFault::Listen);
     };
     let doors = Doors {
-        links: listen(rt, *own, operator)?,
+        links: listen(rt, elsewhere.unwrap_or(*own), operator)?,
         desk: listen(rt, desk, operator)?,
+        local: local_door(local)?,
     };
-    let board = Board::new(alloc, header.size().questions())?;
-    let board = match Arc::new(alloc, board) {
-        Ok(board) => board,
-        Err(_) => return Err(RunFault::Memory),
-    };
-    let peers = Peers {
-        addresses: peers,
-        hosts,
-    };
+    let board = NewBoard::new(alloc, header.size().questions())?;
     let opened = Opened {
         alloc,
         member,
         board,
-        peers,
+        addresses: peers,
+        hosts,
         clients,
+        patience,
         seed,
     };
     run_named::<D, Brand, O, L, R>(rt, opened, doors, operator, log)

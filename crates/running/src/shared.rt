@@ -1,96 +1,162 @@
 //! What the threads of a member share. Begin at the struct; its methods stand after what they call.
 
-ghost use Rattle.std.specs.Prelude.{◌≡◌, ◌≤◌, ◌*◌};
+ghost use Rattle.std.specs.Prelude.{◌≡◌, ◌≤◌, ◌*◌, IfSome};
 
-use crate::ahead::Ahead;
+use crate::ahead::{Ahead, Welcomes};
 use crate::callers::Caller;
+use crate::doors::Listener;
 use crate::events::LogEvent;
-use crate::hosts::Peers;
+use crate::hosts::{Peers, Sender};
+use crate::life::Life;
 use crate::log::Log;
 use crate::machine::Machine;
+use crate::places::{Entered, GREETINGS, Given, give, let_in};
 use crate::quota::Quota;
 use crate::refusals::Refusal;
-use crate::slots::{GivenSlot, Slots};
+use crate::seats::{Seated, Seats};
+use crate::seconds::Seconds;
+use crate::slots::Slots;
 use crate::sockets::Sockets;
+use crate::tossers::LifeTosser;
 use crate::watch::Telling;
 use disk::Disk;
 use links::LinkEnd;
-use node::{Book, Hub, Naming, Rack};
-use rounds::ChaChaTosser;
+use node::{Book, Hub};
 use std::alloc::Global;
-use std::net::{IpAddr, TcpListener, TcpStream};
+use std::net::{IpAddr, TcpStream};
 use std::sync::atomic::{AtomicBool, Ordering};
-use std::sync::{Condvar, Mutex};
+use std::sync::{Condvar, Mutex, Wait};
 use std::thread;
 use std::time::Duration;
 
-/// How many connections there may be that have given no Hello.
-pub(crate) const GREETINGS: u32 = 64;
+/// How often a peer that has greeted asks for its seat, 20 milliseconds apart: for half a second.
+const SEAT_TRIES: u32 = 25;
 
 /// What the threads of a member share.
 #[derive(Drop)]
-pub(crate) struct Shared<D: Disk, J: Naming> {
+pub(crate) struct Shared<D: Disk, J: Life> {
     pub(crate) alloc: Global,
     /// Where the members listen, by their numbers, and from where their links are taken.
-    pub(crate) peers: Peers,
+    pub(crate) peers: Peers<J>,
     pub(crate) hub: Hub<D, J>,
-    pub(crate) rack: Rack,
+    pub(crate) seats: Seats<J>,
     /// The tosser of the link from each member, for the whole life.
-    pub(crate) link_tossers: Vec<Mutex<ChaChaTosser>>,
+    pub(crate) link_tossers: Vec<Mutex<LifeTosser<J>>>,
     /// The tosser of each slot of the desk, for the whole life.
-    pub(crate) desk_tossers: Vec<Mutex<ChaChaTosser>>,
+    pub(crate) desk_tossers: Vec<Mutex<LifeTosser<J>>>,
     pub(crate) slots: Mutex<Slots>,
     pub(crate) greetings: Mutex<Quota<GREETINGS>>,
     pub(crate) sockets: Mutex<Sockets>,
     /// Which members have heard more of this one than its journal holds.
     pub(crate) ahead: Mutex<Ahead>,
+    /// Which other members have welcomed this one.
+    pub(crate) welcomes: Mutex<Welcomes>,
+    /// For how many seconds the member listens at most before it speaks.
+    pub(crate) patience: u64,
     pub(crate) closing: AtomicBool,
+    /// The end came before the member spoke, and has stopped it for that alone.
+    pub(crate) ended_unheard: AtomicBool,
     /// How many seconds have passed; it counts on from 0 after 2^64 - 1.
-    pub(crate) ticks: Mutex<u64>,
+    pub(crate) seconds: Mutex<Seconds>,
     pub(crate) ticked: Condvar,
     /// What is to be told, if the member has a log. Another thread tells it, so that nobody waits for the log.
     pub(crate) telling: Mutex<Option<Telling>>,
 }
 
-/// A peer that is to greet: the number of its socket, and the host from which it comes.
+/// A peer that was let in to greet: the number of its socket, and the host from which it comes.
 #[derive(Clone, Copy, Drop)]
 pub(crate) struct Guest {
     pub(crate) socket: usize,
     pub(crate) host: IpAddr,
+    _entered: Entered,
 }
 
-/// The slot of a client at the desk, and the number of its socket.
+/// The slot that a client at the desk was given, and the number of its socket.
 #[derive(Clone, Copy, Drop)]
 pub(crate) struct Chair {
-    pub(crate) slot: u8,
+    pub(crate) slot: Given,
     pub(crate) socket: usize,
 }
 
-impl<D: Disk, J: Naming> Shared<D, J> {
+impl<D: Disk, J: Life> Shared<D, J> {
     /// Whether the member is coming to its end.
     pub(crate) fn is_closing(&self) -> bool {
         self.closing.load(Ordering::SeqCst)
     }
 
-    /// From now on the member comes to its end: who waits for a tick or for the bell goes on, and each socket is shut down.
+    /// From now on the member comes to its end: who waits for a tick or for the bell goes on, and each socket is shut down. One
+    /// that hasn't spoken yet never does.
     pub(crate) fn close<R: Machine>(&self, rt: &R) {
         self.closing.store(true, Ordering::SeqCst);
         self.tick(rt);
+        self.end_unheard(rt);
         self.hub.shut(rt);
         self.sockets.lock(rt).close();
     }
 
+    /// A member that listens still is stopped, so that who waits for it to speak says nothing.
+    fn end_unheard<R: Machine>(&self, rt: &R) {
+        if self.hub.is_listening() {
+            self.ended_unheard.store(true, Ordering::SeqCst);
+            self.hub.stop(rt);
+            self.hub.speak(rt);
+        }
+    }
+
+    /// Whether the end came before the member spoke.
+    pub(crate) fn has_ended_unheard(&self) -> bool {
+        self.ended_unheard.load(Ordering::SeqCst)
+    }
+
+    /// The member listens before it speaks, unless it is told not to, or has nobody to listen to.
+    pub(crate) fn listen<R: Machine>(&self, rt: &R) {
+        self.hub.listen(rt);
+        self.speak_if_due(rt);
+    }
+
+    /// Has the member speak once n - t - 1 others have welcomed it, or it has listened for long enough.
+    fn speak_if_due<R: Wait>(&self, rt: &R) {
+        if !self.hub.is_listening() || self.is_closing() {
+            return;
+        }
+        let welcomed = *self.welcomes.lock(rt);
+        if welcomed.are_enough(self.hub.header().size()) || self.second(rt) >= self.patience {
+            self.hub.speak(rt);
+        }
+    }
+
+    /// A peer has welcomed the link to it, and has heard so many statements more of this member than it has said. One that more
+    /// than t members are ahead of is stopped before it speaks.
+    pub(crate) fn note_welcome<R: Wait>(&self, rt: &R, peer: u8, excess: u64) {
+        self.hub.set_outgoing(rt, peer, true);
+        let header = self.hub.header();
+        if peer == header.me() {
+            return;
+        }
+        if excess > 0 {
+            self.ahead.lock(rt).add(header.size(), peer);
+            self.stop_if_forgotten(rt);
+        }
+        self.welcomes.lock(rt).add(header.size(), peer);
+        self.speak_if_due(rt);
+    }
+
     /// The event is to be told, if the member has a log.
-    pub(crate) fn log<R: Machine>(&self, rt: &R, event: LogEvent) {
+    pub(crate) fn log<R: Wait>(&self, rt: &R, event: LogEvent) {
         if let Some(telling) = &mut *self.telling.lock(rt) {
             telling.queue.put(event);
         }
     }
 
-    /// The same of an event of links. What the member's own end does to them isn't told.
-    pub(crate) fn log_link<R: Machine>(&self, rt: &R, event: LogEvent) {
-        if !self.is_closing() {
-            self.log(rt, event);
+    /// The same of an event of a link from a peer or to it; of those of one peer that come too fast how many there were, once a
+    /// minute. What the member's own end does to links isn't told, and the link from the member to itself is none of the log's.
+    pub(crate) fn log_of_peer<R: Wait>(&self, rt: &R, peer: u8, event: LogEvent) {
+        if self.is_closing() || peer == self.hub.header().me() {
+            return;
+        }
+        let now = self.second(rt);
+        if let Some(telling) = &mut *self.telling.lock(rt) {
+            telling.put_of_link(now, peer, event);
         }
     }
 
@@ -114,12 +180,13 @@ impl<D: Disk, J: Naming> Shared<D, J> {
         }
     }
 
-    /// What the book has that wasn't told is to be told, if the member has a log.
+    /// What the book has that wasn't told is to be told, if the member has a log. That a member that has not spoken was stopped
+    /// by its end is no news.
     pub(crate) fn log_book<R: Machine>(&self, rt: &R) {
-        if self.telling.lock(rt).is_none() {
+        if self.telling.lock(rt).is_none() || self.has_ended_unheard() {
             return;
         }
-        let book = self.hub.lock(rt);
+        let book = self.hub.read(rt);
         self.look(rt, &book);
     }
 
@@ -187,27 +254,34 @@ impl<D: Disk, J: Naming> Shared<D, J> {
         unreachable!()
     }
 
-    /// Counts a tick, and wakes who waits for it.
+    /// Begins the next second, and wakes who waits for it.
     fn tick<R: Machine>(&self, rt: &R) {
-        let mut ticks = self.ticks.lock(rt);
-        *ticks = ticks.wrapping_add(1);
+        let mut seconds = self.seconds.lock(rt);
+        seconds.tick();
         self.ticked.notify_all();
     }
 
-    /// How many ticks there were.
-    pub(crate) fn second<R: Machine>(&self, rt: &R) -> u64 {
-        *self.ticks.lock(rt)
+    /// The second that it is, counted from the start of the run.
+    pub(crate) fn second<R: Wait>(&self, rt: &R) -> u64 {
+        self.seconds.lock(rt).second()
     }
 
-    /// Waits for the next tick.
-    pub(crate) fn wait_tick<R: Machine>(&self, rt: &R) {
-        let mut ticks = self.ticks.lock(rt);
-        let seen = *ticks;
+    /// Ends the pause of the peer's dialler, once a second: a link of the peer has begun, so it is up.
+    pub(crate) fn call_dialler<R: Machine>(&self, rt: &R, peer: u8) {
+        let mut seconds = self.seconds.lock(rt);
+        seconds.call(peer);
+        self.ticked.notify_all();
+    }
+
+    /// Waits until the peer that was dialled in that second may be dialled again: in another one, or once a link of its own has
+    /// begun.
+    pub(crate) fn wait_to_dial<R: Machine>(&self, rt: &R, peer: u8, dialled: u64) {
+        let mut seconds = self.seconds.lock(rt);
         for _ in rt.forever() {
-            if *ticks != seen || self.is_closing() {
+            if seconds.is_over(peer, dialled) || self.is_closing() {
                 return;
             }
-            ticks = self.ticked.wait(rt, ticks);
+            seconds = self.ticked.wait(rt, seconds);
         }
         unreachable!()
     }
@@ -224,14 +298,14 @@ impl<D: Disk, J: Naming> Shared<D, J> {
     }
 
     /// Whether more than t members have heard more of this one than its journal holds.
-    pub(crate) fn is_forgotten<R: Machine>(&self, rt: &R) -> bool {
+    pub(crate) fn is_forgotten<R: Wait>(&self, rt: &R) -> bool {
         self.ahead.lock(rt).is_forgotten()
     }
 
     /// Stops a member that has forgotten what it said, before it says more.
-    fn stop_if_forgotten<R: Machine>(&self, rt: &R) {
+    fn stop_if_forgotten<R: Wait>(&self, rt: &R) {
         if self.is_forgotten(rt) {
-            self.hub.lock(rt).stop();
+            self.hub.stop(rt);
         }
     }
 
@@ -242,7 +316,7 @@ impl<D: Disk, J: Naming> Shared<D, J> {
         self.hub.serve_on(rt, || thread::sleep(rt, pause));
     }
 
-    /// Ticks and rings the bell about once a second, and gives peers up that don't greet, until the end.
+    /// Ticks and rings the bell about once a second, pays for early Initials, and gives peers up that don't greet, until the end.
     pub(crate) fn tick_on<R: Machine>(&self, rt: &R) {
         for _ in rt.forever() {
             if !self.waits(rt) {
@@ -252,7 +326,9 @@ impl<D: Disk, J: Naming> Shared<D, J> {
             self.sockets.lock(rt).tick();
             self.log_due(rt, self.second(rt));
             self.hub.ring(rt);
+            self.hub.count_second(rt);
             self.stop_if_forgotten(rt);
+            self.speak_if_due(rt);
             self.try_log_book(rt);
         }
         unreachable!()
@@ -262,7 +338,7 @@ impl<D: Disk, J: Naming> Shared<D, J> {
     pub(crate) fn next<R: Machine, A, F: Fn(TcpStream, IpAddr) -> Option<A>>(
         &self,
         rt: &R,
-        listener: &TcpListener,
+        listener: &Listener,
         admit: F,
     ) -> Option<A>
         requires { F.IsAlwaysCallable admit }
@@ -272,8 +348,8 @@ impl<D: Disk, J: Naming> Shared<D, J> {
                 return None;
             }
             match listener.accept() {
-                Ok((socket, from)) => {
-                    if let Some(admitted) = admit(socket, from.ip()) {
+                Ok((socket, host)) => {
+                    if let Some(admitted) = admit(socket, host) {
                         return Some(admitted);
                     }
                 }
@@ -282,6 +358,18 @@ impl<D: Disk, J: Naming> Shared<D, J> {
             }
         }
         unreachable!()
+    }
+
+    /// Lets one more in that is to greet; none where 64 are to greet already.
+    fn enter<R: Machine>(&self, rt: &R) -> Option<Entered> {
+        let mut greetings = self.greetings.lock(rt);
+        let_in(&mut greetings)
+    }
+
+    /// Gives a client a slot; none where each slot's client is being closed for another.
+    fn give_slot<R: Machine>(&self, rt: &R) -> Option<Given> {
+        let mut slots = self.slots.lock(rt);
+        give(&mut slots)
     }
 
     /// Takes in the socket of a peer that is to greet. It is closed where it comes from a host that may speak for no member,
@@ -297,13 +385,15 @@ impl<D: Disk, J: Naming> Shared<D, J> {
             self.log_refusal(rt, Refusal::From(host, LinkEnd::Stranger), None);
             return None;
         };
-        if !self.greetings.lock(rt).enter() {
-            return None;
-        }
+        let entered = self.enter(rt)?;
         let share = self.peers.share_of(GREETINGS as usize);
-        let entered = self.sockets.lock(rt).enter_to_greet(socket, first, share);
-        match entered {
-            Some(socket) => Some(Guest { socket, host }),
+        let admitted = self.sockets.lock(rt).enter_to_greet(socket, first, share);
+        match admitted {
+            Some(socket) => Some(Guest {
+                socket,
+                host,
+                _entered: entered,
+            }),
             None => {
                 self.greetings.lock(rt).leave();
                 None
@@ -311,14 +401,47 @@ impl<D: Disk, J: Naming> Shared<D, J> {
         }
     }
 
-    /// The peer at that socket has greeted, or is gone: another may greet in its place, and ticks don't end its session.
+    /// The seat of a sender that has greeted, once the session before has given it back; none where that goes on for half a
+    /// second. One whose connection is dead ends in silence, and the peer dials again.
+    pub(crate) fn take_seat<R: Machine>(&self, rt: &R, sender: &Sender<J>) -> Option<Seated<J>>
+        ensures peer { IfSome result (λ seated. seated.seat.peer ≡ sender.now.peer) }
+        ensures host { IfSome result (λ seated. seated.host ≡ sender.now.host) }
+    {
+        for _ in 0..SEAT_TRIES {
+            let seated = self.seats.take(rt, sender);
+            if seated.is_some() || self.is_closing() {
+                return seated;
+            }
+            thread::sleep(rt, Duration::from_millis(20));
+        }
+        None
+    }
+
+    /// Cuts the own link to a peer from which a link has begun or ended, unless it was dialled just now: it may be a connection
+    /// that is dead, or one to an earlier life of the peer, and its writer would learn of that only when the system sends
+    /// again. The dialler begins anew.
+    pub(crate) fn renew_link_to<R: Machine>(&self, rt: &R, peer: u8) {
+        if peer == self.hub.header().me() {
+            return;
+        }
+        let now = self.second(rt);
+        let is_cut = self.sockets.lock(rt).shut_old_to(peer, now);
+        if is_cut {
+            // Its writer may wait for the bell.
+            self.hub.ring(rt);
+        }
+    }
+
+    /// The peer at that socket has its seat, or is refused or gone: another may greet in its place, and ticks don't end its
+    /// session.
     pub(crate) fn end_greeting<R: Machine>(&self, rt: &R, socket: usize) {
         self.sockets.lock(rt).greeted(socket);
         self.greetings.lock(rt).leave();
     }
 
-    /// Ends the session of a peer that no thread can be made for.
+    /// Ends the session of a peer that no thread can be made for, which is to be told.
     pub(crate) fn turn_away<R: Machine>(&self, rt: &R, socket: usize) {
+        self.log_refusal(rt, Refusal::Threadless, None);
         self.greetings.lock(rt).leave();
         self.sockets.lock(rt).leave(socket);
     }
@@ -327,27 +450,31 @@ impl<D: Disk, J: Naming> Shared<D, J> {
     /// longest is closed for it, and the new one is answered once that one's session has ended. It is closed itself only where
     /// each of them is being closed for another already.
     pub(crate) fn admit_client<R: Machine>(&self, rt: &R, socket: TcpStream) -> Option<Chair> {
-        let given = self.slots.lock(rt).take()?;
-        let slot = match given {
-            GivenSlot::Free(slot) => slot,
-            GivenSlot::InPlaceOf(slot) => {
-                self.sockets.lock(rt).shut_client(slot);
-                slot
-            }
-        };
-        let entered = self.sockets.lock(rt).enter_client(socket, slot);
+        let slot = self.give_slot(rt)?;
+        if slot.displaces() {
+            self.displace(rt, slot.slot());
+        }
+        let entered = self.sockets.lock(rt).enter_client(socket, slot.slot());
         match entered {
             Some(socket) => Some(Chair { slot, socket }),
             None => {
-                self.slots.lock(rt).put(slot);
+                self.slots.lock(rt).put(slot.slot());
                 None
             }
         }
     }
 
+    /// Closes the client in that slot for another, which is to be told.
+    fn displace<R: Machine>(&self, rt: &R, slot: u8) {
+        let displaced = self.sockets.lock(rt).shut_client(slot);
+        if let Some(host) = displaced {
+            self.log_refusal(rt, Refusal::Displaced(host), None);
+        }
+    }
+
     /// Ends a client's session: its slot is given back, and its socket closed.
     pub(crate) fn leave_chair<R: Machine>(&self, rt: &R, chair: Chair) {
-        self.slots.lock(rt).put(chair.slot);
+        self.slots.lock(rt).put(chair.slot.slot());
         self.sockets.lock(rt).leave(chair.socket);
     }
 }

@@ -3,12 +3,25 @@
 use links::NetStream;
 use std::alloc::Global;
 use std::io;
-use std::net::{Shutdown, TcpListener, TcpStream};
-use std::os::fd::OwnedFd;
+use std::net::{IpAddr, Shutdown, TcpStream};
 use std::time::Duration;
 
 /// How many ticks, of about a second, a peer has for its whole greeting.
 const GREETING_TICKS: u8 = 10;
+
+/// For how many milliseconds a link is read on in silence. Its peer says something once a second, so two of its Idles are missing
+/// then.
+const SILENCE: u64 = 2500;
+
+/// How many ticks a link that was dialled stays untouched by what happens to the link from its peer.
+const FRESH_TICKS: u64 = 2;
+
+/// A member that was dialled, and the tick of that.
+#[derive(Clone, Copy, Drop)]
+struct Dialled {
+    peer: u8,
+    tick: u64,
+}
 
 /// A socket of a session that is under way.
 #[derive(Drop)]
@@ -17,7 +30,7 @@ struct OpenSocket {
     /// How many ticks are left for the greeting; none where none is awaited.
     patience: Option<u8>,
     /// The member that was dialled; none where it dialled.
-    to: Option<u8>,
+    to: Option<Dialled>,
     /// The first member of the host from which a peer dialled.
     from: Option<u8>,
     /// The slot of a client.
@@ -53,32 +66,48 @@ impl Sockets {
         })
     }
 
-    /// Shuts down the sockets of clients in that slot, whose sessions end then.
-    pub(crate) fn shut_client(&self, slot: u8) {
+    /// Shuts down the sockets of clients in that slot, whose sessions end then. Answers the host of the last of them; none where
+    /// there is no such client, or the system doesn't know its host any more.
+    pub(crate) fn shut_client(&self, slot: u8) -> Option<IpAddr> {
+        let mut host = None;
         for open in &self.open {
             if let Some(open) = open {
-                open.shut_if_of(slot);
+                if open.shut_if_of(slot) {
+                    host = host_of(&open.socket);
+                }
             }
         }
+        host
     }
 
-    /// Takes in the socket of a link to that member, like `enter_client`.
-    pub(crate) fn enter_to(&mut self, socket: TcpStream, peer: u8) -> Option<usize> {
+    /// Takes in the socket of a link to that member, which was dialled at that tick, like `enter_client`.
+    pub(crate) fn enter_to(&mut self, socket: TcpStream, peer: u8, tick: u64) -> Option<usize> {
         self.enter(OpenSocket {
             socket,
             patience: None,
-            to: Some(peer),
+            to: Some(Dialled { peer, tick }),
             from: None,
             slot: None,
         })
     }
 
-    /// Shuts down the sockets of links to that member, whose sessions end then.
-    pub(crate) fn shut_to(&self, peer: u8) {
+    /// Shuts down the sockets of links to that member that were dialled two ticks before this one or earlier, whose sessions
+    /// end then. Answers whether there was one.
+    pub(crate) fn shut_old_to(&self, peer: u8, now: u64) -> bool {
+        let mut any = false;
         for open in &self.open {
             if let Some(open) = open {
-                open.shut_if_to(peer);
+                any = open.shut_if_old_to(peer, now) || any;
             }
+        }
+        any
+    }
+
+    /// From now on a read of the socket of that number fails once it has waited so long. Where the system refuses that, the
+    /// limit stays as it was.
+    pub(crate) fn limit_reads(&self, number: usize, limit: Duration) {
+        if let Some(Some(open)) = self.open.get(number) {
+            let _limited = open.socket.set_read_timeout(Some(limit)).is_ok();
         }
     }
 
@@ -131,11 +160,12 @@ impl Sockets {
         Some(last)
     }
 
-    /// The peer at the socket of that number has greeted: ticks don't end its session any more.
+    /// The peer at the socket of that number has greeted: ticks don't end its session any more, but silence does.
     pub(crate) fn greeted(&mut self, number: usize) {
         if let Some(Some(open)) = self.open.get_mut(number) {
             open.patience = None;
         }
+        self.limit_reads(number, Duration::from_millis(SILENCE));
     }
 
     /// Counts a tick: a socket whose peer has had ten ticks for its greeting is shut down.
@@ -187,54 +217,46 @@ impl OpenSocket {
         }
     }
 
-    /// Is shut down if it is that of a client in that slot.
-    fn shut_if_of(&self, slot: u8) {
-        if self.slot == Some(slot) {
+    /// Is shut down if it is that of a client in that slot, and says whether it is.
+    fn shut_if_of(&self, slot: u8) -> bool {
+        let is_its = self.slot == Some(slot);
+        if is_its {
             shut(&self.socket);
         }
+        is_its
     }
 
-    /// Is shut down if it is one of a link to that member.
-    fn shut_if_to(&self, peer: u8) {
-        if self.to == Some(peer) {
+    /// Is shut down if it is one of a link to that member, dialled two ticks before this one or earlier, and says whether it is.
+    fn shut_if_old_to(&self, peer: u8, now: u64) -> bool {
+        let is_its = match self.to {
+            Some(to) => to.peer == peer && now.saturating_sub(to.tick) >= FRESH_TICKS,
+            None => false,
+        };
+        if is_its {
             shut(&self.socket);
         }
+        is_its
+    }
+}
+
+/// The host at the other end of a socket.
+fn host_of(socket: &TcpStream) -> Option<IpAddr> {
+    match socket.peer_addr() {
+        Ok(address) => Some(address.ip()),
+        Err(_) => None,
     }
 }
 
 /// Shuts a socket down. One that the peer closed before stays so.
-fn shut(socket: &TcpStream) {
+pub(crate) fn shut(socket: &TcpStream) {
     let _already = socket.shutdown(Shutdown::Both).is_err();
-}
-
-/// A listener, and a copy of its descriptor by which it is shut down. The copy is made at once, so that an end asks the system
-/// for nothing that it may not have left then.
-#[derive(Drop)]
-pub(crate) struct Door {
-    pub(crate) listener: TcpListener,
-    stop: TcpStream,
-}
-
-impl Door {
-    /// The door of a listener. The system's error comes where it gives no descriptor more.
-    pub(crate) fn new(listener: TcpListener) -> io::Result<Door> {
-        let descriptor: OwnedFd = listener.try_clone()?.into();
-        Ok(Door {
-            listener,
-            stop: descriptor.into(),
-        })
-    }
-
-    /// Shuts it down: a thread that waits in its `accept` gets an error, now and from now on.
-    pub(crate) fn shut(&self) {
-        shut(&self.stop);
-    }
 }
 
 /// The stream of the client at this socket, whose bytes leave at once, however few they are. One that says nothing for ten
 /// minutes, or takes nothing for ten seconds, is given up: the read or the write fails.
 pub fn client_stream(socket: TcpStream) -> io::Result<NetStream> {
-    socket.set_nodelay(true)?;
+    // A Unix socket has no such delay.
+    let _at_once = socket.set_nodelay(true).is_ok();
     socket.set_read_timeout(Some(Duration::from_secs(600)))?;
     socket.set_write_timeout(Some(Duration::from_secs(10)))?;
     Ok(NetStream::new(socket))

@@ -4,12 +4,15 @@ ghost use Rattle.std.specs.Prelude.{◌≡◌, ◌+◌, ◌*◌, ◌<◌, ◌^�
 ghost use Rattle.member.specs.Sound.{IsSound};
 ghost use Rattle.member.specs.Readers.{member_header, member_saved};
 ghost use Rattle.rounds.specs.Tossing.{stream_of};
-ghost use Rattle.running.specs.Streams.{streams};
+ghost use Rattle.running.specs.Streams.{AreOfLife, IsOfLife, streams};
 
+use crate::life::Life;
 use disk::Disk;
 use member::Member;
-use rounds::ChaChaTosser;
+use rounds::{ChaChaTosser, Toss, Tosser};
 use std::alloc::Global;
+use std::marker::PhantomData;
+use std::sync::Mutex;
 use terms::Memory;
 
 /// The place of the desk's first client among the streams.
@@ -41,8 +44,9 @@ fn tossers_from(
     count: u8,
 ) -> Result<Vec<ChaChaTosser>, Memory>
     requires { first + count < 2 ^ 8 }
-    ensures { records < 2 ^ 55 →
+    ensures streams { records < 2 ^ 55 →
         IfOk result (λ tossers. tossers.items ≡ streams seed (records * 256 + first) count) }
+    ensures life { records < 2 ^ 55 → IfOk result (λ tossers. AreOfLife seed records tossers.items) }
 {
     let mut tossers = Vec::new(alloc);
     for at in 0..count {
@@ -76,10 +80,82 @@ pub fn tossers_of<D: Disk>(
         tossers.links.items ≡ streams seed (length (member_saved member.now) * 256) (member_header member.now).size.n) }
     ensures desk { length (member_saved member.now) < 2 ^ 55 → IfOk result (λ tossers.
         tossers.desk.items ≡ streams seed (length (member_saved member.now) * 256 + 128) 32) }
+    ensures life { length (member_saved member.now) < 2 ^ 55 → IfOk result (λ tossers.
+        AreOfLife seed (length (member_saved member.now)) tossers.links.items
+        × AreOfLife seed (length (member_saved member.now)) tossers.desk.items) }
 {
     let records = member.records().len() as u64;
     let members = member.header().size().n();
     let links = tossers_from(alloc, seed, records, 0, members)?;
     let desk = tossers_from(alloc, seed, records, DESK, CLIENTS)?;
     Ok(Tossers { links, desk })
+}
+
+/// A tosser of this life: it tosses from a stream of the run's seed that no other life has. A journal has fewer than 2^55
+/// records.
+#[derive(Drop)]
+pub(crate) struct LifeTosser<J: Life> {
+    tosser: ChaChaTosser,
+    of: PhantomData<J>,
+    ghost of_life: { J.records < 2 ^ 55 → IsOfLife J.seed J.records tosser },
+}
+
+impl<J: Life> LifeTosser<J> {
+    /// The tosser of this stream.
+    fn new(tosser: ChaChaTosser) -> LifeTosser<J>
+        requires { J.records < 2 ^ 55 → IsOfLife J.seed J.records tosser }
+    {
+        LifeTosser {
+            tosser,
+            of: PhantomData,
+        }
+    }
+}
+
+impl<J: Life> Tosser for LifeTosser<J> {
+    ghost use Rattle.rounds.specs.Tossing.{next_toss};
+
+    ghost may_toss = { λ old word new. (word, new.tosser) ≡ next_toss old.tosser };
+
+    fn toss(&mut self) -> Toss {
+        self.tosser.toss()
+    }
+}
+
+/// Each tosser behind a lock of its own.
+fn locked<J: Life>(
+    alloc: Global,
+    tossers: Vec<ChaChaTosser>,
+) -> Result<Vec<Mutex<LifeTosser<J>>>, Memory>
+    requires { J.records < 2 ^ 55 → AreOfLife J.seed J.records tossers.items }
+{
+    let mut locked = Vec::new(alloc);
+    for tosser in tossers {
+        locked.push(Mutex::new(LifeTosser::new(tosser)))?;
+    }
+    Ok(locked)
+}
+
+/// The tossers of a run, each behind a lock: those of its links, by the members' numbers, and those of its desk, by the
+/// slots'.
+#[derive(Drop)]
+pub(crate) struct LockedTossers<J: Life> {
+    pub(crate) links: Vec<Mutex<LifeTosser<J>>>,
+    pub(crate) desk: Vec<Mutex<LifeTosser<J>>>,
+}
+
+/// The tossers of the run of a member that was just opened.
+pub(crate) fn lock_tossers<D: Disk, J: Life>(
+    alloc: Global,
+    seed: [u8; 32],
+    member: &Member<D>,
+) -> Result<LockedTossers<J>, Memory>
+    requires sound { IsSound D.Disk member.now }
+    requires seed { seed ≡ J.seed }
+    requires records { length (member_saved member.now) ≡ J.records }
+{
+    let Tossers { links, desk } = tossers_of(alloc, seed, member)?;
+    let links = locked(alloc, links)?;
+    let desk = locked(alloc, desk)?;
+    Ok(LockedTossers { links, desk })
 }

@@ -1,17 +1,19 @@
 //! What of a member's book was told.
 
-ghost use Rattle.std.specs.Prelude.{◌≡◌, ◌+◌, ◌++◌, ◌||◌, false, Option, IfOk, IsOk, is_some, slice_set};
+ghost use Rattle.std.specs.Prelude.{◌≡◌, ◌⊎◌, ◌+◌, ◌++◌, ◌||◌, false, Option, None, IfOk, IsOk, is_some, slice_set};
 ghost use Rattle.std.specs.Option.{option_to_list};
 ghost use Rattle.member.specs.Answers.{verdict_of};
 ghost use Rattle.member.specs.Readers.{member_header, member_saved, member_is_stopped};
-ghost use Rattle.running.specs.Queues.{HaveCome, none};
+ghost use Rattle.running.specs.Queues.{HasCome, HaveCome, none};
 ghost use Rattle.running.specs.Refusals.{IsNoted, counted_by, dues, empty, events_of, held};
+ghost use Rattle.running.specs.declared.refusals.Refusal.TheVariants as kinds;
 ghost use Rattle.running.specs.declared.refusals.RefusalCount.{RefusalCount};
 ghost use Rattle.running.specs.Watches.{AreTold, decided_list, decision_of, decisions_below, is_told, stop_of};
 
 use crate::callers::Caller;
 use crate::events::LogEvent;
 use crate::log::Queue;
+use crate::pace::Pace;
 use crate::refusals::{Refusal, Refusals, put_line};
 use disk::Disk;
 use node::{Book, Naming};
@@ -90,6 +92,8 @@ impl Watch {
 pub(crate) struct Telling {
     watch: Watch,
     refusals: Refusals,
+    /// How many lines of the links of each member were told.
+    paces: [Pace; 64],
     pub(crate) queue: Queue,
 }
 
@@ -109,6 +113,7 @@ impl Telling {
         Ok(Telling {
             watch,
             refusals: Refusals::new(),
+            paces: [Pace { began: 0, told: 0 }; 64],
             queue: Queue::new(alloc),
         })
     }
@@ -120,6 +125,35 @@ impl Telling {
     {
         if let Some(event) = event {
             self.queue.put(event);
+        }
+    }
+
+    /// Whether one more line of the links of that member may be told at that second, which counts it.
+    fn admits_line(&mut self, now: u64, peer: u8) -> bool
+        ensures queue { self.new.queue ≡ self.old.queue }
+        ensures refusals { self.new.refusals ≡ self.old.refusals }
+    {
+        match self.paces.get_mut(usize::from(peer)) {
+            Some(pace) => {
+                let admits = pace.admits(now);
+                *pace = pace.after_line(now);
+                admits
+            }
+            None => true,
+        }
+    }
+
+    /// An event of a link from or to that member came, at that second. It is to be told, or where it is one too many of its
+    /// minute it is counted, as a refusal is.
+    pub(crate) fn put_of_link(&mut self, now: u64, peer: u8, event: LogEvent)
+        ensures { HasCome self.old.queue event self.new.queue
+            ⊎ ((left line : Option RefusalCount) × IsNoted now (kinds.Unsteady peer) None self.old.refusals self.new.refusals left line
+            × HaveCome self.old.queue (events_of (option_to_list left ++ option_to_list line)) self.new.queue) }
+    {
+        if self.admits_line(now, peer) {
+            self.queue.put(event);
+        } else {
+            self.count_refusal(now, Refusal::Unsteady(peer), None);
         }
     }
 

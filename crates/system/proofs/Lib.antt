@@ -2,3 +2,4 @@ mod Listening
 mod Weakening
 pub mod Heads
 pub mod Numbers
+mod Adding

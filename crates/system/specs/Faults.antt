@@ -34,6 +34,11 @@ of_journal unheld.OldVersion = ends.Journal unheld.OldVersion
 abbrev pub fault_status : Fault → ℕ
 fault_status (ends.Argument place) = 2
 fault_status (ends.SameFile path) = 2
+fault_status ends.Timeout = 2
+fault_status ends.Question = 2
+fault_status ends.Member = 2
+fault_status ends.First = 2
+fault_status ends.Last = 2
 fault_status other = 1
 
 -- the bytes of the argument at the place are no text, and the fault says so

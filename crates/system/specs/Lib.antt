@@ -5,3 +5,12 @@ pub mod Sockets
 pub mod Status
 pub mod Signals
 pub mod Limits
+pub mod Desks
+pub mod Doors
+pub mod Reading
+pub mod Forms
+pub mod Misfits
+pub mod Moments
+pub mod Logs
+pub mod Words
+pub mod Rows

@@ -29,6 +29,17 @@ abbrev pub lack_text : ℕ → ℕ → List ℕ
 lack_text limit links =
     codes "bracha: " ++ (decimal limit ++ (codes " open files are too few: the links want " ++ (decimal links ++ codes ", and each client 2\n")))
 
+-- the least with which a member takes part that needs links with so many: four for each and twelve more, and as many as a member
+-- alone wants
+abbrev pub least_wanted : ℕ → ℕ
+least_wanted needed = max (wanted 1 0) (4 * needed + 12)
+
+-- what is told of fewer than that
+abbrev pub starved_text : ℕ → ℕ → List ℕ
+starved_text limit needed =
+    decimal limit ++ (codes " are too few: this member wants " ++ (decimal (least_wanted needed)
+    ++ codes " at least, and 2 for each client (`ulimit -n`)"))
+
 -- what is said where there are enough for so many clients, but not for 32
 abbrev pub fewer_text : ℕ → ℕ → ℕ → List ℕ
 fewer_text limit links clients =

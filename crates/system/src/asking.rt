@@ -2,70 +2,20 @@
 
 ghost use Rattle.system.specs.Troubles.{IsNamed};
 ghost use Rattle.system.specs.declared.fault.Fault.TheVariants as ends;
-ghost use Rattle.std.specs.Prelude.{ℕ, ◌≡◌, ◌↔◌, IfErr, IsTrue, None, Some, false, max};
+ghost use Rattle.std.specs.Prelude.{◌≡◌, IfErr};
 
-use crate::cluster::settings_path;
+use crate::clients::read_client;
+use crate::desks::{Deadline, DeskPlace, DeskSocket, REST, Talk, connect, desk_place};
 use crate::fault::Fault;
-use crate::files::read_settings;
-use crate::live::socket_address;
 use crate::trouble::{Failure, Whereabouts};
 use commands::{
-    TalkFault, ask_line, exchange, fetch_transcript, is_undecided, propose_line, status_line, tell,
-    tell_object, tell_of, transcript_line,
+    TalkFault, ask_line, exchange, fetch_transcript, is_undecided, links_line, propose_line,
+    ready_status, status_line, tell, tell_object, tell_of, transcript_line,
 };
-use settings::{Address, Settings, address_text};
+use settings::{Address, address_text};
 use std::io::{self, BufReader};
-use std::net::TcpStream;
 use std::thread;
-use std::time::{Duration, Instant};
-
-/// How many seconds a client waits, where it isn't told.
-const LIMITS: Limits = Limits {
-    connect: 10,
-    line: 30,
-    reply: 30,
-};
-
-/// How many seconds a client waits.
-#[derive(Clone, Copy, Debug, PartialEq, Eq)]
-struct Limits {
-    /// Until its connection is made.
-    connect: u64,
-    /// Until the member takes more of its line.
-    line: u64,
-    /// For more of the reply.
-    reply: u64,
-}
-
-/// How many seconds a client waits that is told so many, one at least.
-fn limits_of(timeout: Option<u16>) -> Limits
-    ensures told { (seconds : ℕ) → timeout ≡ Some seconds → result ≡ record { connect = max seconds 1; line = max seconds 1; reply = max seconds 1 } }
-    ensures untold { timeout ≡ None → result ≡ record { connect = 10; line = 30; reply = 30 } }
-{
-    match timeout {
-        Some(seconds) => {
-            let seconds = u64::from(seconds.max(1));
-            Limits {
-                connect: seconds,
-                line: seconds,
-                reply: seconds,
-            }
-        }
-        None => LIMITS,
-    }
-}
-
-/// A connection to the desk at this address. A member that doesn't answer within the limits doesn't answer.
-fn connect(rt: &HostRuntime, address: &Address, limits: Limits) -> io::Result<TcpStream> {
-    let socket = TcpStream::connect_timeout(
-        rt,
-        &socket_address(address),
-        Duration::from_secs(limits.connect),
-    )?;
-    socket.set_read_timeout(Some(Duration::from_secs(limits.reply)))?;
-    socket.set_write_timeout(Some(Duration::from_secs(limits.line)))?;
-    Ok(socket)
-}
+use std::time::Duration;
 
 /// The failure of a talk over a connection that was made.
 fn talk_failure(rt: &HostRuntime, address: &str, fault: TalkFault) -> Failure
@@ -87,15 +37,32 @@ fn talk_failure(rt: &HostRuntime, address: &str, fault: TalkFault) -> Failure
     }
 }
 
-/// A connection to the desk at the address, HOST:PORT.
-fn desk_at(rt: &HostRuntime, text: &str, timeout: Option<u16>) -> Result<TcpStream, Failure>
+/// What an address has to be.
+const ADDRESS_WORDS: &str =
+    "must be unix:PATH, or localhost or four numbers with points between them, a colon and a port from 1 to 65535: no host names, no IPv6";
+
+/// The place of the desk that the address names.
+fn place_at<'a>(rt: &HostRuntime, text: &'a str) -> Result<DeskPlace<'a>, Failure>
     ensures named { IfErr result (IsNamed text.now) }
 {
-    let Some(address) = Address::parse(text) else {
-        let words = "not HOST:PORT";
-        return Err(Failure::at(rt.alloc(), Fault::Address, text, Whereabouts::Whole, &words));
-    };
-    match connect(rt, &address, limits_of(timeout)) {
+    match desk_place(text) {
+        Some(place) => Ok(place),
+        None => Err(Failure::at(
+            rt.alloc(),
+            Fault::Address,
+            text,
+            Whereabouts::Whole,
+            &ADDRESS_WORDS,
+        )),
+    }
+}
+
+/// A connection to the desk at the address, HOST:PORT or unix:PATH, within the time.
+fn desk_at(rt: &HostRuntime, text: &str, deadline: Deadline) -> Result<DeskSocket, Failure>
+    ensures named { IfErr result (IsNamed text.now) }
+{
+    let place = place_at(rt, text)?;
+    match connect(rt, &place, deadline) {
         Ok(socket) => Ok(socket),
         Err(error) => {
             let fault = Fault::Talk(TalkFault::NoAnswer);
@@ -104,18 +71,34 @@ fn desk_at(rt: &HostRuntime, text: &str, timeout: Option<u16>) -> Result<TcpStre
     }
 }
 
+/// The end of a client that begins now and waits so many milliseconds in all, where that is limited.
+fn deadline_of(rt: &HostRuntime, timeout: Option<u32>) -> Result<Deadline, Fault> {
+    match Deadline::new(rt, timeout) {
+        Ok(deadline) => Ok(deadline),
+        Err(_) => Err(Fault::Memory),
+    }
+}
+
 /// The reply of the desk at the address to the line, without its end.
 fn reply_at(
     rt: &HostRuntime,
     text: &str,
     line: &str,
-    timeout: Option<u16>,
+    deadline: Deadline,
 ) -> Result<Vec<u8>, Failure>
     ensures named { IfErr result (IsNamed text.now) }
 {
-    let socket = desk_at(rt, text, timeout)?;
-    let mut to = &socket;
-    let mut from = &socket;
+    let socket = &desk_at(rt, text, deadline)?;
+    let mut to = Talk {
+        rt,
+        socket,
+        deadline,
+    };
+    let mut from = Talk {
+        rt,
+        socket,
+        deadline,
+    };
     match exchange(rt.alloc(), line, &mut to, &mut from) {
         Ok(reply) => Ok(reply),
         Err(fault) => Err(talk_failure(rt, text, fault)),
@@ -148,11 +131,12 @@ fn ask_desk(
     text: &str,
     line: &str,
     json: bool,
-    timeout: Option<u16>,
+    timeout: Option<u32>,
 ) -> Result<u8, Failure>
     ensures named { IfErr result (IsNamed text.now) }
 {
-    let reply = reply_at(rt, text, line, timeout)?;
+    let deadline = deadline_of(rt, timeout)?;
+    let reply = reply_at(rt, text, line, deadline)?;
     tell_reply(rt, text, reply, json)
 }
 
@@ -162,14 +146,24 @@ pub fn transcript_at(
     rt: &HostRuntime,
     address: &str,
     question: u16,
-    timeout: Option<u16>,
+    timeout: Option<u32>,
 ) -> Result<u8, Failure>
     ensures named { IfErr result (IsNamed address.now) }
 {
     let line = transcript_line(rt.alloc(), question).map_err(|_| Fault::Memory)?;
-    let socket = desk_at(rt, address, timeout)?;
-    let mut to = &socket;
-    let mut from = BufReader::new(rt.alloc(), &socket).map_err(|_| Fault::Memory)?;
+    let deadline = deadline_of(rt, timeout)?;
+    let socket = &desk_at(rt, address, deadline)?;
+    let mut to = Talk {
+        rt,
+        socket,
+        deadline,
+    };
+    let talk = Talk {
+        rt,
+        socket,
+        deadline,
+    };
+    let mut from = BufReader::new(rt.alloc(), talk).map_err(|_| Fault::Memory)?;
     match fetch_transcript(
         rt.alloc(),
         line.as_str(),
@@ -188,7 +182,7 @@ pub fn propose_at(
     address: &str,
     question: u16,
     bit: u8,
-    timeout: Option<u16>,
+    timeout: Option<u32>,
 ) -> Result<u8, Failure>
     ensures named { IfErr result (IsNamed address.now) }
 {
@@ -202,7 +196,7 @@ pub fn ask_at(
     address: &str,
     question: u16,
     json: bool,
-    timeout: Option<u16>,
+    timeout: Option<u32>,
 ) -> Result<u8, Failure>
     ensures named { IfErr result (IsNamed address.now) }
 {
@@ -210,48 +204,61 @@ pub fn ask_at(
     ask_desk(rt, address, line.as_str(), json, timeout)
 }
 
-/// How long a client that waits for a decision rests before it asks again, in milliseconds.
-const REST: u64 = 250;
-
-/// Whether so many seconds have passed since then. Where the clock fails they have.
-fn has_passed(rt: &HostRuntime, start: Instant, seconds: u16) -> bool {
-    match start.elapsed(rt) {
-        Ok(passed) => passed >= Duration::from_secs(u64::from(seconds)),
-        Err(_) => true,
-    }
+/// Whether the failure is that no reply came.
+fn is_no_answer(failure: &Failure) -> bool {
+    matches!(failure.fault, Fault::Talk(TalkFault::NoAnswer))
 }
 
-/// Whether there is no time left to wait, where it is limited at all.
-fn is_over(rt: &HostRuntime, start: Instant, timeout: Option<u16>) -> bool
-    ensures { timeout ≡ None → result ≡ false }
+/// Prints that a question is undecided once the time is over. The status is 1.
+fn tell_undecided(
+    rt: &HostRuntime,
+    address: &str,
+    reply: Vec<u8>,
+    json: bool,
+) -> Result<u8, Failure>
+    ensures named { IfErr result (IsNamed address.now) }
 {
-    match timeout {
-        Some(seconds) => has_passed(rt, start, seconds),
-        None => false,
-    }
+    let _printed = tell_reply(rt, address, reply, json)?;
+    Ok(1)
 }
 
 /// Asks the member whose desk is at the address for its decision, again and again until there is one or another reply, or until
-/// there is no time left; and prints the last reply. The status is that of the reply, but 1 for `UNDECIDED`. A fault ends it.
+/// there is no time left; and prints the last reply. A member that doesn't answer is asked again too. The status is that of the
+/// reply, but 1 for `UNDECIDED`.
 pub fn await_at(
     rt: &HostRuntime,
     address: &str,
     question: u16,
     json: bool,
-    timeout: Option<u16>,
+    timeout: Option<u32>,
 ) -> Result<u8, Failure>
     ensures named { IfErr result (IsNamed address.now) }
 {
     let line = ask_line(rt.alloc(), question).map_err(|_| Fault::Memory)?;
-    let start = Instant::now(rt).map_err(|_| Fault::Memory)?;
+    let deadline = deadline_of(rt, timeout)?;
+    let mut last = None;
     for _ in 0..u64::MAX {
-        let reply = reply_at(rt, address, line.as_str(), timeout)?;
-        if !is_undecided(&reply) {
-            return tell_reply(rt, address, reply, json);
-        }
-        if is_over(rt, start, timeout) {
-            let _printed = tell_reply(rt, address, reply, json)?;
-            return Ok(1);
+        match reply_at(rt, address, line.as_str(), deadline) {
+            Ok(reply) => {
+                if !is_undecided(&reply) {
+                    return tell_reply(rt, address, reply, json);
+                }
+                if deadline.is_over(rt) {
+                    return tell_undecided(rt, address, reply, json);
+                }
+                last = Some(reply);
+            }
+            Err(failure) => {
+                if !is_no_answer(&failure) {
+                    return Err(failure);
+                }
+                if deadline.is_over(rt) {
+                    return match last {
+                        Some(reply) => tell_undecided(rt, address, reply, json),
+                        None => Err(failure),
+                    };
+                }
+            }
         }
         thread::sleep(rt, Duration::from_millis(REST));
     }
@@ -263,83 +270,49 @@ pub fn status_at(
     rt: &HostRuntime,
     address: &str,
     json: bool,
-    timeout: Option<u16>,
+    timeout: Option<u32>,
 ) -> Result<u8, Failure>
     ensures named { IfErr result (IsNamed address.now) }
 {
     ask_desk(rt, address, status_line(), json, timeout)
 }
 
-/// The folder of a file, which is the working folder for a bare name.
-fn folder_of(path: &str) -> &str {
-    match path.rsplit_once('/') {
-        Some(("", _)) => "/",
-        Some((folder, _)) => folder,
-        None => ".",
-    }
-}
-
-/// Whether the settings are those of the other member of that number of the same cluster.
-fn is_of(found: &Settings, settings: &Settings, member: u8) -> bool
-    ensures { IsTrue result ↔ (found.now.header ≡ record settings.now.header { me = member }) }
-{
-    found.header.cluster() == settings.header.cluster()
-        && found.header.size() == settings.header.size()
-        && found.header.me() == member
-}
-
-/// The desk that settings say, where they are those of that member of the same cluster.
-fn desk_in(found: &Settings, settings: &Settings, member: u8) -> Option<Address> {
-    if is_of(found, settings, member) {
-        Some(found.desk)
-    } else {
-        None
-    }
-}
-
-/// The desk of the member of that number that the settings in this file say, if they are those of that member of the same cluster.
-fn desk_beside(rt: &HostRuntime, path: &str, settings: &Settings, member: u8) -> Option<Address> {
-    match read_settings(rt, path) {
-        Ok(found) => desk_in(&found, settings, member),
-        Err(_) => None,
-    }
-}
-
-/// The desk of a member of the cluster of these settings: as they say where they are its own, or as the settings say that are
-/// in that folder under its name. None where there are none, or those of another.
-fn desk_of(
+/// Asks the member whose desk is at the address how many of its links come and go, and prints its reply. The status is that of
+/// the reply; where the member is to be ready, 0 only if as many links come in and go out as it needs to decide, and 1 else.
+pub fn links_at(
     rt: &HostRuntime,
-    folder: &str,
-    settings: &Settings,
-    member: u8,
-) -> Result<Option<Address>, Fault> {
-    if member == settings.header.me() {
-        return Ok(Some(settings.desk));
-    }
-    let path = settings_path(rt.alloc(), folder, usize::from(member))?;
-    Ok(desk_beside(rt, path.as_str(), settings, member))
+    address: &str,
+    ready: bool,
+    json: bool,
+    timeout: Option<u32>,
+) -> Result<u8, Failure>
+    ensures named { IfErr result (IsNamed address.now) }
+{
+    let deadline = deadline_of(rt, timeout)?;
+    let reply = reply_at(rt, address, links_line(), deadline)?;
+    let status = ready_status(&reply);
+    let told = tell_reply(rt, address, reply, json)?;
+    if ready { Ok(status) } else { Ok(told) }
 }
 
-/// The reply of a member to the line, in words where there is none.
+/// The reply of the member with this desk to the line, in words where there is none.
 fn reply_of_member(
     rt: &HostRuntime,
-    desk: Option<Address>,
+    desk: &Address,
     line: &str,
-    timeout: Option<u16>,
+    timeout: Option<u32>,
 ) -> Result<Vec<u8>, Failure> {
-    let Some(desk) = desk else {
-        return words_of(rt, "unknown");
-    };
-    let text = address_text(rt.alloc(), &desk).map_err(|_| Fault::Memory)?;
-    match reply_at(rt, text.as_str(), line, timeout) {
+    let text = address_text(rt.alloc(), desk).map_err(|_| Fault::Memory)?;
+    let deadline = deadline_of(rt, timeout)?;
+    match reply_at(rt, text.as_str(), line, deadline) {
         Ok(reply) => Ok(reply),
-        Err(
-            Failure {
-                fault: Fault::Talk(TalkFault::NoAnswer),
-                ..
-            },
-        ) => words_of(rt, "no answer"),
-        Err(failure) => Err(failure),
+        Err(failure) => {
+            if is_no_answer(&failure) {
+                words_of(rt, "no answer")
+            } else {
+                Err(failure)
+            }
+        }
     }
 }
 
@@ -352,26 +325,27 @@ fn words_of(rt: &HostRuntime, words: &str) -> Result<Vec<u8>, Failure> {
     Ok(bytes)
 }
 
-/// Proposes a bit to each member of the cluster of the settings in the file whose desk is known, and prints a line `member M
-/// REPLY` for each, where REPLY is `unknown` for a member without a desk and `no answer` for one that doesn't answer. The
-/// status is 0 where each reply is a good one, and 1 else.
+/// Proposes a bit to each member of the cluster of the client's settings in the file, and prints a line `member M REPLY` for each,
+/// where REPLY is `no answer` for one that doesn't answer. Each is waited for so long. The status is 0 where each reply is a good
+/// one, and 1 else.
 pub fn propose_to_all(
     rt: &HostRuntime,
     path: &str,
     question: u16,
     bit: u8,
-    timeout: Option<u16>,
+    timeout: Option<u32>,
 ) -> Result<u8, Failure> {
-    let settings = read_settings(rt, path)?;
+    let client = read_client(rt, path)?;
     let line = propose_line(rt.alloc(), question, bit).map_err(|_| Fault::Memory)?;
     let mut status = 0;
-    for member in 0..settings.header.size().n() {
-        let desk = desk_of(rt, folder_of(path), &settings, member)?;
-        let reply = reply_of_member(rt, desk, line.as_str(), timeout)?;
-        let one = tell_of(rt.alloc(), member, &reply, &mut io::writer(rt)).map_err(
-            |fault| Fault::Talk(fault),
-        )?;
-        status = status.max(one);
+    for member in 0..client.size.n() {
+        if let Some(desk) = client.desks.get(usize::from(member)) {
+            let reply = reply_of_member(rt, desk, line.as_str(), timeout)?;
+            let one = tell_of(rt.alloc(), member, &reply, &mut io::writer(rt)).map_err(
+                |fault| Fault::Talk(fault),
+            )?;
+            status = status.max(one);
+        }
     }
     Ok(status)
 }

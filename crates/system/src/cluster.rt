@@ -1,4 +1,4 @@
-//! The command `new-cluster`: the settings of each member of a new cluster.
+//! The command `new-cluster`: the settings of each member of a new cluster, and a client's.
 
 ghost use Rattle.system.specs.Faults.{IsMeant};
 ghost use Rattle.system.specs.declared.fault.Fault.TheVariants as ends;
@@ -6,13 +6,19 @@ ghost use Rattle.std.specs.Prelude.{◌≡◌, IfErr};
 
 use crate::fault::Fault;
 use crate::trouble::{Failure, Whereabouts};
-use settings::{Address, Key, SettingsFault, address_text, new_links, new_settings};
+use settings::{
+    Address, ClientSettings, Key, SettingsFault, address_text, addresses_from, desk_base,
+    new_settings,
+};
 use std::alloc::Global;
 use std::fs::{self, File, OpenOptions};
 use std::io::{self, Write};
 use std::os::unix::fs::OpenOptionsExt;
 use std::random::RandomSource;
 use terms::{Header, Size};
+
+/// The first port of the links if none is asked for.
+const FIRST_PORT: u16 = 7100;
 
 /// What is asked of a new cluster.
 #[derive(Clone, Copy, Debug, PartialEq, Eq)]
@@ -25,27 +31,64 @@ pub struct NewCluster<'a> {
     pub folder: &'a str,
     /// The hosts of the members, with commas between them; this machine for all where none are given.
     pub hosts: Option<&'a str>,
+    /// The port of the first member's links; 7100 where none is given.
+    pub port: Option<u16>,
+    /// The host of all desks, or `links`: each desk at the host of its member's links; 127.0.0.1 where none is given.
+    pub desk: Option<&'a str>,
 }
 
-/// The host of each member.
-fn hosts_of<'a>(alloc: Global, wanted: &NewCluster<'a>) -> Result<Vec<&'a str>, Fault> {
-    if let Some(hosts) = wanted.hosts {
-        return Ok(hosts.split(',').collect(alloc)?);
-    }
+/// Where the members of a new cluster listen, in the order of the members.
+#[derive(Drop)]
+struct Places {
+    links: Vec<Address>,
+    desks: Vec<Address>,
+}
+
+/// A file that is to be made.
+#[derive(Drop)]
+struct NewFile {
+    path: String,
+    text: String,
+    /// Who may read and write it.
+    mode: u32,
+}
+
+/// The same host for each member.
+fn one_host<'a>(alloc: Global, host: &'a str, n: u8) -> Result<Vec<&'a str>, Fault> {
     let mut hosts = Vec::new(alloc);
-    for _ in 0..wanted.size.n() {
-        hosts.push("127.0.0.1")?;
+    for _ in 0..n {
+        hosts.push(host)?;
     }
     Ok(hosts)
 }
+
+/// The host of each member's links.
+fn hosts_of<'a>(alloc: Global, wanted: &NewCluster<'a>) -> Result<Vec<&'a str>, Fault> {
+    match wanted.hosts {
+        Some(hosts) => Ok(hosts.split(',').collect(alloc)?),
+        None => one_host(alloc, "127.0.0.1", wanted.size.n()),
+    }
+}
+
+/// The host of each member's desk.
+fn desk_hosts_of<'a>(alloc: Global, wanted: &NewCluster<'a>) -> Result<Vec<&'a str>, Fault> {
+    match wanted.desk {
+        Some("links") => hosts_of(alloc, wanted),
+        Some(host) => one_host(alloc, host, wanted.size.n()),
+        None => one_host(alloc, "127.0.0.1", wanted.size.n()),
+    }
+}
+
+/// What each host has to be.
+const HOST_WORDS: &str =
+    "each must be `localhost` or four numbers with points between them: no host names, no IPv6";
 
 /// The failure of hosts that aren't any.
 fn bad_hosts(alloc: Global, wanted: &NewCluster<'_>, count: usize) -> Failure {
     let hosts = wanted.hosts.unwrap_or("");
     let n = wanted.size.n();
     if count == usize::from(n) {
-        let words = "each must be `localhost` or four numbers with points between them";
-        return Failure::at(alloc, Fault::Hosts, hosts, Whereabouts::Whole, &words);
+        return Failure::at(alloc, Fault::Hosts, hosts, Whereabouts::Whole, &HOST_WORDS);
     }
     match format!(in alloc; "there are {count} hosts, and must be {n}") {
         Ok(words) => Failure::at(alloc, Fault::Hosts, hosts, Whereabouts::Whole, &words),
@@ -53,16 +96,62 @@ fn bad_hosts(alloc: Global, wanted: &NewCluster<'_>, count: usize) -> Failure {
     }
 }
 
-/// Where the members listen to one another. [`Fault::Hosts`]: there aren't n hosts, or one isn't any.
-fn links_of(alloc: Global, wanted: &NewCluster<'_>) -> Result<Vec<Address>, Failure> {
+/// Where the members listen to one another, from this port on. [`Fault::Hosts`]: there aren't n hosts, or one isn't any.
+fn links_of(alloc: Global, wanted: &NewCluster<'_>, first: u16) -> Result<Vec<Address>, Failure> {
     let hosts = hosts_of(alloc, wanted)?;
     if hosts.len() != usize::from(wanted.size.n()) {
         return Err(bad_hosts(alloc, wanted, hosts.len()));
     }
-    match new_links(alloc, hosts.as_slice()).map_err(|_| Fault::Memory)? {
+    match addresses_from(alloc, hosts.as_slice(), first).map_err(|_| Fault::Memory)? {
         Some(links) => Ok(links),
         None => Err(bad_hosts(alloc, wanted, hosts.len())),
     }
+}
+
+/// Where the members listen to their clients, from this port on. [`Fault::Hosts`]: the host isn't any.
+fn desks_of(alloc: Global, wanted: &NewCluster<'_>, first: u16) -> Result<Vec<Address>, Failure> {
+    let hosts = desk_hosts_of(alloc, wanted)?;
+    match addresses_from(alloc, hosts.as_slice(), first).map_err(|_| Fault::Memory)? {
+        Some(desks) => Ok(desks),
+        None => {
+            let host = wanted.desk.unwrap_or("");
+            let words =
+                "must be `links`, `localhost` or four numbers with points between them: no host names, no IPv6";
+            Err(Failure::at(alloc, Fault::Hosts, host, Whereabouts::Whole, &words))
+        }
+    }
+}
+
+/// The failure of a first port from which there aren't ports enough.
+fn bad_port(alloc: Global, first: u16, n: u8) -> Failure {
+    let thing = match format!(in alloc; "--port {first}") {
+        Ok(thing) => thing,
+        Err(_) => return Failure::from(Fault::Hosts),
+    };
+    match format!(in alloc;
+        "must be from 1 on, and so low that the ports of {n} members, links and desks, are 65535 at most"
+    ) {
+        Ok(words) => Failure::at(
+            alloc,
+            Fault::Hosts,
+            thing.as_str(),
+            Whereabouts::Whole,
+            &words,
+        ),
+        Err(_) => Failure::from(Fault::Hosts),
+    }
+}
+
+/// Where the members listen. [`Fault::Hosts`]: there aren't n hosts, or one isn't any, or there aren't ports enough.
+fn places_of(alloc: Global, wanted: &NewCluster<'_>) -> Result<Places, Failure> {
+    let first = wanted.port.unwrap_or(FIRST_PORT);
+    let n = wanted.size.n();
+    let Some(base) = desk_base(first, n) else {
+        return Err(bad_port(alloc, first, n));
+    };
+    let links = links_of(alloc, wanted, first)?;
+    let desks = desks_of(alloc, wanted, base)?;
+    Ok(Places { links, desks })
 }
 
 /// A seed that the system draws.
@@ -85,17 +174,29 @@ fn text_for(
     rt: &HostRuntime,
     wanted: &NewCluster<'_>,
     me: u8,
-    links: &[Address],
+    places: &Places,
 ) -> Result<String, Failure> {
     let alloc = rt.alloc();
     let seed = new_seed(rt)?;
     let Some(header) = Header::new(wanted.cluster, wanted.size, me) else {
         return Err(Failure::from(Fault::Settings(SettingsFault::Key(Key::Me))));
     };
-    match new_settings(alloc, header, links, seed) {
+    match new_settings(alloc, header, &places.links, &places.desks, seed) {
         Ok(settings) => Ok(settings.to_text(alloc).map_err(|fault| of_writing(fault))?),
         Err(fault) => Err(Failure::from(of_writing(fault))),
     }
+}
+
+/// The text of a client's settings.
+fn client_text(alloc: Global, wanted: &NewCluster<'_>, desks: &[Address]) -> Result<String, Fault> {
+    let mut copy = Vec::new(alloc);
+    copy.extend_from_slice(desks)?;
+    let client = ClientSettings {
+        cluster: wanted.cluster,
+        size: wanted.size,
+        desks: copy,
+    };
+    client.to_text(alloc).map_err(|fault| of_writing(fault))
 }
 
 /// The fault of settings that can't be written.
@@ -106,85 +207,135 @@ fn of_writing(fault: SettingsFault) -> Fault {
     }
 }
 
-/// The texts of the settings, in the order of the members.
-fn texts_of(
-    rt: &HostRuntime,
-    wanted: &NewCluster<'_>,
-    links: &[Address],
-) -> Result<Vec<String>, Failure> {
-    let mut texts = Vec::new(rt.alloc());
-    for me in 0..wanted.size.n() {
-        let text = text_for(rt, wanted, me, links)?;
-        texts.push(text).map_err(|_| Fault::Memory)?;
-    }
-    Ok(texts)
-}
-
 /// The path of a member's settings in the folder.
-pub fn settings_path(alloc: Global, folder: &str, member: usize) -> Result<String, Fault>
+fn settings_path(alloc: Global, folder: &str, member: u8) -> Result<String, Fault>
     ensures { IfErr result (λ fault. fault ≡ ends.Memory) }
 {
     Ok(format!(in alloc; "{folder}/member-{member}.toml")?)
 }
 
-/// A new file that its owner alone can read and write.
-fn new_file(rt: &HostRuntime, path: &str) -> io::Result<File> {
+/// The path of a client's settings in the folder.
+fn client_path(alloc: Global, folder: &str) -> Result<String, Fault>
+    ensures { IfErr result (λ fault. fault ≡ ends.Memory) }
+{
+    Ok(format!(in alloc; "{folder}/client.toml")?)
+}
+
+/// The file of a member, which its owner alone can read and write.
+fn member_file(
+    rt: &HostRuntime,
+    wanted: &NewCluster<'_>,
+    me: u8,
+    places: &Places,
+) -> Result<NewFile, Failure> {
+    let text = text_for(rt, wanted, me, places)?;
+    let path = settings_path(rt.alloc(), wanted.folder, me)?;
+    Ok(NewFile {
+        path,
+        text,
+        mode: 0o600,
+    })
+}
+
+/// The file of the clients, in which there is no secret.
+fn client_file(alloc: Global, wanted: &NewCluster<'_>, places: &Places) -> Result<NewFile, Fault> {
+    let text = client_text(alloc, wanted, &places.desks)?;
+    let path = client_path(alloc, wanted.folder)?;
+    Ok(NewFile {
+        path,
+        text,
+        mode: 0o644,
+    })
+}
+
+/// The files of the members, in their order, and that of the clients.
+fn files_of(
+    rt: &HostRuntime,
+    wanted: &NewCluster<'_>,
+    places: &Places,
+) -> Result<Vec<NewFile>, Failure> {
+    let mut files = Vec::new(rt.alloc());
+    for me in 0..wanted.size.n() {
+        let file = member_file(rt, wanted, me, places)?;
+        files.push(file).map_err(|_| Fault::Memory)?;
+    }
+    let file = client_file(rt.alloc(), wanted, places)?;
+    files.push(file).map_err(|_| Fault::Memory)?;
+    Ok(files)
+}
+
+/// A new file at the path, of this mode.
+fn new_file(rt: &HostRuntime, path: &str, mode: u32) -> io::Result<File> {
     let mut options = OpenOptions::new();
     options
         .write(true)
         .create_new(true)
-        .mode(0o600)
+        .mode(mode)
         .open(rt, path)
 }
 
-/// Removes the files of the first so many members.
-fn unmake(rt: &HostRuntime, folder: &str, count: usize) {
-    for member in 0..count {
-        if let Ok(path) = settings_path(rt.alloc(), folder, member) {
-            let _left = fs::remove_file(rt, path.as_str()).is_err();
-        }
+/// Removes these files.
+fn unmake(rt: &HostRuntime, files: &[NewFile]) {
+    for file in files {
+        let _left = fs::remove_file(rt, file.path.as_str()).is_err();
     }
 }
 
-/// The failure of a file that couldn't be made or written, once the files of the first so many members are gone.
-fn undone(rt: &HostRuntime, folder: &str, count: usize, path: &str, error: io::Error) -> Failure
+/// The failure of a file that couldn't be made or written, once these files are gone.
+fn undone(rt: &HostRuntime, files: &[NewFile], path: &str, error: io::Error) -> Failure
     ensures { IsMeant ends.File result.fault }
 {
-    unmake(rt, folder, count);
+    unmake(rt, files);
     Failure::of_system(rt.alloc(), Fault::File, path, Whereabouts::Write, error)
 }
 
-/// Writes the settings of one member. After a fault no file of a member up to it is left.
-fn write_one(rt: &HostRuntime, folder: &str, member: usize, text: &str) -> Result<(), Failure> {
-    let path = match settings_path(rt.alloc(), folder, member) {
-        Ok(path) => path,
-        Err(fault) => {
-            unmake(rt, folder, member);
-            return Err(Failure::from(fault));
-        }
+/// Makes one file, behind the ones that are made. After a fault neither it nor they are left.
+fn write_one(rt: &HostRuntime, made: &[NewFile], file: &NewFile) -> Result<(), Failure>
+    ensures { IfErr result (λ failure. IsMeant ends.File failure.fault) }
+{
+    let mut open = match new_file(rt, file.path.as_str(), file.mode) {
+        Ok(open) => open,
+        Err(error) => return Err(undone(rt, made, file.path.as_str(), error)),
     };
-    let mut file = match new_file(rt, path.as_str()) {
-        Ok(file) => file,
-        Err(error) => return Err(undone(rt, folder, member, path.as_str(), error)),
-    };
-    match file.write_all(text.as_bytes()) {
+    match open.write_all(file.text.as_bytes()) {
         Ok(()) => Ok(()),
-        Err(error) => Err(undone(rt, folder, member.saturating_add(1), path.as_str(), error)),
+        Err(error) => {
+            let _left = fs::remove_file(rt, file.path.as_str()).is_err();
+            Err(undone(rt, made, file.path.as_str(), error))
+        }
     }
 }
 
-/// Refuses a folder in which a file of a member is, before any is made. [`Fault::File`]: one is there.
-fn keep_free(rt: &HostRuntime, folder: &str, count: usize) -> Result<(), Failure>
+/// Makes the folder, if it is missing: one level of it. [`Fault::File`]: it can't be made.
+fn make_folder(rt: &HostRuntime, folder: &str) -> Result<(), Failure>
     ensures { IfErr result (λ failure. IsMeant ends.File failure.fault) }
 {
-    for member in 0..count {
-        let path = settings_path(rt.alloc(), folder, member)?;
-        if fs::symlink_metadata(rt, path.as_str()).is_ok() {
+    if fs::metadata(rt, folder).is_ok() {
+        return Ok(());
+    }
+    match fs::create_dir(rt, folder) {
+        Ok(()) => Ok(()),
+        Err(error) => Err(Failure::of_system(
+            rt.alloc(),
+            Fault::File,
+            folder,
+            Whereabouts::Write,
+            error,
+        )),
+    }
+}
+
+/// Refuses files of which one is there, before any is made. [`Fault::File`]: one is there.
+fn keep_free(rt: &HostRuntime, files: &[NewFile]) -> Result<(), Failure>
+    ensures { IfErr result (λ failure. IsMeant ends.File failure.fault) }
+{
+    for file in files {
+        if fs::symlink_metadata(rt, file.path.as_str()).is_ok() {
             let words = "there is such a file, and nothing was written";
             return Err(Failure::at(
                 rt.alloc(),
                 Fault::File,
-                path.as_str(),
+                file.path.as_str(),
                 Whereabouts::Write,
                 &words,
             ));
@@ -193,24 +344,32 @@ fn keep_free(rt: &HostRuntime, folder: &str, count: usize) -> Result<(), Failure
     Ok(())
 }
 
-/// Writes the settings of all members.
-fn write_all(rt: &HostRuntime, folder: &str, texts: &[String]) -> Result<(), Failure> {
-    keep_free(rt, folder, texts.len())?;
-    for (member, text) in texts.iter().enumerate() {
-        write_one(rt, folder, member, text.as_str())?;
+/// Makes all files, or none.
+fn write_all(rt: &HostRuntime, files: &[NewFile]) -> Result<(), Failure>
+    ensures { IfErr result (λ failure. IsMeant ends.File failure.fault) }
+{
+    keep_free(rt, files)?;
+    for (place, file) in files.iter().enumerate() {
+        write_one(rt, &files[..place], file)?;
     }
     Ok(())
 }
 
 /// What is to be done next, in words: the files, and the commands for one member.
-fn print_next(rt: &HostRuntime, wanted: &NewCluster<'_>, links: &[Address]) -> Result<(), Fault> {
+fn print_next(rt: &HostRuntime, wanted: &NewCluster<'_>, places: &Places) -> Result<(), Fault> {
+    let alloc = rt.alloc();
     let mut output = io::writer(rt);
-    for (member, link) in links.iter().enumerate() {
-        let path = settings_path(rt.alloc(), wanted.folder, member)?;
-        let listens = address_text(rt.alloc(), link)?;
-        let line = format!(in rt.alloc(); "{path}: member {member} at {listens}\n")?;
+    for (member, link) in places.links.iter().enumerate() {
+        let listens = address_text(alloc, link)?;
+        let folder = wanted.folder;
+        let line = format!(in alloc;
+            "{folder}/member-{member}.toml: member {member} at {listens}\n"
+        )?;
         output.write_all(line.as_bytes())?;
     }
+    let path = client_path(alloc, wanted.folder)?;
+    let line = format!(in alloc; "{path}: the members' desks, for `propose --all`\n")?;
+    output.write_all(line.as_bytes())?;
     output.write_all(NEXT.as_bytes())?;
     output.flush()?;
     Ok(())
@@ -221,21 +380,22 @@ const NEXT: &str =
     "Each member wants its own file alone, which has its seed. For each, where its file is:
   bracha init member-0.toml
   bracha run member-0.toml
-Once they run, where DESK is the address that a file has for its desk:
-  bracha propose --all member-0.toml 0 1
+Once they run, where client.toml is, and where DESK is one of the addresses in it:
+  bracha propose --all client.toml 0 1
   bracha ask --wait DESK 0
 ";
 
 /// Writes the settings of each member of a new cluster into `member-M.toml` of the folder, which their owner alone can read,
-/// and says what to do next. The status is 0. After a fault but [`Fault::Stream`] none of the files is left, and no file that
-/// was there was changed.
+/// and those of its clients into `client.toml`, and says what to do next. A folder that is missing is made, one level of it. The
+/// status is 0. After a fault but [`Fault::Stream`] none of the files is left, and no file that was there was changed.
 ///
-/// [`Fault::Hosts`]: the hosts aren't any, or not n. [`Fault::File`]: a file is there, or can't be made; or the system draws
-/// no random bytes. [`Fault::Stream`]: all files are made, but the output couldn't be written.
+/// [`Fault::Hosts`]: the hosts aren't any, or not n, or the ports aren't enough. [`Fault::File`]: a file is there, or can't be
+/// made; or the system draws no random bytes. [`Fault::Stream`]: all files are made, but the output couldn't be written.
 pub fn new_cluster(rt: &HostRuntime, wanted: &NewCluster<'_>) -> Result<u8, Failure> {
-    let links = links_of(rt.alloc(), wanted)?;
-    let texts = texts_of(rt, wanted, links.as_slice())?;
-    write_all(rt, wanted.folder, texts.as_slice())?;
-    print_next(rt, wanted, links.as_slice())?;
+    let places = places_of(rt.alloc(), wanted)?;
+    let files = files_of(rt, wanted, &places)?;
+    make_folder(rt, wanted.folder)?;
+    write_all(rt, files.as_slice())?;
+    print_next(rt, wanted, &places)?;
     Ok(0)
 }

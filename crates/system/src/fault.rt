@@ -16,7 +16,8 @@ use thiserror::Error;
 use transcripts::AuditFault;
 
 /// Why a command ended before its work was done. The program prints the text after `bracha: ` and ends with
-/// status 2 for the faults of the words, [`Fault::Argument`] and [`Fault::SameFile`], and with status 1 for the others.
+/// status 2 for the faults of the words, [`Fault::Argument`], [`Fault::SameFile`], [`Fault::Timeout`], [`Fault::Question`],
+/// [`Fault::Member`], [`Fault::First`] and [`Fault::Last`], and with status 1 for the others.
 /// What was printed before stays printed.
 #[derive(Debug, Drop, Error)]
 pub enum Fault {
@@ -26,6 +27,21 @@ pub enum Fault {
     /// A page would be written over the script, or over the other page: this path names that file.
     #[error("same file {0}")]
     SameFile(String),
+    /// The time that a client is to wait isn't one.
+    #[error("timeout")]
+    Timeout,
+    /// The question of a chart's rows: the script hasn't got it, or no chart is wanted.
+    #[error("question")]
+    Question,
+    /// The member of a chart's rows: the script hasn't got it, or no chart is wanted.
+    #[error("member")]
+    Member,
+    /// The first event of a chart's rows: it isn't one, it comes after the last, or no chart is wanted.
+    #[error("from")]
+    First,
+    /// The last event of a chart's rows: it isn't one, or no chart is wanted.
+    #[error("to")]
+    Last,
     /// The numbers make no size.
     #[error("size {0}")]
     Size(#[from] SizeFault),
@@ -88,7 +104,8 @@ impl Fault {
         ensures { result ≡ fault_status self.now }
     {
         match self {
-            Fault::Argument(_) | Fault::SameFile(_) => 2,
+            Fault::Argument(_) | Fault::SameFile(_) | Fault::Timeout => 2,
+            Fault::Question | Fault::Member | Fault::First | Fault::Last => 2,
             _ => 1,
         }
     }

@@ -1,18 +1,26 @@
 //! The commands over the files that their words name, and over the standard streams.
 
+ghost use Rattle.migration.specs.OldOutcomes.{IsUntouched};
 ghost use Rattle.system.specs.Faults.{IsMeant};
-ghost use Rattle.system.specs.Troubles.{IsNamed};
+ghost use Rattle.system.specs.Troubles.{IsNamed, IsTold};
+ghost use Rattle.system.specs.declared.trouble.Whereabouts.TheVariants as whereabouts;
 ghost use Rattle.system.specs.declared.fault.Fault.TheVariants as ends;
-ghost use Rattle.std.specs.Prelude.{◌≡◌, ◌≢◌, IfErr, IfOk, codes};
+ghost use Rattle.std.specs.Prelude.{◌≡◌, ◌≢◌, IfErr, IfOk, IfSome, codes, ⊤};
 
+use crate::doors::keep_to_own_doors;
 use crate::fault::Fault;
-use crate::pages::{Page, fault_at, keep_apart, keep_two_apart, write_page};
+use crate::forgotten::refuse_forgotten;
+use crate::pages::{Page, fault_at, keep_apart, keep_two_apart, warn_of_length, write_page};
+use crate::reading::{Text, read_file};
+use crate::rows::{check_rows, check_size};
 use crate::telling::{
-    journal_failure, long_failure, not_text, script_failure, settings_failure, transcript_failure,
+    journal_failure, long_failure, not_old_failure, not_text, old_failure, script_failure,
+    settings_failure, stray_trouble, transcript_failure,
 };
 use crate::trouble::{Failure, Whereabouts};
+use crate::unsynced::{MarkedDisk, refuse_unsynced};
 use commands::{
-    DumpFault, InitFault, MigrationFault, Shelf, Simulation, SimulationEnd, check_journal,
+    Choice, DumpFault, InitFault, MigrationFault, Shelf, Simulation, SimulationEnd, check_journal,
     dump_count, dump_count_object, dump_lines, dump_objects, init_disk, migrate_disks, print_check,
     print_settings, show_simulation,
 };
@@ -20,8 +28,7 @@ use disk::{Disk, FileDisk, FirstError, MemDisk};
 use hearing::hear_lines;
 use journal::JournalFault;
 use migration::MigrateFault;
-use running::RunFault;
-use settings::{Address, Settings, address_text};
+use settings::{Settings, strays_of};
 use std::alloc::{AllocError, Global};
 use std::fs::{self, OpenOptions};
 use std::io::{self, BufReader, BufWriter, LineWriter, Read};
@@ -41,42 +48,40 @@ pub fn hear_input(rt: &HostRuntime, size: Size, me: u8) -> Result<u8, Fault> {
 pub fn audit_file(rt: &HostRuntime, path: &str, size: Size) -> Result<u8, Failure>
     ensures named { IfErr result (IsNamed path.now) }
 {
-    let text = read_file(rt, path)?;
+    let text = read_file(rt, path, Text::Transcript)?;
     match audit_text(rt.alloc(), &text, size, &mut io::writer(rt)) {
         Ok(status) => Ok(status),
         Err(fault) => Err(transcript_failure(rt.alloc(), path, &text, fault)),
     }
 }
 
-/// The settings in the file.
+/// The settings in the file. Keys that are ignored are named on the standard error.
 pub fn read_settings(rt: &HostRuntime, path: &str) -> Result<Settings, Failure>
     ensures named { IfErr result (IsNamed path.now) }
 {
-    let bytes = read_file(rt, path)?;
+    let bytes = read_file(rt, path, Text::Settings)?;
     let text = match str::from_utf8(&bytes) {
         Ok(text) => text,
         Err(error) => return Err(not_text(rt.alloc(), path, error.valid_up_to())),
     };
     match Settings::parse(rt.alloc(), text) {
-        Ok(settings) => Ok(settings),
+        Ok(settings) => {
+            warn_of_strays(rt, path, text);
+            Ok(settings)
+        }
         Err(fault) => Err(settings_failure(rt.alloc(), path, text, fault)),
     }
 }
 
-/// All bytes of the file.
-fn read_file(rt: &HostRuntime, path: &str) -> Result<Vec<u8>, Failure>
-    ensures fault { IfErr result (λ failure. IsMeant ends.File failure.fault) }
-    ensures named { IfErr result (IsNamed path.now) }
-{
-    match fs::read(rt, path) {
-        Ok(bytes) => Ok(bytes),
-        Err(error) => Err(Failure::of_system(
-            rt.alloc(),
-            Fault::File,
-            path,
-            Whereabouts::Read,
-            error,
-        )),
+/// Says on the standard error which keys of the text are ignored, a line for each.
+fn warn_of_strays(rt: &HostRuntime, path: &str, text: &str) {
+    let Ok(strays) = strays_of(rt.alloc(), text) else {
+        return;
+    };
+    for stray in &strays {
+        if let Some(trouble) = stray_trouble(rt.alloc(), path, text, stray) {
+            let _unsaid = eprintln!(rt; "{trouble}");
+        }
     }
 }
 
@@ -93,6 +98,14 @@ pub enum Purpose {
 
 /// What is told of a member's journal that is missing: another one would let it say things twice.
 const MISSING: &str = "no such file: `bracha init` makes one for a new member, and for no other";
+
+/// The failure of a member's journal that is missing.
+fn missing(alloc: Global, path: &str) -> Failure
+    ensures fault { result.fault ≡ ends.File }
+    ensures told { IfSome result.trouble (IsTold path.now (λ at. at ≡ whereabouts.Open) (λ _. ⊤)) }
+{
+    Failure::at(alloc, Fault::File, path, Whereabouts::Open, &MISSING)
+}
 
 /// Refuses a device or a pipe, which might be waited for or read without an end. A file is taken, and so is nothing at all, and a
 /// folder, which the system refuses. [`Fault::File`]: it is one.
@@ -148,14 +161,32 @@ pub fn open_disk<'a>(
     rt: &HostRuntime,
     path: &'a str,
     purpose: Purpose,
-) -> Result<(FileDisk, Source<'a>), Failure>
+) -> Result<(MarkedDisk, Source<'a>), Failure>
     ensures source { IfOk result (λ opened. opened.1.path.now ≡ path.now) }
     ensures fault { IfErr result (λ failure. IsMeant ends.File failure.fault) }
     ensures named { IfErr result (IsNamed path.now) }
 {
     let mut disk = open_file(rt, path, purpose)?;
     let first_error = disk.keep_first_error(rt.alloc()).ok();
+    let disk = MarkedDisk::new(rt, disk, path);
     Ok((disk, Source { path, first_error }))
+}
+
+/// The disk in the file of a journal that is to be relied on: of which no sync failed since the machine was started.
+///
+/// [`Fault::Journal`] with [`JournalFault::Device`]: one did.
+pub fn open_good_disk<'a>(
+    rt: &HostRuntime,
+    path: &'a str,
+    purpose: Purpose,
+) -> Result<(MarkedDisk, Source<'a>), Failure>
+    ensures source { IfOk result (λ opened. opened.1.path.now ≡ path.now) }
+{
+    refuse_unsynced(rt, path)?;
+    let opened = open_disk(rt, path, purpose)?;
+    // Who had the file until now may have left the mark meanwhile.
+    refuse_unsynced(rt, path)?;
+    Ok(opened)
 }
 
 /// The disk in the file of a journal, which is a regular file.
@@ -172,7 +203,7 @@ fn open_file(rt: &HostRuntime, path: &str, purpose: Purpose) -> Result<FileDisk,
             Err(Failure::at(rt.alloc(), Fault::File, path, Whereabouts::Open, &words))
         }
         Err(error) if purpose == Purpose::Run && error.kind() == io::ErrorKind::NotFound => {
-            Err(Failure::at(rt.alloc(), Fault::File, path, Whereabouts::Open, &MISSING))
+            Err(missing(rt.alloc(), path))
         }
         Err(error) => Err(Failure::of_system(
             rt.alloc(),
@@ -188,7 +219,8 @@ fn open_file(rt: &HostRuntime, path: &str, purpose: Purpose) -> Result<FileDisk,
 pub fn init_file(rt: &HostRuntime, path: &str) -> Result<u8, Failure> {
     let settings = read_settings(rt, path)?;
     let journal = settings.journal.as_str();
-    let (mut disk, source) = open_disk(rt, journal, Purpose::Make)?;
+    refuse_forgotten(rt, journal, settings.header.me())?;
+    let (mut disk, source) = open_good_disk(rt, journal, Purpose::Make)?;
     match init_disk(&mut disk, &settings) {
         Ok(status) => Ok(status),
         Err(fault) => {
@@ -309,57 +341,6 @@ fn read_unlocked(rt: &HostRuntime, path: &str, most: u64) -> io::Result<Vec<u8>>
     Ok(bytes)
 }
 
-/// Refuses settings in which a member's desk is where its links are, as a run of them does.
-///
-/// [`Fault::Run`] with [`RunFault::Listen`]: it is.
-fn keep_ports_apart(rt: &HostRuntime, settings: &Settings) -> Result<(), Failure> {
-    match settings.peers.get(usize::from(settings.header.me())) {
-        Some(own) if *own == settings.desk => {
-            let fault = Fault::Run(RunFault::Listen);
-            let at = address_text(rt.alloc(), own).map_err(|_| Fault::Memory)?;
-            let words = "the desk has the address of the links";
-            Err(Failure::at(rt.alloc(), fault, at.as_str(), Whereabouts::Listen, &words))
-        }
-        _ => Ok(()),
-    }
-}
-
-/// Two members that have one address, and the address: the second is the first member that has one which another has before it.
-fn twins_of(peers: &[Address]) -> Option<(usize, usize, Address)> {
-    for (member, address) in peers.iter().enumerate() {
-        if let Some(other) = peers[..member].iter().position(|it| *it == *address) {
-            return Some((other, member, *address));
-        }
-    }
-    None
-}
-
-/// The failure of two members that have this address.
-fn clash_at(
-    alloc: Global,
-    one: usize,
-    other: usize,
-    address: &Address,
-) -> Result<Failure, AllocError> {
-    let at = address_text(alloc, address)?;
-    let words = format!(in alloc; "members {one} and {other} have this address")?;
-    let fault = Fault::Run(RunFault::Listen);
-    Ok(Failure::at(alloc, fault, at.as_str(), Whereabouts::Listen, &words))
-}
-
-/// Refuses settings in which two members have one address, since only one of them can listen there.
-///
-/// [`Fault::Run`] with [`RunFault::Listen`]: two have.
-fn keep_members_apart(rt: &HostRuntime, settings: &Settings) -> Result<(), Failure> {
-    let Some((one, other, address)) = twins_of(&settings.peers) else {
-        return Ok(());
-    };
-    match clash_at(rt.alloc(), one, other, &address) {
-        Ok(failure) => Err(failure),
-        Err(_) => Err(Failure::from(Fault::Memory)),
-    }
-}
-
 /// A copy in memory of the journal's file, which is a regular one.
 fn copied_disk(rt: &HostRuntime, journal: &str) -> Result<MemDisk, Failure>
     ensures named { IfErr result (IsNamed journal.now) }
@@ -367,6 +348,9 @@ fn copied_disk(rt: &HostRuntime, journal: &str) -> Result<MemDisk, Failure>
     keep_to_files(rt, journal)?;
     let bytes = match read_unlocked(rt, journal, u64::MAX) {
         Ok(bytes) => bytes,
+        Err(error) if error.kind() == io::ErrorKind::NotFound => {
+            return Err(missing(rt.alloc(), journal));
+        }
         Err(error) => return Err(Failure::of_system(
             rt.alloc(),
             Fault::File,
@@ -380,13 +364,15 @@ fn copied_disk(rt: &HostRuntime, journal: &str) -> Result<MemDisk, Failure>
     Ok(disk)
 }
 
-/// Prints how many records the journal has, behind what the settings say; or both as one object of JSON.
-fn print_records(
+/// Prints how many records the journal on the disk has, behind what the settings say; or both as one object of JSON.
+fn print_records<D: Disk>(
     rt: &HostRuntime,
     settings: &Settings,
-    disk: MemDisk,
+    disk: &mut D,
     json: bool,
-) -> Result<u8, DumpFault> {
+) -> Result<u8, DumpFault>
+    ensures untouched { IsUntouched D.Disk disk.old disk.new }
+{
     let mut output = io::writer(rt);
     if json {
         print_check(rt.alloc(), settings, disk, &mut output)
@@ -405,11 +391,12 @@ pub fn check_file(rt: &HostRuntime, path: &str, json: bool) -> Result<u8, Failur
             fault,
         ))?;
     }
-    let disk = copied_disk(rt, journal)?;
-    match print_records(rt, &settings, disk, json) {
+    refuse_forgotten(rt, journal, settings.header.me())?;
+    refuse_unsynced(rt, journal)?;
+    let mut disk = copied_disk(rt, journal)?;
+    match print_records(rt, &settings, &mut disk, json) {
         Ok(status) => {
-            keep_ports_apart(rt, &settings)?;
-            keep_members_apart(rt, &settings)?;
+            keep_to_own_doors(rt, &settings)?;
             Ok(status)
         }
         Err(fault) => {
@@ -422,8 +409,16 @@ pub fn check_file(rt: &HostRuntime, path: &str, json: bool) -> Result<u8, Failur
     }
 }
 
-/// Prints the journal on the disk, or only how many records it has; as lines, or as objects of JSON.
-fn dump_disk(rt: &HostRuntime, disk: FileDisk, count: bool, json: bool) -> Result<u8, DumpFault> {
+/// Prints the journal on the disk, or only how many records it has; as lines, or as objects of JSON. However it ends, no byte
+/// of the disk's file is changed.
+fn dump_disk<D: Disk>(
+    rt: &HostRuntime,
+    disk: &mut D,
+    count: bool,
+    json: bool,
+) -> Result<u8, DumpFault>
+    ensures untouched { IsUntouched D.Disk disk.old disk.new }
+{
     let mut output = BufWriter::new(rt.alloc(), io::writer(rt))?;
     match (count, json) {
         (false, false) => dump_lines(rt.alloc(), disk, &mut output),
@@ -437,10 +432,31 @@ fn dump_disk(rt: &HostRuntime, disk: FileDisk, count: bool, json: bool) -> Resul
 pub fn dump_file(rt: &HostRuntime, path: &str, count: bool, json: bool) -> Result<u8, Failure>
     ensures named { IfErr result (IsNamed path.now) }
 {
-    let (disk, source) = open_disk(rt, path, Purpose::Look)?;
-    match dump_disk(rt, disk, count, json) {
+    let (mut disk, source) = open_disk(rt, path, Purpose::Look)?;
+    match dump_disk(rt, &mut disk, count, json) {
         Ok(status) => Ok(status),
         Err(fault) => Err(dump_failure(rt, &source, fault, None)),
+    }
+}
+
+/// The failure of a file that should have been a journal of version 1, and is none.
+fn not_old(rt: &HostRuntime, fault: Fault, path: &str) -> Failure
+    ensures named { IsNamed path.now result }
+{
+    match read_unlocked(rt, path, 25) {
+        Ok(front) => not_old_failure(rt.alloc(), path, fault, &front),
+        Err(_) => Failure::about(rt.alloc(), fault, path),
+    }
+}
+
+/// Tells of a journal of version 1 in which that was found, by its bytes, which are read anew if they aren't too many.
+fn damaged_old(rt: &HostRuntime, path: &str, fault: Fault, found: MigrateFault) -> Failure
+    ensures fault { result.fault ≡ fault }
+    ensures named { IsNamed path.now result }
+{
+    match read_needed(rt, path, JournalFault::BadRecord) {
+        Ok(Some((bytes, _))) => old_failure(rt.alloc(), path, fault, found, &bytes),
+        _ => Failure::about(rt.alloc(), fault, path),
     }
 }
 
@@ -458,17 +474,14 @@ fn migration_failure(
     let fault = Fault::Migrate(fault);
     match why {
         MigrateFault::NotEmpty => failure_for(rt, new, fault, JournalFault::NotEmpty, None),
-        MigrateFault::NotOld => {
-            let words = "no journal of version 1";
-            Failure::at(alloc, fault, old.path, Whereabouts::Whole, &words)
-        }
+        MigrateFault::NotOld => not_old(rt, fault, old.path),
         MigrateFault::OldDevice => failure_for(rt, old, fault, JournalFault::Device, None),
         MigrateFault::NewDevice => failure_for(rt, new, fault, JournalFault::Device, None),
         MigrateFault::OtherHeader | MigrateFault::BadRecord | MigrateFault::CutShort => {
-            Failure::about(alloc, fault, old.path)
+            damaged_old(rt, old.path, fault, why)
         }
         MigrateFault::Full => Failure::about(alloc, fault, new.path),
-        MigrateFault::Memory => Failure::from(fault),
+        MigrateFault::Memory => Failure::from(Fault::Memory),
     }
 }
 
@@ -486,18 +499,21 @@ fn unmade(rt: &HostRuntime, new: &str, made: bool, failure: Failure) -> Failure 
 
 /// Brings the journal of version 1 in the file at `old` over into the one at `new`, which is made, or is there and empty, and
 /// prints how many records it has. The old file is never written. After a fault of the migration a new file that was made for
-/// it is gone, and one that was there is left; after one of the printing it is whole.
+/// it is gone, and one that was there is left; after one of the printing it is whole. The status is 0.
 ///
 /// [`Fault::SameFile`]: the two paths name one file.
 pub fn migrate_file(rt: &HostRuntime, old: &str, new: &str) -> Result<u8, Failure> {
     keep_two_apart(rt, new, old)?;
-    let (mut from, old_source) = open_disk(rt, old, Purpose::Look)?;
+    refuse_unsynced(rt, new)?;
+    let (mut from, old_source) = open_good_disk(rt, old, Purpose::Look)?;
     let made = fs::metadata(rt, new).is_err();
     let (to, new_source) = open_disk(rt, new, Purpose::Make)?;
     match migrate_disks(rt.alloc(), &mut from, to, &mut io::writer(rt)) {
-        Ok(status) => Ok(status),
-        Err(MigrationFault::Stream) => Err(Failure::from(Fault::Migrate(MigrationFault::Stream))),
-        Err(fault) => {
+        Ok(_disk) => Ok(0),
+        Err((MigrationFault::Stream, _)) => {
+            Err(Failure::from(Fault::Migrate(MigrationFault::Stream)))
+        }
+        Err((fault, _)) => {
             let failure = migration_failure(rt, &old_source, &new_source, fault);
             Err(unmade(rt, new, made, failure))
         }
@@ -510,16 +526,21 @@ struct PageFiles<'a> {
     rt: &'a HostRuntime,
     trace: Option<&'a str>,
     chart: Option<&'a str>,
+    choice: Choice,
 }
 
 impl<'a> Shelf for PageFiles<'a> {
     type Fault = Failure;
 
     fn put(&mut self, _alloc: Global, simulation: &Simulation) -> Result<(), Failure> {
+        check_size(self.rt.alloc(), simulation.script.size, self.choice)?;
         let trace = fault_at(self.trace, Fault::Trace);
-        write_page(self.rt, simulation, Page::Trace, self.trace, trace)?;
+        let _no_rows = write_page(self.rt, simulation, Page::Trace, self.trace, trace)?;
         let chart = fault_at(self.chart, Fault::Chart);
-        write_page(self.rt, simulation, Page::Chart, self.chart, chart)
+        let page = Page::Chart(self.choice);
+        let rows = write_page(self.rt, simulation, page, self.chart, chart)?;
+        warn_of_length(self.rt, rows, self.chart);
+        Ok(())
     }
 }
 
@@ -531,18 +552,26 @@ fn script_path(path: &str) -> &str
     if path == "-" { "/dev/stdin" } else { path }
 }
 
-/// Runs the script in the file, or the one on the standard input where its path is `-`, and writes a trace and a chart of it where they are asked for. Only then the verdicts are
-/// printed; they go to the standard error where a page takes the standard output.
+/// Runs the script in the file, or the one on the standard input where its path is `-`, and writes a trace and a chart of it where
+/// they are asked for, the chart with the events that are chosen. Only then the verdicts are printed; they go to the standard error
+/// where a page takes the standard output.
 pub fn simulate_file(
     rt: &HostRuntime,
     path: &str,
     trace: Option<&str>,
     chart: Option<&str>,
+    choice: Choice,
 ) -> Result<u8, Failure> {
     let path = script_path(path);
+    check_rows(rt.alloc(), chart, choice)?;
     keep_apart(rt, path, trace, chart)?;
-    let text = read_file(rt, path)?;
-    let mut files = PageFiles { rt, trace, chart };
+    let text = read_file(rt, path, Text::Script)?;
+    let mut files = PageFiles {
+        rt,
+        trace,
+        chart,
+        choice,
+    };
     let mut output = io::writer(rt);
     let mut errors = rt.stderr();
     match show_simulation(

@@ -2,32 +2,56 @@
 //! themselves are read above it.
 #![tactic(auto)]
 
+mod addresses;
+mod apart;
 mod arguments;
 mod asking;
+mod clients;
 mod cluster;
+mod desks;
+mod doors;
 mod fault;
 mod files;
+mod forgotten;
+mod forms;
 mod input;
 mod limits;
 mod live;
+mod local_desk;
+mod log;
+mod misfits;
+mod moment;
+mod objects;
 mod pages;
+mod patience;
 mod process;
+mod reading;
+mod replaced;
+mod rows;
 mod signals;
 mod status;
 mod streams;
 mod telling;
 mod trouble;
+mod unsynced;
+mod words;
 
 pub use arguments::{own_words, wants_quiet};
-pub use asking::{ask_at, await_at, propose_at, propose_to_all, status_at, transcript_at};
+pub use asking::{
+    ask_at, await_at, links_at, propose_at, propose_to_all, status_at, transcript_at,
+};
 pub use cluster::{NewCluster, new_cluster};
+pub use commands::Choice;
 pub use fault::Fault;
 pub use files::{
     audit_file, check_file, dump_file, hear_input, init_file, migrate_file, simulate_file,
 };
 pub use limits::{clients_within, descriptors_lack, open_limit};
 pub use live::run_file;
+pub use log::{LogForm, log_form};
 pub use pages::{Page, write_page};
+pub use patience::patience_of;
 pub use signals::{is_blocked, is_called};
 pub use streams::{HeldStreams, hold_streams};
 pub use trouble::{Failure, Trouble, Whereabouts};
+pub use words::{hear_end, number_words, size_of};

@@ -1,7 +1,7 @@
 //! How many files a member may have open.
 
-ghost use Rattle.std.specs.Prelude.{ℕ, ◌≡◌, ◌+◌, ◌*◌, ◌<◌, ◌≤◌, IfOk, IfSome, MatchOption, Some, None, string_bytes};
-ghost use Rattle.system.specs.Limits.{HasLimit, IsFirstNumber, clients_within, fewer_text, lack_text, wanted};
+ghost use Rattle.std.specs.Prelude.{ℕ, ◌≡◌, ◌+◌, ◌*◌, ◌<◌, ◌≤◌, IfOk, IfSome, IsTrue, ◌↔◌, MatchOption, Some, None, false, string_bytes};
+ghost use Rattle.system.specs.Limits.{HasLimit, IsFirstNumber, clients_within, fewer_text, lack_text, least_wanted, starved_text, wanted};
 
 use crate::status::line_with;
 use numerals::{number, split_at_space};
@@ -64,6 +64,41 @@ pub fn clients_within(limit: Option<u64>, n: u8) -> u8
     match limit {
         None => 32,
         Some(limit) => (limit.saturating_sub(wanted_by_links(n)) / 2).clamp(1, 32) as u8,
+    }
+}
+
+/// Returns the least number of open files with which a member can take part that needs links with so many members: four for
+/// each of these and twelve more, and what a member alone wants.
+fn least_wanted(needed: u8) -> u64
+    ensures { result ≡ least_wanted needed }
+{
+    wanted_by_links(1).max(4 * u64::from(needed) + 12)
+}
+
+/// Returns `true` if so many open files are too few for a member to take part that needs links with so many members, n - t. If no
+/// limit is known they aren't.
+pub fn is_starved(limit: Option<u64>, needed: u8) -> bool
+    ensures unknown { limit ≡ None → result ≡ false }
+    ensures known { IfSome limit (λ limit. IsTrue result ↔ (limit < least_wanted needed)) }
+{
+    match limit {
+        Some(limit) => limit < least_wanted(needed),
+        None => false,
+    }
+}
+
+/// Returns what is told of so many open files, which are too few for a member that needs links with so many.
+pub fn starved_words(alloc: Global, limit: Option<u64>, needed: u8) -> Result<String, AllocError>
+    ensures { IfOk result (λ text. IfSome limit (λ limit. string_bytes text ≡ starved_text limit needed)) }
+{
+    match limit {
+        Some(limit) => {
+            let least = least_wanted(needed);
+            format!(in alloc;
+                "{limit} are too few: this member wants {least} at least, and 2 for each client (`ulimit -n`)"
+            )
+        }
+        None => String::from_str(alloc, "too few"),
     }
 }
 

@@ -1,78 +1,43 @@
 //! The command `run`: a member over the journal in its file.
 
-ghost use Rattle.system.specs.Sockets.{AreSocketsOf, IsSocketOf};
+ghost use Rattle.journal.specs.declared.fault.JournalFault.{JournalFault};
+ghost use Rattle.member.specs.Outcomes.{IsARestart, IsNotOpened, IsOpened};
+ghost use Rattle.system.specs.Faults.{IsMeant, of_journal};
 ghost use Rattle.system.specs.declared.fault.Fault.TheVariants as ends;
 ghost use Rattle.running.specs.declared.fault.RunFault.TheVariants as ends_of_run;
-ghost use Rattle.running.specs.declared.hosts.Hosts.TheVariants as hosts;
-ghost use Rattle.std.specs.Prelude.{◌≡◌, ◌≢◌, true, false, IfErr, IfOk, IfSome, Err, Ok, string_bytes};
+ghost use Rattle.std.specs.Prelude.{◌≡◌, ◌≢◌, IfErr, IfOk, IfSome, IsSome, None, Err, Ok, string_bytes};
 
+use crate::addresses::{addresses_of, socket_address};
+use crate::doors::{Door, foreign_words, own_door};
 use crate::fault::Fault;
-use crate::files::{Purpose, Source, failure_for, first_error_in, open_disk, read_settings};
+use crate::files::{Purpose, Source, failure_for, open_good_disk, read_settings};
+use crate::forgotten::{put_aside, refuse_forgotten};
 use crate::input::{Input, read_aside};
-use crate::limits::clients_within;
+use crate::limits::{clients_within, is_starved, starved_words};
+use crate::local_desk::{leave_socket, with_socket};
+use crate::log::{ErrorLog, LogForm};
 use crate::process::{blocks_signals, is_called_off, most_files, warn_of_files};
+use crate::replaced::Watched;
 use crate::trouble::{Failure, Trouble, Whereabouts, trouble_of};
-use disk::FirstError;
+use crate::unsynced::remove_old_mark;
+use disk::Disk;
 use member::Member;
-use running::{Addresses, Hosts, Log, LogEvent, Machine, Operator, RunFault, run_member};
-use settings::{Address, Settings};
-use std::alloc::Global;
+use running::{Machine, Operator, RunFault, run_member};
+use settings::Settings;
+use std::alloc::{AllocError, Global};
 use std::io::{self, Read, Write};
-use std::net::{IpAddr, SocketAddr};
-use std::rt::Stderr;
+use std::net::SocketAddr;
 use std::sync::atomic::{AtomicBool, Ordering};
 use std::sync::{Arc, Mutex};
 use std::thread;
 use std::time::Duration;
-use terms::Memory;
+use terms::Header;
 
-/// The address as sockets have it.
-pub fn socket_address(address: &Address) -> SocketAddr
-    ensures { IsSocketOf address.now result }
-{
-    SocketAddr::new(IpAddr::from(address.octets), address.port)
-}
-
-/// These addresses as sockets have them.
-fn socket_addresses(alloc: Global, addresses: &[Address]) -> Result<Vec<SocketAddr>, Memory>
-    ensures { IfOk result (λ sockets. AreSocketsOf addresses.now sockets.items) }
-{
-    let mut sockets = Vec::new(alloc);
-    for address in addresses {
-        sockets.push(socket_address(address))?;
-    }
-    Ok(sockets)
-}
-
-/// Where the members of the settings listen, how many clients are let in, and from where links are taken: from the members'
-/// own hosts, unless any host may speak for any member.
-fn addresses_of(
-    alloc: Global,
-    settings: &Settings,
-    any_host: bool,
-    clients: u8,
-) -> Result<Addresses, Memory>
-    ensures peers { IfOk result (λ it. AreSocketsOf settings.now.peers.items it.peers.items) }
-    ensures any { any_host ≡ true → IfOk result (λ it. it.hosts ≡ hosts.Any) }
-    ensures own { any_host ≡ false → IfOk result (λ it. it.hosts ≡ hosts.OfMembers) }
-    ensures desk { IfOk result (λ it. IsSocketOf settings.now.desk it.desk) }
-    ensures clients { IfOk result (λ it. it.clients ≡ clients) }
-{
-    let peers = socket_addresses(alloc, &settings.peers)?;
-    Ok(Addresses {
-        peers,
-        hosts: if any_host {
-            Hosts::Any
-        } else {
-            Hosts::OfMembers
-        },
-        desk: socket_address(&settings.desk),
-        clients,
-    })
-}
+/// What is told of a journal that is gone.
+const GONE: &str = "the file was removed or replaced while the member ran";
 
 /// The standard streams of a member that runs: it prints that it is ready, and ends where the input does; or, where it stays,
-/// once it is stopped. Where signals are blocked it ends once one waits.
+/// once it is stopped. Where signals are blocked it ends once one waits, and in any case once its journal is gone.
 #[derive(Drop)]
 struct Console<'a> {
     host: &'a HostRuntime,
@@ -81,11 +46,13 @@ struct Console<'a> {
     stay: bool,
     /// SIGTERM or SIGINT is blocked, and waits once it comes.
     blocked: bool,
-    /// Where signals are blocked and the input is looked at: the thread that reads it.
+    /// Where the input is looked at: the thread that reads it.
     input: Option<Arc<Input>>,
+    /// The journal's file.
+    journal: Watched<'a>,
     /// Whether the member is stopped.
     stopped: &'a AtomicBool,
-    /// What can be told of an address at which the member can't listen.
+    /// What can be told of an address at which the member can't listen, or of a journal that is gone.
     trouble: Option<Trouble>,
 }
 
@@ -118,15 +85,57 @@ impl<'a> Console<'a> {
         }
     }
 
+    /// Why the member can't listen at this address: the entry of the settings to look at, where it isn't this host's; else what
+    /// the system said.
+    fn unheard_words(&self, address: SocketAddr, error: &io::Error) -> Result<String, AllocError> {
+        let alloc = self.host.alloc();
+        if error.kind() != io::ErrorKind::AddrNotAvailable {
+            return format!(in alloc; "{error}");
+        }
+        let desk = socket_address(&self.settings.desk);
+        if address.ip() == desk.ip() && address.port() == desk.port() {
+            return foreign_words(alloc, Door::Desk);
+        }
+        foreign_words(alloc, own_door(self.settings))
+    }
+
+    /// Whether the journal's path names another file than the one that is open, or none. Then that is told.
+    fn is_without_journal(&mut self) -> bool {
+        if !self.journal.is_replaced(self.host) {
+            return false;
+        }
+        let (alloc, path) = (self.host.alloc(), self.journal.path());
+        self.trouble = trouble_of(alloc, path, Whereabouts::Whole, &GONE);
+        true
+    }
+
+    /// What ends the member in this quarter of a second, if something does: the end of the input, that it is stopped, or, at
+    /// the first of four, a signal or a journal that is gone.
+    fn end_at(&mut self, turn: u64) -> Option<Result<(), RunFault>> {
+        if let Some(end) = self.input_end() {
+            return Some(end);
+        }
+        if self.is_stopped() {
+            return Some(Ok(()));
+        }
+        if turn % 4 != 0 {
+            return None;
+        }
+        if self.blocked && is_called_off(self.host) {
+            return Some(Ok(()));
+        }
+        if self.is_without_journal() {
+            return Some(Err(RunFault::Stopped));
+        }
+        None
+    }
+
     /// Returns once the member is stopped, or the input has ended that a thread reads, at most a quarter of a second late; or
-    /// once a signal waits, at most a second late. Else after more years than any machine lives.
-    fn wait(&self) -> Result<(), RunFault> {
+    /// once a signal waits or the journal is gone, at most a second late. Else after more years than any machine lives.
+    fn wait(&mut self) -> Result<(), RunFault> {
         for turn in 0..u64::MAX {
-            if let Some(end) = self.input_end() {
+            if let Some(end) = self.end_at(turn) {
                 return end;
-            }
-            if self.is_stopped() || (self.blocked && turn % 4 == 0 && is_called_off(self.host)) {
-                return Ok(());
             }
             thread::sleep(self.host, Duration::from_millis(250));
         }
@@ -158,52 +167,15 @@ impl<'a> Operator for Console<'a> {
         let Ok(text) = format!(in alloc; "{address}") else {
             return;
         };
-        self.trouble = trouble_of(alloc, text.as_str(), Whereabouts::Listen, error);
+        let Ok(words) = self.unheard_words(address, error) else {
+            return;
+        };
+        self.trouble = trouble_of(alloc, text.as_str(), Whereabouts::Listen, &words);
     }
 
     fn unstarted(&mut self) {
         let words = "the system refused one: see `ulimit -u`";
         self.trouble = trouble_of(self.host.alloc(), "threads", Whereabouts::Whole, &words);
-    }
-}
-
-/// A log on the standard error: a line for each event, by one write, where lines are wanted. That the member is stopped is told
-/// in any case, with what the system said where a call of its journal's file failed, and is noted.
-#[derive(Drop)]
-struct ErrorLog<'a> {
-    alloc: Global,
-    errors: Stderr,
-    prints: bool,
-    stopped: &'a AtomicBool,
-    /// Where the system's error is kept at the first call of the journal's file that fails.
-    first_error: Option<Arc<FirstError>>,
-}
-
-impl ErrorLog<'_> {
-    /// Prints the line of an event.
-    fn print(&mut self, event: &LogEvent) -> io::Result<()> {
-        let line = format!(in self.alloc; "{event}\n")?;
-        self.errors.write_all(line.as_bytes())
-    }
-
-    /// Prints that the member is stopped, and why where that is known.
-    fn print_stop(&mut self) -> io::Result<()> {
-        let Some(error) = first_error_in(&self.first_error) else {
-            return self.print(&LogEvent::Stopped);
-        };
-        let line = format!(in self.alloc; "{} device: {error}\n", LogEvent::Stopped)?;
-        self.errors.write_all(line.as_bytes())
-    }
-}
-
-impl Log for ErrorLog<'_> {
-    fn tell(&mut self, event: &LogEvent) {
-        if *event == LogEvent::Stopped {
-            let _lost = self.print_stop().is_err();
-            self.stopped.store(true, Ordering::SeqCst);
-        } else if self.prints {
-            let _lost = self.print(event).is_err();
-        }
     }
 }
 
@@ -220,20 +192,34 @@ fn trouble_of_stop(alloc: Global, source: &Source<'_>) -> Option<Trouble>
     }
 }
 
-/// What can be told of how a run ended: of its journal where the member is stopped, else what the console was told.
+/// What can be told of a member that is stopped: what the console was told, or else why its journal ended.
+fn told_of_stop(alloc: Global, source: &Source<'_>, told: Option<Trouble>) -> Option<Trouble>
+    ensures told { IsSome told → result ≡ told }
+    ensures stopped { told ≡ None → IfSome result (λ trouble. string_bytes trouble.thing ≡ source.now.path.now) }
+{
+    match told {
+        Some(told) => Some(told),
+        None => trouble_of_stop(alloc, source),
+    }
+}
+
+/// What can be told of how a run ended: where the member was forgotten, of its journal, which is put aside; where it is stopped
+/// what the console was told, or else why; else what the console was told.
 fn told_at_end(
-    alloc: Global,
+    host: &HostRuntime,
     run: &Result<(), RunFault>,
     source: &Source<'_>,
+    member: u8,
     told: Option<Trouble>,
 ) -> Option<Trouble>
-    ensures stopped { run.now ≡ Err ends_of_run.Stopped → IfSome result (λ trouble. string_bytes trouble.thing ≡ source.now.path.now) }
-    ensures other { run.now ≢ Err ends_of_run.Stopped → result ≡ told }
+    ensures stopped { run.now ≡ Err ends_of_run.Stopped → told ≡ None → IfSome result (λ trouble. string_bytes trouble.thing ≡ source.now.path.now) }
+    ensures gone { run.now ≡ Err ends_of_run.Stopped → IsSome told → result ≡ told }
+    ensures other { run.now ≢ Err ends_of_run.Stopped → run.now ≢ Err ends_of_run.Forgotten → result ≡ told }
 {
     match run {
-        Err(RunFault::Stopped) => trouble_of_stop(alloc, source),
-        Ok(())
-        | Err(RunFault::Listen | RunFault::Memory | RunFault::Stream | RunFault::Forgotten) => told,
+        Err(RunFault::Stopped) => told_of_stop(host.alloc(), source, told),
+        Err(RunFault::Forgotten) => put_aside(host, source.path, member),
+        Ok(()) | Err(RunFault::Listen | RunFault::Memory | RunFault::Stream) => told,
     }
 }
 
@@ -259,41 +245,74 @@ fn warn_of_strangers(host: &HostRuntime) {
     );
 }
 
-/// A thread that reads the standard input, where signals are to end a member that would else wait for that input itself; none
-/// where the system refuses it.
-fn input_of<R: Machine>(
-    rt: &R,
-    host: &HostRuntime,
-    stay: bool,
-    blocked: bool,
-) -> Option<Arc<Input>> {
-    if blocked && !stay {
-        read_aside(rt, host.alloc(), host.stdin())
-    } else {
+/// A thread that reads the standard input, where a member would else wait for that input itself; none where the system refuses
+/// it.
+fn input_of<R: Machine>(rt: &R, host: &HostRuntime, stay: bool) -> Option<Arc<Input>> {
+    if stay {
         None
+    } else {
+        read_aside(rt, host.alloc(), host.stdin())
     }
 }
 
-/// Runs the member of the settings in the file until the standard input ends; where it stays, until it is stopped; and where
-/// the process was started with SIGTERM or SIGINT blocked, until one comes. The status is 0. Its events are told on the
-/// standard error where a log is wanted. Links are taken from their members' own hosts, unless any host may speak for any
-/// member, which is told on the standard error first.
+/// Runs the member of the settings in the file until the standard input ends; where it stays, until it is stopped; where the
+/// process was started with SIGTERM or SIGINT blocked, until one comes; and no longer than the journal's path names its file.
+/// The status is 0. Its events are told on the standard error in the form of the log. Links are taken from their members' own
+/// hosts, unless any host may speak for any member, which is told on the standard error first.
 ///
 /// Files and standard streams are those of the host. Threads and sockets are those of `rt`, under a bound that has
 /// neither files nor input, as threads ask for.
 ///
-/// [`Fault::File`]: the settings or the journal can't be opened. [`Fault::Settings`], [`Fault::Journal`]: they are of no
-/// use. [`Fault::Run`]: no listener could be had, or the member was stopped when the input ended.
+/// [`Fault::File`]: the settings or the journal can't be opened, or fewer files than a member wants. [`Fault::Settings`],
+/// [`Fault::Journal`]: they are of no use, or a sync of the journal failed since the machine was started. [`Fault::Run`]: no
+/// listener could be had, the member was stopped when the input ended, or its journal is gone; or it was forgotten, in this run
+/// or in an earlier one, and its journal is put aside.
 pub fn run_file<R: Machine>(
     rt: &R,
     host: &HostRuntime,
     path: &str,
     stay: bool,
-    log: bool,
+    log: LogForm,
     any_host: bool,
 ) -> Result<u8, Failure> {
     let settings = read_settings(host, path)?;
     run_settings(rt, host, &settings, stay, log, any_host)
+}
+
+/// Refuses to run with too few open files for a member that needs links with so many.
+///
+/// [`Fault::File`]: there are fewer.
+fn keep_from_starving(host: &HostRuntime, limit: Option<u64>, needed: u8) -> Result<(), Failure>
+    ensures { IfErr result (λ failure. IsMeant ends.File failure.fault) }
+{
+    if !is_starved(limit, needed) {
+        return Ok(());
+    }
+    let alloc = host.alloc();
+    let words = starved_words(alloc, limit, needed).map_err(|_| Fault::Memory)?;
+    Err(Failure::at(alloc, Fault::File, "open files", Whereabouts::Whole, &words))
+}
+
+/// Opens the member of that header on the disk of its journal. A fault hands the disk back beside what is told of it: no byte of
+/// the file was changed, and a crash left nothing of it but what it might have left before.
+fn open_member<D: Disk>(
+    host: &HostRuntime,
+    source: &Source<'_>,
+    disk: D,
+    header: &Header,
+) -> Result<Member<D>, (Failure, D)>
+    ensures opened { IfOk result (λ member. IsOpened D.Disk disk header.now member) }
+    ensures restart { IfOk result (λ member. IsARestart D.Disk disk header.now member) }
+    ensures handed_back { IfErr result (λ refused. (why : JournalFault) × (refused.0.fault ≡ of_journal why)
+        × IsNotOpened D.Disk disk header.now why refused.1) }
+{
+    match Member::adopt(host.alloc(), disk, header) {
+        Ok(member) => Ok(member),
+        Err((why, disk)) => {
+            let failure = failure_for(host, source, Fault::from(why), why, Some(header));
+            Err((failure, disk))
+        }
+    }
 }
 
 /// Runs the member of these settings, as `run_file` says.
@@ -302,26 +321,29 @@ fn run_settings<'a, R: Machine>(
     host: &'a HostRuntime,
     settings: &'a Settings,
     stay: bool,
-    log: bool,
+    log: LogForm,
     any_host: bool,
 ) -> Result<u8, Failure> {
-    let (limit, n) = (most_files(host), settings.header.size().n());
+    let size = settings.header.size();
+    let (limit, n) = (most_files(host), size.n());
+    keep_from_starving(host, limit, size.wait())?;
     let clients = clients_within(limit, n);
     let addresses = addresses_of(host.alloc(), settings, any_host, clients).map_err(
         |_| Fault::Memory,
     )?;
-    let (disk, source) = open_disk(host, settings.journal.as_str(), Purpose::Run)?;
-    let member = match Member::open(host.alloc(), disk, &settings.header) {
+    refuse_forgotten(host, settings.journal.as_str(), settings.header.me())?;
+    let (disk, source) = open_good_disk(host, settings.journal.as_str(), Purpose::Run)?;
+    remove_old_mark(host, source.path);
+    let journal = Watched::new(host, source.path);
+    let member = match open_member(host, &source, disk, &settings.header) {
         Ok(member) => member,
-        Err(fault) => {
-            let asked = Some(&settings.header);
-            return Err(failure_for(host, &source, Fault::from(fault), fault, asked));
-        }
+        Err((failure, _)) => return Err(failure),
     };
     if any_host {
         warn_of_strangers(host);
     }
     warn_of_files(host, limit, n);
+    let addresses = with_socket(host, addresses, settings)?;
     let stopped = AtomicBool::new(false);
     let blocked = blocks_signals(host);
     let mut console = Console {
@@ -329,14 +351,16 @@ fn run_settings<'a, R: Machine>(
         settings,
         stay,
         blocked,
-        input: input_of(rt, host, stay, blocked),
+        input: input_of(rt, host, stay),
+        journal,
         stopped: &stopped,
         trouble: None,
     };
     let lines = Mutex::new(ErrorLog {
+        clock: rt,
         alloc: host.alloc(),
         errors: host.stderr(),
-        prints: log,
+        form: log,
         stopped: &stopped,
         first_error: source.shared_error(),
     });
@@ -349,7 +373,8 @@ fn run_settings<'a, R: Machine>(
         &mut console,
         Some(&lines),
     );
+    leave_socket(host, settings);
     let told = console.trouble;
-    let trouble = told_at_end(host.alloc(), &run, &source, told);
+    let trouble = told_at_end(host, &run, &source, settings.header.me(), told);
     ended(run, trouble)
 }

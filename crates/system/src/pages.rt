@@ -3,11 +3,11 @@
 ghost use Rattle.system.specs.Faults.{AreApart, IsMeant};
 ghost use Rattle.system.specs.declared.fault.Fault.TheVariants as ends;
 ghost use Rattle.system.specs.Troubles.{IsNamed};
-ghost use Rattle.std.specs.Prelude.{IfSome, ◌≡◌, ◌≢◌, IfErr, IsOk, IsTrue, None, Some, codes, option_map};
+ghost use Rattle.std.specs.Prelude.{IfSome, ◌≡◌, ◌≢◌, ◌≤◌, ◌↔◌, IfErr, IsOk, IsTrue, None, Some, codes, option_map};
 
 use crate::fault::Fault;
 use crate::trouble::{Failure, Whereabouts};
-use commands::{Simulation, takes_output};
+use commands::{Choice, Simulation, takes_output};
 use std::alloc::Global;
 use std::fs::{self, File, Metadata};
 use std::io::{self, BufWriter, Write};
@@ -19,28 +19,29 @@ use std::path::Path;
 pub enum Page {
     /// A line for each event.
     Trace,
-    /// A sequence chart in SVG.
-    Chart,
+    /// A sequence chart in SVG, with the events that are chosen.
+    Chart(Choice),
 }
 
 /// Writes a page of the simulation, where it has a path, into the file there, or to the standard output where the path is
-/// `-`. What was in the file is replaced. The page is written as it is made: where that fails a part of it may be written.
+/// `-`. What was in the file is replaced. The page is written as it is made: where that fails a part of it may be written. The
+/// number of a chart's rows comes out, and 0 for a trace and for no page.
 pub fn write_page(
     rt: &HostRuntime,
     simulation: &Simulation,
     page: Page,
     path: Option<&str>,
     fault: Fault,
-) -> Result<(), Failure>
+) -> Result<u64, Failure>
     ensures nothing { path.entry ≡ None → IsOk result }
     ensures faults { IfErr result (λ failure. IsMeant fault failure.fault) }
     ensures named { IfSome path.entry (λ path. IfErr result (IsNamed path.now)) }
 {
     let Some(path) = path else {
-        return Ok(());
+        return Ok(0);
     };
     match write_at(rt, simulation, page, path) {
-        Ok(()) => Ok(()),
+        Ok(rows) => Ok(rows),
         // Who read it has read enough, as `head` does: there is nothing to tell.
         Err(error) if error.kind() == io::ErrorKind::BrokenPipe => Err(Failure::from(fault)),
         Err(error) => Err(Failure::of_system(rt.alloc(), fault, path, Whereabouts::Write, error)),
@@ -65,21 +66,53 @@ fn write_into<W: Write + Drop>(
     simulation: &Simulation,
     page: Page,
     output: W,
-) -> io::Result<()> {
+) -> io::Result<u64> {
     let mut output = BufWriter::new(alloc, output)?;
-    match page {
-        Page::Trace => simulation.write_trace(alloc, &mut output)?,
-        Page::Chart => simulation.write_chart(alloc, &mut output)?,
-    }
-    output.flush()
+    let rows = match page {
+        Page::Trace => {
+            simulation.write_trace(alloc, &mut output)?;
+            0
+        }
+        Page::Chart(choice) => simulation.write_chart(alloc, choice, &mut output)?,
+    };
+    output.flush()?;
+    Ok(rows)
 }
 
 /// Writes a page into the file at that path, or to the standard output where the path is `-`.
-fn write_at(rt: &HostRuntime, simulation: &Simulation, page: Page, path: &str) -> io::Result<()> {
+fn write_at(rt: &HostRuntime, simulation: &Simulation, page: Page, path: &str) -> io::Result<u64> {
     if takes_output(Some(path), None) {
         return write_into(rt.alloc(), simulation, page, io::writer(rt));
     }
     write_into(rt.alloc(), simulation, page, File::create(rt, path)?)
+}
+
+/// The least number of rows of a chart that is too long for most viewers.
+const LONG: u64 = 100_000;
+
+/// Returns `true` if a chart of so many rows is too long for most viewers.
+fn is_too_long(rows: u64) -> bool
+    ensures { IsTrue result ↔ 100000 ≤ rows }
+{
+    rows >= LONG
+}
+
+/// Says on the standard error that the chart in the file at this path, of so many rows, is too long for most viewers, if it is.
+/// Nothing is said of one on the standard output.
+pub fn warn_of_length(rt: &HostRuntime, rows: u64, path: Option<&str>) {
+    let Some(path) = path else {
+        return;
+    };
+    if path == "-" || !is_too_long(rows) {
+        return;
+    }
+    let Ok(line) = format!(in rt.alloc();
+        "bracha: {path}: a chart of {rows} events is too long for most viewers: choose rows by --from, --to, --member or --question\n"
+    ) else {
+        return;
+    };
+    let mut errors = rt.stderr();
+    let _unsaid = errors.write_all(line.as_bytes());
 }
 
 /// Whether what is known of two files is known of one.

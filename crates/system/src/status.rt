@@ -9,7 +9,7 @@ use numerals::behind;
 use std::alloc::{AllocError, Global};
 
 /// What stands behind the head, if the line begins with it.
-fn rest_of<'a>(line: &'a [u8], head: &str) -> Option<&'a [u8]>
+pub fn rest_of<'a>(line: &'a [u8], head: &str) -> Option<&'a [u8]>
     ensures { option_map (λ rest. rest.now) result ≡ rest_of head.now line.now }
 {
     behind(line, head)

@@ -287,7 +287,10 @@ fn faults_of_words_and_files(rt: HostRuntime) -> Result<(), Fail> {
         ),
         Prints("listen", "status 2\n"),
         Prints("hear --n 4", "status 2\n"),
-        Prints("--version", "bracha 0.2.0\nstatus 0\n"),
+        Prints(
+            "--version",
+            "bracha 0.3.0\nwire 1, 2\njournal 2 (migrates 1)\nstatus 0\n",
+        ),
         Ends("ask 127.0.0.1 0", "address", 1),
         Ends("status localhost", "address", 1),
         Ends("status 127.0.0.1:27199", "no answer", 1),
@@ -364,7 +367,7 @@ fn a_second_line_names_the_thing(rt: HostRuntime) -> Result<(), Fail> {
         ),
         Names(
             "dump bracha_tests_more.journal",
-            "bracha: journal BadHeader\nbracha_tests_more.journal: byte 0: bytes 42 52 41 43 48 41 4a 32: journal BadHeader\n",
+            "bracha: journal BadHeader\nbracha_tests_more.journal: no journal of bracha: bytes 42 52 41 43 48 41 4a 32\n",
         ),
         Names(
             "check bracha_tests_more_text.toml",
@@ -380,15 +383,15 @@ fn a_second_line_names_the_thing(rt: HostRuntime) -> Result<(), Fail> {
         ),
         Names(
             "simulate bracha_tests_more.script",
-            "bracha: line 7\nbracha_tests_more.script:7: delivr 0 0 next\n",
+            "bracha: line 7\nbracha_tests_more.script:7: delivr 0 0 next: word 1 must be propose, deliver, group, lie, fuse, crash, restart, reset, rounds or random: this is no event\n",
         ),
         Names(
             "simulate bracha_tests_more_end.script",
-            "bracha: line 3\nbracha_tests_more_end.script:3: the text ends before this line\n",
+            "bracha: line 3\nbracha_tests_more_end.script:3: the text ends before this line: the third line is `questions Q`: Q questions, 1 to 4096\n",
         ),
         Names(
             "simulate bracha_tests_more_lines.script",
-            "bracha: line 1\nbracha_tests_more_lines.script:1: \"n 4\\r\"\n",
+            "bracha: line 1\nbracha_tests_more_lines.script:1: \"n 4\\r\": word 2 must be a number from 0 to 65535: the first line is `n N`: N members, 1 to 64\n",
         ),
         Names(
             "status 127.0.0.1:27199",
@@ -396,7 +399,7 @@ fn a_second_line_names_the_thing(rt: HostRuntime) -> Result<(), Fail> {
         ),
         Names(
             "status localhost",
-            "bracha: address\nlocalhost: not HOST:PORT\n",
+            "bracha: address\nlocalhost: must be unix:PATH, or localhost or four numbers with points between them, a colon and a port from 1 to 65535: no host names, no IPv6\n",
         ),
     ];
     play(&rt, &steps)?;
@@ -412,7 +415,7 @@ const ODD: [u8; 43] =
 
 /// The second line of the odd journal.
 const ODD_LINE: &str =
-    "\nbracha_tests_bytes_of.journal: byte 33: bytes 01 00 01 09 00 00 00 01 11 00: journal BadRecord\n";
+    "\nbracha_tests_bytes_of.journal: byte 36: bytes 09 00 00 00 01 11 00: journal BadRecord\n";
 
 #[test]
 fn a_second_line_shows_the_bytes_of_a_journal(rt: HostRuntime) -> Result<(), Fail> {
@@ -504,7 +507,7 @@ fn a_second_line_shows_the_front_of_a_journal(rt: HostRuntime) -> Result<(), Fai
         Put(journal, b"no journal\n"),
         Names(
             "init bracha_tests_front.toml",
-            "bracha: journal NotEmpty\nbracha_tests_front.journal: byte 0: bytes 6e 6f 20 6a 6f 75 72 6e 61 6c 0a: journal NotEmpty\n",
+            "bracha: journal NotEmpty\nbracha_tests_front.journal: no journal of bracha: bytes 6e 6f 20 6a 6f 75 72 6e 61 6c 0a\n",
         ),
     ];
     play(&rt, &steps)?;
@@ -526,7 +529,7 @@ fn a_journal_of_version_1_is_brought_over(rt: HostRuntime) -> Result<(), Fail> {
         Put(old, &OLD),
         Names(
             "dump bracha_tests_old.journal",
-            "bracha: journal OldVersion\nbracha_tests_old.journal: byte 0: bytes 42 52 41 43 48 41 4a 31 00 00 00 00 00 00 00 07 ..: journal OldVersion\n",
+            "bracha: journal OldVersion\nbracha_tests_old.journal: a journal of version 1: `bracha migrate OLD NEW` brings it over into a new file\n",
         ),
         Prints(
             "migrate bracha_tests_old.journal bracha_tests_new.journal",
@@ -541,7 +544,7 @@ fn a_journal_of_version_1_is_brought_over(rt: HostRuntime) -> Result<(), Fail> {
         // A new file that is made for it is gone after a fault, and one that was there is left.
         Names(
             "migrate bracha_tests_new.journal bracha_tests_newer.journal",
-            "bracha: migrate NotOld\nbracha_tests_new.journal: no journal of version 1\n",
+            "bracha: migrate NotOld\nbracha_tests_new.journal: is version 2 already, and needs no migration\n",
         ),
         Lacks(more),
         Put(more, b""),
@@ -559,7 +562,7 @@ fn a_journal_of_version_1_is_brought_over(rt: HostRuntime) -> Result<(), Fail> {
         Put(old, &OLD[..34]),
         Names(
             "migrate bracha_tests_old.journal bracha_tests_newer.journal",
-            "bracha: migrate CutShort\nbracha_tests_old.journal: migrate CutShort\n",
+            "bracha: migrate CutShort\nbracha_tests_old.journal: byte 24: bytes 01 00 01 02 00 00 00 01 01 01: migrate CutShort\n",
         ),
         Lacks(more),
         Names(
@@ -707,7 +710,7 @@ fn a_second_line_says_what_is_asked(rt: HostRuntime) -> Result<(), Fail> {
             good,
             "['127.0.0.1:1', '127.0.0.1:2', '127.0.0.1', 'x']",
             end,
-            "bracha: settings peers\nbracha_tests_asked.toml:7: peers: entry 2 must be a text HOST:PORT\n",
+            "bracha: settings peers\nbracha_tests_asked.toml:7: peers: entry 2 must be localhost or four numbers with points between them, a colon and a port from 1 to 65535: no host names, no IPv6\n",
         ),
         Wrong(
             good,
@@ -725,7 +728,7 @@ fn a_second_line_says_what_is_asked(rt: HostRuntime) -> Result<(), Fail> {
             good,
             four,
             "desk = 'here'\n",
-            "bracha: settings desk\nbracha_tests_asked.toml:8: desk: must be a text HOST:PORT\n",
+            "bracha: settings desk\nbracha_tests_asked.toml:8: desk: must be localhost or four numbers with points between them, a colon and a port from 1 to 65535: no host names, no IPv6\n",
         ),
         Wrong(
             good,
@@ -743,7 +746,7 @@ fn a_second_line_says_what_is_asked(rt: HostRuntime) -> Result<(), Fail> {
             good,
             four,
             "desk = '127.0.0.1:5'\n",
-            "bracha: settings seed\nbracha_tests_asked.toml: seed: must be a text of 64 hexadecimal digits\n",
+            "bracha: settings seed\nbracha_tests_asked.toml: seed: is missing\n",
         ),
     ]
     .into_iter()
@@ -838,7 +841,7 @@ fn a_wait_has_an_end(rt: HostRuntime) -> Result<(), Fail> {
     // There is no time at all, so it is asked once.
     let child = piped(
         &rt,
-        "ask --wait --timeout 0 127.0.0.1:7142 5",
+        "ask --wait --timeout 1 127.0.0.1:7142 5",
         Stdio::null(),
     )?;
     answer_one(&desk, "UNDECIDED\n")?;
@@ -867,19 +870,32 @@ fn a_client_waits_as_long_as_it_is_told(rt: HostRuntime) -> Result<(), Fail> {
     Ok(())
 }
 
-/// Each member is told of, also one whose desk nobody knows, and one that doesn't answer.
+/// A client's settings whose members' desks nobody answers at.
+const OF_CLIENTS: &[u8] =
+    b"cluster = 7\nn = 2\nt = 0\nquestions = 1\ndesks = ['127.0.0.1:27191', '127.0.0.1:27192']\n";
+
+/// Each member is told of, also one that doesn't answer. A member's settings are refused, and an address.
 #[test]
-fn a_proposal_goes_to_all_that_are_known(rt: HostRuntime) -> Result<(), Fail> {
-    let path = "bracha_tests_all.toml";
+fn a_proposal_goes_to_all(rt: HostRuntime) -> Result<(), Fail> {
+    let (path, clients) = ("bracha_tests_all.toml", "bracha_tests_all_clients.toml");
+    put(&rt, clients, OF_CLIENTS)?;
     let steps = [
         PutSettings(path, "bracha_tests_all.journal", 7),
         Prints(
+            "propose --all bracha_tests_all_clients.toml 0 1",
+            "member 0 no answer\nmember 1 no answer\nstatus 1\n",
+        ),
+        Names(
             "propose --all bracha_tests_all.toml 0 1",
-            "member 0 unknown\nmember 1 no answer\nmember 2 unknown\nmember 3 unknown\nstatus 1\n",
+            "bracha: settings desks\nbracha_tests_all.toml: is a member's settings; --all wants the client.toml that new-cluster wrote\n",
+        ),
+        Names(
+            "propose --all 127.0.0.1:27191 0 1",
+            "bracha: file\n127.0.0.1:27191: is an address; --all wants a file, the client.toml that new-cluster wrote\n",
         ),
     ];
     play(&rt, &steps)?;
-    remove(&rt, &[path])
+    remove(&rt, &[path, clients])
 }
 
 /// The folder of a new cluster.
@@ -911,6 +927,7 @@ fn a_new_cluster_has_settings_of_its_own(rt: HostRuntime) -> Result<(), Fail> {
         Clear("bracha_tests_new/member-1.toml"),
         Clear(third),
         Clear("bracha_tests_new/member-3.toml"),
+        Clear("bracha_tests_new/client.toml"),
         Ends(
             "new-cluster --n 4 --t 2 --questions 16 --cluster 9 bracha_tests_new",
             "size TooManyLiars",
@@ -922,6 +939,10 @@ fn a_new_cluster_has_settings_of_its_own(rt: HostRuntime) -> Result<(), Fail> {
             "bracha_tests_new/member-3.toml: member 3 at 127.0.0.1:7103\n",
         ),
         Begins(third, OF_MEMBER_2.as_bytes()),
+        Begins(
+            "bracha_tests_new/client.toml",
+            b"cluster = 9\nn = 4\nt = 1\nquestions = 16\ndesks = [\n    \"127.0.0.1:7110\",\n    \"127.0.0.1:7111\",\n    \"127.0.0.1:7112\",\n    \"127.0.0.1:7113\",\n]\n",
+        ),
         Says(
             "check bracha_tests_new/member-2.toml",
             "bracha: file\nmember-2.journal: open",
@@ -956,16 +977,17 @@ fn a_new_cluster_takes_hosts(rt: HostRuntime) -> Result<(), Fail> {
     let steps = [
         Clear("bracha_tests_hosts/member-0.toml"),
         Clear("bracha_tests_hosts/member-1.toml"),
+        Clear("bracha_tests_hosts/client.toml"),
         Names(
             "new-cluster --n 2 --t 0 --questions 1 --cluster 0 bracha_tests_hosts 10.0.0.1",
             "bracha: hosts\n10.0.0.1: there are 1 hosts, and must be 2\n",
         ),
         Names(
             "new-cluster --n 2 --t 0 --questions 1 --cluster 0 bracha_tests_hosts 10.0.0.1,10.0.0.256",
-            "bracha: hosts\n10.0.0.1,10.0.0.256: each must be `localhost` or four numbers with points between them\n",
+            "bracha: hosts\n10.0.0.1,10.0.0.256: each must be `localhost` or four numbers with points between them: no host names, no IPv6\n",
         ),
         Ends(
-            "new-cluster --n 2 --t 0 --questions 1 --cluster 0 bracha_tests_no_folder",
+            "new-cluster --n 2 --t 0 --questions 1 --cluster 0 bracha_tests_no_folder/below",
             "file",
             1,
         ),
@@ -976,7 +998,7 @@ fn a_new_cluster_takes_hosts(rt: HostRuntime) -> Result<(), Fail> {
         ),
         Begins(
             "bracha_tests_hosts/member-0.toml",
-            b"cluster = 0\nn = 2\nt = 0\nquestions = 1\nme = 0\njournal = \"member-0.journal\"\npeers = [\n    \"10.0.0.1:7100\",\n    \"127.0.0.1:7101\",\n]\ndesk = \"10.0.0.1:7110\"\n",
+            b"cluster = 0\nn = 2\nt = 0\nquestions = 1\nme = 0\njournal = \"member-0.journal\"\npeers = [\n    \"10.0.0.1:7100\",\n    \"127.0.0.1:7101\",\n]\ndesk = \"127.0.0.1:7110\"\n",
         ),
         Ends(words, "file", 1),
     ];
@@ -1138,18 +1160,20 @@ fn a_member_alone_tells_its_life(rt: HostRuntime) -> Result<(), Fail> {
     put(&rt, path, settings.as_str().as_bytes())?;
     assert!(rt; prints(&rt, "init bracha_tests_alone.toml", "status 0\n")?);
     let said = said_in_a_life(&rt)?;
-    let life = "ready member 0\ndecided 0 1\nend\n";
-    assert!(rt; said.as_str().contains(life), "{said}");
+    for line in ["Z ready member 0\n", "Z decided 0 1\n", "Z end\n"] {
+        assert!(rt; said.as_str().contains(line), "{said}");
+    }
     // In its next life the decision isn't told again.
     let (_, said) = told(&rt, "run --log bracha_tests_alone.toml")?;
-    assert!(rt; said.as_str().contains("ready member 0\nend\n"), "{said}");
+    assert!(rt; said.as_str().contains("Z end\n"), "{said}");
+    assert!(rt; !said.as_str().contains("Z decided"), "{said}");
     let warning = "bracha: --any-host is unsafe: any host may speak for any member\n";
     let warned = Says("run --any-host bracha_tests_alone.toml", warning);
     play(&rt, &[warned])?;
     // So is that fewer files may be open than its links and a client want.
-    let script = "ulimit -n 14; exec \"$0\" tests::processes::a_process < /dev/null";
+    let script = "ulimit -n 18; exec \"$0\" tests::processes::a_process < /dev/null";
     let said = said_beside(&rt, "run bracha_tests_alone.toml", script)?;
-    let few = "bracha: 14 open files are too few: the links want 17, and each client 2\n";
+    let few = "bracha: 18 open files are too few: the links want 17, and each client 2\n";
     assert!(rt; said.as_str().contains(few), "{said}");
     remove(&rt, &[path, journal])
 }
@@ -1194,7 +1218,7 @@ fn a_signal_ends_a_member(rt: HostRuntime) -> Result<(), Fail> {
         ("env", "run --stay --log bracha_tests_signal.toml", false),
     ] {
         let (printed, said) = called_off(&rt, front, words)?;
-        let ended = said.as_str().contains("ready member 0\nend\n");
+        let ended = said.as_str().contains("Z end\n");
         let well = printed.as_str().contains("status 0\n");
         assert!(rt; ended == is_clean && well == is_clean, "{printed} {said}");
     }
@@ -1302,7 +1326,8 @@ fn a_member_that_stays_ends_once_it_is_stopped(rt: HostRuntime) -> Result<(), Fa
     assert!(rt; is_over, "a member that is stopped stays");
     assert!(rt; printed.as_str().contains("status 1\n"), "{printed}");
     assert!(rt; said.as_str().contains("bracha: forgotten\n"), "{said}");
-    remove(&rt, &[path, journal])
+    // The journal is put aside.
+    remove(&rt, &[path, "bracha_tests_two.journal.forgotten"])
 }
 
 #[test]
@@ -1546,6 +1571,49 @@ fn a_page_goes_to_the_output(rt: HostRuntime) -> Result<(), Fail> {
     ];
     play(&rt, &steps)?;
     remove(&rt, &[script, chart])
+}
+
+#[test]
+fn a_chart_has_the_rows_that_are_asked_for(rt: HostRuntime) -> Result<(), Fail> {
+    let (script, chart) = ("bracha_tests_rows.script", "bracha_tests_rows.svg");
+    let steps = [
+        Put(script, ONE_PROPOSAL.as_bytes()),
+        Names(
+            "simulate --trace bracha_tests_rows.svg --question 0 bracha_tests_rows.script",
+            "bracha: question\n--question 0: needs --chart, whose rows it chooses\n",
+        ),
+        Names(
+            "simulate --chart bracha_tests_rows.svg --question 1 bracha_tests_rows.script",
+            "bracha: question\n--question 1: must be below the script's number of questions, which is 1\n",
+        ),
+        Names(
+            "simulate --chart bracha_tests_rows.svg --member 1 bracha_tests_rows.script",
+            "bracha: member\n--member 1: must be below the script's n, which is 1\n",
+        ),
+        Names(
+            "simulate --chart bracha_tests_rows.svg --from 3 --to 2 bracha_tests_rows.script",
+            "bracha: from\n--from 3: must be at most --to, which is 2\n",
+        ),
+        Names(
+            "simulate --chart bracha_tests_rows.svg --to 0 bracha_tests_rows.script",
+            "bracha: to\n--to 0: must be an integer from 1 on, as events are counted\n",
+        ),
+        Says(
+            "simulate --chart bracha_tests_rows.svg --member 256 bracha_tests_rows.script",
+            "--member: must be an integer from 0 on and below the script's n\n",
+        ),
+        Lacks(chart),
+        Prints(
+            "simulate --chart - --question 0 --member 0 --from 1 --to 1 bracha_tests_rows.script",
+            "</svg>\nstatus 0\n",
+        ),
+        Omits(
+            "simulate --chart - --from 2 bracha_tests_rows.script",
+            "proposes 1",
+        ),
+    ];
+    play(&rt, &steps)?;
+    remove(&rt, &[script])
 }
 
 /// Whether the words behind the program's name are taken.

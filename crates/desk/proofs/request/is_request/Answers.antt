@@ -1,6 +1,5 @@
-use Rattle.std.proofs.Common.{◌≡◌, ◌∙◌, List, ℕ, sym, subst}
-use Rattle.desk.specs.Lines.{IsRequest, trimmed}
-use Rattle.desk.proofs.Requests.{EndsSo, ends_so, is_end}
+use Rattle.std.proofs.Common.{◌∙◌, sym}
+use Rattle.desk.proofs.Requests.{ends_so, is_end}
 use Rattle.desk.proofs.request.is_request.Goals as goal
 
 pub returns : goal.returns

@@ -1,4 +1,4 @@
-use Rattle.std.proofs.Common.{◌≡◌, length, take}
+use Rattle.std.proofs.Common.{length, take}
 use Rattle.numerals.specs.Lines.{line}
 use Rattle.transcripts.specs.Lines.{head_line}
 use Rattle.desk.proofs.Blocks.{Puts}

@@ -1,5 +1,5 @@
 use Rattle.std.proofs.Common.{◌≡◌, ◌∙◌, ap, refl, rules, Err, Ok}
-use Rattle.desk.specs.declared.command.Command.TheVariants.{Propose, Ask, Status, Transcript}
+use Rattle.desk.specs.declared.command.Command.TheVariants.{Propose, Ask, Status, Transcript, Links}
 use Rattle.desk.specs.Sessions.{sitting}
 use Rattle.desk.proofs.Exchanging.{answers_line}
 use Rattle.desk.proofs.serving.Server.reply_to.Goals as goal
@@ -24,17 +24,17 @@ pub returns-in-Ok-Propose-clause-reply : goal.returns-in-Ok-Propose-clause-reply
 returns-in-Ok-Propose-clause-reply g c =
     let count : c.size.result.questions ≡ c.args.self.now.hub.now.size.questions = search rules in
     answers_line g.row.D.Denot g.T.Tosser.may_toss c.args.self.now.hub.now.size.questions c.size.result.questions
-    (sitting c.args.pass.now.known c.args.tosser.now) (sitting c.args.pass.now.known c.answer_alone.new.tosser)
-    c.args.line.now c.parse.result (Ok (Propose c.in-Ok-Propose.question c.in-Ok-Propose.bit)) c.answer_alone.result c.parse.ensures.either count (c.in-Ok-Propose.is ∙ ap Ok c.in-Ok-Propose.field-0-is)
-    (refl, c.answer_alone.ensures.propose _ _ refl)
+    (sitting c.args.pass.now.known c.args.tosser.now) (sitting c.args.pass.now.known c.propose.new.tosser)
+    c.args.line.now c.parse.result (Ok (Propose c.in-Ok-Propose.question c.in-Ok-Propose.bit)) c.propose.result c.parse.ensures.either count (c.in-Ok-Propose.is ∙ ap Ok c.in-Ok-Propose.field-0-is)
+    (refl, c.propose.ensures)
 
 pub returns-in-Ok-Status-clause-reply : goal.returns-in-Ok-Status-clause-reply
 returns-in-Ok-Status-clause-reply g c =
     let count : c.size.result.questions ≡ c.args.self.now.hub.now.size.questions = search rules in
     answers_line g.row.D.Denot g.T.Tosser.may_toss c.args.self.now.hub.now.size.questions c.size.result.questions
-    (sitting c.args.pass.now.known c.args.tosser.now) (sitting c.args.pass.now.known c.answer_alone-in-Ok-Status.new.tosser)
-    c.args.line.now c.parse.result (Ok Status) c.answer_alone-in-Ok-Status.result c.parse.ensures.either count (c.in-Ok-Status.is ∙ ap Ok c.in-Ok-Status.field-0-is)
-    (refl, c.answer_alone-in-Ok-Status.ensures.status refl)
+    (sitting c.args.pass.now.known c.args.tosser.now) (sitting c.args.pass.now.known c.status.new.tosser)
+    c.args.line.now c.parse.result (Ok Status) c.status.result c.parse.ensures.either count (c.in-Ok-Status.is ∙ ap Ok c.in-Ok-Status.field-0-is)
+    (refl, c.status.ensures)
 
 pub returns-in-Ok-Transcript-clause-reply : goal.returns-in-Ok-Transcript-clause-reply
 returns-in-Ok-Transcript-clause-reply g c =
@@ -43,3 +43,11 @@ returns-in-Ok-Transcript-clause-reply g c =
     (sitting c.args.pass.now.known c.args.tosser.now) (sitting c.args.pass.now.known c.args.tosser.now)
     c.args.line.now c.parse.result (Ok (Transcript c.in-Ok-Transcript.question)) c.transcript_of.result c.parse.ensures.either count (c.in-Ok-Transcript.is ∙ ap Ok c.in-Ok-Transcript.field-0-is)
     (refl, c.transcript_of.ensures.0, c.transcript_of.ensures.1)
+
+pub returns-in-Ok-Links-clause-reply : goal.returns-in-Ok-Links-clause-reply
+returns-in-Ok-Links-clause-reply g c =
+    let count : c.size.result.questions ≡ c.args.self.now.hub.now.size.questions = search rules in
+    answers_line g.row.D.Denot g.T.Tosser.may_toss c.args.self.now.hub.now.size.questions c.size.result.questions
+    (sitting c.args.pass.now.known c.args.tosser.now) (sitting c.args.pass.now.known c.args.tosser.now)
+    c.args.line.now c.parse.result (Ok Links) c.links.result c.parse.ensures.either count (c.in-Ok-Links.is ∙ ap Ok c.in-Ok-Links.field-0-is)
+    (refl, c.links.ensures)

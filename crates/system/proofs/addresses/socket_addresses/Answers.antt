@@ -1,5 +1,5 @@
 use Rattle.system.proofs.Listening.{next_is}
-use Rattle.system.proofs.live.socket_addresses.Goals as goal
+use Rattle.system.proofs.addresses.socket_addresses.Goals as goal
 
 pub loop-address-preserved : goal.loop-address-preserved
 loop-address-preserved c =

@@ -1,0 +1,128 @@
+//! Where the sockets of a member are, by its settings.
+
+ghost use Rattle.system.specs.Sockets.{AreSocketsOf, IsSocketOf, dialled, everywhere, own_address};
+ghost use Rattle.running.specs.declared.hosts.Hosts.TheVariants as hosts;
+ghost use Rattle.settings.specs.declared.address.Address.{Address as AddressOf};
+ghost use Rattle.std.specs.Prelude.{◌≡◌, true, false, None, Some, IfOk, IfSome, if◌then◌else◌, length, nat_lt, slice_set};
+
+use running::{Addresses, Hosts};
+use settings::{Address, Settings};
+use std::alloc::Global;
+use std::net::{IpAddr, SocketAddr};
+use terms::Memory;
+
+/// For how many seconds a member listens at most before it speaks.
+const PATIENCE: u64 = 3;
+
+/// The host of an address that stands for all of a machine's own.
+const EVERYWHERE: [u8; 4] = [0, 0, 0, 0];
+
+/// The host by which a machine reaches itself.
+const THIS_MACHINE: [u8; 4] = [127, 0, 0, 1];
+
+/// The address as sockets have it.
+pub fn socket_address(address: &Address) -> SocketAddr
+    ensures { IsSocketOf address.now result }
+{
+    SocketAddr::new(IpAddr::from(address.octets), address.port)
+}
+
+/// These addresses as sockets have them.
+fn socket_addresses(alloc: Global, addresses: &[Address]) -> Result<Vec<SocketAddr>, Memory>
+    ensures { IfOk result (λ sockets. AreSocketsOf addresses.now sockets.items) }
+{
+    let mut sockets = Vec::new(alloc);
+    for address in addresses {
+        sockets.push(socket_address(address))?;
+    }
+    Ok(sockets)
+}
+
+/// Where a member dials itself that listens there.
+fn own_address(listen: &Address) -> Address
+    ensures { result ≡ own_address listen.now }
+{
+    if listen.octets == EVERYWHERE {
+        return Address {
+            octets: THIS_MACHINE,
+            port: listen.port,
+        };
+    }
+    *listen
+}
+
+/// These addresses, with another at that place.
+fn with_own(alloc: Global, peers: &[Address], me: u8, own: Address) -> Result<Vec<Address>, Memory>
+    ensures { IfOk result (λ it. it.items ≡ (if nat_lt me (length peers.now) then slice_set peers.now me own else peers.now)) }
+{
+    let mut all = Vec::new(alloc);
+    all.extend_from_slice(peers)?;
+    let me = usize::from(me);
+    if me >= all.len() {
+        return Ok(all);
+    }
+    all[me] = own;
+    Ok(all)
+}
+
+/// Where the members are dialled: at their entries of the peers; and the own one at the address of `listen`, where that is given.
+fn dialled(alloc: Global, settings: &Settings) -> Result<Vec<Address>, Memory>
+    ensures { IfOk result (λ it. it.items ≡ dialled settings.now.peers.items settings.now.listen settings.now.header.me) }
+{
+    match &settings.listen {
+        Some(listen) => {
+            let me = settings.header.me();
+            with_own(alloc, &settings.peers, me, own_address(listen))
+        }
+        None => {
+            let mut all = Vec::new(alloc);
+            all.extend_from_slice(&settings.peers)?;
+            Ok(all)
+        }
+    }
+}
+
+/// The address as sockets have it, if there is one.
+fn maybe_socket(address: &Option<Address>) -> Option<SocketAddr>
+    ensures none { address.now ≡ None → result ≡ None }
+    ensures some { (one : AddressOf) → address.now ≡ Some one → IfSome result (λ socket. IsSocketOf one socket) }
+{
+    match address {
+        Some(address) => Some(socket_address(address)),
+        None => None,
+    }
+}
+
+/// Where the members of the settings are dialled and this one listens, how many clients are let in, and from where links are
+/// taken: from the members' own hosts, unless any host may speak for any member. No clients of a Unix socket are let in.
+pub(crate) fn addresses_of(
+    alloc: Global,
+    settings: &Settings,
+    any_host: bool,
+    clients: u8,
+) -> Result<Addresses, Memory>
+    ensures peers { IfOk result (λ it. AreSocketsOf (dialled settings.now.peers.items settings.now.listen settings.now.header.me) it.peers.items) }
+    ensures own_entry { settings.now.listen ≡ None → IfOk result (λ it. it.listen ≡ None) }
+    ensures listen { (one : AddressOf) → settings.now.listen ≡ Some one →
+        IfOk result (λ it. IfSome it.listen (λ socket. IsSocketOf one socket)) }
+    ensures any { any_host ≡ true → IfOk result (λ it. it.hosts ≡ hosts.Any) }
+    ensures own { any_host ≡ false → IfOk result (λ it. it.hosts ≡ hosts.OfMembers) }
+    ensures desk { IfOk result (λ it. IsSocketOf settings.now.desk it.desk) }
+    ensures clients { IfOk result (λ it. it.clients ≡ clients) }
+{
+    let addresses = dialled(alloc, settings)?;
+    let peers = socket_addresses(alloc, &addresses)?;
+    Ok(Addresses {
+        peers,
+        hosts: if any_host {
+            Hosts::Any
+        } else {
+            Hosts::OfMembers
+        },
+        listen: maybe_socket(&settings.listen),
+        desk: socket_address(&settings.desk),
+        local: None,
+        clients,
+        patience: PATIENCE,
+    })
+}

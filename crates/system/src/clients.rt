@@ -1,0 +1,66 @@
+//! The settings of a client in a file.
+
+ghost use Rattle.system.specs.Troubles.{IsNamed};
+ghost use Rattle.std.specs.Prelude.{IfErr};
+
+use crate::desks::desk_place;
+use crate::fault::Fault;
+use crate::reading::{Text, read_file};
+use crate::telling::{not_text, settings_failure};
+use crate::trouble::{Failure, Whereabouts};
+use commands::line_of_key;
+use settings::{ClientSettings, Key, SettingsFault};
+use std::alloc::Global;
+
+/// What is told of a member's settings where a client's are wanted.
+const OF_A_MEMBER: &str =
+    "is a member's settings; --all wants the client.toml that new-cluster wrote";
+
+/// What is told of an address where a file is wanted.
+const ADDRESS: &str = "is an address; --all wants a file, the client.toml that new-cluster wrote";
+
+/// Whether a line of the text gives `peers` a value, as a member's settings do.
+fn has_peers(alloc: Global, text: &str) -> bool {
+    matches!(line_of_key(alloc, text.as_bytes(), Key::Peers), Ok(Some(_)))
+}
+
+/// The failure of a text that gives no client's settings.
+fn client_failure(alloc: Global, path: &str, text: &str, fault: SettingsFault) -> Failure
+    ensures named { IsNamed path.now result }
+{
+    if fault == SettingsFault::Key(Key::Desks) && has_peers(alloc, text) {
+        let fault = Fault::Settings(fault);
+        return Failure::at(alloc, fault, path, Whereabouts::Whole, &OF_A_MEMBER);
+    }
+    settings_failure(alloc, path, text, fault)
+}
+
+/// The bytes of the file, or that its path is an address.
+fn bytes_of(rt: &HostRuntime, path: &str) -> Result<Vec<u8>, Failure>
+    ensures named { IfErr result (IsNamed path.now) }
+{
+    match read_file(rt, path, Text::Settings) {
+        Ok(bytes) => Ok(bytes),
+        Err(failure) => {
+            if desk_place(path).is_none() {
+                return Err(failure);
+            }
+            Err(Failure::at(rt.alloc(), Fault::File, path, Whereabouts::Whole, &ADDRESS))
+        }
+    }
+}
+
+/// The client's settings in the file.
+pub fn read_client(rt: &HostRuntime, path: &str) -> Result<ClientSettings, Failure>
+    ensures named { IfErr result (IsNamed path.now) }
+{
+    let bytes = bytes_of(rt, path)?;
+    let text = match str::from_utf8(&bytes) {
+        Ok(text) => text,
+        Err(error) => return Err(not_text(rt.alloc(), path, error.valid_up_to())),
+    };
+    match ClientSettings::parse(rt.alloc(), text) {
+        Ok(client) => Ok(client),
+        Err(fault) => Err(client_failure(rt.alloc(), path, text, fault)),
+    }
+}

@@ -1,0 +1,164 @@
+//! The log of a member that runs, on the standard error.
+
+ghost use Rattle.std.specs.Prelude.{ℕ, ◌≡◌, true, false, IfOk, IfSome, option_map, string_bytes};
+ghost use Rattle.system.specs.Logs.{bare_line, device_text, timed_line};
+ghost use Rattle.system.specs.Moments.{IsMoment};
+ghost use Rattle.system.specs.declared.log.LogForm.TheVariants as form;
+
+use crate::files::first_error_in;
+use crate::moment::moment_text;
+use crate::objects::event_object;
+use disk::FirstError;
+use running::{Log, LogEvent};
+use std::alloc::{AllocError, Global};
+use std::io::{self, Write};
+use std::rt::Stderr;
+use std::sync::Arc;
+use std::sync::atomic::{AtomicBool, Ordering};
+use std::time::{Clock, SystemTime, UNIX_EPOCH};
+
+/// The form in which what happens to a member is told.
+#[derive(Clone, Copy, Debug, PartialEq, Eq)]
+pub enum LogForm {
+    /// Nothing is told but that the member is stopped, in a line with no time.
+    Silent,
+    /// Each event is a line that begins with its time.
+    Lines,
+    /// Each event is an object of JSON in a line, which begins with its time.
+    Objects,
+}
+
+/// Returns the form that the flags `--log` and `--log-json` ask for. Objects, if both are given.
+pub fn log_form(log: bool, log_json: bool) -> LogForm
+    ensures objects { log_json ≡ true → result ≡ form.Objects }
+    ensures lines { log ≡ true → log_json ≡ false → result ≡ form.Lines }
+    ensures silent { log ≡ false → log_json ≡ false → result ≡ form.Silent }
+{
+    if log_json {
+        LogForm::Objects
+    } else if log {
+        LogForm::Lines
+    } else {
+        LogForm::Silent
+    }
+}
+
+/// Returns what stands behind an event in its line: what the system said of the journal's file if that is known.
+fn device_words(alloc: Global, device: Option<&str>) -> Result<String, AllocError>
+    ensures { IfOk result (λ words. string_bytes words ≡ device_text (option_map (λ text. text.now) device.entry)) }
+{
+    match device {
+        Some(text) => format!(in alloc; " device: {text}"),
+        None => Ok(String::new(alloc)),
+    }
+}
+
+/// Returns the line of an event, with what the system said of the journal's file if that is known.
+pub fn bare_line(
+    alloc: Global,
+    event: &LogEvent,
+    device: Option<&str>,
+) -> Result<String, AllocError>
+    ensures { IfOk result (λ line. string_bytes line ≡ bare_line event.now (option_map (λ text. text.now) device.entry)) }
+{
+    let words = device_words(alloc, device)?;
+    format!(in alloc; "{event}{words}\n")
+}
+
+/// Returns the same line with the time before it.
+pub fn timed_line(
+    alloc: Global,
+    time: &str,
+    event: &LogEvent,
+    device: Option<&str>,
+) -> Result<String, AllocError>
+    ensures { IfOk result (λ line. string_bytes line ≡ timed_line time.now event.now (option_map (λ text. text.now) device.entry)) }
+{
+    let line = bare_line(alloc, event, device)?;
+    format!(in alloc; "{time} {line}")
+}
+
+/// Returns the text of a moment that the clock gives, in UTC. `None` if it gives none, or one past the year 9999.
+fn now_text<R: Clock>(clock: &R, alloc: Global) -> Option<String>
+    ensures { IfSome result (λ text. (milliseconds : ℕ) × IsMoment milliseconds (string_bytes text)) }
+{
+    let Ok(now) = SystemTime::now(clock) else {
+        return None;
+    };
+    let Ok(since) = now.duration_since(UNIX_EPOCH) else {
+        return None;
+    };
+    let Ok(milliseconds) = u64::try_from(since.as_millis()) else {
+        return None;
+    };
+    match moment_text(alloc, milliseconds) {
+        Ok(found) => found,
+        Err(_) => None,
+    }
+}
+
+/// A log on the standard error: a line for each event, by one write, if lines are wanted. That the member is stopped is told in
+/// any case, with what the system said if a call of its journal's file failed, and is noted.
+#[derive(Drop)]
+pub struct ErrorLog<'a, R: Clock> {
+    /// The clock that tells the time of a line when it is printed.
+    pub clock: &'a R,
+    /// Memory for lines.
+    pub alloc: Global,
+    /// Where lines go.
+    pub errors: Stderr,
+    /// How events are told.
+    pub form: LogForm,
+    /// Set once the member is stopped.
+    pub stopped: &'a AtomicBool,
+    /// Where the system's error is kept at the first call of the journal's file that fails.
+    pub first_error: Option<Arc<FirstError>>,
+}
+
+impl<R: Clock> ErrorLog<'_, R> {
+    /// Prints an event, with what the system said of the journal's file if that is given.
+    fn print(&mut self, event: &LogEvent, device: Option<&str>) -> io::Result<()> {
+        let time = match self.form {
+            LogForm::Silent => None,
+            LogForm::Lines | LogForm::Objects => now_text(self.clock, self.alloc),
+        };
+        let time = match &time {
+            Some(text) => Some(text.as_str()),
+            None => None,
+        };
+        match self.form {
+            LogForm::Silent => {
+                let line = bare_line(self.alloc, event, device)?;
+                self.errors.write_all(line.as_bytes())
+            }
+            LogForm::Lines => {
+                let line = timed_line(self.alloc, time.unwrap_or("-"), event, device)?;
+                self.errors.write_all(line.as_bytes())
+            }
+            LogForm::Objects => {
+                let line = event_object(self.alloc, time, event, device)?;
+                self.errors.write_all(line.as_slice())
+            }
+        }
+    }
+
+    /// Prints that the member is stopped, and why if that is known.
+    fn print_stop(&mut self) -> io::Result<()> {
+        let Some(error) = first_error_in(&self.first_error) else {
+            return self.print(&LogEvent::Stopped, None);
+        };
+        let device = format!(in self.alloc; "{error}")?;
+        self.print(&LogEvent::Stopped, Some(device.as_str()))
+    }
+}
+
+impl<R: Clock> Log for ErrorLog<'_, R> {
+    fn tell(&mut self, event: &LogEvent) {
+        if *event == LogEvent::Stopped {
+            let _lost = self.print_stop().is_err();
+            self.stopped.store(true, Ordering::SeqCst);
+        } else if self.form != LogForm::Silent {
+            let _lost = self.print(event, None).is_err();
+        }
+    }
+}

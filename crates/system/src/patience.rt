@@ -1,0 +1,38 @@
+//! How long a client waits, as its words say it.
+
+ghost use Rattle.std.specs.Prelude.{◌≡◌, IfErr, IfOk, IsNone, None};
+ghost use Rattle.commands.specs.Patience.{IsPatience};
+ghost use Rattle.system.specs.declared.fault.Fault.TheVariants as ends;
+
+use crate::fault::Fault;
+use crate::trouble::{Failure, Whereabouts};
+use commands::milliseconds;
+use std::alloc::Global;
+
+/// What is taken.
+const WORDS: &str = "--timeout wants seconds from 0 to 65535, as 5, 0.5 or 5s";
+
+/// How many milliseconds a text of seconds says. [`Fault::Timeout`]: the text isn't a time.
+fn told_patience(alloc: Global, text: &str) -> Result<u32, Failure>
+    ensures told { IfOk result (IsPatience text.now) }
+    ensures fault { IfErr result (λ failure. failure.fault ≡ ends.Timeout) }
+{
+    match milliseconds(text) {
+        Some(found) => Ok(found),
+        None => Err(Failure::at(alloc, Fault::Timeout, text, Whereabouts::Whole, &WORDS)),
+    }
+}
+
+/// Returns how many milliseconds a client is to wait, if it is told. [`Fault::Timeout`]: the text isn't a time.
+pub fn patience_of(alloc: Global, text: Option<&str>) -> Result<Option<u32>, Failure>
+    ensures fault { IfErr result (λ failure. failure.fault ≡ ends.Timeout) }
+    ensures untold { IfOk result (λ found. IsNone text.entry → found ≡ None) }
+{
+    match text {
+        None => Ok(None),
+        Some(text) => match told_patience(alloc, text) {
+            Ok(found) => Ok(Some(found)),
+            Err(failure) => Err(failure),
+        },
+    }
+}
