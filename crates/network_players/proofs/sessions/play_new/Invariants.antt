@@ -1,7 +1,0 @@
-use Rattle.std.specs.Arc.{arc_value}
-use Rattle.member.specs.Readers.{member_header}
-use Rattle.network_players.proofs.sessions.play_new.Given as goal
-
--- the board that was just made, and the header of the member
-abbrev pub ghosts-play_at : goal.ghosts-play_at
-ghosts-play_at g a = record { names = arc_value a.board; header = member_header a.member }

@@ -1,0 +1,6 @@
+use Rattle.member.specs.Readers.{member_header}
+use Rattle.test_network.proofs.sessions.play_new.Given as goal
+
+-- the board that was just made, and the header of the member
+abbrev pub ghosts-play_at : goal.ghosts-play_at
+ghosts-play_at g a = record { names = a.board; header = member_header a.member }

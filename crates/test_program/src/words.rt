@@ -1,0 +1,274 @@
+//! What the words of the command line ask for.
+//!
+//! A row is the words, with a space between each two. It answers the task: its name, its values, and then what was asked for
+//! beside them; before it stands `quiet` where faults are to be told in one line. Where nothing is to be done it answers `ends`
+//! and the status.
+
+use command_line::{Request, Task, command};
+use std::alloc::Global;
+use test_words::words_of;
+
+/// What is asked for, or the status with which the program ends.
+fn asked<'a>(alloc: Global, words: &'a [&'a str]) -> Result<Request<'a>, i32> {
+    match command(alloc, words) {
+        Ok(request) => Ok(request),
+        Err(error) => Err(error.exit_code()),
+    }
+}
+
+/// Adds a word, where it holds.
+fn add(text: &mut String, word: &str, holds: bool) -> Option<()> {
+    if holds {
+        text.push_str(word).ok()?;
+    }
+    Some(())
+}
+
+/// Adds an option and its value, where there is one.
+fn add_text(text: &mut String, name: &str, value: Option<&str>) -> Option<()> {
+    if let Some(value) = value {
+        text.push_str(name).ok()?;
+        text.push_str(value).ok()?;
+    }
+    Some(())
+}
+
+/// The text of a proposal.
+fn proposal(
+    alloc: Global,
+    address: &str,
+    (question, bit): (u16, u8),
+    all: bool,
+    timeout: Option<&str>,
+) -> Option<String> {
+    let mut text = format!(in alloc; "propose {address} {question} {bit}").ok()?;
+    add(&mut text, " all", all)?;
+    add_text(&mut text, " timeout ", timeout)?;
+    Some(text)
+}
+
+/// The text of a question to a member.
+fn asking(
+    alloc: Global,
+    address: &str,
+    question: u16,
+    (wait, json): (bool, bool),
+    timeout: Option<&str>,
+) -> Option<String> {
+    let mut text = format!(in alloc; "ask {address} {question}").ok()?;
+    add(&mut text, " wait", wait)?;
+    add(&mut text, " json", json)?;
+    add_text(&mut text, " timeout ", timeout)?;
+    Some(text)
+}
+
+/// The text of a question to a member for its state.
+fn standing(
+    alloc: Global,
+    address: &str,
+    (links, ready): (bool, bool),
+    json: bool,
+    timeout: Option<&str>,
+) -> Option<String> {
+    let mut text = format!(in alloc; "status {address}").ok()?;
+    add(&mut text, " links", links)?;
+    add(&mut text, " ready", ready)?;
+    add(&mut text, " json", json)?;
+    add_text(&mut text, " timeout ", timeout)?;
+    Some(text)
+}
+
+/// The text of a question to a member for what it heard.
+fn hearsay(alloc: Global, address: &str, question: u16, timeout: Option<&str>) -> Option<String> {
+    let mut text = format!(in alloc; "transcript {address} {question}").ok()?;
+    add_text(&mut text, " timeout ", timeout)?;
+    Some(text)
+}
+
+/// The text of a client's other tasks: none of any that isn't one.
+fn client_text(alloc: Global, task: Task) -> Option<String> {
+    match task {
+        Task::Status {
+            address,
+            links,
+            ready,
+            json,
+            timeout,
+        } => standing(alloc, address, (links, ready), json, timeout),
+        Task::Transcript {
+            address,
+            question,
+            timeout,
+        } => hearsay(alloc, address, question, timeout),
+        _ => None,
+    }
+}
+
+/// The words of a log that is wanted.
+fn log_words(log: bool, log_json: bool) -> &'static str {
+    match (log, log_json) {
+        (false, false) => "",
+        (true, false) => " log",
+        (false, true) => " log-json",
+        (true, true) => " log log-json",
+    }
+}
+
+/// The text of a member that is to run.
+fn running(alloc: Global, settings: &str, stay: bool, log: &str, any_host: bool) -> Option<String> {
+    let mut text = format!(in alloc; "run {settings}").ok()?;
+    add(&mut text, " stay", stay)?;
+    text.push_str(log).ok()?;
+    add(&mut text, " any-host", any_host)?;
+    Some(text)
+}
+
+/// The text of a script that is to run, with its pages.
+fn pages(alloc: Global, script: &str, trace: Option<&str>, chart: Option<&str>) -> Option<String> {
+    let mut text = format!(in alloc; "simulate {script}").ok()?;
+    add_text(&mut text, " trace ", trace)?;
+    add_text(&mut text, " chart ", chart)?;
+    Some(text)
+}
+
+/// Adds a word and the number, if there is one.
+fn add_number(alloc: Global, text: &mut String, word: &str, number: Option<u32>) -> Option<()> {
+    if let Some(number) = number {
+        let part = format!(in alloc; "{word}{number}").ok()?;
+        text.push_str(part.as_str()).ok()?;
+    }
+    Some(())
+}
+
+/// The text of a script that is to run.
+fn simulation(alloc: Global, task: Task) -> Option<String> {
+    let Task::Simulate {
+        script,
+        trace,
+        chart,
+        question,
+        member,
+        from,
+        to,
+    } = task
+    else {
+        return None;
+    };
+    let mut text = pages(alloc, script, trace, chart)?;
+    add_number(alloc, &mut text, " question ", question.map(u32::from))?;
+    add_number(alloc, &mut text, " member ", member.map(u32::from))?;
+    add_number(alloc, &mut text, " from ", from)?;
+    add_number(alloc, &mut text, " to ", to)?;
+    Some(text)
+}
+
+/// The text of a journal that is to be printed.
+fn dumping(alloc: Global, journal: &str, count: bool, json: bool) -> Option<String> {
+    let mut text = format!(in alloc; "dump {journal}").ok()?;
+    add(&mut text, " count", count)?;
+    add(&mut text, " json", json)?;
+    Some(text)
+}
+
+/// The text of settings that are to be checked.
+fn checking(alloc: Global, settings: &str, json: bool) -> Option<String> {
+    let mut text = format!(in alloc; "check {settings}").ok()?;
+    add(&mut text, " json", json)?;
+    Some(text)
+}
+
+/// The text of a new cluster: none of another task.
+fn cluster_text(alloc: Global, task: Task) -> Option<String> {
+    let Task::NewCluster {
+        n,
+        t,
+        questions,
+        cluster,
+        folder,
+        hosts,
+        port,
+        desk,
+    } = task
+    else {
+        return None;
+    };
+    let mut text = format!(in alloc; "new-cluster {n} {t} {questions} {cluster} {folder}").ok()?;
+    add_text(&mut text, " ", hosts)?;
+    if let Some(port) = port {
+        let word = format!(in alloc; " port {port}").ok()?;
+        text.push_str(word.as_str()).ok()?;
+    }
+    add_text(&mut text, " desk ", desk)?;
+    Some(text)
+}
+
+/// The text of a task of which nothing is left out: none of another.
+fn plain_text(alloc: Global, task: Task) -> Option<String> {
+    match task {
+        Task::Hear {
+            n,
+            t,
+            questions,
+            me,
+        } => format!(in alloc; "hear {n} {t} {questions} {me}").ok(),
+        Task::Init { settings } => format!(in alloc; "init {settings}").ok(),
+        Task::Check { settings, json } => checking(alloc, settings, json),
+        Task::Audit {
+            file,
+            n,
+            t,
+            questions,
+        } => format!(in alloc; "audit {file} {n} {t} {questions}").ok(),
+        Task::Migrate { old, new } => format!(in alloc; "migrate {old} {new}").ok(),
+        _ => None,
+    }
+}
+
+/// The text of a task.
+fn task_text(alloc: Global, task: Task) -> Option<String> {
+    match task {
+        Task::Run {
+            settings,
+            stay,
+            log,
+            log_json,
+            any_host,
+        } => running(alloc, settings, stay, log_words(log, log_json), any_host),
+        Task::Propose {
+            address,
+            question,
+            bit,
+            all,
+            timeout,
+        } => proposal(alloc, address, (question, bit), all, timeout),
+        Task::Ask {
+            address,
+            question,
+            wait,
+            json,
+            timeout,
+        } => asking(alloc, address, question, (wait, json), timeout),
+        Task::Status { .. } | Task::Transcript { .. } => client_text(alloc, task),
+        Task::Simulate { .. } => simulation(alloc, task),
+        Task::Dump {
+            journal,
+            count,
+            json,
+        } => dumping(alloc, journal, count, json),
+        Task::NewCluster { .. } => cluster_text(alloc, task),
+        _ => plain_text(alloc, task),
+    }
+}
+
+/// Plays a row.
+pub fn told(alloc: Global, action: &str) -> Option<String> {
+    let words = words_of(alloc, action)?;
+    match asked(alloc, words.as_slice()) {
+        Ok(request) => {
+            let quiet = if request.quiet { "quiet " } else { "" };
+            let task = task_text(alloc, request.task)?;
+            format!(in alloc; "{quiet}{task}").ok()
+        }
+        Err(status) => format!(in alloc; "ends {status}").ok(),
+    }
+}

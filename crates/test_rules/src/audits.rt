@@ -1,0 +1,76 @@
+//! What an audit says of a transcript.
+//!
+//! `new N T QUESTIONS` begins a text for a cluster of that size. `line TEXT` puts a line behind it, `end TEXT` the same without
+//! the byte that ends it, `bytes HEX` these bytes. `audit` answers what is written of the text so far, or the fault.
+
+use std::alloc::{AllocError, Global};
+use terms::Size;
+use test_words::{bytes_of, size_of, words_of};
+use transcripts::audit_text;
+
+/// A transcript's text so far.
+#[derive(Drop)]
+pub struct Audit {
+    alloc: Global,
+    size: Option<Size>,
+    text: Vec<u8>,
+}
+
+/// What is written of the text, without the byte that ends its line, or the fault.
+fn audited(alloc: Global, text: &[u8], size: Size) -> Result<String, AllocError> {
+    let mut output = Vec::new(alloc);
+    match audit_text(alloc, text, size, &mut output) {
+        Ok(status) => {
+            let said = str::from_utf8(&output).unwrap_or("?").trim_end();
+            format!(in alloc; "{said} {status}")
+        }
+        Err(fault) => format!(in alloc; "{fault}"),
+    }
+}
+
+impl Audit {
+    /// Of no cluster yet.
+    pub fn new(alloc: Global) -> Audit {
+        Audit {
+            alloc,
+            size: None,
+            text: Vec::new(alloc),
+        }
+    }
+
+    /// Puts bytes behind the text.
+    fn put(&mut self, bytes: &[u8]) -> Option<String> {
+        self.text.extend_from_slice(bytes).ok()?;
+        Some(String::new(self.alloc))
+    }
+
+    /// Begins a text.
+    fn begin(&mut self, size: &str) -> Option<String> {
+        let words = words_of(self.alloc, size)?;
+        let [n, t, questions] = words.as_slice() else {
+            return None;
+        };
+        self.size = Some(size_of(n, t, questions)?);
+        self.text.clear();
+        Some(String::new(self.alloc))
+    }
+
+    /// Plays a row.
+    pub fn told(&mut self, action: &str) -> Option<String> {
+        let (word, rest) = action.split_once(' ').unwrap_or((action, ""));
+        match word {
+            "new" => self.begin(rest),
+            "line" => {
+                self.put(rest.as_bytes())?;
+                self.put(b"\n")
+            }
+            "end" => self.put(rest.as_bytes()),
+            "bytes" => {
+                let bytes = bytes_of(self.alloc, rest)?;
+                self.put(&bytes)
+            }
+            "audit" => audited(self.alloc, &self.text, self.size?).ok(),
+            _ => None,
+        }
+    }
+}
