@@ -44,7 +44,7 @@ start() {
 # Waits until a member hears each of the three others. It doesn't where it couldn't listen, say because an outgoing
 # connection of this machine had its port for a moment: then the bench ends.
 linked() {
-    until [ "$(grep -c '^link-up' "log-$1")" -ge 3 ]; do
+    until [ "$(grep -c ' link-up ' "log-$1")" -ge 3 ]; do
         ! grep '^bracha: ' "log-"* || exit 1
         sleep 0.05
     done

@@ -74,7 +74,7 @@ for member in 0 1 2 3; do
     # SIGTERM, which is blocked, ends it as the end of its input would
     kill "${process[$member]}"
     wait "${process[$member]}" || fail "member $member ended with status $?"
-    [ "$(tail -n 1 "log-$member")" = end ] || fail "member $member was cut off"
+    [[ "$(tail -n 1 "log-$member")" == *" end" ]] || fail "member $member was cut off"
     count=$("$program" dump "member-$member.journal" | grep -c '^decided')
     if [ "$count" != 12 ]; then fail "member $member has $count decisions"; fi
 done

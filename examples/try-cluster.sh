@@ -16,7 +16,7 @@ if [ ! -x "$program" ]; then
     exit 1
 fi
 folder=$(mktemp -d "${TMPDIR:-/tmp}/bracha-cluster.XXXXXX")
-cp "$here"/cluster/member-?.toml "$folder"
+cp "$here"/cluster/client.toml "$here"/cluster/member-?.toml "$folder"
 cd "$folder"
 
 # A member runs until its standard input ends: each gets a FIFO, which this script holds open.
@@ -55,20 +55,17 @@ for member in 0 1 2 3; do
     cat "output-$member"
 done
 
-# The bit that a member proposes on a question.
-bit_of() {
-    case $1 in
-    2) echo $(($2 % 2)) ;;
-    *) echo "$1" ;;
-    esac
-}
-
 for question in 0 1 2; do
-    for member in 0 1 2 3; do
-        bit=$(bit_of "$question" "$member")
-        printf 'propose %s to member %s on question %s: ' "$bit" "$member" "$question"
-        "$program" propose "127.0.0.1:711$member" "$question" "$bit"
-    done
+    if [ "$question" -lt 2 ]; then
+        echo "propose $question to all members on question $question:"
+        "$program" propose --all client.toml "$question" "$question"
+    else
+        for member in 0 1 2 3; do
+            bit=$((member % 2))
+            printf 'propose %s to member %s on question %s: ' "$bit" "$member" "$question"
+            "$program" propose "127.0.0.1:711$member" "$question" "$bit"
+        done
+    fi
     decided=
     for member in 0 1 2 3; do
         reply=UNDECIDED

@@ -42,13 +42,41 @@ for command in $commands; do
     done
 done
 
-for line in 'run --stay --log' --ignore-signal=XFSZ StartLimitIntervalSec=0 UMask=0077 PrivateUsers=yes ProtectKernelLogs=yes \
+for line in 'run --stay --log' --ignore-signal=XFSZ StartLimitIntervalSec=0 Restart=on-failure RestartMaxDelaySec=60 UMask=0077 PrivateUsers=yes ProtectKernelLogs=yes \
     ProtectKernelModules=yes ProtectKernelTunables=yes RestrictRealtime=yes SystemCallArchitectures=native \
     SystemCallFilter=@system-service; do
     has packaging/bracha@.service "$line"
 done
 has packaging/compose.yaml build:
 has packaging/compose.yaml healthcheck:
+has packaging/compose.yaml '"status", "--ready"'
+# Reads compose.yaml as YAML, if Python has a reader of it: each service is built, runs its own member over its own folder, and is
+# asked at that member's desk. No engine is asked.
+composed() {
+    python3 - <<'END'
+import re
+import yaml
+with open("packaging/compose.yaml") as file:
+    services = yaml.safe_load(file)["services"]
+for number, (name, service) in enumerate(sorted(services.items())):
+    with open(f"examples/cluster/member-{number}.toml") as file:
+        desk = re.search('^desk = "(.*)"', file.read(), re.M)[1]
+    with open(service["build"]["dockerfile"]) as file:
+        assert 'ENTRYPOINT' in file.read(), name
+    assert name == f"member-{number}" and service["build"]["context"] == "..", name
+    assert service["volumes"] == [f"./data-{number}:/data"], name
+    assert service["command"] == ["run", "--stay", "--log", f"/data/member-{number}.toml"], name
+    assert service["healthcheck"]["test"] == ["CMD", "bracha", "status", "--ready", desk], name
+    assert service["restart"] == "on-failure" and service["network_mode"] == "host", name
+assert len(services) == 4
+END
+}
+if python3 -c 'import yaml' 2>/dev/null; then
+    if composed; then passed=$((passed + 1)); else failed=$((failed + 1)); fi
+else
+    echo 'packaging/compose.yaml: not read, since python3 has no yaml'
+fi
+has .dockerignore '!crates/bracha/out/bracha'
 has packaging/bracha.1 '.SH FILES'
 has packaging/bracha.1 '.SH SEE ALSO'
 
@@ -66,5 +94,13 @@ lacks() {
 lacks '(127\.0\.0\.1|localhost):(3[2-9]|[4-6][0-9])[0-9]{3}'
 lacks '[ ">=]/tmp/'
 lacks xxd
+
+# One version, wherever one is named.
+if said=$(tools/release "$program"); then
+    passed=$((passed + 1))
+else
+    echo "$said"
+    failed=$((failed + 1))
+fi
 echo "$passed passed, $failed failed"
 [ "$failed" = 0 ]

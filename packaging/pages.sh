@@ -31,7 +31,7 @@ page() {
 
 {
     printf '%s\n<title>bracha</title>\n<h1>The libraries of bracha</h1>\n<p>From the lowest up; <a href="../docs/ARCHITECTURE.md">ARCHITECTURE</a> says how they join.</p>\n<table>\n' "$head"
-    sed -n 's/^\([a-z_]*\)[ :].*/\1/p' crates.txt | grep -v 'trials$' | while read -r crate; do
+    sed -n 's/^\([a-z_]*\)[ :].*/\1/p' crates.txt | grep -v '^test_' | while read -r crate; do
         [ -f "crates/$crate/src/lib.rt" ] || continue
         page "$crate" > "$folder/$crate.html"
         about=$(awk '!/^\/\/!./ { exit } { sub(/^\/\/! /, ""); print }' "crates/$crate/src/lib.rt" | tr '\n' ' ' |

@@ -5,8 +5,9 @@ Members of a cluster of four, as processes, on a network that means them no good
 
 - 64 connections that don't greet, and one more; 32 clients, and one more, which takes the place of the one that was silent
   longest; a place that is given back is given again;
-- greetings that aren't, of which each is closed with nothing said; a second link of a peer whose first one goes on; one
-  Initial 10,000 times, which is one record;
+- greetings that aren't, of which each is closed with nothing said; a second link of a peer whose first one goes on; a peer
+  that comes and goes 200 times, of which the log tells some lines and then how many there were; one Initial 10,000 times,
+  which is one record;
 - a member that may open 24 files: its doors come back once others go; one that may open 31, which are enough for three
   clients: the fourth takes the place of the one that was silent longest;
 - a client and a peer that read nothing, a peer that sends a byte a second, and a client that reads a transcript a byte a
@@ -209,6 +210,15 @@ def welcomed(member, peer):
     raise AssertionError("no Welcome comes")
 
 
+def a_peer_that_comes_and_goes(program):
+    with cluster(program, PORTS + 20, [0]) as [member]:
+        for _ in range(200):
+            welcomed(member, 1)[0].close()
+        assert until(lambda: any("links of 1 come and go" in line for line in member.told()), 5), "it isn't told"
+        lines = [line for line in member.told() if "link-up from 1" in line or "link-down from 1" in line]
+        assert len(lines) == 20, f"{len(lines)} lines"
+
+
 def two_links_of_a_peer(program):
     with cluster(program, PORTS + 20, [0]) as [member]:
         first, number = welcomed(member, 1)
@@ -397,6 +407,7 @@ def main():
         "too many clients": lambda: too_many_clients(program),
         "false greetings": lambda: false_greetings(program),
         "two links of a peer": lambda: two_links_of_a_peer(program),
+        "a peer that comes and goes": lambda: a_peer_that_comes_and_goes(program),
         "one statement many times": lambda: one_statement_many_times(program),
         "few files": lambda: few_files(program),
         "few clients": lambda: few_clients(program),

@@ -1,11 +1,11 @@
 #!/usr/bin/env bash
 # tests/refused-memory.sh [PROGRAM]: each call that takes memory, with each of its requests refused in turn.
 #
-# For each row of the program `refusals` (one call, on a value that is made for it) the first request for memory is
+# For each row of the program `test_memory` (one call, on a value that is made for it) the first request for memory is
 # refused, then the second, and so on until a run meets none. Each run has to end with the answer of ample memory, or with
 # that for want of it and all as it should be then; within a disk or a stream in memory a refusal is a failed call of
 # that. It wants a C compiler, for the library that refuses (tests/refuse.c; it is no part of the product).
-# PROGRAM is `refusals` as it was built; where there is none it is proved and built first, which takes many minutes. The last
+# PROGRAM is `test_memory` as it was built; where there is none it is proved and built first, which takes many minutes. The last
 # line is `N passed, M failed`: rows.
 set -euo pipefail
 top=$(cd "$(dirname "$0")/.." && pwd)
@@ -13,8 +13,8 @@ room=$(mktemp -d)
 trap 'rm -rf "$room"' EXIT
 program=${1:-}
 if [ ! -x "$program" ]; then
-    (cd "$top/crates/refusals" && rt run) > "$room/built" 2>&1 || { tail -5 "$room/built"; exit 1; }
-    program=$top/crates/refusals/out/refusals
+    (cd "$top/crates/test_memory" && rt run) > "$room/built" 2>&1 || { tail -5 "$room/built"; exit 1; }
+    program=$top/crates/test_memory/out/test_memory
 fi
 program=$(realpath "$program")
 "${CC:-cc}" -O2 -shared -fPIC -o "$room/refuse.so" "$top/tests/refuse.c"
@@ -53,6 +53,6 @@ while IFS=: read -r row _; do
         failed=$((failed + 1))
         echo "$row: $trouble"
     fi
-done < "$top/crates/refusals/stdout"
+done < "$top/crates/test_memory/stdout"
 echo "$passed passed, $failed failed"
 [ "$failed" = 0 ]

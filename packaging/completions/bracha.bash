@@ -16,16 +16,16 @@ _bracha() {
     case ${COMP_WORDS[at]} in
     init) mapfile -t COMPREPLY < <(compgen -W "--quiet --help" -f -- "$word") ;;
     check) mapfile -t COMPREPLY < <(compgen -W "--json --quiet --help" -f -- "$word") ;;
-    run) mapfile -t COMPREPLY < <(compgen -W "--stay --log --any-host --quiet --help" -f -- "$word") ;;
+    run) mapfile -t COMPREPLY < <(compgen -W "--stay --log --log-json --any-host --quiet --help" -f -- "$word") ;;
     migrate) mapfile -t COMPREPLY < <(compgen -W "--quiet --help" -f -- "$word") ;;
     dump) mapfile -t COMPREPLY < <(compgen -W "--count --json --quiet --help" -f -- "$word") ;;
-    simulate) mapfile -t COMPREPLY < <(compgen -W "--trace --chart --quiet --help" -f -- "$word") ;;
+    simulate) mapfile -t COMPREPLY < <(compgen -W "--trace --chart --question --member --from --to --quiet --help" -f -- "$word") ;;
     hear) mapfile -t COMPREPLY < <(compgen -W "--n --t --questions --me --quiet --help" -- "$word") ;;
     audit) mapfile -t COMPREPLY < <(compgen -W "--n --t --questions --quiet --help" -f -- "$word") ;;
-    new-cluster) mapfile -t COMPREPLY < <(compgen -W "--n --t --questions --cluster --quiet --help" -d -- "$word") ;;
+    new-cluster) mapfile -t COMPREPLY < <(compgen -W "--n --t --questions --cluster --port --desk --quiet --help" -d -- "$word") ;;
     propose) mapfile -t COMPREPLY < <(compgen -W "--all --timeout --quiet --help" -f -- "$word") ;;
     ask) mapfile -t COMPREPLY < <(compgen -W "--wait --json --timeout --quiet --help" -- "$word") ;;
-    status) mapfile -t COMPREPLY < <(compgen -W "--json --timeout --quiet --help" -- "$word") ;;
+    status) mapfile -t COMPREPLY < <(compgen -W "--links --ready --json --timeout --quiet --help" -- "$word") ;;
     transcript) mapfile -t COMPREPLY < <(compgen -W "--timeout --quiet --help" -- "$word") ;;
     help) mapfile -t COMPREPLY < <(compgen -W "new-cluster init check run propose ask status transcript audit dump migrate simulate hear" -- "$word") ;;
     esac

@@ -1,4 +1,4 @@
-# Completions of fish for bracha. Put it into ~/.config/fish/completions or /usr/share/fish/vendor_completions.d.
+# Completions of fish for bracha. Put it into ~/.config/fish/completions, /etc/fish/completions or /usr/share/fish/vendor_completions.d.
 set -l commands new-cluster init check run propose ask status transcript audit dump migrate simulate hear help
 complete -c bracha -f
 complete -c bracha -n "not __fish_seen_subcommand_from $commands" -a new-cluster -d "Write the settings of a new cluster"
@@ -22,10 +22,15 @@ complete -c bracha -F -n "__fish_seen_subcommand_from new-cluster init check run
 complete -c bracha -n "__fish_seen_subcommand_from run" -l stay -d "Run until a signal"
 complete -c bracha -n "__fish_seen_subcommand_from run" -l any-host -d "Unsafe: take links from any host"
 complete -c bracha -n "__fish_seen_subcommand_from run" -l log -d "Tell events on standard error"
+complete -c bracha -n "__fish_seen_subcommand_from run" -l log-json -d "Tell them as objects of JSON"
 complete -c bracha -n "__fish_seen_subcommand_from new-cluster" -l n -x -d "Members"
 complete -c bracha -n "__fish_seen_subcommand_from new-cluster" -l t -x -d "Liars"
 complete -c bracha -n "__fish_seen_subcommand_from new-cluster" -l questions -x -d "Questions"
 complete -c bracha -n "__fish_seen_subcommand_from new-cluster" -l cluster -x -d "The cluster's number"
+complete -c bracha -n "__fish_seen_subcommand_from new-cluster" -l port -x -d "The first port"
+complete -c bracha -n "__fish_seen_subcommand_from new-cluster" -l desk -x -d "The host of the desks"
+complete -c bracha -n "__fish_seen_subcommand_from status" -l links -d "How many links come and go"
+complete -c bracha -n "__fish_seen_subcommand_from status" -l ready -d "Whether these are enough"
 complete -c bracha -n "__fish_seen_subcommand_from propose" -l all -d "To all members of the settings"
 complete -c bracha -n "__fish_seen_subcommand_from ask" -l wait -d "Until it is decided"
 complete -c bracha -n "__fish_seen_subcommand_from ask status check dump" -l json -d "Objects of JSON"
@@ -33,6 +38,10 @@ complete -c bracha -n "__fish_seen_subcommand_from propose ask status transcript
 complete -c bracha -n "__fish_seen_subcommand_from dump" -l count -d "How many records there are"
 complete -c bracha -n "__fish_seen_subcommand_from simulate" -l trace -r -F -d "A line for each event"
 complete -c bracha -n "__fish_seen_subcommand_from simulate" -l chart -r -F -d "A chart in SVG"
+complete -c bracha -n "__fish_seen_subcommand_from simulate" -l question -x -d "Only events of this question"
+complete -c bracha -n "__fish_seen_subcommand_from simulate" -l member -x -d "Only events of this member"
+complete -c bracha -n "__fish_seen_subcommand_from simulate" -l from -x -d "The first event"
+complete -c bracha -n "__fish_seen_subcommand_from simulate" -l to -x -d "The last event"
 complete -c bracha -n "__fish_seen_subcommand_from hear" -l n -x -d "Members"
 complete -c bracha -n "__fish_seen_subcommand_from hear" -l t -x -d "Liars"
 complete -c bracha -n "__fish_seen_subcommand_from hear" -l questions -x -d "Questions"

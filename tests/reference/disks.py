@@ -1,7 +1,7 @@
 #!/usr/bin/env python3
 """tests/reference/disks.py [FILE]
 
-Writes the rows of crates/rows/data/disks.txt, to FILE or the standard output: what a disk in memory answers to each call,
+Writes the rows of crates/test_rows/data/disks.txt, to FILE or the standard output: what a disk in memory answers to each call,
 and what its crashes leave. It knows the model of a disk and nothing of the program:
 
 - what reads give; what they gave at the last sync that succeeded; and the places that were written since, also by writes

@@ -1,0 +1,455 @@
+#!/usr/bin/env python3
+"""tests/edges.py [PROGRAM]
+
+Looks at the edges of the built program for what a user would suffer from and no contract says: how long a client waits, which
+statuses commands end with, whose links a member takes, what it opens and says more often than it should, what a command leaves
+behind. PROGRAM is crates/bracha/out/bracha unless another is named. It takes the ports 27700 to 27939 and half a minute, with
+all checks side by side. Prints what is wrong, and in its last line `N passed, M failed`; the status is 1 where M isn't 0.
+"""
+import concurrent.futures
+import contextlib
+import json
+import os
+import resource
+import shutil
+import signal
+import socket
+import struct
+import subprocess
+import sys
+import tempfile
+import threading
+import time
+
+TOP = os.path.dirname(os.path.dirname(os.path.realpath(__file__)))
+PROGRAM = os.path.realpath(sys.argv[1] if len(sys.argv) > 1 else f"{TOP}/crates/bracha/out/bracha")
+IDLE = b"\x00\x01\x00"
+CHECKS = []
+
+
+def check(function):
+    """A function that gives what is wrong, if anything is. It has a folder of its own, and a number for ports of its own."""
+    CHECKS.append(function)
+    return function
+
+
+def say(words, folder, **more):
+    """What the program says on both streams, and its status."""
+    try:
+        ran = subprocess.run([PROGRAM, *words], cwd=folder, stdin=subprocess.DEVNULL, stdout=subprocess.PIPE, stderr=subprocess.STDOUT,
+                             text=True, timeout=12, **more)
+    except subprocess.TimeoutExpired:
+        return "goes on for 12 seconds", None
+    return ran.stdout, ran.returncode
+
+
+def differs(what, is_so, should):
+    return [] if is_so == should else [f"{what}: {is_so!r}, and not {should!r}"]
+
+
+def settings(folder, me, peers, desk, n, t, questions=64, cluster=7, more=""):
+    path = f"{folder}/member-{me}.toml"
+    with open(path, "w", encoding="ascii") as file:
+        file.write(f'cluster = {cluster}\nn = {n}\nt = {t}\nquestions = {questions}\nme = {me}\njournal = "{folder}/member-{me}.journal"\n'
+                   f'peers = {json.dumps(peers)}\ndesk = "{desk}"\nseed = "{me + 1:064x}"\n{more}')
+    return path
+
+
+@contextlib.contextmanager
+def running(path, *options, new=True, **more):
+    """A member that runs until a signal."""
+    if new:
+        subprocess.run([PROGRAM, "init", path], check=True)
+    with open(f"{path}.log", "ab") as log:
+        process = subprocess.Popen([PROGRAM, "run", "--stay", *options, path], stdin=subprocess.DEVNULL, stdout=subprocess.PIPE,
+                                   stderr=log, **more)
+    try:
+        assert b"ready" in process.stdout.readline(), f"{path} isn't ready"
+        yield process
+    finally:
+        process.kill()
+        process.wait()
+        process.stdout.close()
+
+
+def hello(me, to, n=4, t=1, questions=64, cluster=7, version=2):
+    return struct.pack(">HBBQBBHBB", 16, 1, version, cluster, n, t, questions, me, to)
+
+
+def dial(port, host="127.0.0.1", timeout=5.0):
+    return socket.create_connection(("127.0.0.1", port), timeout=timeout, source_address=(host, 0))
+
+
+def is_welcomed(port, me, to, host="127.0.0.1", **size):
+    """Greets in that member's name from that host: the link where it is welcomed, or none."""
+    link = dial(port, host)
+    try:
+        link.sendall(hello(me, to, **size))
+        if len(link.recv(11, socket.MSG_WAITALL)) == 11:
+            return link
+    except OSError:
+        pass
+    link.close()
+    return None
+
+
+def soon(tries):
+    """What comes of one of some tries in three seconds, if anything does."""
+    for _ in range(30):
+        found = tries()
+        if found:
+            return found
+        time.sleep(0.1)
+    return None
+
+
+@contextlib.contextmanager
+def serving(port, answer):
+    """Has a thread answer each connection to the port."""
+    listener = socket.create_server(("127.0.0.1", port), backlog=64)
+
+    def accepts():
+        while True:
+            try:
+                link, _ = listener.accept()
+            except OSError:
+                return
+            threading.Thread(target=answers, args=(link,), daemon=True).start()
+
+    def answers(link):
+        with contextlib.suppress(OSError), link:
+            answer(link)
+
+    threading.Thread(target=accepts, daemon=True).start()
+    try:
+        yield
+    finally:
+        listener.shutdown(socket.SHUT_RDWR)
+        listener.close()
+
+
+def client_file(folder, ports):
+    path = f"{folder}/client.toml"
+    desks = ", ".join(f'"127.0.0.1:{it}"' for it in ports)
+    with open(path, "w", encoding="ascii") as file:
+        file.write(f"cluster = 7\nn = {len(ports)}\nt = 0\nquestions = 64\ndesks = [{desks}]\n")
+    return path
+
+
+@check
+def clients_give_up(folder, port):
+    """Each command that speaks to a desk ends with its time, whether the desk is silent or can't be connected to."""
+    full = socket.socket()
+    full.bind(("127.0.0.1", port + 1))
+    full.listen(0)
+    fillers = [socket.socket() for _ in range(4)]
+    for filler in fillers:
+        filler.setblocking(False)
+        filler.connect_ex(("127.0.0.1", port + 1))
+
+    def late(words):
+        begun = time.monotonic()
+        said, status = say(["--quiet", *words], folder)
+        took = time.monotonic() - begun
+        return differs(" ".join(words), (said, status, took < 3), ("bracha: no answer\n", 1, True))
+
+    with serving(port, lambda link: time.sleep(20)), concurrent.futures.ThreadPoolExecutor(32) as pool:
+        found = []
+        for at in (port, port + 1):
+            desk = f"127.0.0.1:{at}"
+            found += [pool.submit(late, words) for words in (
+                ["ask", "--timeout", "1", desk, "0"], ["propose", "--timeout", "1", desk, "0", "1"],
+                ["status", "--timeout", "1", desk], ["status", "--links", "--timeout", "1", desk],
+                ["status", "--ready", "--timeout", "1", desk], ["transcript", "--timeout", "1", desk, "0"])]
+        result = [wrong for it in found for wrong in it.result()]
+        begun = time.monotonic()
+        path = client_file(folder, [port, port, port])
+        said, status = say(["--quiet", "propose", "--all", "--timeout", "1", path, "0", "1"], folder)
+        took = time.monotonic() - begun
+        result += differs("propose --all", (status, took < 5, said.count("no answer")), (1, True, 3))
+    for it in (full, *fillers):
+        it.close()
+    return result
+
+
+@check
+def waiting_rests_and_ends(folder, port):
+    """A client that waits for a decision asks now and then, ends with its time, and prints JSON where it is asked to."""
+    asked = []
+
+    def undecided(link):
+        for _ in link.makefile("rb"):
+            asked.append(time.monotonic())
+            link.sendall(b"UNDECIDED\n")
+
+    decided = threading.Event()
+
+    def late(link):
+        for _ in link.makefile("rb"):
+            link.sendall(b"DECIDED 1\n" if decided.is_set() else b"UNDECIDED\n")
+            decided.set()
+
+    desk = f"127.0.0.1:{port}"
+    found = []
+    with serving(port, undecided), serving(port + 1, late):
+        for more, text in (([], "UNDECIDED\n"), (["--json"], None)):
+            asked.clear()
+            begun = time.monotonic()
+            said, status = say(["ask", "--wait", "--timeout", "1.5", *more, desk, "3"], folder)
+            took = time.monotonic() - begun
+            found += differs("ask --wait", (status, 1 < took < 4, 1 < len(asked) < 60), (1, True, True))
+            found += differs("ask --wait", said, text) if text else differs("its JSON", said, '{"undecided":true}\n')
+        said, status = say(["ask", "--wait", "--json", "--timeout", "5", f"127.0.0.1:{port + 1}", "3"], folder)
+        found += differs("a decision's JSON", (said, status), ('{"decided":1}\n', 0))
+    return found
+
+
+@check
+def one_of_all_is_down(folder, port):
+    """A proposal to all has the status of its worst reply, wherever the member stands that is down, in any folder."""
+
+    def ok(link):
+        for _ in link.makefile("rb"):
+            link.sendall(b"OK\n")
+
+    found = []
+    with serving(port, ok), serving(port + 1, ok):
+        for ports in ([port, port + 1, port + 2], [port + 2, port, port + 1], [port, port + 2, port + 1]):
+            os.makedirs(f"{folder}/of", exist_ok=True)
+            client_file(f"{folder}/of", ports)
+            said, status = say(["--quiet", "propose", "--all", "--timeout", "2", "of/client.toml", "0", "1"], folder)
+            found += differs(f"{ports}", (said.count("OK"), status), (2, 1))
+        client_file(f"{folder}/of", [port, port + 1])
+        found += differs("all up", say(["propose", "--all", "of/client.toml", "0", "1"], folder), ("member 0 OK\nmember 1 OK\n", 0))
+    return found
+
+
+@check
+def a_new_journal_outlives_its_count(folder, port):
+    """A migration whose count can't be printed leaves the new journal, which is whole by then."""
+    old = b"BRACHAJ1\0\0\0\0\0\0\0\x07\x04\x01\0\x01\x01\0\0\0\x01\0\x01\x02\0\0\0\x01\x01\x01\0"
+    with open(f"{folder}/old", "wb") as file:
+        file.write(old)
+    with open("/dev/full", "w", encoding="ascii") as full:
+        ran = subprocess.run([PROGRAM, "--quiet", "migrate", "old", "new"], cwd=folder, stdout=full, stderr=subprocess.PIPE, text=True)
+    found = differs("migrate >/dev/full", (ran.returncode, ran.stderr), (1, "bracha: stream\n"))
+    said, status = say(["dump", "new"], folder)
+    return found + differs("the new journal", (said.splitlines()[1:], status), (["echo 0 0 1 1 one"], 0))
+
+
+@check
+def new_clusters(folder, port):
+    """Seeds are random from end to end, what fails leaves no seed, and what comes next is told."""
+    found = []
+    said, status = say(["new-cluster", "--n", "16", "--t", "5", "--questions", "1", "--cluster", "7", "many"], folder)
+    seeds = []
+    for member in range(16):
+        with open(f"{folder}/many/member-{member}.toml", encoding="ascii") as file:
+            seeds += [line.split('"')[1] for line in file if line.startswith("seed")]
+    quarters = {seed[at:at + 16] for seed in seeds for at in range(0, 64, 16)}
+    found += differs("quarters of 16 seeds", (len(seeds), len(quarters)), (16, 64))
+    found += differs("next steps", (status, "bracha init" in said, "bracha run" in said), (0, True, True))
+
+    def no_room():
+        signal.signal(signal.SIGXFSZ, signal.SIG_IGN)
+        resource.setrlimit(resource.RLIMIT_FSIZE, (0, 0))
+
+    said, status = say(["new-cluster", "--n", "4", "--t", "1", "--questions", "1", "--cluster", "7", "none"], folder, preexec_fn=no_room)
+    left = os.listdir(f"{folder}/none") if os.path.isdir(f"{folder}/none") else []
+    return found + differs("after a write that failed", (status, left), (1, []))
+
+
+@check
+def checks_of_settings(folder, port):
+    """`check` has one status with --json and without, and knows a journal past 16 MiB."""
+    peers = [f"127.0.0.1:{port + it}" for it in (0, 1, 2, 1)]
+    path = settings(folder, 0, peers, f"127.0.0.1:{port + 5}", 4, 1)
+    found = [wrong for more in ([], ["--json"]) for wrong in differs("two members at one address", say(["check", *more, path], folder)[1], 1)]
+    path = settings(folder, 2, [f"127.0.0.1:{port + it}" for it in range(2)] + ["203.0.113.9:7100"], f"127.0.0.1:{port + 5}", 3, 0)
+    subprocess.run([PROGRAM, "init", path], check=True)
+    found += [wrong for more in ([], ["--json"]) for wrong in differs("an own address of no host", say(["check", *more, path], folder)[1], 1)]
+    path = settings(folder, 1, [f"127.0.0.1:{port + it}" for it in range(4)], f"127.0.0.1:{port + 5}", 4, 1)
+    header = b"BRACHAJ2" + struct.pack(">QBBHB3x", 7, 4, 1, 64, 1)
+    batch = b"\x01" + struct.pack(">H", 60000) + bytes.fromhex("020000000111") * 60000
+    with open(f"{folder}/member-1.journal", "wb") as file:
+        file.write(header + batch * 50 + b"\x00")
+    said, status = say(["check", path], folder)
+    return found + differs("a journal of 18 MB", ("3000000" in said, status), (True, 0))
+
+
+@check
+def a_folder_for_an_input(folder, port):
+    """A run whose input can't be read ends with that fault."""
+    path = settings(folder, 0, [f"127.0.0.1:{port}"], f"127.0.0.1:{port + 1}", 1, 0)
+    subprocess.run([PROGRAM, "init", path], check=True)
+    descriptor = os.open("/", os.O_RDONLY)
+    ran = subprocess.run([PROGRAM, "--quiet", "run", path], stdin=descriptor, stdout=subprocess.PIPE, stderr=subprocess.STDOUT, text=True,
+                         timeout=20)
+    os.close(descriptor)
+    return differs("run </", (ran.returncode, ran.stdout), (1, "member 0 ready\nbracha: stream\n"))
+
+
+@check
+def a_proof_of_more_liars(folder, port):
+    """`audit` heeds each of its numbers: what three of four members said is proof where one may lie, and none where all are heard."""
+    path = settings(folder, 0, [f"127.0.0.1:{port + it}" for it in range(4)], f"127.0.0.1:{port + 10}", 4, 1)
+    paths = [path] + [settings(folder, me, [f"127.0.0.1:{port + it}" for it in range(4)], f"127.0.0.1:{port + 10 + me}", 4, 1) for me in (1, 2)]
+    with contextlib.ExitStack() as stack:
+        for it in paths:
+            stack.enter_context(running(it))
+        for me in range(3):
+            say(["propose", f"127.0.0.1:{port + 10 + me}", "2", "1"], folder)
+        say(["ask", "--wait", "--timeout", "20", f"127.0.0.1:{port + 10}", "2"], folder)
+        said, _ = say(["transcript", f"127.0.0.1:{port + 10}", "2"], folder)
+        took = []
+        for question in range(10, 20):
+            links = [dial(port + 10 + me) for me in range(3)]
+            begun = time.monotonic()
+            for link in links:
+                link.sendall(b"PROPOSE %d 1\n" % question)
+            lines = [link.makefile("rb") for link in links]
+            for line in lines:
+                line.readline()
+            for link, line in zip(links, lines):
+                while True:
+                    link.sendall(b"ASK %d\n" % question)
+                    if line.readline() == b"DECIDED 1\n":
+                        break
+                    time.sleep(0.002)
+            took.append(time.monotonic() - begun)
+            for link in links:
+                link.close()
+    with open(f"{folder}/proof", "w", encoding="ascii") as file:
+        file.write(said)
+    found = differs("the fastest of ten decisions is within half a second", min(took) < 0.5, True)
+    for size, answer in ((("4", "1", "64"), ("yes\n", 0)), (("7", "2", "64"), ("no\n", 1)), (("4", "0", "64"), ("no\n", 1))):
+        found += differs(f"audit of {size}", say(["audit", "proof", "--n", size[0], "--t", size[1], "--questions", size[2]], folder), answer)
+    return found
+
+
+@check
+def links_of_a_member(folder, port):
+    """Whose links are taken, with a log too; that a link which was lost is taken again, and greetings are given back."""
+    peers = [f"127.0.0.1:{port}", f"127.0.0.2:{port + 1}", f"127.0.0.3:{port + 1}", f"127.0.0.3:{port + 2}"]
+    path = settings(folder, 0, peers, f"127.0.0.1:{port + 9}", 4, 1)
+    found = []
+    with running(path, "--log"):
+        foreign = is_welcomed(port, 1, 0, "127.0.0.4")
+        found += differs("a link from a host that is no member's", foreign, None)
+        other = is_welcomed(port, 1, 0, "127.0.0.3")
+        found += differs("a link from another member's host", other, None)
+        for turn in range(3):
+            link = soon(lambda: is_welcomed(port, 1, 0, "127.0.0.2"))
+            if not link:
+                found.append(f"a link that was lost {turn} times isn't taken again")
+                break
+            link.setsockopt(socket.SOL_SOCKET, socket.SO_LINGER, struct.pack("ii", 1, 0))
+            link.close()
+        strangers = [dial(port, "127.0.0.9") for _ in range(70)]
+        first, link = soon(lambda: is_welcomed(port, 1, 0, "127.0.0.2")), soon(lambda: is_welcomed(port, 2, 0, "127.0.0.3"))
+        found += differs("members beside 70 silent strangers are welcomed", (first is not None, link is not None), (True, True))
+        for it in strangers:
+            it.close()
+        silent = [dial(port, "127.0.0.2") for _ in range(110)]
+        time.sleep(0.5)
+        again = is_welcomed(port, 3, 0, "127.0.0.3")
+        found += differs("a member is welcomed beside another's host that takes all its places", again is not None, True)
+        for it in (first, link, again, *silent):
+            if it:
+                it.close()
+    return found
+
+
+@check
+def dials_and_descriptors(folder, port):
+    """A member whose dials are closed at once dials a few times a second at most, and keeps none of them."""
+    dialled = []
+    peers = [f"127.0.0.1:{port + it}" for it in range(4)]
+    path = settings(folder, 0, peers, f"127.0.0.1:{port + 9}", 4, 1)
+    with serving(port + 1, lambda link: dialled.append(time.monotonic())):
+        with running(path) as process:
+            time.sleep(2)
+            before = len(os.listdir(f"/proc/{process.pid}/fd"))
+            count = len(dialled)
+            time.sleep(6)
+            after = len(os.listdir(f"/proc/{process.pid}/fd"))
+            count = len(dialled) - count
+            with open(f"/proc/{process.pid}/stat", encoding="ascii") as file:
+                ticks = sum(int(it) for it in file.read().rsplit(")", 1)[1].split()[11:13])
+    return differs("dials in 6 seconds", 4 <= count <= 16, True) + differs("descriptors more than before", max(0, after - before - 3), 0) \
+        + differs("ticks of a processor in 8 seconds", ticks < 60, True)
+
+
+@check
+def idles_of_a_writer(folder, port):
+    """A writer with nothing to say says an Idle about once a second, however often its member is asked and decides."""
+    idles = []
+
+    def listens(link):
+        if len(link.recv(18, socket.MSG_WAITALL)) < 18:
+            return
+        # A Welcome: all of it is to come.
+        link.sendall(struct.pack(">HBQ", 9, 2, 0))
+        while len(length := link.recv(2, socket.MSG_WAITALL)) == 2:
+            if link.recv(struct.unpack(">H", length)[0], socket.MSG_WAITALL) == b"\0":
+                idles.append(time.monotonic())
+
+    peers = [f"127.0.0.1:{port + it}" for it in range(4)]
+    with contextlib.ExitStack() as stack:
+        stack.enter_context(serving(port + 3, listens))
+        for me in range(3):
+            stack.enter_context(running(settings(folder, me, peers, f"127.0.0.1:{port + 10 + me}", 4, 1)))
+        time.sleep(2.5)
+        desks = [stack.enter_context(dial(port + 10 + me)) for me in range(3)]
+        lines = [desk.makefile("rb") for desk in desks]
+        before, begun = len(idles), time.monotonic()
+        for question in range(64):
+            for desk in desks:
+                desk.sendall(b"PROPOSE %d 1\n" % question)
+            for desk, line in zip(desks, lines):
+                line.readline()
+                while desk.sendall(b"ASK %d\n" % question) or line.readline() == b"UNDECIDED\n":
+                    time.sleep(0.002)
+        count, took = len(idles) - before, time.monotonic() - begun
+    return differs(f"{count} idles on three links in {took:.1f} seconds are few", count <= 3 * took + 6, True)
+
+
+@check
+def a_long_chart_takes_no_memory(folder, port):
+    """A chart is written as it is made: within the memory of a run it draws a page that has no room in it."""
+    with open(f"{folder}/long.script", "w", encoding="ascii") as file:
+        file.write("n 4\nt 1\nquestions 256\nliars\nseed 1\n"
+                   + "".join(f"propose {me} {question} 1\n" for question in range(256) for me in range(4)) + "rounds 14000\n")
+    limit = 48000 * 1024
+    said, status = say(["simulate", "long.script", "--chart", "chart.svg"], folder,
+                       preexec_fn=lambda: resource.setrlimit(resource.RLIMIT_AS, (limit, limit)))
+    drawn = os.path.getsize(f"{folder}/chart.svg") if os.path.exists(f"{folder}/chart.svg") else 0
+    return differs("a chart of 45 MB within 48", (status, drawn > 45_000_000), (0, True)) or differs("what is said", "memory" in said, False)
+
+
+def main():
+    resource.setrlimit(resource.RLIMIT_NOFILE, (4096, resource.getrlimit(resource.RLIMIT_NOFILE)[1]))
+    room = tempfile.mkdtemp(prefix="bracha-edges-")
+
+    def play(number):
+        function = CHECKS[number]
+        folder = f"{room}/{function.__name__}"
+        os.makedirs(folder)
+        try:
+            return function(folder, 27700 + 20 * number)
+        except Exception as error:  # pylint: disable=broad-except
+            return [f"{type(error).__name__}: {error}"]
+
+    failed = 0
+    with concurrent.futures.ThreadPoolExecutor(len(CHECKS)) as pool:
+        for function, wrong in zip(CHECKS, pool.map(play, range(len(CHECKS)))):
+            failed += 1 if wrong else 0
+            for line in wrong:
+                print(f"{function.__name__}: {line}")
+    shutil.rmtree(room)
+    print(f"{len(CHECKS) - failed} passed, {failed} failed")
+    sys.exit(1 if failed else 0)
+
+
+if __name__ == "__main__":
+    main()
