@@ -4,7 +4,7 @@ use Rattle.std.specs.Str.Parse.{digits_value}
 use Rattle.std.proofs.lemmas.Int.Digits.{digits_value-lt}
 use Rattle.std.proofs.Math.Nat.{pow-le-pow_right}
 use Rattle.desk.specs.declared.line.LineRequest.{LineRequest}
-use Rattle.desk.specs.declared.line.LineRequest.TheVariants.{Propose, Ask, Status, Transcript, Links}
+use Rattle.desk.specs.declared.line.LineRequest.TheVariants.{Propose, Ask, Await, Status, Transcript, Links}
 use Rattle.numerals.specs.Numbers.{IsBelow}
 use Rattle.numerals.specs.Spaces.{NoSpace}
 use Rattle.desk.specs.Lines.{IsQuestion, IsWord, IsBitWord, IsProposal, Asks}
@@ -49,6 +49,8 @@ proposes text rest (Propose question bit) is (other, whole, p) =
     let same : other ≡ rest = cc in
     (question, bit, refl, subst (λ r. IsProposal r question bit) same p)
 proposes text rest (Ask question) is (digits, whole, q) =
+    let first : 65 ≡ 80 = ap (λ (bytes : List ℕ). get_or bytes 0 0) (sym whole ∙ is) in absurd (omega (arith, first))
+proposes text rest (Await question) is (digits, whole, q) =
     let first : 65 ≡ 80 = ap (λ (bytes : List ℕ). get_or bytes 0 0) (sym whole ∙ is) in absurd (omega (arith, first))
 proposes text rest (Transcript question) is (digits, whole, q) =
     let first : 84 ≡ 80 = ap (λ (bytes : List ℕ). get_or bytes 0 0) (sym whole ∙ is) in absurd (omega (arith, first))

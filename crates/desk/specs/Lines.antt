@@ -3,7 +3,7 @@ use Rattle.std.specs.Prelude.{ℕ, ◌≡◌, ◌-◌, ◌<◌, ◌≤◌, ◌==
 use Rattle.std.specs.Str.Parse.{IsNumeral, digits_value}
 use Rattle.numerals.specs.Spaces.{NoSpace}
 use Rattle.desk.specs.declared.line.LineRequest.{LineRequest}
-use Rattle.desk.specs.declared.line.LineRequest.TheVariants.{Propose, Ask, Status, Transcript, Links}
+use Rattle.desk.specs.declared.line.LineRequest.TheVariants.{Propose, Ask, Await, Status, Transcript, Links}
 
 -- decimal digits alone, one to five of them, that write the number
 pub record IsQuestion (digits : List ℕ) (question : ℕ) : Type 0 where
@@ -35,6 +35,7 @@ pub record IsProposal (text : List ℕ) (question : ℕ) (bit : Option Bool) : T
 abbrev pub Asks : List ℕ → LineRequest → Type 0
 Asks text (Propose question bit) = (rest : List ℕ) × (text ≡ codes "PROPOSE " ++ rest) × IsProposal rest question bit
 Asks text (Ask question) = (digits : List ℕ) × (text ≡ codes "ASK " ++ digits) × IsQuestion digits question
+Asks text (Await question) = (digits : List ℕ) × (text ≡ codes "AWAIT " ++ digits) × IsQuestion digits question
 Asks text Status = text ≡ codes "STATUS"
 Asks text (Transcript question) = (digits : List ℕ) × (text ≡ codes "TRANSCRIPT " ++ digits) × IsQuestion digits question
 Asks text Links = text ≡ codes "LINKS"
@@ -43,9 +44,19 @@ Asks text Links = text ≡ codes "LINKS"
 abbrev pub IsPropose : LineRequest → Type 0
 IsPropose (Propose question bit) = Unit {0}
 IsPropose (Ask question) = ⊥
+IsPropose (Await question) = ⊥
 IsPropose Status = ⊥
 IsPropose (Transcript question) = ⊥
 IsPropose Links = ⊥
+
+-- what is asked is none of the first three
+abbrev pub AsksLonger : LineRequest → Type 0
+AsksLonger (Propose question bit) = Unit {0}
+AsksLonger (Ask question) = ⊥
+AsksLonger (Await question) = Unit {0}
+AsksLonger Status = ⊥
+AsksLonger (Transcript question) = Unit {0}
+AsksLonger Links = ⊥
 
 -- a byte 13
 abbrev pub is_return : Option ℕ → Bool
@@ -67,3 +78,9 @@ pub record IsRequest (line : List ℕ) : Type 0 where
   pub front : List ℕ
   pub minor : ℕ
   pub whole : trimmed line ≡ front ++ (codes " HTTP/1." ++ minor ∷ [])
+
+-- the line asks for decisions from that number on, of one to five decimal digits
+pub record AsksToFollow (line : List ℕ) (number : ℕ) : Type 0 where
+  pub digits : List ℕ
+  pub whole : trimmed line ≡ codes "FOLLOW " ++ digits
+  pub number_is : IsQuestion digits number

@@ -1,21 +1,23 @@
 -- What a client's session reads and writes.
-use Rattle.std.specs.Prelude.{ℕ, ◌≡◌, ◌⊎◌, ◌<◌, ◌≤◌, Bool, Option, Result, Ok, Err, List, [], ◌∷◌, ◌++◌, length}
+use Rattle.std.specs.Prelude.{ℕ, ◌≡◌, ◌⊎◌, ◌<◌, ◌≤◌, Bool, true, Option, Some, None, Result, Ok, Err, List, [], ◌∷◌, ◌++◌, length}
 use Rattle.std.specs.List.{All, flat_map}
 use Rattle.numerals.specs.Lines.{NoEnd, line}
 use Rattle.node.specs.declared.link_table.LinkCount.{LinkCount}
 use Rattle.node.specs.Verdicts.{known_at, KnowsMore}
 use Rattle.node.specs.Views.{BookView}
-use Rattle.member.specs.Readers.{member_header}
 use Rattle.links.specs.Told.{Told, has_written, has_failed, has_ended, BreaksOff}
-use Rattle.desk.specs.Lines.{LineAsks, IsRequest}
+use Rattle.node.specs.declared.order.Decision.{Decision}
+use Rattle.member.specs.Readers.{member_header, member_is_stopped}
+use Rattle.desk.specs.Following.{Tells, FailsToTell}
+use Rattle.desk.specs.Lines.{AsksToFollow, LineAsks, IsRequest}
 use Rattle.desk.specs.Commands.{AsksNothing, command_for}
 use Rattle.desk.specs.Answers.{IsTranscriptReply, Proposes, links_reply, status_reply, verdict_reply}
 use Rattle.desk.specs.Replies.{reply_text}
 use Rattle.desk.specs.declared.line.LineRequest.{LineRequest}
 use Rattle.desk.specs.declared.command.Command.{Command}
-use Rattle.desk.specs.declared.command.Command.TheVariants.{Propose, Ask, Status, Transcript, Links}
+use Rattle.desk.specs.declared.command.Command.TheVariants.{Propose, Ask, Await, Status, Transcript, Links}
 use Rattle.desk.specs.declared.reply.Reply.{Reply}
-use Rattle.desk.specs.declared.reply.Reply.TheVariants.{BadLine}
+use Rattle.desk.specs.declared.reply.Reply.TheVariants.{BadLine, Decided, Stopped, Undecided}
 use Rattle.desk.specs.declared.serving.DeskEnd.{DeskEnd}
 use Rattle.desk.specs.declared.serving.DeskEnd.TheVariants as end
 
@@ -50,6 +52,13 @@ pub record IsLinksReply (D : Type 0) (reply : Reply) : Type 0 where
   pub outgoing : count.outgoing ≤ (member_header book.member).size.n
   pub links : reply ≡ links_reply book count
 
+-- the reply to who waits for a decision, by what is known then: that decision; or that there is none yet, or that the member
+-- of a book that was asked is stopped
+abbrev pub IsAwaitReply : Type 0 → Option Bool → Reply → Type 0
+IsAwaitReply D (Some bit) reply = reply ≡ Decided bit
+IsAwaitReply D None reply =
+    (reply ≡ Undecided) ⊎ ((book : BookView D) × (reply ≡ Stopped) × (member_is_stopped book.member ≡ true))
+
 -- the reply to a command
 abbrev pub AnswersCommand : {T : Type 0} → Type 0 → (T → ℕ → T → Type 0) → Sitting T → Command → Reply → Sitting T → Type 0
 AnswersCommand D may_toss before (Propose question bit) reply after =
@@ -57,6 +66,8 @@ AnswersCommand D may_toss before (Propose question bit) reply after =
 -- what was known stays known, and the reply is what is known then
 AnswersCommand D may_toss before (Ask question) reply after =
     (after.tosser ≡ before.tosser) × KnowsMore before.known after.known × (reply ≡ verdict_reply (known_at after.known question))
+AnswersCommand D may_toss before (Await question) reply after =
+    (after.tosser ≡ before.tosser) × KnowsMore before.known after.known × IsAwaitReply D (known_at after.known question) reply
 AnswersCommand D may_toss before Status reply after =
     (after.known ≡ before.known) × IsStatusReply D may_toss before.tosser reply after.tosser
 -- no toss is drawn
@@ -141,32 +152,48 @@ Owes Replies before served rest now reply after =
     ⊎ (((IsTooLong rest ⊎ BeginsRequest rest) × (reply ≡ BadLine) × (after ≡ before) × (now ≡ served))
     ⊎ (IsLastLine Replies before rest reply after × (now ≡ has_ended served)))
 
+-- the rest begins with a line that asks for decisions from that number on
+pub record BeginsToFollow (rest : List ℕ) (number : ℕ) : Type 0 where
+  pub asked : List ℕ
+  pub more : List ℕ
+  pub whole : rest ≡ line asked ++ more
+  pub is_line : IsLine asked
+  pub follows : AsksToFollow asked number
+
 -- how a session ends whose stream told `served` with the rest behind its last reply, and tells `now`
-abbrev pub EndsBy : {S : Type 0} → (S → List ℕ → Reply → S → Type 0) → S → Told → List ℕ → Told → DeskEnd → S → Type 0
+abbrev pub EndsBy : {S : Type 0} → (S → List ℕ → Reply → S → Type 0) → (ℕ → Decision → Type 0) → S → Told → List ℕ → Told → DeskEnd → S → Type 0
 -- the input ended, and what stands behind the last byte 10 was answered as a line
-EndsBy Replies before served rest now end.Ended after =
+EndsBy Replies HasNumber before served rest now end.Ended after =
     ((rest ≡ []) × (after ≡ before) × (now ≡ has_ended served))
     ⊎ ((reply : Reply) × IsLastLine Replies before rest reply after × (now ≡ has_written (has_ended served) (line (reply_text reply))))
 -- a line was too long, and was answered so
-EndsBy Replies before served rest now end.TooLong after =
+EndsBy Replies HasNumber before served rest now end.TooLong after =
     IsTooLong rest × (after ≡ before) × (now ≡ has_written served (line (reply_text BadLine)))
 -- a line was the first one of a request of HTTP, and was answered so
-EndsBy Replies before served rest now end.Request after =
+EndsBy Replies HasNumber before served rest now end.Request after =
     BeginsRequest rest × (after ≡ before) × (now ≡ has_written served (line (reply_text BadLine)))
--- a read failed within a line, or the write of a reply did
-EndsBy Replies before served rest now end.Lost after =
+-- decisions were followed from a number on, until the member was stopped or ended
+EndsBy Replies HasNumber before served rest now end.Followed after =
+    (number : ℕ) × (to : ℕ) × BeginsToFollow rest number × (after ≡ before) × Tells HasNumber number to served now
+-- a read failed within a line, or the write of a reply or of a decision that was followed did
+EndsBy Replies HasNumber before served rest now end.Lost after =
     (IsLine rest × (after ≡ before) × (now ≡ has_failed served))
-    ⊎ ((told : Told) × (reply : Reply) × Owes Replies before served rest told reply after × BreaksOff told now (line (reply_text reply)))
+    ⊎ (((told : Told) × (reply : Reply) × Owes Replies before served rest told reply after × BreaksOff told now (line (reply_text reply)))
+    ⊎ ((number : ℕ) × (to : ℕ) × BeginsToFollow rest number × (after ≡ before) × FailsToTell HasNumber number to served now))
 
--- none of the lines is a request of HTTP
-abbrev pub NoRequests : List Exchange → Type 0
-NoRequests exchanges = All (λ x. IsRequest x.asked → ⊥) exchanges
+-- a line behind which the session goes on: no request of HTTP, and none that follows decisions
+pub record GoesOn (asked : List ℕ) : Type 0 where
+  pub no_request : IsRequest asked → ⊥
+  pub no_follower : (number : ℕ) → AsksToFollow asked number → ⊥
+
+abbrev pub AllGoOn : List Exchange → Type 0
+AllGoOn exchanges = All (λ x. GoesOn x.asked) exchanges
 
 -- A client's session: its lines were answered in turn, up to a rest, and then it ended.
-pub record Serves {S : Type 0} (Replies : S → List ℕ → Reply → S → Type 0) (before after : S) (old now : Told) (why : DeskEnd) : Type 0 where
+pub record Serves {S : Type 0} (Replies : S → List ℕ → Reply → S → Type 0) (HasNumber : ℕ → Decision → Type 0) (before after : S) (old now : Told) (why : DeskEnd) : Type 0 where
   pub exchanges : List Exchange
   pub rest : List ℕ
   pub between : S
   pub each : InTurn Replies before exchanges between
-  pub none_requests : NoRequests exchanges
-  pub ends : EndsBy Replies between (exchanged old exchanges rest) rest now why after
+  pub all_go_on : AllGoOn exchanges
+  pub ends : EndsBy Replies HasNumber between (exchanged old exchanges rest) rest now why after

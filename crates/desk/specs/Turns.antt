@@ -3,7 +3,7 @@ use Rattle.std.specs.Prelude.{ℕ, ◌≡◌, ◌⊎◌, List, ◌++◌}
 use Rattle.numerals.specs.Lines.{line}
 use Rattle.links.specs.Told.{Told, has_written, BreaksOff}
 use Rattle.desk.specs.Replies.{reply_text}
-use Rattle.desk.specs.Sessions.{Exchange, IsLine, InTurn, NoRequests, exchanged}
+use Rattle.desk.specs.Sessions.{Exchange, IsLine, InTurn, AllGoOn, exchanged}
 use Rattle.desk.specs.declared.reply.Reply.{Reply}
 use Rattle.desk.specs.declared.reply.Reply.TheVariants.{BadLine}
 use Rattle.desk.specs.declared.serving.DeskEnd.{DeskEnd}
@@ -31,6 +31,6 @@ Refuses old new why ended =
 pub record Serving {S : Type 0} (Replies : S → List ℕ → Reply → S → Type 0) (before after : S) (old now : Told) (held more : List ℕ) : Type 0 where
   pub exchanges : List Exchange
   pub each : InTurn Replies before exchanges after
-  pub none_requests : NoRequests exchanges
+  pub all_go_on : AllGoOn exchanges
   pub is_line : IsLine held
   pub told : now ≡ exchanged old exchanges (held ++ more)

@@ -4,7 +4,7 @@ ghost use Rattle.std.specs.Prelude.{ℕ, ◌≡◌, Bool, IfOk, IfErr};
 ghost use Rattle.member.specs.Readers.{member_disk};
 ghost use Rattle.node.specs.Transcripts.{IsDossier};
 ghost use Rattle.desk.specs.Answers.{IsDossierReply, IsTranscriptReply, MayBeShown, Proposes, WhyStopped, verdict_reply, asking_reply, links_reply, status_reply, standing_reply, standing_links, refusal_reply};
-ghost use Rattle.desk.specs.declared.command.Command.TheVariants.{Propose, Ask, Status, Transcript, Links};
+ghost use Rattle.desk.specs.declared.command.Command.TheVariants.{Propose, Ask, Await, Status, Transcript, Links};
 ghost use Rattle.desk.specs.declared.reply.Reply.TheVariants as reply;
 
 use crate::command::Command;
@@ -177,8 +177,9 @@ fn transcribe<D: Disk, J: Naming>(book: &Book<D, J>, question: u16) -> Reply
 /// - [`Reply::Memory`] where memory was refused: the disk is as it was, and the member is stopped from now on;
 /// - [`Reply::BadQuestion`] where there is no such question, which changes nothing.
 ///
-/// The other commands change nothing. A book knows no links, so by it none is up: [`crate::serve`] counts them. A stopped member still answers [`Command::Ask`] from what it saved, and
-/// [`Command::Transcript`] with [`Reply::Stopped`]. A transcript takes memory for what was heard of its question and for the
+/// The other commands change nothing. Who awaits a decision is answered as who asks for it: [`crate::serve`] waits. A book
+/// knows no links, so by it none is up: [`crate::serve`] counts them. A stopped member still answers [`Command::Ask`] from what
+/// it saved, and [`Command::Transcript`] with [`Reply::Stopped`]. A transcript takes memory for what was heard of its question and for the
 /// audit of it; where that is refused, the reply is [`Reply::Memory`], and the member goes on.
 pub fn answer<D: Disk, J: Naming>(book: &mut Book<D, J>, command: &Command, toss: Toss) -> Reply
     ensures propose { (question : ℕ) (bit : Bool) → command.now ≡ Propose question bit →
@@ -189,6 +190,8 @@ pub fn answer<D: Disk, J: Naming>(book: &mut Book<D, J>, command: &Command, toss
         member_disk book.new.member ≡ member_disk book.old.member }
     ensures ask { (question : ℕ) → command.now ≡ Ask question →
         (book.new ≡ book.old) × (result ≡ asking_reply book.old question) }
+    ensures awaited { (question : ℕ) → command.now ≡ Await question →
+        (book.new ≡ book.old) × (result ≡ asking_reply book.old question) }
     ensures status { command.now ≡ Status → (book.new ≡ book.old) × (result ≡ status_reply book.old) }
     ensures transcript { (question : ℕ) → command.now ≡ Transcript question →
         (book.new ≡ book.old) × IsTranscriptReply book.old question result }
@@ -198,6 +201,7 @@ pub fn answer<D: Disk, J: Naming>(book: &mut Book<D, J>, command: &Command, toss
     match *command {
         Command::Propose { question, bit } => propose(book, question, bit, toss),
         Command::Ask { question } => ask(book, question),
+        Command::Await { question } => ask(book, question),
         Command::Status => status(book),
         Command::Transcript { question } => transcribe(book, question),
         Command::Links => links_reply(book, NO_LINKS),

@@ -25,6 +25,11 @@ pub enum Command {
         /// The question, counted from 0, as in a proposal.
         question: u16,
     },
+    /// The same, once there is one, or after ten seconds without.
+    Await {
+        /// The question, counted from 0, as in a proposal.
+        question: u16,
+    },
     /// How many statements are in the member's outbox, and how many questions it has decided.
     Status,
     /// What was heard of a question that is decided.
@@ -58,6 +63,10 @@ fn command_for(asked: LineRequest, questions: u16) -> Result<Command, Reply>
             Ok(question) => Ok(Command::Ask { question }),
             Err(refusal) => Err(refusal),
         },
+        LineRequest::Await { question } => match below(question, questions) {
+            Ok(question) => Ok(Command::Await { question }),
+            Err(refusal) => Err(refusal),
+        },
         LineRequest::Transcript { question } => match below(question, questions) {
             Ok(question) => Ok(Command::Transcript { question }),
             Err(refusal) => Err(refusal),
@@ -76,7 +85,7 @@ fn command_for(asked: LineRequest, questions: u16) -> Result<Command, Reply>
 /// before the end of the input; one byte 13 at its end is dropped. It takes no memory.
 ///
 /// Refused with the first that holds: [`Reply::BadLine`], where the line has more than 4,096 bytes or is none of
-/// `PROPOSE q v`, `ASK q`, `STATUS`, `TRANSCRIPT q` and `LINKS`, with one space between two words and one to five decimal digits for q;
+/// `PROPOSE q v`, `ASK q`, `AWAIT q`, `STATUS`, `TRANSCRIPT q` and `LINKS`, with one space between two words and one to five decimal digits for q;
 /// [`Reply::BadQuestion`], where there is no such question; [`Reply::BadBit`], where v is neither `0` nor `1`.
 pub fn parse(line: &[u8], size: Size) -> Result<Command, Reply>
     ensures asked { (asked : LineRequest) → LineAsks line.now asked → result ≡ command_for size.questions asked }

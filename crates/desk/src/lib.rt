@@ -4,9 +4,13 @@
 //! |---|---|
 //! | `PROPOSE q v` | `OK` where the bit v is taken, `HAVE b` with the bit that stands, or `STOPPED` |
 //! | `ASK q` | `DECIDED b` or `UNDECIDED` |
+//! | `AWAIT q` | `DECIDED b` once the question is decided, `UNDECIDED` after ten seconds, or `STOPPED` |
 //! | `STATUS` | `UP m d`, with m statements in the outbox and d questions decided, or `STOPPED` |
 //! | `LINKS` | `LINKS i o n w`: links come in from i of n members, o go out, w = n - t are needed each way; or `STOPPED` |
 //! | `TRANSCRIPT q` | `STOPPED`, `UNDECIDED`, `THIN`, or `transcript q bit b count c` and c lines, each a sender and a frame |
+//!
+//! `FOLLOW k` is the last line of its session: from then on a line `DECIDED q b` comes for each decision that the member has
+//! saved, from number k on (0 is the first), in the order of its journal, and an empty line where none came for five seconds.
 //!
 //! Refusals, the first that holds: `ERR 1 line`, `ERR 2 question`, `ERR 3 bit`; `ERR 4 memory` where memory is refused.
 //!
@@ -17,6 +21,7 @@
 
 mod answering;
 mod command;
+mod following;
 mod held;
 mod line;
 mod reply;

@@ -1,7 +1,7 @@
 //! What a line asks, whether or not there is such a question.
 
-ghost use Rattle.std.specs.Prelude.{ℕ, ◌≡◌, ◌-◌, ◌<◌, ◌↔◌, ◌∷◌, ◌++◌, List, Bool, Option, Some, length, slice_get, IfSome, IsTrue, MatchOption};
-ghost use Rattle.desk.specs.Lines.{IsQuestion, IsWord, IsBitWord, IsProposal, IsPropose, Asks, LineAsks, is_return, trimmed};
+ghost use Rattle.std.specs.Prelude.{ℕ, ◌≡◌, ◌-◌, ◌<◌, ◌↔◌, ◌∷◌, ◌++◌, List, Bool, Option, Some, length, slice_get, IfSome, IfNone, IsTrue, MatchOption};
+ghost use Rattle.desk.specs.Lines.{IsQuestion, IsWord, IsBitWord, IsProposal, IsPropose, Asks, AsksLonger, AsksToFollow, LineAsks, is_return, trimmed};
 ghost use Rattle.desk.specs.declared.line.LineRequest.{LineRequest};
 
 use numerals::{behind, first_space, is, number, split_at_space};
@@ -16,6 +16,8 @@ pub(crate) enum LineRequest {
     Propose { question: u64, bit: Option<bool> },
     /// The verdict of a question.
     Ask { question: u64 },
+    /// The same, once it is there.
+    Await { question: u64 },
     /// How far the member is.
     Status,
     /// What was heard of a question that is decided.
@@ -113,6 +115,20 @@ fn asked(text: &[u8]) -> Option<LineRequest>
             Some(question) => Some(LineRequest::Ask { question }),
             None => None,
         },
+        None => asked_longer(text),
+    }
+}
+
+/// What a text asks that is neither `STATUS`, `LINKS` nor `ASK`.
+fn asked_longer(text: &[u8]) -> Option<LineRequest>
+    ensures some { IfSome result (Asks text.now) }
+    ensures exact { (asked : LineRequest) → AsksLonger asked → Asks text.now asked → result ≡ Some asked }
+{
+    match behind(text, "AWAIT ") {
+        Some(digits) => match question(digits) {
+            Some(question) => Some(LineRequest::Await { question }),
+            None => None,
+        },
         None => match behind(text, "TRANSCRIPT ") {
             Some(digits) => match question(digits) {
                 Some(question) => Some(LineRequest::Transcript { question }),
@@ -153,4 +169,15 @@ pub(crate) fn read(line: &[u8]) -> Option<LineRequest>
         return None;
     }
     asked(trimmed(line))
+}
+
+/// From which number on the line asks for decisions, if it asks for that.
+pub(crate) fn follows(line: &[u8]) -> Option<u64>
+    ensures some { IfSome result (AsksToFollow line.now) }
+    ensures none { IfNone result ((number : ℕ) → AsksToFollow line.now number → ⊥) }
+{
+    match behind(trimmed(line), "FOLLOW ") {
+        Some(digits) => question(digits),
+        None => None,
+    }
 }

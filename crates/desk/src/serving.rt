@@ -3,16 +3,19 @@
 ghost use Rattle.std.specs.Prelude.{◌≡◌, ◌∷◌, ℕ, List, [], IfErr, OnOk};
 ghost use Rattle.node.specs.Verdicts.{KnowsMore, known_at};
 ghost use Rattle.links.specs.Told.{Told, has_ended};
+ghost use Rattle.node.specs.Standings.{IsDecisionOf};
 ghost use Rattle.node.specs.Views.{BookView};
 ghost use Rattle.desk.specs.Answers.{IsTranscriptReply, verdict_reply};
-ghost use Rattle.desk.specs.Sessions.{Sitting, sitting, AnswersLine, IsLinksReply, IsProposalReply, IsStatusReply, Serves};
+ghost use Rattle.desk.specs.Sessions.{Sitting, sitting, AnswersLine, IsAwaitReply, IsLinksReply, IsProposalReply, IsStatusReply, Serves};
 ghost use Rattle.desk.specs.Turns.{FailsToSay, Refuses, Says, Serving};
 
 use crate::answering::{
     dossier_of, propose, standing_links, standing_reply, transcript_reply, verdict_reply,
 };
 use crate::command::{Command, parse};
+use crate::following::follow;
 use crate::held::{HeldLine, LineStep};
+use crate::line::follows;
 use crate::reply::Reply;
 use crate::request::is_request;
 use crate::writing::write_reply;
@@ -37,6 +40,22 @@ pub enum DeskEnd {
     /// A line was the first one of a request of HTTP, which was answered by [`Reply::BadLine`]: a page in a browser sends it
     /// before lines of its own, and these are not read.
     Request,
+    /// The client followed decisions, and the member was stopped or came to its end.
+    Followed,
+}
+
+/// For how many seconds a decision is awaited.
+const AWAITED: u64 = 10;
+
+/// What the board knows of a question. It takes no lock.
+fn known<D: Disk, J: Naming>(hub: &Hub<D, J>, pass: &mut Pass, question: u16) -> Option<bool>
+    requires { pass.old.cells ≡ J.names.cells }
+    ensures cells { pass.new.cells ≡ J.names.cells }
+    ensures more { KnowsMore pass.old.known pass.new.known }
+    ensures known { result ≡ known_at pass.new.known question }
+{
+    let board: &Board = hub.board();
+    board.ask(pass, question)
 }
 
 /// What the board has of a question. It takes no lock.
@@ -46,8 +65,7 @@ fn ask<D: Disk, J: Naming>(hub: &Hub<D, J>, pass: &mut Pass, question: u16) -> R
     ensures more { KnowsMore pass.old.known pass.new.known }
     ensures reply { result ≡ verdict_reply (known_at pass.new.known question) }
 {
-    let board: &Board = hub.board();
-    verdict_reply(board.ask(pass, question))
+    verdict_reply(known(hub, pass, question))
 }
 
 /// Answers a line that ends the session with [`Reply::BadLine`], and says why it ended.
@@ -94,6 +112,31 @@ impl<D: Disk, J: Naming, R: Wait> Server<'_, D, J, R> {
         reply
     }
 
+    /// The decision of a question once the board has it; or that there is none, after ten seconds or at the member's end; or that
+    /// the member is stopped. It takes no lock while it waits.
+    fn await_decision(&self, pass: &mut Pass, question: u16) -> Reply
+        requires { pass.old.cells ≡ J.names.cells }
+        ensures cells { pass.new.cells ≡ J.names.cells }
+        ensures more { KnowsMore pass.old.known pass.new.known }
+        ensures reply { IsAwaitReply D (known_at pass.new.known question) result }
+    {
+        let begun = self.hub.seconds();
+        for _ in self.rt.forever() {
+            let decided = self.hub.decided();
+            if let Some(bit) = known(self.hub, pass, question) {
+                return Reply::Decided(bit);
+            }
+            if self.hub.status(self.rt).is_none() {
+                return Reply::Stopped;
+            }
+            if self.hub.is_shut() || self.hub.seconds().wrapping_sub(begun) >= AWAITED {
+                return Reply::Undecided;
+            }
+            self.hub.await_news(self.rt, decided);
+        }
+        unreachable!()
+    }
+
     /// How far the member is, by what the hub shows of it. A toss is drawn, as for a proposal.
     fn status<T: Tosser>(&self, tosser: &mut T) -> Reply
         ensures { IsStatusReply D T.may_toss tosser.old result tosser.new }
@@ -121,6 +164,7 @@ impl<D: Disk, J: Naming, R: Wait> Server<'_, D, J, R> {
         match parse(line, self.hub.header().size()) {
             Err(refusal) => refusal,
             Ok(Command::Ask { question }) => ask(self.hub, pass, question),
+            Ok(Command::Await { question }) => self.await_decision(pass, question),
             Ok(Command::Propose { question, bit }) => self.propose(tosser, question, bit),
             Ok(Command::Status) => self.status(tosser),
             Ok(Command::Transcript { question }) => self.transcript_of(question),
@@ -166,13 +210,16 @@ impl<D: Disk, J: Naming, R: Wait> Server<'_, D, J, R> {
             OnOk result (Serving (AnswersLine D T.may_toss self.now.hub.now.size.questions) begun (sitting pass.new.known tosser.new) old (S.told stream.new) held.new more) }
         ensures off { (begun : Sitting T) (old : Told) (more : List ℕ) →
             Serving (AnswersLine D T.may_toss self.now.hub.now.size.questions) begun (sitting pass.old.known tosser.old) old (S.told stream.old) held.old (byte ∷ more) →
-            IfErr result (Serves (AnswersLine D T.may_toss self.now.hub.now.size.questions) begun (sitting pass.new.known tosser.new) old (S.told stream.new)) }
+            IfErr result (Serves (AnswersLine D T.may_toss self.now.hub.now.size.questions) (IsDecisionOf D self.now.hub.now) begun (sitting pass.new.known tosser.new) old (S.told stream.new)) }
     {
         match held.read(byte) {
             LineStep::More => Ok(()),
             LineStep::Ends => {
                 if is_request(held.line()) {
                     return Err(refuse(stream, DeskEnd::Request));
+                }
+                if let Some(number) = follows(held.line()) {
+                    return Err(follow(self.rt, self.hub, number, stream));
                 }
                 self.answer_held(pass, tosser, held, stream)
             }
@@ -196,7 +243,7 @@ impl<D: Disk, J: Naming, R: Wait> Server<'_, D, J, R> {
             OnOk result (Serving (AnswersLine D T.may_toss self.now.hub.now.size.questions) begun (sitting pass.new.known tosser.new) old (S.told stream.new) held.new []) }
         ensures off { (begun : Sitting T) (old : Told) →
             Serving (AnswersLine D T.may_toss self.now.hub.now.size.questions) begun (sitting pass.old.known tosser.old) old (S.told stream.old) held.old piece.now →
-            IfErr result (Serves (AnswersLine D T.may_toss self.now.hub.now.size.questions) begun (sitting pass.new.known tosser.new) old (S.told stream.new)) }
+            IfErr result (Serves (AnswersLine D T.may_toss self.now.hub.now.size.questions) (IsDecisionOf D self.now.hub.now) begun (sitting pass.new.known tosser.new) old (S.told stream.new)) }
     {
         for byte in piece {
             if let Err(end) = self.serve_byte(pass, tosser, held, stream, *byte) {
@@ -218,7 +265,7 @@ impl<D: Disk, J: Naming, R: Wait> Server<'_, D, J, R> {
         ensures cells { pass.new.cells ≡ J.names.cells }
         ensures off { (begun : Sitting T) (old : Told) (before : Told) → S.told stream.old ≡ has_ended before →
             Serving (AnswersLine D T.may_toss self.now.hub.now.size.questions) begun (sitting pass.old.known tosser.old) old before held.old [] →
-            Serves (AnswersLine D T.may_toss self.now.hub.now.size.questions) begun (sitting pass.new.known tosser.new) old (S.told stream.new) result }
+            Serves (AnswersLine D T.may_toss self.now.hub.now.size.questions) (IsDecisionOf D self.now.hub.now) begun (sitting pass.new.known tosser.new) old (S.told stream.new) result }
     {
         if held.line().is_empty() {
             return DeskEnd::Ended;
@@ -244,7 +291,7 @@ impl<D: Disk, J: Naming, R: Wait> Server<'_, D, J, R> {
             OnOk result (Serving (AnswersLine D T.may_toss self.now.hub.now.size.questions) begun (sitting pass.new.known tosser.new) old (S.told stream.new) held.new []) }
         ensures off { (begun : Sitting T) (old : Told) →
             Serving (AnswersLine D T.may_toss self.now.hub.now.size.questions) begun (sitting pass.old.known tosser.old) old (S.told stream.old) held.old [] →
-            IfErr result (Serves (AnswersLine D T.may_toss self.now.hub.now.size.questions) begun (sitting pass.new.known tosser.new) old (S.told stream.new)) }
+            IfErr result (Serves (AnswersLine D T.may_toss self.now.hub.now.size.questions) (IsDecisionOf D self.now.hub.now) begun (sitting pass.new.known tosser.new) old (S.told stream.new)) }
     {
         let mut piece = [0u8; PIECE];
         match stream.read(&mut piece) {
@@ -258,7 +305,8 @@ impl<D: Disk, J: Naming, R: Wait> Server<'_, D, J, R> {
 /// Answers the lines of a client in turn, until its input ends, a line is too long or begins a request of HTTP, or the
 /// stream fails.
 ///
-/// A line ends at the byte 10, and bytes behind the last one are a line too. `ASK` goes by the board and takes no lock;
+/// A line ends at the byte 10, and bytes behind the last one are a line too. `ASK` and `AWAIT` go by the board; `ASK` takes no
+/// lock, and `AWAIT` and `FOLLOW` only that of what the hub shows, and not while they wait;
 /// `PROPOSE`, which waits until the member speaks, and `TRANSCRIPT` take the book's; `STATUS` and `LINKS` only that of what the
 /// hub shows, behind which nobody waits for a disk. `PROPOSE` and `STATUS` take a toss each. What comes of a proposal is shown
 /// before its reply is written, so a `STATUS` behind it counts it. Replies are written without memory, and no lock is held while
@@ -274,8 +322,8 @@ pub fn serve<D: Disk, J: Naming, S: Stream, T: Tosser, R: Wait>(
 ) -> DeskEnd
     requires { pass.old.cells ≡ J.names.cells }
     ensures cells { pass.new.cells ≡ J.names.cells }
-    // Each reply is that to its line, by what the pass knows then and with the tosses of the tosser, one a command.
-    ensures serves { Serves (AnswersLine D T.may_toss hub.now.size.questions) (sitting pass.old.known tosser.old)
+    // Each decision that is followed is of a book of the hub, with its number. Each reply is that to its line, by what the pass knows then and with the tosses of the tosser, one a command.
+    ensures serves { Serves (AnswersLine D T.may_toss hub.now.size.questions) (IsDecisionOf D hub.now) (sitting pass.old.known tosser.old)
         (sitting pass.new.known tosser.new) (S.told stream.old) (S.told stream.new) result }
 {
     let server = Server { rt, hub };

@@ -19,7 +19,7 @@ use transcripts::{Block, put, put_head, put_pair};
 const LINE: usize = 32;
 
 /// Writes these bytes.
-fn write_bytes<S: Stream>(stream: &mut S, bytes: &[u8]) -> Result<(), DeskEnd>
+pub(crate) fn write_bytes<S: Stream>(stream: &mut S, bytes: &[u8]) -> Result<(), DeskEnd>
     ensures ok { OnOk result (S.told stream.new ≡ has_written (S.told stream.old) bytes.now) }
     ensures err { IfErr result (λ why. (why ≡ DeskEnd.Lost) × BreaksOff (S.told stream.old) (S.told stream.new) bytes.now) }
 {

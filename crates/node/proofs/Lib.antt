@@ -11,6 +11,8 @@ pub mod Thin
 pub mod Dossiers
 pub mod Replaying
 pub mod Tallying
+pub mod Ordering
+pub mod Telling
 pub mod Handing
 pub mod Grouping
 pub mod Refusing

@@ -10,7 +10,7 @@ use Rattle.member.specs.declared.member.Member.{Member}
 use Rattle.member.specs.Words.{bit_of, verdict_of, member_header, member_saved}
 use Rattle.member.proofs.Asked.{asked_decided}
 use Rattle.node.specs.Books.{decided_below}
-use Rattle.node.specs.Words.{IsKept, IsTallied, TallyView, known_at, tallied}
+use Rattle.node.specs.Words.{IsKept, AreCounted, IsTallied, TallyView, known_at, tallied}
 use Rattle.node.proofs.Replaying.{verdict-more}
 
 -- a statement decides nothing
@@ -76,7 +76,7 @@ abbrev is_made : Option Bool → Bool
 is_made v = not (is_none v)
 
 -- where the records say the same of each question
-stays : (n : ℕ) (xs ys : List Record) (t : TallyView) → ((q : ℕ) → q < n → verdict_of ys q ≡ verdict_of xs q) → IsTallied n xs t → IsTallied n ys t
+stays : (n : ℕ) (xs ys : List Record) (t : TallyView) → ((q : ℕ) → q < n → verdict_of ys q ≡ verdict_of xs q) → AreCounted n xs t → AreCounted n ys t
 stays n xs ys t same h = record {
   few = h.few;
   count = h.count;
@@ -85,8 +85,8 @@ stays n xs ys t same h = record {
 }
 
 -- a decision of a question that wasn't decided
-grows : (n : ℕ) (xs : List Record) (t : TallyView) (k r : ℕ) (c : Bool) → k < n → known_at t.verdicts k ≡ None → IsTallied n xs t
-    → IsTallied n (xs ++ Decided k r c ∷ []) (record { verdicts = slice_set t.verdicts k (Some c); decided = min (t.decided + 1) (2 ^ 16 - 1) })
+grows : (n : ℕ) (xs : List Record) (t : TallyView) (k r : ℕ) (c : Bool) → k < n → known_at t.verdicts k ≡ None → AreCounted n xs t
+    → AreCounted n (xs ++ Decided k r c ∷ []) (record { verdicts = slice_set t.verdicts k (Some c); decided = min (t.decided + 1) (2 ^ 16 - 1); order = t.order })
 grows n xs t k r c less free h =
     let was : verdict_of xs k ≡ None = sym (h.each k less) ∙ free in
     let within : k < length t.verdicts = subst (λ (m : ℕ). k < m) (sym h.count) less in
@@ -111,18 +111,18 @@ grows n xs t k r c less free h =
         ∙ sym own ∙ ap (λ (j : ℕ). verdict_of (xs ++ Decided k r c ∷ []) j) (sym is)
     step q l (inr other) own others = get_or-set_other t.verdicts k q (Some c) None other ∙ h.each q l ∙ sym (others q other)
 
-pub tallied_said : (n : ℕ) (xs : List Record) (s : Statement) (t : TallyView) → IsTallied n xs t → IsTallied n (xs ++ Said s ∷ []) t
-tallied_said n xs s t h = stays n xs (xs ++ Said s ∷ []) t (λ q l. verdict-said xs s q) h
+pub counted_said : (n : ℕ) (xs : List Record) (s : Statement) (t : TallyView) → AreCounted n xs t → AreCounted n (xs ++ Said s ∷ []) t
+counted_said n xs s t h = stays n xs (xs ++ Said s ∷ []) t (λ q l. verdict-said xs s q) h
 
-pub tallied_decided : (n : ℕ) (xs : List Record) (k r : ℕ) (c : Bool) (t : TallyView) → IsTallied n xs t → IsTallied n (xs ++ Decided k r c ∷ []) (tallied t k c)
-tallied_decided n xs k r c t h = step (nat_lt k (length t.verdicts)) refl (known_at t.verdicts k) refl
+pub counted_decided : (n : ℕ) (xs : List Record) (k r : ℕ) (c : Bool) (t : TallyView) → AreCounted n xs t → AreCounted n (xs ++ Decided k r c ∷ []) (tallied t k c)
+counted_decided n xs k r c t h = step (nat_lt k (length t.verdicts)) refl (known_at t.verdicts k) refl
   where
-    other : (b : Bool) → nat_lt k (length t.verdicts) ≡ false → IsTallied n (xs ++ Decided k r c ∷ []) t
+    other : (b : Bool) → nat_lt k (length t.verdicts) ≡ false → AreCounted n (xs ++ Decided k r c ∷ []) t
     other b e =
         let past : length t.verdicts ≤ k = grind (arith, nat_tests, e) in
         stays n xs (xs ++ Decided k r c ∷ []) t (λ q l. let apart : q ≢ k = (λ is. omega (arith, is, l, past, h.count)) in verdict-other xs k r c q (grind (arith, nat_tests, apart))) h
 
-    again : (b : Bool) → nat_lt k (length t.verdicts) ≡ true → known_at t.verdicts k ≡ Some b → IsTallied n (xs ++ Decided k r c ∷ []) t
+    again : (b : Bool) → nat_lt k (length t.verdicts) ≡ true → known_at t.verdicts k ≡ Some b → AreCounted n (xs ++ Decided k r c ∷ []) t
     again b e at =
         let within : k < length t.verdicts = grind (arith, nat_tests, e) in
         let was : verdict_of xs k ≡ Some b = sym (h.each k (subst (λ (m : ℕ). k < m) h.count within)) ∙ at in
@@ -134,8 +134,8 @@ tallied_decided n xs k r c t h = step (nat_lt k (length t.verdicts)) refl (known
         own q was (inr apart) = verdict-other xs k r c q (grind (arith, nat_tests, apart))
 
     step : (b : Bool) → nat_lt k (length t.verdicts) ≡ b → (v : Option Bool) → known_at t.verdicts k ≡ v
-        → IsTallied n (xs ++ Decided k r c ∷ [])
-        (if b && is_none v then record { verdicts = slice_set t.verdicts k (Some c); decided = min (t.decided + 1) (2 ^ 16 - 1) } else t)
+        → AreCounted n (xs ++ Decided k r c ∷ [])
+        (if b && is_none v then record { verdicts = slice_set t.verdicts k (Some c); decided = min (t.decided + 1) (2 ^ 16 - 1); order = t.order } else t)
     step false e v at = other false e
     step true e (Some b) at = again b e at
     step true e None at =
@@ -155,17 +155,17 @@ pub kept_verdict : {D : Type 0} (disk : DiskGhosts D) (names : List ℕ) (header
 kept_verdict disk names header cells m opened history known tally kept q = step (below_or_not q header.size.questions)
   where
     step : (q < header.size.questions) ⊎ (header.size.questions ≤ q) → known_at tally.verdicts q ≡ verdict_of (member_saved m) q
-    step (inl less) = kept.tallied.each q less
+    step (inl less) = kept.tallied.counted.each q less
     step (inr past) =
-        get_or_past tally.verdicts q None (subst (λ (n : ℕ). n ≤ q) (sym kept.tallied.count) past)
+        get_or_past tally.verdicts q None (subst (λ (n : ℕ). n ≤ q) (sym kept.tallied.counted.count) past)
         ∙ sym (ap bit_of (asked_decided (member_header m).size (member_saved m) q kept.sound.filed.asked (subst (λ (h : Header). h.size.questions ≤ q) (sym kept.header_is) past)))
 
 pub kept_asked : {D : Type 0} (disk : DiskGhosts D) (names : List ℕ) (header : Header) (cells : List ℕ) (m : Member D) (opened : ℕ) (history : List Entry) (known : List (Option Bool)) (tally : TallyView)
     → IsKept disk names header cells m opened history known tally → (q : ℕ) → (member_header m).size.questions ≤ q → known_at tally.verdicts q ≡ None
 kept_asked disk names header cells m opened history known tally kept q past =
-    get_or_past tally.verdicts q None (subst (λ (n : ℕ). n ≤ q) (ap (λ (h : Header). h.size.questions) kept.header_is ∙ sym kept.tallied.count) past)
+    get_or_past tally.verdicts q None (subst (λ (n : ℕ). n ≤ q) (ap (λ (h : Header). h.size.questions) kept.header_is ∙ sym kept.tallied.counted.count) past)
 
 pub kept_decided : {D : Type 0} (disk : DiskGhosts D) (names : List ℕ) (header : Header) (cells : List ℕ) (m : Member D) (opened : ℕ) (history : List Entry) (known : List (Option Bool)) (tally : TallyView)
     → IsKept disk names header cells m opened history known tally → tally.decided ≡ decided_below (member_header m).size.questions (member_saved m)
 kept_decided disk names header cells m opened history known tally kept =
-    kept.tallied.decided ∙ ap (λ (h : Header). decided_below h.size.questions (member_saved m)) (sym kept.header_is)
+    kept.tallied.counted.decided ∙ ap (λ (h : Header). decided_below h.size.questions (member_saved m)) (sym kept.header_is)

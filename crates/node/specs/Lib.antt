@@ -5,6 +5,7 @@ pub mod Verdicts
 pub mod Firsts
 pub mod Views
 pub mod Books
+pub mod Decisions
 pub mod Tallies
 pub mod Keeps
 pub mod Standings

@@ -1,11 +1,13 @@
 -- How far the member of a book is.
-use Rattle.std.specs.Prelude.{ℕ, ◌≡◌, List, Option, Some, None, length, if◌then◌else◌}
+use Rattle.std.specs.Prelude.{ℕ, ◌≡◌, List, Option, Some, None, length, slice_get, if◌then◌else◌}
 use Rattle.terms_prelude.specs.Terms.{Header}
 use Rattle.member.specs.Sealed.{sealed_from}
 use Rattle.member.specs.Readers.{member_header, member_saved, member_is_stopped}
 use Rattle.member.specs.declared.sealed.Sealed.{Sealed}
 use Rattle.node.specs.Books.{IsReplayed, decided_below}
+use Rattle.node.specs.Decisions.{decisions_in}
 use Rattle.node.specs.Views.{BookView}
+use Rattle.node.specs.declared.order.Decision.{Decision}
 
 -- how many statements are in its outbox, and how many questions it has decided; none where it is stopped
 abbrev pub status_of : {D : Type 0} → BookView D → Option (ℕ × ℕ)
@@ -24,7 +26,19 @@ pub record IsStanding (D : Type 0) (header : Header) (status : Option (ℕ × �
   pub book_is : IsBookOf header book
   pub status_is : status ≡ status_of book
 
--- what a hub shows: statements of its book's outbox, and how far the member is
+-- the member of some book of that hub has saved this decision, with that number in the order of its journal
+pub record IsDecisionOf (D : Type 0) (header : Header) (number : ℕ) (decision : Decision) : Type 0 where
+  pub book : BookView D
+  pub book_is : IsBookOf header book
+  pub decision_is : slice_get (decisions_in (member_saved book.member)) number ≡ Some decision
+
+-- each of these is, with its number
+abbrev pub AreDecisionsOf : Type 0 → Header → List Decision → Type 0
+AreDecisionsOf D header decisions =
+    (number : ℕ) (decision : Decision) → slice_get decisions number ≡ Some decision → IsDecisionOf D header number decision
+
+-- what a hub shows: statements of its book's outbox, decisions of its member, and how far that is
 pub record PublishedView : Type 0 where
   pub items : List Sealed
+  pub decisions : List Decision
   pub status : Option (ℕ × ℕ)

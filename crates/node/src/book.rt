@@ -16,6 +16,7 @@ ghost use Rattle.member.specs.Sound.{IsSound};
 ghost use Rattle.member.specs.Readers.{member_disk, member_header, member_saved, member_is_stopped, MemberStandsFor};
 ghost use Rattle.node.specs.Accounts.{with_group};
 ghost use Rattle.node.specs.Books.{Applies, RefusesEvent, IsJustOpened, IsReplayed, lengthened, is_numbered, decided_below};
+ghost use Rattle.node.specs.Decisions.{AreDecisions};
 ghost use Rattle.node.specs.Entries.{noted};
 ghost use Rattle.node.specs.Firsts.{HandsIn};
 ghost use Rattle.node.specs.Groups.{heard_from, said_in, AppliesAll, RefusesAll, LivesOnAll};
@@ -33,6 +34,7 @@ use crate::group::{add_all_taken, prepare};
 use crate::history::History;
 use crate::marks::{Firsts, keep_all};
 use crate::notes::Notes;
+use crate::order::Decision;
 use crate::seat::Seat;
 use crate::settle::is_settled;
 use crate::shown::part;
@@ -405,6 +407,14 @@ impl<D: Disk, J: Naming> Book<D, J> {
         ensures asked { (member_header self.now.member).size.questions ≤ question → result ≡ None }
     {
         self.tally.verdict(question)
+    }
+
+    /// The decisions that the member has saved, in this life and in earlier ones, in the order of its journal: all of them,
+    /// where they are fewer than the questions, as they are of a correct member.
+    pub fn decisions(&self) -> &[Decision]
+        ensures { AreDecisions J.header.size.questions (member_saved self.now.member) result.now }
+    {
+        self.tally.decisions()
     }
 
     /// What was heard of a question that is decided, since the member was opened: the bit, and each statement on the question

@@ -1,11 +1,12 @@
 //! What a hub shows of its book to whoever doesn't take the book.
-ghost use Rattle.std.specs.Prelude.{◌≡◌, ◌+◌, ◌<◌, ◌≤◌, ◌^◌, ◌++◌, length, take, drop, true, IfOk, IsTrue, IsFalse, vec_len};
+ghost use Rattle.std.specs.Prelude.{◌≡◌, ◌+◌, ◌<◌, ◌≤◌, ◌^◌, ◌++◌, length, take, drop, true, IfOk, IfSome, IsTrue, IsFalse, vec_len};
 ghost use Rattle.member.specs.Readers.{member_saved};
 ghost use Rattle.member.specs.Sealed.{sealed_from};
 ghost use Rattle.node.specs.Books.{is_numbered};
-ghost use Rattle.node.specs.Standings.{IsBookOf, IsStanding, status_of};
+ghost use Rattle.node.specs.Standings.{AreDecisionsOf, IsBookOf, IsDecisionOf, IsStanding, status_of};
 
 use crate::book::{Book, Naming};
+use crate::order::Decision;
 use crate::shown::Shown;
 use disk::Disk;
 use member::Sealed;
@@ -13,24 +14,25 @@ use std::alloc::Global;
 use std::marker::{Model, PhantomData};
 use terms::Memory;
 
-/// What is shown of a book's outbox, and how far its member is. Both are of one book, since both change under one lock.
-/// Contracts see the statements and the status.
+/// What is shown of a book's outbox and of its decisions, and how far its member is. All are of one book, since they change
+/// under one lock. Contracts see the statements, the decisions and the status.
 #[derive(Drop)]
 pub(crate) struct Published<D: Disk, J: Naming> {
     shown: Shown,
+    decisions: Vec<Decision>,
     status: Option<(u64, u16)>,
     disk: PhantomData<D>,
     of: PhantomData<J>,
 }
 
 impl<D: Disk, J: Naming> Model for Published<D, J> {
-    ghost use Rattle.node.specs.Standings.{PublishedView, IsStanding};
+    ghost use Rattle.node.specs.Standings.{AreDecisionsOf, PublishedView, IsStanding};
 
     ghost Value = { PublishedView };
 
-    ghost view = { λ p. record { items = p.shown; status = p.status } };
+    ghost view = { λ p. record { items = p.shown; decisions = p.decisions.items; status = p.status } };
 
-    ghost invariant = { λ p. IsStanding D J.header p.status };
+    ghost invariant = { λ p. IsStanding D J.header p.status × AreDecisionsOf D J.header p.decisions.items };
 }
 
 impl<D: Disk, J: Naming> Published<D, J> {
@@ -40,16 +42,18 @@ impl<D: Disk, J: Naming> Published<D, J> {
         ensures status { IfOk result (λ published. published.status ≡ status_of book.now) }
     {
         let shown = Shown::of(alloc, book.outbox())?;
+        let decisions = Vec::from_slice(alloc, decisions_of(book))?;
         Ok(Published {
             shown,
+            decisions,
             status: status_of(book),
             disk: PhantomData,
             of: PhantomData,
         })
     }
 
-    /// Shows how far the book's member is, and what the outbox has behind what is shown. Where there is no memory no more
-    /// statements are shown.
+    /// Shows how far the book's member is, and what the outbox and its decisions have behind what is shown. Where there is no
+    /// memory no more statements or decisions are shown.
     pub(crate) fn show(&mut self, book: &Book<D, J>) -> bool
         ensures items { IsTrue result →
             self.new.items ≡ self.old.items ++ drop (length self.old.items) (sealed_from 0 (member_saved book.now.member)) }
@@ -57,7 +61,34 @@ impl<D: Disk, J: Naming> Published<D, J> {
         ensures status { self.new.status ≡ status_of book.now }
     {
         self.status = status_of(book);
+        self.show_decisions(book);
         self.shown.show(book.outbox())
+    }
+
+    /// Shows the decisions of the book behind those that are shown. Where there is no memory no more are shown.
+    fn show_decisions(&mut self, book: &Book<D, J>)
+        ensures items { self.new.items ≡ self.old.items }
+        ensures status { self.new.status ≡ self.old.status }
+    {
+        let more = behind(decisions_of(book), self.decisions.len());
+        if self.decisions.extend_from_slice(more).is_err() {
+            return;
+        }
+    }
+
+    /// The decision with that number, of those that are shown.
+    pub(crate) fn decision(&self, number: u64) -> Option<Decision>
+        ensures { IfSome result (IsDecisionOf D J.header number) }
+    {
+        match self.decisions.get(number as usize) {
+            Some(decision) => Some(*decision),
+            None => None,
+        }
+    }
+
+    /// How many decisions are shown.
+    pub(crate) fn decided(&self) -> usize {
+        self.decisions.len()
     }
 
     /// How far the member was when the book was shown last: how many statements were in its outbox, and how many questions it
@@ -101,4 +132,23 @@ fn status_of<D: Disk, J: Naming>(book: &Book<D, J>) -> Option<(u64, u16)>
     let _named = book.header();
     let _replayed = book.records();
     book.status()
+}
+
+/// The decisions of a book, in order. The book is one of its hub's.
+fn decisions_of<D: Disk, J: Naming>(book: &Book<D, J>) -> &[Decision]
+    ensures { AreDecisionsOf D J.header result.now }
+{
+    let _named = book.header();
+    let _replayed = book.records();
+    book.decisions()
+}
+
+/// The decisions behind the first so many, if there are more.
+fn behind(decisions: &[Decision], count: usize) -> &[Decision]
+    ensures { result.now ≡ drop count decisions.now }
+{
+    if decisions.len() <= count {
+        return &[];
+    }
+    &decisions[count..]
 }

@@ -3,21 +3,23 @@ ghost use Rattle.std.specs.Prelude.{◌≡◌, ◌++◌, [], ◌∷◌, ℕ, Lis
 ghost use Rattle.terms_prelude.specs.Terms.{Record};
 ghost use Rattle.member.specs.Readers.{member_header, member_saved};
 ghost use Rattle.member.specs.Sound.{IsSound};
-ghost use Rattle.node.specs.Tallies.{IsTallied, tallied};
+ghost use Rattle.node.specs.Tallies.{AreCounted, IsTallied, tallied};
 ghost use Rattle.node.specs.Verdicts.{known_at};
 
+use crate::order::{Decision, Order};
 use disk::Disk;
 use member::Member;
 use std::alloc::Global;
 use std::marker::Model;
 use terms::{Memory, Record};
 
-/// The verdict of each question, and how many questions have one. It is found at once, also where the member is stopped, which
-/// looks for each in all its records. Contracts see both.
+/// The verdict of each question, how many questions have one, and the decisions in order. All is found at once, also where
+/// the member is stopped, which looks for each in all its records. Contracts see the three.
 #[derive(Drop)]
 pub(crate) struct Tally {
     verdicts: Vec<Option<bool>>,
     decided: u16,
+    order: Order,
 }
 
 impl Model for Tally {
@@ -25,7 +27,7 @@ impl Model for Tally {
 
     ghost Value = { TallyView };
 
-    ghost view = { λ tally. record { verdicts = tally.verdicts.items; decided = tally.decided } };
+    ghost view = { λ tally. record { verdicts = tally.verdicts.items; decided = tally.decided; order = tally.order } };
 }
 
 impl Tally {
@@ -43,7 +45,12 @@ impl Tally {
             }
             verdicts.push(verdict)?;
         }
-        Ok(Tally { verdicts, decided })
+        let order = Order::of(alloc, member.header().size().questions(), member.records())?;
+        Ok(Tally {
+            verdicts,
+            decided,
+            order,
+        })
     }
 
     /// Adds the records behind the first so many, which were added before.
@@ -59,6 +66,16 @@ impl Tally {
     fn add(&mut self, one: &Record)
         ensures { (questions : ℕ) (before : List Record) → IsTallied questions before self.old →
             IsTallied questions (before ++ one.now ∷ []) self.new }
+    {
+        self.order.add_record(one);
+        self.count(one);
+    }
+
+    /// Counts what a record decides.
+    fn count(&mut self, one: &Record)
+        ensures order { self.new.order ≡ self.old.order }
+        ensures counted { (questions : ℕ) (before : List Record) → AreCounted questions before self.old →
+            AreCounted questions (before ++ one.now ∷ []) self.new }
     {
         if let Record::Decided { question, bit, .. } = *one {
             self.decide(question, bit);
@@ -84,6 +101,13 @@ impl Tally {
             Some(verdict) => *verdict,
             None => None,
         }
+    }
+
+    /// The decisions, in the order in which they were saved.
+    pub(crate) fn decisions(&self) -> &[Decision]
+        ensures { result.now ≡ self.now.order.items }
+    {
+        self.order.as_slice()
     }
 
     /// How many questions have a verdict.
