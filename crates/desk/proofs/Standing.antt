@@ -24,3 +24,11 @@ linked false status count size = refl
 pub standing_links_are : {D : Type 0} (b : BookView D) (count : LinkCount)
     → standing_links (status_of b) count (member_header b.member).size ≡ links_reply b count
 standing_links_are b count = linked (member_is_stopped b.member) _ count (member_header b.member).size
+
+stopped : (b : Bool) (status : ℕ × ℕ) → (if b then None else Some status) ≡ None → b ≡ true
+stopped true status none = refl
+stopped false status none = absurd (cc (none))
+
+-- a member of which nothing is told of how far it is, is stopped
+pub stopped_if_none : {D : Type 0} (b : BookView D) → status_of b ≡ None → member_is_stopped b.member ≡ true
+stopped_if_none b none = stopped (member_is_stopped b.member) _ none

@@ -1,6 +1,6 @@
 //! A client's session: begin at `serve`, last.
 
-ghost use Rattle.std.specs.Prelude.{◌≡◌, ◌∷◌, ℕ, List, [], IfErr, OnOk};
+ghost use Rattle.std.specs.Prelude.{◌≡◌, ◌∷◌, ℕ, List, [], None, IfErr, IfSome, OnOk};
 ghost use Rattle.node.specs.Verdicts.{KnowsMore, known_at};
 ghost use Rattle.links.specs.Told.{Told, has_ended};
 ghost use Rattle.node.specs.Standings.{IsDecisionOf};
@@ -112,6 +112,19 @@ impl<D: Disk, J: Naming, R: Wait> Server<'_, D, J, R> {
         reply
     }
 
+    /// The reply to who waits since that second for a decision that isn't there; none where it is to wait on.
+    fn without_decision(&self, begun: u64) -> Option<Reply>
+        ensures { IfSome result (IsAwaitReply D None) }
+    {
+        if self.hub.status(self.rt).is_none() {
+            return Some(Reply::Stopped);
+        }
+        if self.hub.is_shut() || self.hub.seconds().wrapping_sub(begun) >= AWAITED {
+            return Some(Reply::Undecided);
+        }
+        None
+    }
+
     /// The decision of a question once the board has it; or that there is none, after ten seconds or at the member's end; or that
     /// the member is stopped. It takes no lock while it waits.
     fn await_decision(&self, pass: &mut Pass, question: u16) -> Reply
@@ -123,14 +136,13 @@ impl<D: Disk, J: Naming, R: Wait> Server<'_, D, J, R> {
         let begun = self.hub.seconds();
         for _ in self.rt.forever() {
             let decided = self.hub.decided();
-            if let Some(bit) = known(self.hub, pass, question) {
-                return Reply::Decided(bit);
-            }
-            if self.hub.status(self.rt).is_none() {
-                return Reply::Stopped;
-            }
-            if self.hub.is_shut() || self.hub.seconds().wrapping_sub(begun) >= AWAITED {
-                return Reply::Undecided;
+            match known(self.hub, pass, question) {
+                Some(bit) => return Reply::Decided(bit),
+                None => {
+                    if let Some(reply) = self.without_decision(begun) {
+                        return reply;
+                    }
+                }
             }
             self.hub.await_news(self.rt, decided);
         }
@@ -218,10 +230,10 @@ impl<D: Disk, J: Naming, R: Wait> Server<'_, D, J, R> {
                 if is_request(held.line()) {
                     return Err(refuse(stream, DeskEnd::Request));
                 }
-                if let Some(number) = follows(held.line()) {
-                    return Err(follow(self.rt, self.hub, number, stream));
+                match follows(held.line()) {
+                    Some(number) => Err(follow(self.rt, self.hub, number, stream)),
+                    None => self.answer_held(pass, tosser, held, stream),
                 }
-                self.answer_held(pass, tosser, held, stream)
             }
             LineStep::TooLong => Err(refuse(stream, DeskEnd::TooLong)),
         }

@@ -1,0 +1,6 @@
+use Rattle.std.proofs.Common.{◌≡◌}
+use Rattle.node.specs.Verdicts.{KnowsMore}
+use Rattle.desk.proofs.serving.Server.await_decision.Given as goal
+
+abbrev pub invariant-loop : goal.invariant-loop
+invariant-loop g l = (l.pass.cells ≡ g.J.Naming.names.cells) × KnowsMore l.initial.pass.known l.pass.known
