@@ -13,6 +13,10 @@ propose_line question bit = line (sentence (codes "PROPOSE" ∷ decimal question
 abbrev pub ask_line : ℕ → List ℕ
 ask_line question = line (sentence (codes "ASK" ∷ decimal question ∷ []))
 
+-- the line that waits for its decision
+abbrev pub await_line : ℕ → List ℕ
+await_line question = line (sentence (codes "ASK" ∷ decimal question ∷ []))
+
 -- the line that asks whether a member is up
 abbrev pub status_line : List ℕ
 status_line = line (codes "STATUS")

@@ -3,7 +3,7 @@
 ghost use Rattle.std.specs.Prelude.{ℕ, List, [], ◌≡◌, ◌∷◌, ◌++◌, ◌↔◌, IsTrue, IfOk, IfErr, IfSome, ◌≢◌, string_bytes, codes, Err};
 ghost use Rattle.std.specs.Io.KnownBytes.{Appends, Consumes};
 ghost use Rattle.numerals.specs.Lines.{NoEnd};
-ghost use Rattle.commands.specs.Talks.{propose_line, ask_line, links_line, status_line, member_line, member_words, IsUp, IsGood, HasReadyStatus, HasStatus};
+ghost use Rattle.commands.specs.Talks.{propose_line, ask_line, await_line, links_line, status_line, member_line, member_words, IsUp, IsGood, HasReadyStatus, HasStatus};
 ghost use Rattle.commands.specs.Replies.{IsReply, SaysSame};
 ghost use Rattle.commands.specs.declared.fault.TalkFault.TheVariants.{NoAnswer};
 
@@ -28,6 +28,13 @@ pub fn ask_line(alloc: Global, question: u16) -> Result<String, AllocError>
     ensures { IfOk result (λ text. string_bytes text ≡ ask_line question) }
 {
     format!(in alloc; "ASK {question}\n")
+}
+
+/// The line that waits for the decision of a question.
+pub fn await_line(alloc: Global, question: u16) -> Result<String, AllocError>
+    ensures { IfOk result (λ text. string_bytes text ≡ await_line question) }
+{
+    format!(in alloc; "AWAIT {question}\n")
 }
 
 /// The line that asks whether a member is up.

@@ -17,7 +17,8 @@ use node::Board;
 use std::sync::{Mutex, Wait};
 use std::thread;
 
-/// The stream of a client in a slot. Each read that gives bytes is a hearing of it.
+/// The stream of a client in a slot. Each read that gives bytes is a hearing of it, and so is each write that takes some: a client
+/// that follows decisions says nothing more.
 #[derive(Drop)]
 struct Client<'a, R> {
     rt: &'a R,
@@ -44,7 +45,15 @@ impl<R: Wait> Stream for Client<'_, R> {
     }
 
     fn write(&mut self, bytes: &[u8]) -> Result<usize, StreamFault> {
-        self.stream.write(bytes)
+        match self.stream.write(bytes) {
+            Ok(count) => {
+                if count > 0 {
+                    self.slots.lock(self.rt).hear(self.slot);
+                }
+                Ok(count)
+            }
+            Err(fault) => Err(fault),
+        }
     }
 
     fn note_sent(&mut self, items: &[Sealed]) {

@@ -9,8 +9,8 @@ use crate::desks::{Deadline, DeskPlace, DeskSocket, REST, Talk, connect, desk_pl
 use crate::fault::Fault;
 use crate::trouble::{Failure, Whereabouts};
 use commands::{
-    TalkFault, ask_line, exchange, fetch_transcript, is_undecided, links_line, propose_line,
-    ready_status, status_line, tell, tell_object, tell_of, transcript_line,
+    TalkFault, ask_line, await_line, exchange, fetch_transcript, is_undecided, links_line,
+    propose_line, ready_status, status_line, tell, tell_object, tell_of, transcript_line,
 };
 use settings::{Address, address_text};
 use std::io::{self, BufReader};
@@ -222,8 +222,8 @@ fn tell_undecided(
     Ok(1)
 }
 
-/// Asks the member whose desk is at the address for its decision, again and again until there is one or another reply, or until
-/// there is no time left; and prints the last reply. A member that doesn't answer is asked again too. The status is that of the
+/// Asks the member whose desk is at the address for its decision, and waits there until there is one or another reply, or until
+/// there is no time left; and prints the last reply. A member that doesn't answer is asked again. The status is that of the
 /// reply, but 1 for `UNDECIDED`.
 pub fn await_at(
     rt: &HostRuntime,
@@ -234,17 +234,28 @@ pub fn await_at(
 ) -> Result<u8, Failure>
     ensures named { IfErr result (IsNamed address.now) }
 {
-    let line = ask_line(rt.alloc(), question).map_err(|_| Fault::Memory)?;
+    // The first reply comes at once, so that there is one to print however short the time is.
+    let ask = ask_line(rt.alloc(), question).map_err(|_| Fault::Memory)?;
+    let wait = await_line(rt.alloc(), question).map_err(|_| Fault::Memory)?;
     let deadline = deadline_of(rt, timeout)?;
     let mut last = None;
     for _ in 0..u64::MAX {
-        match reply_at(rt, address, line.as_str(), deadline) {
+        let line = if last.is_none() {
+            ask.as_str()
+        } else {
+            wait.as_str()
+        };
+        match reply_at(rt, address, line, deadline) {
             Ok(reply) => {
                 if !is_undecided(&reply) {
                     return tell_reply(rt, address, reply, json);
                 }
                 if deadline.is_over(rt) {
                     return tell_undecided(rt, address, reply, json);
+                }
+                // A member that comes to its end answers at once.
+                if last.is_some() {
+                    thread::sleep(rt, Duration::from_millis(REST));
                 }
                 last = Some(reply);
             }
@@ -258,9 +269,9 @@ pub fn await_at(
                         None => Err(failure),
                     };
                 }
+                thread::sleep(rt, Duration::from_millis(REST));
             }
         }
-        thread::sleep(rt, Duration::from_millis(REST));
     }
     Ok(1)
 }

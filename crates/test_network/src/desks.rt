@@ -23,6 +23,7 @@ fn command_text(alloc: Global, command: Command) -> Option<String> {
             format!(in alloc; "PROPOSE {question} {}", u8::from(bit)).ok()
         }
         Command::Ask { question } => format!(in alloc; "ASK {question}").ok(),
+        Command::Await { question } => format!(in alloc; "AWAIT {question}").ok(),
         Command::Status => format!(in alloc; "STATUS").ok(),
         Command::Transcript { question } => format!(in alloc; "TRANSCRIPT {question}").ok(),
         Command::Links => format!(in alloc; "LINKS").ok(),
