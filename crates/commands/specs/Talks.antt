@@ -15,7 +15,7 @@ ask_line question = line (sentence (codes "ASK" ∷ decimal question ∷ []))
 
 -- the line that waits for its decision
 abbrev pub await_line : ℕ → List ℕ
-await_line question = line (sentence (codes "ASK" ∷ decimal question ∷ []))
+await_line question = line (sentence (codes "AWAIT" ∷ decimal question ∷ []))
 
 -- the line that asks whether a member is up
 abbrev pub status_line : List ℕ
