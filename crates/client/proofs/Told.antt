@@ -61,7 +61,7 @@ is_told false = refl
 enough_more : (size : Size) (words more : Words) (b : Bool) → AreEnough size words b → AreEnough size (words ++ more) b
 enough_more size words more b enough =
     let low = count-mono size.n (has_told words b) (has_told (words ++ more) b)
-        (λ a less is. ap (λ (x : Option Bool). is_bit x b) (first_stays words more a b (told_is (first_word words a) b is)) ∙ is_told b) in
+    (λ a less is. ap (λ (x : Option Bool). is_bit x b) (first_stays words more a b (told_is (first_word words a) b is)) ∙ is_told b) in
     omega (arith, low, enough)
 
 -- what was decided stays decided

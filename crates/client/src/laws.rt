@@ -1,4 +1,4 @@
-//! What a reading is worth, over every run of the cluster.
+//! The worth of a reading, over every run of the cluster.
 
 ghost use Rattle.client.specs.Laws.{IsDecidedAsRead};
 ghost use Rattle.world.specs.World.{EveryRun};

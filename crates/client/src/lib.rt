@@ -1,4 +1,4 @@
-//! What a client may believe of what members tell it.
+//! The decisions that a client may believe.
 //!
 //! Up to t members lie, so what one member tells is worth nothing by itself. A [`Reading`] takes what members told of one
 //! question, and has its decision once more than t members told the same: one of them is correct, and a correct member tells

@@ -1,4 +1,4 @@
-//! What members told of a question.
+//! Members' words on a question.
 
 ghost use Rattle.std.specs.Prelude.{ℕ, ◌≡◌, ◌<◌, ◌++◌, [], ◌∷◌, List, Bool, false, Option, IsTrue, IsFalse, ◌↔◌};
 ghost use Rattle.terms_prelude.specs.Terms.{plain};
@@ -7,7 +7,7 @@ ghost use Rattle.client.specs.Readings.{DecidesBy, Reads, decision_with, first_w
 use terms::{Size, Value};
 use votes::Votes;
 
-/// What members told of one question, and what may be believed of it. It takes no memory.
+/// Members' words on one question, and the decision that they make believable. It takes no memory.
 #[derive(Clone, Copy, Debug, PartialEq, Eq)]
 pub struct Reading {
     size: Size,
@@ -23,7 +23,7 @@ fn vote(bit: bool) -> Value
 }
 
 impl Reading {
-    /// Of a cluster of that size, before anybody told anything.
+    /// A reading for a cluster of that size, before anybody told anything.
     #[tactic(auto, unfolding(crate::specs::Readings::Reads, crate::specs::Readings::size_of))]
     pub fn new(size: Size) -> Reading
         ensures size { size_of result ≡ size }

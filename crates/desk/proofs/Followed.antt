@@ -58,11 +58,15 @@ module _ (HasNumber : ℕ → Decision → Type 0) where
 
   pub fails_at_decision : (from to : ℕ) (old now new : Told) (d : Decision) (why : DeskEnd) → Tells HasNumber from to old now → HasNumber to d
       → why ≡ end.Lost → BreaksOff now new (line (decision_text d)) → EndsTelling HasNumber from old new why
-  fails_at_decision from to old now new d why t has lost broke = inr (to + 1, lost, record {
-    told = t.told ++ Some d ∷ [];
-    numbered = decision_more from to t.told d t.numbered has;
-    broke = broke_more from to old now new (Some d) t broke;
-  })
+  fails_at_decision from to old now new d why t has lost broke = inr (
+    to + 1,
+    lost,
+    record {
+      told = t.told ++ Some d ∷ [];
+      numbered = decision_more from to t.told d t.numbered has;
+      broke = broke_more from to old now new (Some d) t broke;
+    },
+  )
 
   -- an empty line more was told, or its write failed
   pub tells_blank : (from to : ℕ) (old now new : Told) → Tells HasNumber from to old now → new ≡ has_written now (10 ∷ []) → Tells HasNumber from to old new
@@ -74,11 +78,15 @@ module _ (HasNumber : ℕ → Decision → Type 0) where
 
   pub fails_at_blank : (from to : ℕ) (old now new : Told) (why : DeskEnd) → Tells HasNumber from to old now → why ≡ end.Lost → BreaksOff now new (10 ∷ [])
       → EndsTelling HasNumber from old new why
-  fails_at_blank from to old now new why t lost broke = inr (to, lost, record {
-    told = t.told ++ None ∷ [];
-    numbered = blank_more from to t.told t.numbered;
-    broke = broke_more from to old now new None t broke;
-  })
+  fails_at_blank from to old now new why t lost broke = inr (
+    to,
+    lost,
+    record {
+      told = t.told ++ None ∷ [];
+      numbered = blank_more from to t.told t.numbered;
+      broke = broke_more from to old now new None t broke;
+    },
+  )
 
   -- it was told all there is
   pub told_all : (from to : ℕ) (old now : Told) (why : DeskEnd) → Tells HasNumber from to old now → why ≡ end.Followed → EndsTelling HasNumber from old now why

@@ -15,10 +15,10 @@ use node::{Decision, Hub, Naming};
 use std::sync::Wait;
 use transcripts::{Block, put};
 
-/// For how many seconds a follower is told nothing, at most.
+/// The most seconds for which a follower is told nothing.
 const SILENCE: u64 = 5;
 
-/// How far a follower is.
+/// A follower's place among the decisions.
 #[derive(Clone, Copy, Drop)]
 struct Follower {
     /// The number of the decision that it is told next.

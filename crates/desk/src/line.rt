@@ -119,7 +119,7 @@ fn asked(text: &[u8]) -> Option<LineRequest>
     }
 }
 
-/// What a text asks that is neither `STATUS`, `LINKS` nor `ASK`.
+/// The request of a text that is neither `STATUS`, `LINKS` nor `ASK q`.
 fn asked_longer(text: &[u8]) -> Option<LineRequest>
     ensures some { IfSome result (Asks text.now) }
     ensures exact { (asked : LineRequest) → AsksLonger asked → Asks text.now asked → result ≡ Some asked }
@@ -171,7 +171,7 @@ pub(crate) fn read(line: &[u8]) -> Option<LineRequest>
     asked(trimmed(line))
 }
 
-/// From which number on the line asks for decisions, if it asks for that.
+/// The number from which on the line asks for decisions, if it asks for that.
 pub(crate) fn follows(line: &[u8]) -> Option<u64>
     ensures some { IfSome result (AsksToFollow line.now) }
     ensures none { IfNone result ((number : ℕ) → AsksToFollow line.now number → ⊥) }

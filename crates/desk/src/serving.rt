@@ -44,10 +44,10 @@ pub enum DeskEnd {
     Followed,
 }
 
-/// For how many seconds a decision is awaited.
+/// The seconds for which a decision is awaited.
 const AWAITED: u64 = 10;
 
-/// What the board knows of a question. It takes no lock.
+/// The board's verdict on a question. It takes no lock.
 fn known<D: Disk, J: Naming>(hub: &Hub<D, J>, pass: &mut Pass, question: u16) -> Option<bool>
     requires { pass.old.cells ≡ J.names.cells }
     ensures cells { pass.new.cells ≡ J.names.cells }
@@ -58,7 +58,7 @@ fn known<D: Disk, J: Naming>(hub: &Hub<D, J>, pass: &mut Pass, question: u16) ->
     board.ask(pass, question)
 }
 
-/// What the board has of a question. It takes no lock.
+/// The reply that the board has for a question. It takes no lock.
 fn ask<D: Disk, J: Naming>(hub: &Hub<D, J>, pass: &mut Pass, question: u16) -> Reply
     requires { pass.old.cells ≡ J.names.cells }
     ensures cells { pass.new.cells ≡ J.names.cells }

@@ -16,7 +16,7 @@ pub struct Decision {
     pub bit: bool,
 }
 
-/// What stands where no decision was noted yet.
+/// The filling where no decision was noted yet.
 const BLANK: Decision = Decision {
     question: 0,
     bit: false,
@@ -65,7 +65,7 @@ impl Order {
         Ok(Order { items, count: 0 })
     }
 
-    /// Adds what a record decides.
+    /// Adds the decision of a record, if it is one.
     pub(crate) fn add_record(&mut self, one: &Record)
         ensures { (questions : ℕ) (before : List Record) → IsOrdered questions before self.old →
             IsOrdered questions (before ++ one.now ∷ []) self.new }

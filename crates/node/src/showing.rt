@@ -14,7 +14,7 @@ use std::alloc::Global;
 use std::marker::{Model, PhantomData};
 use terms::Memory;
 
-/// What is shown of a book's outbox and of its decisions, and how far its member is. All are of one book, since they change
+/// The statements of a book's outbox and the decisions that are shown, and the member's status. All are of one book, since they change
 /// under one lock. Contracts see the statements, the decisions and the status.
 #[derive(Drop)]
 pub(crate) struct Published<D: Disk, J: Naming> {
@@ -86,7 +86,7 @@ impl<D: Disk, J: Naming> Published<D, J> {
         }
     }
 
-    /// How many decisions are shown.
+    /// The number of decisions that are shown.
     pub(crate) fn decided(&self) -> usize {
         self.decisions.len()
     }

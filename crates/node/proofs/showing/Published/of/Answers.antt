@@ -4,8 +4,7 @@ use Rattle.node.specs.Words.{AreDecisionsOf}
 use Rattle.node.proofs.showing.Published.of.Goals as goal
 
 pub invariant_of-result : goal.invariant_of-result
-invariant_of-result g c =
-    (
-      record { book = c.args.book.now; book_is = c.status_of.ensures.book; status_is = c.status_of.ensures.status },
-      subst (λ (l : List Decision). AreDecisionsOf g.row.D.Denot g.J.Naming.header l) (sym c.in_ok-decisions.ensures.items) c.decisions_of.ensures,
-    )
+invariant_of-result g c = (
+  record { book = c.args.book.now; book_is = c.status_of.ensures.book; status_is = c.status_of.ensures.status },
+  subst (λ (l : List Decision). AreDecisionsOf g.row.D.Denot g.J.Naming.header l) (sym c.in_ok-decisions.ensures.items) c.decisions_of.ensures,
+)

@@ -6,8 +6,7 @@ use Rattle.node.proofs.showing.Published.show_decisions.Goals as goal
 
 pub invariant_of-self-2 : goal.invariant_of-self-2
 invariant_of-self-2 g c =
-    let all : c.extend_from_slice.new.self.items ≡ c.self.inside.decisions.items ++ drop (length c.self.inside.decisions.items) c.decisions_of.result.now = search rules in
-    (
+    let all : c.extend_from_slice.new.self.items ≡ c.self.inside.decisions.items ++ drop (length c.self.inside.decisions.items) c.decisions_of.result.now = search rules in (
       c.self.invariant.0,
       subst (λ (l : List Decision). AreDecisionsOf g.row.D.Denot g.J.Naming.header l) (sym all)
           (more_decisions g.J.Naming.header c.self.inside.decisions.items c.decisions_of.result.now c.self.invariant.1 c.decisions_of.ensures),
