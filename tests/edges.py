@@ -3,7 +3,7 @@
 
 Looks at the edges of the built program for what a user would suffer from and no contract says: how long a client waits, which
 statuses commands end with, whose links a member takes, what it opens and says more often than it should, what a command leaves
-behind. PROGRAM is crates/bracha/out/bracha unless another is named. It takes the ports 27700 to 27939 and half a minute, with
+behind. PROGRAM is crates/bracha/out/bracha unless another is named. It takes the ports 27700 to 27979 and half a minute, with
 all checks side by side. Prints what is wrong, and in its last line `N passed, M failed`; the status is 1 where M isn't 0.
 """
 import concurrent.futures
@@ -425,6 +425,102 @@ def a_long_chart_takes_no_memory(folder, port):
                        preexec_fn=lambda: resource.setrlimit(resource.RLIMIT_AS, (limit, limit)))
     drawn = os.path.getsize(f"{folder}/chart.svg") if os.path.exists(f"{folder}/chart.svg") else 0
     return differs("a chart of 45 MB within 48", (status, drawn > 45_000_000), (0, True)) or differs("what is said", "memory" in said, False)
+
+
+@contextlib.contextmanager
+def clusters(folder, port, n=4, t=1, questions=64):
+    """A cluster whose members run: their settings, and a call that starts one of them again after it was killed."""
+    peers = [f"127.0.0.1:{port + it}" for it in range(n)]
+    paths = [settings(folder, it, peers, f"127.0.0.1:{port + n + it}", n, t, questions) for it in range(n)]
+    with contextlib.ExitStack() as stack:
+        members = [stack.enter_context(running(path)) for path in paths]
+
+        def again(member):
+            members[member].kill()
+            members[member].wait()
+            members[member] = stack.enter_context(running(paths[member], new=False))
+
+        yield [port + n + it for it in range(n)], members, again
+
+
+def told(port, line, timeout=15.0):
+    """The reply of a desk to a line, and how long it took."""
+    begun = time.monotonic()
+    with dial(port, timeout=timeout) as link:
+        link.sendall(line.encode() + b"\n")
+        return link.makefile("r").readline().strip(), time.monotonic() - begun
+
+
+def propose(desks, question, bit):
+    for desk in desks:
+        told(desk, f"PROPOSE {question} {bit}")
+
+
+@check
+def who_waits_is_told_at_once(folder, port):
+    """AWAIT is answered as soon as its question is decided, holds nobody up meanwhile, and waits ten seconds for one that isn't."""
+    with clusters(folder, port) as (desks, members, _), concurrent.futures.ThreadPoolExecutor(16) as pool:
+        begun = time.monotonic()
+        waiting = [pool.submit(told, desk, f"AWAIT {question}") for desk in desks for question in (1, 2)]
+        vain = pool.submit(told, desks[0], "AWAIT 9")
+        time.sleep(1)
+        found = differs("ASK beside them", told(desks[0], "ASK 1")[0], "UNDECIDED")
+        propose(desks, 1, 1)
+        propose(desks, 2, 0)
+        decided = time.monotonic() - begun
+        for number, it in enumerate(waiting):
+            reply, took = it.result()
+            found += differs("AWAIT", (reply, 1 <= took < decided + 1), (f"DECIDED {1 - number % 2}", True))
+        reply, took = vain.result()
+        found += differs("AWAIT in vain", (reply, 8.5 < took < 11.5), ("UNDECIDED", True))
+        last = pool.submit(told, desks[3], "AWAIT 9")
+        time.sleep(0.3)
+        begun = time.monotonic()
+        members[3].send_signal(signal.SIGKILL)
+        last.result()
+        return found + differs("AWAIT at a member's end", time.monotonic() - begun < 2, True)
+
+
+def followed(port, number, lines, stop):
+    """Reads a follower's lines from that number on, and connects again from behind the last one, until all are there."""
+    while not stop.is_set():
+        try:
+            with dial(port, timeout=12.0) as link:
+                link.sendall(f"FOLLOW {number + sum(1 for it in lines if it)}\n".encode())
+                for line in link.makefile("r"):
+                    lines.append(line.strip())
+        except OSError:
+            pass
+        time.sleep(0.05)
+
+
+@check
+def who_follows_misses_nothing(folder, port):
+    """A follower is told each decision once, in the order of the member's journal, over a kill of the member, and an empty line
+    where there is none for a while."""
+    with clusters(folder, port) as (desks, members, again):
+        stop, lines, later = threading.Event(), [], []
+        for wanted, number in ((lines, 0), (later, 3)):
+            threading.Thread(target=followed, args=(desks[1], number, wanted, stop), daemon=True).start()
+        order = [7, 3, 40, 1, 63, 22]
+        for number, question in enumerate(order):
+            propose(desks, question, question % 2)
+            told(desks[1], f"AWAIT {question}")
+            if number == 2:
+                again(1)
+        soon(lambda: sum(1 for it in lines if it) == len(order))
+        time.sleep(6)
+        members[1].send_signal(signal.SIGKILL)
+        stop.set()
+        members[1].wait()
+        dumped, _ = say(["dump", "member-1.journal"], folder)
+        saved = [line.split() for line in dumped.splitlines() if line.startswith("decided")]
+        journal = [f"DECIDED {it[it.index('question') + 1] if 'question' in it else it[1]} {it[-1]}" for it in saved]
+        heard = [it for it in lines if it]
+        found = differs("the follower and the journal", heard, journal)
+        found += differs("all questions", sorted(int(it.split()[1]) for it in heard), sorted(order))
+        found += differs("the follower from number 3 on", [it for it in later if it], heard[3:])
+        return found + differs("an empty line", "" in lines, True)
 
 
 def main():
