@@ -14,10 +14,10 @@ use std::io;
 use std::net::{TcpListener, TcpStream};
 use std::process::ExitCode;
 use system::{
-    Choice, Failure, Fault, HeldStreams, NewCluster, ask_at, audit_file, await_at, check_file,
-    dump_file, hear_end, hear_input, hold_streams, init_file, links_at, log_form, migrate_file,
-    new_cluster, number_words, own_words, patience_of, propose_at, propose_to_all, run_file,
-    simulate_file, size_of, status_at, transcript_at, wants_quiet,
+    Choice, Failure, Fault, HeldStreams, NewCluster, ask_all, ask_at, audit_file, await_at,
+    check_file, dump_file, hear_end, hear_input, hold_streams, init_file, links_at, log_form,
+    migrate_file, new_cluster, number_words, own_words, patience_of, propose_at, propose_to_all,
+    run_file, simulate_file, size_of, status_at, transcript_at, wants_quiet,
 };
 
 /// Does the task, and gives the status to end with.
@@ -95,6 +95,24 @@ fn work<R: Machine>(rt: &R, host: &HostRuntime, task: Task) -> Result<u8, Failur
         Task::Ask {
             address,
             question,
+            all: true,
+            wait,
+            json,
+            timeout,
+        } => ask_all(
+            host,
+            address,
+            Query {
+                question,
+                wait,
+                json,
+                timeout: patience_of(host.alloc(), timeout)?,
+            },
+        ),
+        Task::Ask {
+            address,
+            question,
+            all: false,
             wait: false,
             json,
             timeout,
@@ -108,6 +126,7 @@ fn work<R: Machine>(rt: &R, host: &HostRuntime, task: Task) -> Result<u8, Failur
         Task::Ask {
             address,
             question,
+            all: false,
             wait: true,
             json,
             timeout,

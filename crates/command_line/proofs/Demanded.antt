@@ -186,10 +186,11 @@ ask_demands words e =
     let rows = rows_after (built_at ask_app).rules [] words in
     let address = given_in (built_at ask_app) words solid e _ (inl refl) refl in
     let question = has_number 16 65535 (codes "question") rows (omega arith) (given_in (built_at ask_app) words solid e _ (inr (inl refl)) refl) in
+    let all = flag_in (codes "all") rows in
     let wait = flag_in (codes "wait") rows in
     let json = flag_in (codes "json") rows in
     let timeout = text_in (codes "timeout") rows in
-    (Ask (at_some_place address.0) question.0 wait.0 json.0 timeout.0, (refl, address.1, question.1, wait.1, json.1, timeout.1))
+    (Ask (at_some_place address.0) question.0 all.0 wait.0 json.0 timeout.0, (refl, address.1, question.1, all.1, wait.1, json.1, timeout.1))
 
 transcript_demands : Demanding transcript_app
 transcript_demands words e =

@@ -53,8 +53,8 @@ Names name rows (Run settings stay log log_json any_host) = (name ≡ codes "run
 Names name rows (Propose address question bit all timeout) = (name ≡ codes "propose")
     × HasText (codes "address") rows address.now × HasNumberOption 16 (codes "question") rows question
     × HasNumberOption 8 (codes "bit") rows bit × HasFlag (codes "all") rows all × MayHaveText (codes "timeout") rows (option_map (λ text. text.now) timeout)
-Names name rows (Ask address question wait json timeout) = (name ≡ codes "ask") × HasText (codes "address") rows address.now
-    × HasNumberOption 16 (codes "question") rows question × HasFlag (codes "wait") rows wait
+Names name rows (Ask address question all wait json timeout) = (name ≡ codes "ask") × HasText (codes "address") rows address.now
+    × HasNumberOption 16 (codes "question") rows question × HasFlag (codes "all") rows all × HasFlag (codes "wait") rows wait
     × HasFlag (codes "json") rows json × MayHaveText (codes "timeout") rows (option_map (λ text. text.now) timeout)
 Names name rows (Status address links ready json timeout) = (name ≡ codes "status") × HasText (codes "address") rows address.now
     × HasFlag (codes "links") rows links × HasFlag (codes "ready") rows ready × HasFlag (codes "json") rows json × MayHaveText (codes "timeout") rows (option_map (λ text. text.now) timeout)

@@ -108,7 +108,7 @@ propose_app = taking (codes "propose")
 
 -- `bracha ask [--wait] [--json] [--timeout S] ADDRESS Q`
 abbrev pub ask_app : App
-ask_app = taking (codes "ask") (desk_rules ++ flag_rule (codes "wait") ∷ json_rule ∷ timeout_rule ∷ [])
+ask_app = taking (codes "ask") (desk_rules ++ flag_rule (codes "all") ∷ flag_rule (codes "wait") ∷ json_rule ∷ timeout_rule ∷ [])
 
 -- `bracha status [--links] [--ready] [--json] [--timeout S] ADDRESS`
 abbrev pub status_app : App

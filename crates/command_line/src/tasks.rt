@@ -61,11 +61,12 @@ pub enum Task<'a> {
         all: bool,
         timeout: Option<&'a str>,
     },
-    /// Asks the member whose desk is at this address for its decision of a question, once or until there is one. It is
-    /// waited for as long as this text says.
+    /// Asks the member whose desk is at this address for its decision of a question, once or until there is one; or all members
+    /// of the cluster of the client's settings in this file. Each is waited for as long as this text says.
     Ask {
         address: &'a str,
         question: u16,
+        all: bool,
         wait: bool,
         json: bool,
         timeout: Option<&'a str>,
@@ -402,9 +403,12 @@ fn ask<'a>(alloc: Global) -> Built<'a>
 {
     let about = "Print a question's decision, or UNDECIDED";
     let examples =
-        "Prints DECIDED B or UNDECIDED. A decision is final, and the same at every correct member. UNDECIDED has status 0, and 1 with --wait.\n\nExamples:\n  bracha ask 127.0.0.1:7111 0\n  bracha ask --wait --timeout 60 127.0.0.1:7111 0";
+        "Prints DECIDED B or UNDECIDED. A decision is final, and the same at every correct member. UNDECIDED has status 0, and 1 with --wait or --all.\n\nThe member may be one that lies. With --all, ADDRESS is the file client.toml of `new-cluster`, and a decision is printed only if more than T members report it, of whom one is correct. Standard error names each member that reports something else or doesn't answer.\n\nExamples:\n  bracha ask 127.0.0.1:7111 0\n  bracha ask --wait --timeout 60 127.0.0.1:7111 0\n  bracha ask --all --wait client.toml 0";
+    let all =
+        "Ask every member, and believe only what more than T of them report; ADDRESS is the file client.toml";
     let wait = "Ask until decided, even if the member isn't up yet; --timeout limits it";
     let command = with_desk(alloc, named(alloc, "ask", about, examples));
+    let command = with_arg(command, flag(alloc, "all", all));
     let command = with_arg(command, flag(alloc, "wait", wait));
     let command = with_arg(command, json(alloc));
     with_timeout(alloc, command)
@@ -685,6 +689,7 @@ fn ask_of<'a>(options: &ArgMatches<'a>) -> Option<Task<'a>>
     Some(Task::Ask {
         address: text_of(options, "address")?,
         question: u16_of(options, "question")?,
+        all: flag_of(options, "all"),
         wait: flag_of(options, "wait"),
         json: flag_of(options, "json"),
         timeout: text_of(options, "timeout"),

@@ -1,5 +1,5 @@
 -- What a client asks a member that runs, and what its reply means.
-use Rattle.std.specs.Prelude.{ℕ, ◌≡◌, ◌⊎◌, List, [], ◌∷◌, ◌++◌, codes}
+use Rattle.std.specs.Prelude.{ℕ, ◌≡◌, ◌⊎◌, Bool, false, true, Option, Some, None, List, [], ◌∷◌, ◌++◌, codes}
 use Rattle.std.specs.Fmt.{decimal}
 use Rattle.numerals.specs.Lines.{line}
 use Rattle.numerals.specs.Sentences.{sentence}
@@ -16,6 +16,18 @@ ask_line question = line (sentence (codes "ASK" ∷ decimal question ∷ []))
 -- the line that waits for its decision
 abbrev pub await_line : ℕ → List ℕ
 await_line question = line (sentence (codes "AWAIT" ∷ decimal question ∷ []))
+
+-- what the reply tells of a decision, if it tells one
+abbrev pub TellsDecision : List ℕ → Option Bool → Type 0
+TellsDecision reply (Some false) = reply ≡ codes "DECIDED 0"
+TellsDecision reply (Some true) = reply ≡ codes "DECIDED 1"
+TellsDecision reply None = (reply ≡ codes "DECIDED 0" → ⊥) × (reply ≡ codes "DECIDED 1" → ⊥)
+
+-- the reply that tells a decision, or that there is none
+abbrev pub decision_reply : Option Bool → List ℕ
+decision_reply (Some false) = codes "DECIDED 0"
+decision_reply (Some true) = codes "DECIDED 1"
+decision_reply None = codes "UNDECIDED"
 
 -- the line that asks whether a member is up
 abbrev pub status_line : List ℕ

@@ -3,7 +3,7 @@
 ghost use Rattle.std.specs.Prelude.{ℕ, List, [], ◌≡◌, ◌∷◌, ◌++◌, ◌↔◌, IsTrue, IfOk, IfErr, IfSome, ◌≢◌, string_bytes, codes, Err};
 ghost use Rattle.std.specs.Io.KnownBytes.{Appends, Consumes};
 ghost use Rattle.numerals.specs.Lines.{NoEnd};
-ghost use Rattle.commands.specs.Talks.{propose_line, ask_line, await_line, links_line, status_line, member_line, member_words, IsUp, IsGood, HasReadyStatus, HasStatus};
+ghost use Rattle.commands.specs.Talks.{TellsDecision, decision_reply, propose_line, ask_line, await_line, links_line, status_line, member_line, member_words, IsUp, IsGood, HasReadyStatus, HasStatus};
 ghost use Rattle.commands.specs.Replies.{IsReply, SaysSame};
 ghost use Rattle.commands.specs.declared.fault.TalkFault.TheVariants.{NoAnswer};
 
@@ -212,6 +212,30 @@ fn member_words(alloc: Global, member: u8) -> Result<String, AllocError>
     ensures { IfOk result (λ text. string_bytes text ≡ member_words member) }
 {
     format!(in alloc; "member {member} ")
+}
+
+/// The decision that a reply tells, if it tells one.
+pub fn decision_of(reply: &[u8]) -> Option<bool>
+    ensures { TellsDecision reply.now result }
+{
+    if is(reply, "DECIDED 0") {
+        Some(false)
+    } else if is(reply, "DECIDED 1") {
+        Some(true)
+    } else {
+        None
+    }
+}
+
+/// The reply that tells a decision, or that there is none.
+pub fn decision_reply(decision: Option<bool>) -> &'static str
+    ensures { result.now ≡ decision_reply decision }
+{
+    match decision {
+        Some(false) => "DECIDED 0",
+        Some(true) => "DECIDED 1",
+        None => "UNDECIDED",
+    }
 }
 
 /// Whether the reply says that there is no decision yet.

@@ -72,7 +72,7 @@ fn desk_at(rt: &HostRuntime, text: &str, deadline: Deadline) -> Result<DeskSocke
 }
 
 /// The end of a client that begins now and waits so many milliseconds in all, where that is limited.
-fn deadline_of(rt: &HostRuntime, timeout: Option<u32>) -> Result<Deadline, Fault> {
+pub(crate) fn deadline_of(rt: &HostRuntime, timeout: Option<u32>) -> Result<Deadline, Fault> {
     match Deadline::new(rt, timeout) {
         Ok(deadline) => Ok(deadline),
         Err(_) => Err(Fault::Memory),
@@ -106,7 +106,7 @@ fn reply_at(
 }
 
 /// Prints a reply as it stands, or as an object of JSON.
-fn print_reply(rt: &HostRuntime, reply: Vec<u8>, json: bool) -> Result<u8, TalkFault> {
+pub(crate) fn print_reply(rt: &HostRuntime, reply: Vec<u8>, json: bool) -> Result<u8, TalkFault> {
     let mut output = io::writer(rt);
     if json {
         tell_object(rt.alloc(), &reply, &mut output)
@@ -307,7 +307,7 @@ pub fn links_at(
 }
 
 /// The reply of the member with this desk to the line, in words where there is none.
-fn reply_of_member(
+pub(crate) fn reply_of_member(
     rt: &HostRuntime,
     desk: &Address,
     line: &str,
@@ -328,7 +328,7 @@ fn reply_of_member(
 }
 
 /// The bytes of the words.
-fn words_of(rt: &HostRuntime, words: &str) -> Result<Vec<u8>, Failure> {
+pub(crate) fn words_of(rt: &HostRuntime, words: &str) -> Result<Vec<u8>, Failure> {
     let mut bytes = Vec::new(rt.alloc());
     bytes
         .extend_from_slice(words.as_bytes())

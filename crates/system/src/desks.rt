@@ -109,6 +109,20 @@ impl Deadline {
         }
     }
 
+    /// How many milliseconds a part of the whole may take that is to take so many at most. None: there is no time left.
+    pub fn part(&self, rt: &HostRuntime, most: u32) -> Option<u32> {
+        let Some(total) = self.total else {
+            return Some(most);
+        };
+        let Ok(passed) = self.start.elapsed(rt) else {
+            return None;
+        };
+        match rest_of(total, passed) {
+            Some(left) => Some(left.as_millis().clamp(1, u128::from(most)) as u32),
+            None => None,
+        }
+    }
+
     /// Whether nothing is left after a rest. Where the clock fails nothing is.
     pub fn is_over(&self, rt: &HostRuntime) -> bool {
         let Some(total) = self.total else {

@@ -6,6 +6,7 @@ mod addresses;
 mod apart;
 mod arguments;
 mod asking;
+mod asking_all;
 mod clients;
 mod cluster;
 mod desks;
@@ -40,6 +41,7 @@ pub use arguments::{own_words, wants_quiet};
 pub use asking::{
     ask_at, await_at, links_at, propose_at, propose_to_all, status_at, transcript_at,
 };
+pub use asking_all::{Query, ask_all};
 pub use cluster::{NewCluster, new_cluster};
 pub use commands::Choice;
 pub use fault::Fault;

@@ -52,10 +52,11 @@ fn asking(
     alloc: Global,
     address: &str,
     question: u16,
-    (wait, json): (bool, bool),
+    (all, wait, json): (bool, bool, bool),
     timeout: Option<&str>,
 ) -> Option<String> {
     let mut text = format!(in alloc; "ask {address} {question}").ok()?;
+    add(&mut text, " all", all)?;
     add(&mut text, " wait", wait)?;
     add(&mut text, " json", json)?;
     add_text(&mut text, " timeout ", timeout)?;
@@ -244,10 +245,11 @@ fn task_text(alloc: Global, task: Task) -> Option<String> {
         Task::Ask {
             address,
             question,
+            all,
             wait,
             json,
             timeout,
-        } => asking(alloc, address, question, (wait, json), timeout),
+        } => asking(alloc, address, question, (all, wait, json), timeout),
         Task::Status { .. } | Task::Transcript { .. } => client_text(alloc, task),
         Task::Simulate { .. } => simulation(alloc, task),
         Task::Dump {
