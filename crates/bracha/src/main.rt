@@ -14,7 +14,7 @@ use std::io;
 use std::net::{TcpListener, TcpStream};
 use std::process::ExitCode;
 use system::{
-    Choice, Failure, Fault, HeldStreams, NewCluster, ask_all, ask_at, audit_file, await_at,
+    Choice, Failure, Fault, HeldStreams, NewCluster, Query, ask_all, ask_at, audit_file, await_at,
     check_file, dump_file, hear_end, hear_input, hold_streams, init_file, links_at, log_form,
     migrate_file, new_cluster, number_words, own_words, patience_of, propose_at, propose_to_all,
     run_file, simulate_file, size_of, status_at, transcript_at, wants_quiet,

@@ -59,7 +59,7 @@ fn word_of(reply: &[u8]) -> Word {
         None => {
             if is_undecided(reply) {
                 Word::Undecided
-            } else if reply == b"no answer" {
+            } else if reply == b"no answer".as_slice() {
                 Word::Silent
             } else {
                 Word::Other
