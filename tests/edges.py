@@ -3,7 +3,7 @@
 
 Looks at the edges of the built program for what a user would suffer from and no contract says: how long a client waits, which
 statuses commands end with, whose links a member takes, what it opens and says more often than it should, what a command leaves
-behind. PROGRAM is crates/bracha/out/bracha unless another is named. It takes the ports 27700 to 27979 and half a minute, with
+behind. PROGRAM is crates/bracha/out/bracha unless another is named. It takes the ports 27700 to 28019 and half a minute, with
 all checks side by side. Prints what is wrong, and in its last line `N passed, M failed`; the status is 1 where M isn't 0.
 """
 import concurrent.futures
@@ -521,6 +521,74 @@ def who_follows_misses_nothing(folder, port):
         found += differs("all questions", sorted(int(it.split()[1]) for it in heard), sorted(order))
         found += differs("the follower from number 3 on", [it for it in later if it], heard[3:])
         return found + differs("an empty line", "" in lines, True)
+
+
+@check
+def a_client_believes_more_than_t(folder, port):
+    """`ask --all` prints what more than t members tell, whichever of them lies, is silent, is slow or is down; and says who does."""
+    lies = {"lies": lambda link: [link.sendall(b"DECIDED 0\n") for _ in link.makefile("rb")],
+            "is silent": lambda link: time.sleep(20),
+            "drips": lambda link: [(link.sendall(b"D"), time.sleep(0.1)) for _ in range(200)],
+            "talks": lambda link: [link.sendall(b"HELLO\n") for _ in link.makefile("rb")]}
+    words = {"lies": "bracha: member {} says 0\n", "is silent": "bracha: member {} doesn't answer\n",
+             "drips": "bracha: member {} doesn't answer\n", "talks": "bracha: member {} doesn't answer\n",
+             "is down": "bracha: member {} doesn't answer\n"}
+
+    def answer(reply):
+        return lambda link: [link.sendall(reply) for _ in link.makefile("rb")]
+
+    def ask(ports, name, *options):
+        path = f"{folder}/{name}.toml"
+        with open(path, "w", encoding="ascii") as file:
+            desks = ", ".join(f'"127.0.0.1:{it}"' for it in ports)
+            file.write(f"cluster = 7\nn = 4\nt = 1\nquestions = 64\ndesks = [{desks}]\n")
+        begun = time.monotonic()
+        said, status = say(["ask", "--all", *options, path, "5"], folder)
+        return said, status, time.monotonic() - begun
+
+    found = []
+    with contextlib.ExitStack() as stack:
+        stack.enter_context(serving(port, answer(b"DECIDED 1\n")))
+        stack.enter_context(serving(port + 1, answer(b"UNDECIDED\n")))
+        for number, does in enumerate(lies):
+            stack.enter_context(serving(port + 2 + number, lies[does]))
+        faults = {does: port + 2 + number for number, does in enumerate(lies)} | {"is down": port + 9}
+        with concurrent.futures.ThreadPoolExecutor(24) as pool:
+            asked = {}
+            for does, at in faults.items():
+                for place in range(4):
+                    ports = [port] * 3
+                    ports.insert(place, at)
+                    asked[does, place] = pool.submit(ask, ports, f"{does.replace(' ', '-')}-{place}")
+            # One tells another decision than two who tell one, or is the only one to tell any.
+            alone = pool.submit(ask, [port + 1, port, port + 1, port + 1], "alone")
+            split = pool.submit(ask, [port, port + 2, port + 1, port + 1], "split")
+            waits = pool.submit(ask, [port + 1, port, port + 1, port + 1], "waits", "--wait", "--timeout", "3")
+            json_one = pool.submit(ask, [port, port, port + 2, port + 1], "json", "--json")
+            for (does, place), it in asked.items():
+                said, status, took = it.result()
+                found += differs(f"member {place} {does}", (said, status, took < 4), (words[does].format(place) + "DECIDED 1\n", 0, True))
+            found += differs("one alone", alone.result()[:2], ("bracha: member 1 says 1\nUNDECIDED\n", 1))
+            found += differs("one of each", split.result()[:2], ("bracha: member 0 says 1\nbracha: member 1 says 0\nUNDECIDED\n", 1))
+            said, status, took = waits.result()
+            found += differs("a wait", (said, status, 2.5 < took < 5), ("bracha: member 1 says 1\nUNDECIDED\n", 1, True))
+            found += differs("JSON", json_one.result()[:2], ('bracha: member 2 says 0\n{"decided":1}\n', 0))
+    return found
+
+
+@check
+def all_are_asked_while_they_decide(folder, port):
+    """`ask --all --wait` waits for a decision of a cluster that has none yet, with one of its members down."""
+    with clusters(folder, port) as (desks, members, _), concurrent.futures.ThreadPoolExecutor(4) as pool:
+        path = f"{folder}/client.toml"
+        with open(path, "w", encoding="ascii") as file:
+            file.write("cluster = 7\nn = 4\nt = 1\nquestions = 64\ndesks = [" + ", ".join(f'"127.0.0.1:{it}"' for it in desks) + "]\n")
+        found = differs("before", say(["ask", "--all", path, "3"], folder), ("UNDECIDED\n", 1))
+        members[2].send_signal(signal.SIGKILL)
+        waiting = pool.submit(say, ["ask", "--all", "--wait", "--timeout", "10", path, "3"], folder)
+        time.sleep(1)
+        propose([desks[it] for it in (0, 1, 3)], 3, 0)
+        return found + differs("behind the proposals", waiting.result(), ("bracha: member 2 doesn't answer\nDECIDED 0\n", 0))
 
 
 def main():
