@@ -24,7 +24,7 @@ _bracha() {
     audit) mapfile -t COMPREPLY < <(compgen -W "--n --t --questions --quiet --help" -f -- "$word") ;;
     new-cluster) mapfile -t COMPREPLY < <(compgen -W "--n --t --questions --cluster --port --desk --quiet --help" -d -- "$word") ;;
     propose) mapfile -t COMPREPLY < <(compgen -W "--all --timeout --quiet --help" -f -- "$word") ;;
-    ask) mapfile -t COMPREPLY < <(compgen -W "--wait --json --timeout --quiet --help" -- "$word") ;;
+    ask) mapfile -t COMPREPLY < <(compgen -W "--all --wait --json --timeout --quiet --help" -f -- "$word") ;;
     status) mapfile -t COMPREPLY < <(compgen -W "--links --ready --json --timeout --quiet --help" -- "$word") ;;
     transcript) mapfile -t COMPREPLY < <(compgen -W "--timeout --quiet --help" -- "$word") ;;
     help) mapfile -t COMPREPLY < <(compgen -W "new-cluster init check run propose ask status transcript audit dump migrate simulate hear" -- "$word") ;;

@@ -686,10 +686,11 @@ fn ask_of<'a>(options: &ArgMatches<'a>) -> Option<Task<'a>>
     ensures some { IfSome result (Names (codes "ask") (rows_in options.now)) }
     ensures none { IsNone result → (task : Task) → Names (codes "ask") (rows_in options.now) task → ⊥ }
 {
+    let all = flag_of(options, "all");
     Some(Task::Ask {
         address: text_of(options, "address")?,
         question: u16_of(options, "question")?,
-        all: flag_of(options, "all"),
+        all,
         wait: flag_of(options, "wait"),
         json: flag_of(options, "json"),
         timeout: text_of(options, "timeout"),

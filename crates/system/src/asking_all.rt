@@ -13,7 +13,7 @@ use std::io::Write;
 use std::thread;
 use std::time::Duration;
 
-/// The most milliseconds for which a member is waited for that others may answer in the place of.
+/// The most milliseconds for which a member is waited for at first.
 const SOON: u32 = 250;
 
 /// The same for one that hasn't answered so soon, and for one that is to wait for the decision.
@@ -27,11 +27,11 @@ const IN_ALL: u32 = 10_000;
 pub struct Query {
     /// The question, counted from 0.
     pub question: u16,
-    /// Whether to ask until there is a decision.
+    /// Set if it is asked until there is a decision.
     pub wait: bool,
-    /// Whether to print JSON.
+    /// Set if JSON is printed.
     pub json: bool,
-    /// How many milliseconds it may take in all, if that is told.
+    /// The most milliseconds that it may take in all, if that is told.
     pub timeout: Option<u32>,
 }
 
@@ -69,7 +69,7 @@ fn word_of(reply: &[u8]) -> Word {
 }
 
 impl Survey {
-    /// Of the members of this cluster, before any of them was asked.
+    /// A survey of the members of this cluster, before any of them was asked.
     fn new(alloc: Global, client: ClientSettings) -> Result<Survey, Fault> {
         let mut words = Vec::new(alloc);
         for _ in 0..client.size.n() {
@@ -82,7 +82,7 @@ impl Survey {
         })
     }
 
-    /// Whether the member told a decision.
+    /// True if the member told a decision.
     fn has_decision_of(&self, member: u8) -> bool {
         matches!(self.words.get(usize::from(member)), Some(Word::Decided(_)))
     }

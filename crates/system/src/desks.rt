@@ -109,7 +109,7 @@ impl Deadline {
         }
     }
 
-    /// How many milliseconds a part of the whole may take that is to take so many at most. None: there is no time left.
+    /// The milliseconds for a part of the whole that is to take so many at most. None: there is no time left.
     pub fn part(&self, rt: &HostRuntime, most: u32) -> Option<u32> {
         let Some(total) = self.total else {
             return Some(most);
