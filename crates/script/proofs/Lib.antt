@@ -1,4 +1,5 @@
 pub mod Counting
+pub mod Decks
 pub mod Parts
 pub mod Splits
 pub mod Heads

@@ -2,6 +2,7 @@ pub mod LineWords
 pub mod Lines
 pub mod Acts
 pub mod Drawing
+pub mod Fair
 pub mod Steps
 pub mod Orders
 pub mod Making

@@ -1,0 +1,348 @@
+//! What a fair network does: it serves each link once in each pass of a shuffled deck, its liars lie, and its members fail
+//! and come back.
+
+ghost use Rattle.std.specs.Prelude.{◌≡◌, ◌≢◌, ◌<◌, ◌++◌, [], length, option_map, true, IfOk, OnOk};
+ghost use Rattle.script.specs.Acts.{act_of};
+ghost use Rattle.script.specs.Fair as fair;
+ghost use Rattle.script.specs.Making.{cast_of};
+
+use crate::correct_members;
+use crate::draw::{Draw, UNDRAWN};
+use disk::Pick;
+use sim::{Event, MOST_IN_GROUP, Which};
+use std::alloc::{AllocError, Global};
+use std::marker::Model;
+use terms::{Memory, Size};
+
+/// How many kinds of events there are.
+const KINDS: u32 = 64;
+
+/// A deal's word is drawn below this: those below [`MOST_IN_GROUP`] are groups, the others single deliveries.
+const DEALS: u32 = 288;
+
+/// Trouble is over within so many events behind its first.
+const SPAN: u64 = 100;
+
+/// How many events may lie between a trouble's first event and its crash, and between that and the restart, one more
+/// than at most.
+const PAUSES: u32 = 50;
+
+/// A link between correct members.
+#[derive(Clone, Copy, Debug, PartialEq, Eq)]
+pub struct Link {
+    /// The sender.
+    pub from: u8,
+    /// The receiver.
+    pub to: u8,
+}
+
+/// What is owed to a member that fails.
+#[derive(Clone, Copy, Debug, PartialEq, Eq)]
+pub struct Trouble {
+    /// The member.
+    pub member: u8,
+    /// What its crash leaves.
+    pub pick: Pick,
+    /// It crashes where so many events of the line are left, this one among them.
+    pub crash: u64,
+    /// It is opened again where so many are left.
+    pub restart: u64,
+}
+
+/// What a drawn event is.
+#[derive(Clone, Copy, Debug, PartialEq, Eq)]
+pub enum Sort {
+    /// A fuse, with a crash and a restart that are owed.
+    Trouble,
+    /// A statement of a liar.
+    Lie,
+    /// A proposal.
+    Proposal,
+    /// A delivery on the next link of the deck.
+    Delivery,
+}
+
+/// Who takes part.
+#[derive(Drop)]
+pub struct Members<'a> {
+    size: Size,
+    liars: Vec<u8>,
+    correct: &'a [u8],
+}
+
+impl<'a> Model for Members<'a> {
+    ghost Value = { fair.Cast };
+
+    ghost view = { λ m. record { size = m.size; liars = m.liars.items; correct = m.correct.now } };
+}
+
+impl<'a> Members<'a> {
+    /// All members of a cluster of this size, of which these are correct.
+    pub fn of(alloc: Global, size: Size, correct: &'a [u8]) -> Result<Members<'a>, AllocError>
+        ensures { IfOk result (λ members. members ≡ cast_of size correct.now) }
+    {
+        let liars = correct_members(alloc, size.n(), correct)?;
+        Ok(Members {
+            size,
+            liars,
+            correct,
+        })
+    }
+
+    /// A statement of a liar to a correct member.
+    fn lie(&self, alloc: Global, draw: &mut Draw) -> Result<Event, Memory>
+        requires liars { 0 < length self.now.liars }
+        requires correct { 0 < length self.now.correct }
+        ensures { IfOk result (λ event. (act_of event, draw.new) ≡ fair.lie self.now draw.old) }
+    {
+        let liar = one_of(draw, &self.liars);
+        let to = one_of(draw, self.correct);
+        draw.lie_of(alloc, self.size, liar, to)
+    }
+
+    /// A proposal to a correct member.
+    fn proposal(&self, draw: &mut Draw) -> Event
+        requires { 0 < length self.now.correct }
+        ensures { (act_of result, draw.new) ≡ fair.proposal self.now draw.old }
+    {
+        let member = one_of(draw, self.correct);
+        draw.propose_to(self.size, member)
+    }
+}
+
+/// One of these members.
+#[tactic(auto, unfolding(crate::specs::Fair::one_of))]
+fn one_of(draw: &mut Draw, members: &[u8]) -> u8
+    requires { 0 < length members.now }
+    ensures { (result, draw.new) ≡ fair.one_of members.now draw.old }
+{
+    members[draw.place(members.len())]
+}
+
+/// Whether there is a member.
+fn has_some(members: &[u8]) -> bool
+    ensures { result ≡ fair.has_some members.now }
+{
+    !members.is_empty()
+}
+
+/// Adds the links from this member to each of these.
+fn add_links_from(deck: &mut Vec<Link>, from: u8, members: &[u8]) -> Result<(), AllocError>
+    ensures { OnOk result (deck.new.items ≡ deck.old.items ++ fair.links_from from members.now) }
+{
+    for to in members {
+        deck.push(Link { from, to: *to })?;
+    }
+    Ok(())
+}
+
+/// Adds all links between these members, by sender and then by receiver.
+fn add_links(deck: &mut Vec<Link>, members: &[u8]) -> Result<(), AllocError>
+    ensures { OnOk result (deck.new.items ≡ deck.old.items ++ fair.links members.now) }
+{
+    for from in members {
+        add_links_from(deck, *from, members)?;
+    }
+    Ok(())
+}
+
+/// Fills the deck, where it is empty.
+#[tactic(auto, using(crate::proofs::Decks::filled_empty, crate::proofs::Decks::filled_some))]
+fn fill(deck: &mut Vec<Link>, members: &[u8]) -> Result<(), AllocError>
+    ensures { OnOk result (deck.new.items ≡ fair.filled members.now deck.old.items) }
+{
+    if deck.is_empty() {
+        return add_links(deck, members);
+    }
+    Ok(())
+}
+
+/// Takes a link out of the deck.
+#[tactic(auto, unfolding(crate::specs::Fair::deal))]
+fn deal(deck: &mut Vec<Link>, draw: &mut Draw) -> Link
+    requires { 0 < length deck.old.items }
+    ensures { ((result, deck.new.items), draw.new) ≡ fair.deal deck.old.items draw.old }
+{
+    let place = draw.place(deck.len());
+    deck.remove(place)
+}
+
+/// What comes on the link.
+fn on_link(draw: &mut Draw, link: Link) -> Event
+    ensures { (act_of result, draw.new) ≡ fair.on_link link draw.old }
+{
+    let Link { from, to } = link;
+    let more = draw.below(DEALS);
+    if more < u32::from(MOST_IN_GROUP) {
+        return Event::DeliverAll {
+            from,
+            to,
+            count: more as u16 + 1,
+            toss: UNDRAWN,
+        };
+    }
+    let which = Which::Next;
+    Event::Deliver {
+        from,
+        to,
+        which,
+        toss: UNDRAWN,
+    }
+}
+
+/// What is owed now, where so many events of the line are left.
+fn due(left: u64, owed: Option<Trouble>) -> Option<Event>
+    ensures { option_map act_of result ≡ fair.due left owed }
+{
+    let Some(trouble) = owed else {
+        return None;
+    };
+    let member = trouble.member;
+    let pick = trouble.pick;
+    if left == trouble.crash {
+        return Some(Event::Crash { member, pick });
+    }
+    if left == trouble.restart {
+        return Some(Event::Restart { member });
+    }
+    None
+}
+
+/// What is owed behind that.
+fn still_owed(left: u64, owed: Option<Trouble>) -> Option<Trouble>
+    ensures { result ≡ fair.still_owed left owed }
+{
+    let Some(trouble) = owed else {
+        return None;
+    };
+    if left == trouble.restart {
+        return None;
+    }
+    Some(trouble)
+}
+
+/// Whether there may be trouble.
+fn is_quiet(left: u64, owed: Option<Trouble>) -> bool
+    ensures { result ≡ fair.is_quiet left owed }
+{
+    match owed {
+        None => SPAN < left,
+        Some(_) => false,
+    }
+}
+
+/// Of which sort the event of a kind is.
+fn sort_of(kind: u32, quiet: bool, lying: bool) -> Sort
+    ensures { result ≡ fair.sort_of kind quiet lying }
+{
+    if kind == 0 && quiet {
+        return Sort::Trouble;
+    }
+    if kind > 0 && kind < 4 && lying {
+        return Sort::Lie;
+    }
+    if kind == 4 {
+        return Sort::Proposal;
+    }
+    Sort::Delivery
+}
+
+/// What stays between two events of a fair network: the links that are left in its deck, and what is owed.
+#[derive(Drop)]
+pub struct Fair {
+    deck: Vec<Link>,
+    owed: Option<Trouble>,
+}
+
+impl Model for Fair {
+    ghost Value = { fair.Network };
+
+    ghost view = { λ f. record { deck = f.deck.items; owed = f.owed } };
+}
+
+impl Fair {
+    /// Before the first event.
+    pub fn new(alloc: Global) -> Fair
+        ensures { result ≡ fair.fresh }
+    {
+        Fair {
+            deck: Vec::new(alloc),
+            owed: None,
+        }
+    }
+
+    /// Trouble at a correct member, where so many events of the line are left.
+    fn trouble(&mut self, draw: &mut Draw, correct: &[u8], left: u64) -> Event
+        requires room { SPAN < left }
+        requires correct { 0 < length correct.now }
+        ensures { ((act_of result, self.new), draw.new) ≡ fair.trouble correct.now left self.old draw.old }
+    {
+        let member = one_of(draw, correct);
+        let calls = draw.calls();
+        let pick = draw.pick();
+        let crash = left - (u64::from(draw.below(PAUSES)) + 1);
+        let restart = crash - (u64::from(draw.below(PAUSES)) + 1);
+        self.owed = Some(Trouble {
+            member,
+            pick,
+            crash,
+            restart,
+        });
+        Event::Fuse { member, calls }
+    }
+
+    /// A delivery on the next link of the deck.
+    #[tactic(auto, using(crate::proofs::Decks::filled_has))]
+    fn delivery(&mut self, draw: &mut Draw, correct: &[u8]) -> Result<Event, AllocError>
+        requires { 0 < length correct.now }
+        ensures { IfOk result (λ event. ((act_of event, self.new), draw.new) ≡ fair.delivery correct.now self.old draw.old) }
+    {
+        fill(&mut self.deck, correct)?;
+        let link = deal(&mut self.deck, draw);
+        Ok(on_link(draw, link))
+    }
+
+    /// A drawn event.
+    fn drawn_event(
+        &mut self,
+        alloc: Global,
+        draw: &mut Draw,
+        members: &Members,
+        left: u64,
+    ) -> Result<Event, Memory>
+        requires { 0 < length members.now.correct }
+        ensures { IfOk result (λ event. ((act_of event, self.new), draw.new) ≡ fair.drawn_event members.now left self.old draw.old) }
+    {
+        let kind = draw.below(KINDS);
+        let quiet = is_quiet(left, self.owed);
+        match sort_of(kind, quiet, has_some(&members.liars)) {
+            Sort::Trouble => Ok(self.trouble(draw, members.correct, left)),
+            Sort::Lie => members.lie(alloc, draw),
+            Sort::Proposal => Ok(members.proposal(draw)),
+            Sort::Delivery => Ok(self.delivery(draw, members.correct)?),
+        }
+    }
+
+    /// The event that comes where so many of the line are left, this one among them.
+    #[tactic(auto, unfolding(crate::specs::Fair::event))]
+    pub fn event(
+        &mut self,
+        alloc: Global,
+        draw: &mut Draw,
+        members: &Members,
+        left: u64,
+    ) -> Result<Event, Memory>
+        ensures { IfOk result (λ event. ((act_of event, self.new), draw.new) ≡ fair.event members.now left self.old draw.old) }
+    {
+        if !has_some(members.correct) {
+            return Ok(Event::Restart { member: 0 });
+        }
+        match due(left, self.owed) {
+            Some(event) => {
+                self.owed = still_owed(left, self.owed);
+                Ok(event)
+            }
+            None => self.drawn_event(alloc, draw, members, left),
+        }
+    }
+}
