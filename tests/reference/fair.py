@@ -705,9 +705,61 @@ def simulate(text: bytes) -> list[str]:
     return cluster.told()
 
 
+# --- rows -----------------------------------------------------------------------------------------------------------------
+
+HEAD = """\
+# Scripts with lines `fair K`, and what `simulate` prints: `src/jobs.rt` says what a row is. What has to come is by
+# tests/reference/fair.py, which knows the formats and the rules alone, and writes this file.
+"""
+
+
+def scripts() -> Iterator[tuple[str, list[str]]]:
+    """The scripts of the rows, each with what it is. Each of them decides all its questions."""
+
+    def script(size: tuple[int, int, int], liars: list[int], seed: int, *events: str) -> list[str]:
+        head = [f"n {size[0]}", f"t {size[1]}", f"questions {size[2]}", " ".join(["liars", *map(str, liars)]), f"seed {seed}"]
+        return head + list(events)
+
+    def split(n: int, questions: int, liars: list[int]) -> list[str]:
+        correct = [m for m in range(n) if m not in liars]
+        return [f"propose {m} {q} {(at + q) % 2}" for q in range(questions) for at, m in enumerate(correct)]
+
+    yield "One member, which fails and comes back.", script((1, 0, 2), [], 1, "fair 400")
+    yield "Four members, without a liar, and with one.", script((4, 1, 1), [], 2, *split(4, 1, []), "fair 700")
+    for liar in range(4):
+        yield "", script((4, 1, 1), [liar], 3 + liar, *split(4, 1, [liar]), "fair 700")
+    yield "Five questions.", script((4, 1, 5), [0], 7, *split(4, 5, [0]), "fair 3000")
+    yield "Nobody proposes but the line itself.", script((5, 1, 3), [2], 8, "fair 4000")
+    yield "Seven members, with two liars.", script((7, 2, 1), [2, 5], 9, *split(7, 1, [2, 5]), "fair 1500")
+    yield "", script((7, 2, 8), [1, 6], 10, *split(7, 8, [1, 6]), "fair 6000")
+    yield "Lines behind each other, each with a deck of its own; what stands between them.", script(
+        (7, 2, 2), [3], 11, *split(7, 2, [3]), "fair 150", "crash 0 lost", "fair 90", "restart 0", "rounds 2",
+        "crash 6 fill a5", "restart 6", "fair 101", "fair 0", "fair 1", "fair 3000",
+    )  # fmt: skip
+    five = [1, 5, 6, 9, 10]
+    yield "16 members, with five liars, and without one.", script((16, 5, 1), five, 12, *split(16, 1, five), "fair 5000")
+    yield "", script((16, 5, 1), [], 13, *split(16, 1, []), "fair 8000")
+    yield "", script((16, 5, 3), [0, 15], 14, *split(16, 3, [0, 15]), "fair 9000")
+    many = list(range(0, 63, 3))
+    yield "64 members, with 21 liars.", script((64, 21, 1), many, 15, *split(64, 1, many), "fair 60000")
+
+
+def rows() -> Iterator[str]:
+    yield HEAD
+    for what, lines in scripts():
+        if what:
+            yield f"# {what}"
+        yield from ("simulate", *(f"< {line}" for line in lines), "ends -> 0")
+        yield from (f"-> {line}" for line in simulate("\n".join(lines).encode()))
+        yield "no more\n"
+
+
 def main(args: list[str]) -> int:
     try:
-        if args[:1] == ["--events"]:
+        if args == ["--rows"]:
+            for row in rows():
+                print(row, flush=True)
+        elif args[:1] == ["--events"]:
             print("\n".join(map(str, Script(read(args[1])).events)))
         else:
             print("\n".join(simulate(read(args[0]))))
