@@ -1,5 +1,5 @@
 -- How many events there are, and events in turn.
-use Rattle.std.proofs.Common.{ℕ, zero, suc, ◌≡◌, ◌×◌, ◌+◌, ◌*◌, ◌-◌, ◌<◌, ◌≤◌, refl, sym, ap, ◌∙◌, subst, arith, List, [], ◌∷◌, ◌++◌, length, drop, length-append, get_or, add-one, ◌^◌, min}
+use Rattle.std.proofs.Common.{ℕ, zero, suc, ◌≡◌, ◌+◌, ◌*◌, ◌-◌, ◌<◌, ◌≤◌, refl, sym, ap, ◌∙◌, subst, arith, List, [], ◌∷◌, ◌++◌, length, drop, length-append, get_or, add-one, ◌^◌, min}
 use Rattle.sim.specs.declared.TheConstants.{MOST_EVENTS}
 use Rattle.std.proofs.Math.Seq.{drop-cons}
 use Rattle.sim.specs.declared.events.Which.TheVariants.{Next}

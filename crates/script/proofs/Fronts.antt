@@ -1,5 +1,5 @@
 -- What is made is the same whatever was made before.
-use Rattle.std.proofs.Common.{ℕ, zero, suc, ◌≡◌, ◌×◌, refl, sym, ap, ◌∙◌, List, [], ◌∷◌, ◌++◌, append_assoc, append-nil}
+use Rattle.std.proofs.Common.{ℕ, zero, suc, ◌≡◌, refl, sym, ap, ◌∙◌, List, [], ◌∷◌, ◌++◌, append_assoc, append-nil}
 use Rattle.rand_chacha.specs.ChaCha.{ChaCha}
 use Rattle.terms_prelude.specs.Terms.{Size}
 use Rattle.script.specs.Words.{Act, TossedAct, drawn, tossed, ScriptStep, Once, Rounds, Random, Fair, Cast, Network, event, Made, add, add_drawn, add_fair, adds, cast_of, draws, fairs, round, times, after_step, after_steps, events_of}

@@ -10,3 +10,4 @@ pub mod Sources
 pub mod Exact
 pub mod Determined
 pub mod Total
+pub mod Troubles

@@ -31,7 +31,7 @@ same_list (x ∷ xs) (y ∷ ys) = step (eqb x y) refl (same_list xs ys)
     step true e (inr isnt) = inr (λ f. let g : xs ≡ ys = cc in isnt g)
     step false e r = inr (λ f. let g : x ≡ y = cc in let h : eqb x y ≡ true = eq-eqb x y g in cc)
 
-less_or : (a b : ℕ) → (a < b) ⊎ (b ≤ a)
+pub less_or : (a b : ℕ) → (a < b) ⊎ (b ≤ a)
 less_or a b = step (nat_lt a b) refl
   where
     step : (t : Bool) → nat_lt a b ≡ t → (a < b) ⊎ (b ≤ a)

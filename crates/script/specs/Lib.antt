@@ -6,6 +6,7 @@ pub mod Fair
 pub mod Steps
 pub mod Orders
 pub mod Making
+pub mod FairLines
 pub mod Scripts
 pub mod Sources
 pub mod Words

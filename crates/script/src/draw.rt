@@ -267,13 +267,7 @@ impl Draw {
     }
 
     /// A statement of this liar to this member, as a frame.
-    pub fn lie_of(
-        &mut self,
-        alloc: Global,
-        size: Size,
-        liar: u8,
-        to: u8,
-    ) -> Result<Event, Memory>
+    pub fn lie_of(&mut self, alloc: Global, size: Size, liar: u8, to: u8) -> Result<Event, Memory>
         ensures { IfOk result (λ event. (act_of event, self.new) ≡ drawing.lie_of size liar to self.old) }
     {
         let statement = self.statement(size);

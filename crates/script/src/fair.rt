@@ -1,4 +1,4 @@
-//! What a fair network does: it serves each link once in each pass of a shuffled deck, its liars lie, and its members fail
+//! The events of a fair network: each link has its delivery in each pass of a shuffled deck, liars lie, and members fail
 //! and come back.
 
 ghost use Rattle.std.specs.Prelude.{◌≡◌, ◌≢◌, ◌<◌, ◌++◌, [], length, option_map, true, IfOk, OnOk};
@@ -14,17 +14,16 @@ use std::alloc::{AllocError, Global};
 use std::marker::Model;
 use terms::{Memory, Size};
 
-/// How many kinds of events there are.
+/// The number of kinds of events.
 const KINDS: u32 = 64;
 
-/// A deal's word is drawn below this: those below [`MOST_IN_GROUP`] are groups, the others single deliveries.
+/// The bound of a deal's word: below [`MOST_IN_GROUP`] it is a group, else a single delivery.
 const DEALS: u32 = 288;
 
-/// Trouble is over within so many events behind its first.
+/// The most events of a trouble behind its first.
 const SPAN: u64 = 100;
 
-/// How many events may lie between a trouble's first event and its crash, and between that and the restart, one more
-/// than at most.
+/// The bound of the events between a trouble's first and its crash, and of those between that and the restart.
 const PAUSES: u32 = 50;
 
 /// A link between correct members.
@@ -36,20 +35,20 @@ pub struct Link {
     pub to: u8,
 }
 
-/// What is owed to a member that fails.
+/// The crash and the restart that a failing member still gets.
 #[derive(Clone, Copy, Debug, PartialEq, Eq)]
 pub struct Trouble {
     /// The member.
     pub member: u8,
-    /// What its crash leaves.
+    /// The state in which its crash leaves the disk.
     pub pick: Pick,
-    /// It crashes where so many events of the line are left, this one among them.
+    /// The number of events of the line that are left at its crash, the crash among them.
     pub crash: u64,
-    /// It is opened again where so many are left.
+    /// The number that is left at its restart.
     pub restart: u64,
 }
 
-/// What a drawn event is.
+/// The sorts of drawn events.
 #[derive(Clone, Copy, Debug, PartialEq, Eq)]
 pub enum Sort {
     /// A fuse, with a crash and a restart that are owed.
@@ -62,7 +61,7 @@ pub enum Sort {
     Delivery,
 }
 
-/// Who takes part.
+/// All members of a cluster, by side.
 #[derive(Drop)]
 pub struct Members<'a> {
     size: Size,
@@ -119,7 +118,7 @@ fn one_of(draw: &mut Draw, members: &[u8]) -> u8
     members[draw.place(members.len())]
 }
 
-/// Whether there is a member.
+/// True if there is a member.
 fn has_some(members: &[u8]) -> bool
     ensures { result ≡ fair.has_some members.now }
 {
@@ -167,7 +166,7 @@ fn deal(deck: &mut Vec<Link>, draw: &mut Draw) -> Link
     deck.remove(place)
 }
 
-/// What comes on the link.
+/// A delivery on the link: a group or a single one.
 fn on_link(draw: &mut Draw, link: Link) -> Event
     ensures { (act_of result, draw.new) ≡ fair.on_link link draw.old }
 {
@@ -190,7 +189,7 @@ fn on_link(draw: &mut Draw, link: Link) -> Event
     }
 }
 
-/// What is owed now, where so many events of the line are left.
+/// The event that is owed now, where so many of the line are left.
 fn due(left: u64, owed: Option<Trouble>) -> Option<Event>
     ensures { option_map act_of result ≡ fair.due left owed }
 {
@@ -208,7 +207,7 @@ fn due(left: u64, owed: Option<Trouble>) -> Option<Event>
     None
 }
 
-/// What is owed behind that.
+/// The trouble that is still owed behind it.
 fn still_owed(left: u64, owed: Option<Trouble>) -> Option<Trouble>
     ensures { result ≡ fair.still_owed left owed }
 {
@@ -221,7 +220,7 @@ fn still_owed(left: u64, owed: Option<Trouble>) -> Option<Trouble>
     Some(trouble)
 }
 
-/// Whether there may be trouble.
+/// True if trouble may begin.
 fn is_quiet(left: u64, owed: Option<Trouble>) -> bool
     ensures { result ≡ fair.is_quiet left owed }
 {
@@ -231,7 +230,7 @@ fn is_quiet(left: u64, owed: Option<Trouble>) -> bool
     }
 }
 
-/// Of which sort the event of a kind is.
+/// The sort of an event of this kind.
 fn sort_of(kind: u32, quiet: bool, lying: bool) -> Sort
     ensures { result ≡ fair.sort_of kind quiet lying }
 {
@@ -247,7 +246,7 @@ fn sort_of(kind: u32, quiet: bool, lying: bool) -> Sort
     Sort::Delivery
 }
 
-/// What stays between two events of a fair network: the links that are left in its deck, and what is owed.
+/// The state of a fair network between two events: the links that are left in its deck, and what is owed.
 #[derive(Drop)]
 pub struct Fair {
     deck: Vec<Link>,

@@ -197,7 +197,7 @@ fn reset(words: &[&[u8]]) -> Option<Order>
     }))
 }
 
-/// What the words behind `fair` say.
+/// Reads the words behind `fair`.
 fn fair(alloc: Global, words: &[&[u8]]) -> Option<Order>
     ensures some { IfSome result (λ order. SaysBehind Verb.Fair (texts words.now) (order_step order)) }
     ensures exact { (step : ScriptStep) → SaysBehind Verb.Fair (texts words.now) step → MatchOption result ⊥ (λ order. order_step order ≡ step) }

@@ -1,4 +1,4 @@
-use Rattle.std.proofs.Common.{◌<◌, ◌+◌, ◌-◌, ◌×◌, sym, ap, ◌∙◌, arith}
+use Rattle.std.proofs.Common.{◌<◌, ◌+◌, ◌-◌, sym, ap, ◌∙◌, arith}
 use Rattle.script.specs.Words.{Network, Made, fairs}
 use Rattle.script.proofs.Counting.{fairs-next}
 use Rattle.script.proofs.making.Making.add_fairs.Goals as goal
