@@ -7,8 +7,7 @@ Plays a script as `bracha simulate` does, and prints what that prints; SCRIPT `-
 with their tosses, `--rows` the rows of crates/test_rows/data/fair_of_the_reference.txt. It is written from docs/FORMATS.md and
 docs/PROTOCOL.md alone and shares nothing with the program.
 
-It takes a journal's append as the four calls that docs/MODEL.md names: the batch is written, synced, its gate opened, synced. How
-many calls an opening takes is said nowhere, so a script that opens a member whose fuse hasn't burnt is refused.
+How many calls of its disk an opening takes is said nowhere, so a script that opens a member whose fuse hasn't burnt is refused.
 """
 import struct
 import sys
@@ -238,14 +237,14 @@ class Script:
             return ["restart", "0"]
         if left in fair.owed:
             return fair.owed.pop(left)
-        kind = self.below(64)
+        kind = self.below(16 * self.n)
         if kind == 0 and not fair.owed and left > 100:
             return self.trouble(fair, left)
-        if 1 <= kind <= 3 and self.liars:
+        if kind == 1:
+            return self.propose_to(self.one_of(self.correct))
+        if 2 <= kind <= self.n and self.liars:
             liar = self.one_of(self.liars)
             return self.lie_of(liar, self.one_of(self.correct))
-        if kind == 4:
-            return self.propose_to(self.one_of(self.correct))
         if not fair.deck:
             fair.deck = [(a, b) for a in self.correct for b in self.correct]
         a, b = fair.deck.pop(self.below(len(fair.deck)))

@@ -1,5 +1,5 @@
 -- What is owed is made: each crash of a line `fair K` has its restart.
-use Rattle.std.proofs.Common.{ℕ, zero, suc, ◌≡◌, ◌+◌, ◌-◌, ◌<◌, ◌≤◌, refl, sym, ap, ◌∙◌, subst, arith, inl, inr, Bool, true, false, nat_lt, ◌==◌, if◌then◌else◌, eqb-true, eq-eqb, Option, Some, None, List, [], ◌∷◌, ◌++◌, map, append_assoc, append-nil, slice_get, rules, tests}
+use Rattle.std.proofs.Common.{ℕ, zero, suc, ◌≡◌, ◌+◌, ◌*◌, ◌-◌, ◌<◌, ◌≤◌, refl, sym, ap, ◌∙◌, subst, arith, inl, inr, Bool, true, false, nat_lt, ◌==◌, if◌then◌else◌, eqb-true, eq-eqb, Option, Some, None, List, [], ◌∷◌, ◌++◌, map, append_assoc, append-nil, slice_get, rules, tests}
 use Rattle.std.proofs.lemmas.List.{map-append}
 use Rattle.std.proofs.lemmas.Nat.{mod_below}
 use Rattle.rand_chacha.specs.ChaCha.{ChaCha, next_word}
@@ -85,17 +85,17 @@ unfolding is_crash
 no_crash act member its_pick none e = let f : is_crash act ≡ true = ap is_crash e in cc
 
 -- trouble is of no other sort, and only where all is quiet
-no_trouble : (kind : ℕ) (lying : Bool) → sort_of kind false lying ≡ sort.Trouble → ⊥
-no_trouble kind lying = step (kind == 0) (nat_lt kind 4) lying (kind == 4)
+no_trouble : (n kind : ℕ) (lying : Bool) → sort_of n kind false lying ≡ sort.Trouble → ⊥
+no_trouble n kind lying = step (kind == 0) (kind == 1) (nat_lt n kind) lying
   where
     step : (a b c d : Bool)
-        → (if a then (if false then sort.Trouble else sort.Delivery) else (if b then (if c then sort.Lie else sort.Delivery) else (if d then sort.Proposal else sort.Delivery))) ≡ sort.Trouble
+        → (if a then (if false then sort.Trouble else sort.Delivery) else (if b then sort.Proposal else (if c then sort.Delivery else (if d then sort.Lie else sort.Delivery)))) ≡ sort.Trouble
         → ⊥
     step true b c d e = cc
-    step false true true d e = cc
-    step false true false d e = cc
-    step false false c true e = cc
-    step false false c false e = cc
+    step false true c d e = cc
+    step false false true d e = cc
+    step false false false true e = cc
+    step false false false false e = cc
 
 owed_stays : (cast : Cast) (left : ℕ) (network : Network) (s : Sort) (g : ChaCha) → (s ≡ sort.Trouble → ⊥)
     → (of_sort cast left network s g).0.1.owed ≡ network.owed
@@ -118,8 +118,8 @@ opens left t a b = if a then Some (Crash t.member t.pick) else (if b then Some (
 module _ (cast : Cast) (left : ℕ) (deck : List Link) (t : Trouble) (g : ChaCha) where
   drawn_owes : (drawn_event cast left (owing deck t) g).0.1.owed ≡ Some t
   drawn_owes =
-      owed_stays cast left (owing deck t) (sort_of (below 64 g).0 false (has_some cast.liars)) (below 64 g).1
-      (no_trouble (below 64 g).0 (has_some cast.liars))
+      owed_stays cast left (owing deck t) (sort_of cast.size.n (below (16 * cast.size.n) g).0 false (has_some cast.liars)) (below (16 * cast.size.n) g).1
+      (no_trouble cast.size.n (below (16 * cast.size.n) g).0 (has_some cast.liars))
 
   kept : (b : Bool) → (left == t.restart) ≡ b → t.restart < left → (if b then None else Some t) ≡ Some t
   kept true e h = let f : left ≡ t.restart = eqb-true left t.restart e in absurd (omega (arith, f, h))
@@ -214,7 +214,7 @@ crash_is_owed cast left deck None g member its_pick = run (has_some cast.correct
     drawn : (drawn_event cast left (record { deck = deck; owed = None }) g).0.0 ≡ Crash member its_pick → ⊥
     drawn e =
         no_crash (drawn_event cast left (record { deck = deck; owed = None }) g).0.0 member its_pick
-        (drawn_is_none cast left (record { deck = deck; owed = None }) (sort_of (below 64 g).0 (nat_lt 100 left) (has_some cast.liars)) (below 64 g).1) e
+        (drawn_is_none cast left (record { deck = deck; owed = None }) (sort_of cast.size.n (below (16 * cast.size.n) g).0 (nat_lt 100 left) (has_some cast.liars)) (below (16 * cast.size.n) g).1) e
 
     run : (b : Bool)
         → ((if b then drawn_event cast left (record { deck = deck; owed = None }) else (λ (h : ChaCha). ((Restart 0, record { deck = deck; owed = None }), h))) g).0.0 ≡ Crash member its_pick
@@ -226,7 +226,7 @@ crash_is_owed cast left deck (Some t) g member its_pick = run (has_some cast.cor
     drawn : (drawn_event cast left (owing deck t) g).0.0 ≡ Crash member its_pick → ⊥
     drawn e =
         no_crash (drawn_event cast left (owing deck t) g).0.0 member its_pick
-        (drawn_is_none cast left (owing deck t) (sort_of (below 64 g).0 false (has_some cast.liars)) (below 64 g).1) e
+        (drawn_is_none cast left (owing deck t) (sort_of cast.size.n (below (16 * cast.size.n) g).0 false (has_some cast.liars)) (below (16 * cast.size.n) g).1) e
 
     at : (a b : Bool) → (left == t.crash) ≡ a → (due_or_drawn cast left (owing deck t) (opens left t a b) g).0.0 ≡ Crash member its_pick
         → IsOwed left (Some t) member
@@ -264,12 +264,12 @@ drawn_fits cast k deck sort.Proposal g has room = tt
 drawn_fits cast k deck sort.Delivery g has room = tt
 
 -- trouble comes where all is quiet
-trouble_is_quiet : (left kind : ℕ) (lying : Bool) → sort_of kind (nat_lt 100 left) lying ≡ sort.Trouble → 100 < left
-trouble_is_quiet left kind lying = step (nat_lt 100 left) refl
+trouble_is_quiet : (n left kind : ℕ) (lying : Bool) → sort_of n kind (nat_lt 100 left) lying ≡ sort.Trouble → 100 < left
+trouble_is_quiet n left kind lying = step (nat_lt 100 left) refl
   where
-    step : (b : Bool) → nat_lt 100 left ≡ b → sort_of kind b lying ≡ sort.Trouble → 100 < left
+    step : (b : Bool) → nat_lt 100 left ≡ b → sort_of n kind b lying ≡ sort.Trouble → 100 < left
     step true e h = search (rules, tests, e)
-    step false e h = absurd (no_trouble kind lying h)
+    step false e h = absurd (no_trouble n kind lying h)
 
 -- what is owed behind an event fits
 fits_next : (cast : Cast) (k : ℕ) (deck : List Link) (o : Option Trouble) (g : ChaCha) → Fits cast (suc k) o
@@ -280,8 +280,8 @@ fits_next cast k deck None g fits = run (has_some cast.correct) refl
     run : (b : Bool) → has_some cast.correct ≡ b
         → Fits cast k ((if b then drawn_event cast (suc k) (record { deck = deck; owed = None }) else (λ (h : ChaCha). ((Restart 0, record { deck = deck; owed = None }), h))) g).0.1.owed
     run true e =
-        drawn_fits cast k deck (sort_of (below 64 g).0 (nat_lt 100 (suc k)) (has_some cast.liars)) (below 64 g).1 e
-        (trouble_is_quiet (suc k) (below 64 g).0 (has_some cast.liars))
+        drawn_fits cast k deck (sort_of cast.size.n (below (16 * cast.size.n) g).0 (nat_lt 100 (suc k)) (has_some cast.liars)) (below (16 * cast.size.n) g).1 e
+        (trouble_is_quiet cast.size.n (suc k) (below (16 * cast.size.n) g).0 (has_some cast.liars))
     run false e = tt
 fits_next cast k deck (Some t) g (has, before, soon, some, within) =
     elim (less_or t.restart (suc k)) [

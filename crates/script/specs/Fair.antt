@@ -1,5 +1,5 @@
 -- What a fair network does.
-use Rattle.std.specs.Prelude.{ℕ, ◌+◌, ◌-◌, ◌==◌, nat_lt, if◌then◌else◌, Bool, true, false, Option, Some, None, List, [], ◌∷◌, length, map, slice_index_or}
+use Rattle.std.specs.Prelude.{ℕ, ◌+◌, ◌*◌, ◌-◌, ◌==◌, nat_lt, if◌then◌else◌, Bool, true, false, Option, Some, None, List, [], ◌∷◌, length, map, slice_index_or}
 use Rattle.std.specs.List.{flat_map, remove}
 use Rattle.terms_prelude.specs.Terms.{Size}
 use Rattle.sim.specs.declared.events.Which.TheVariants.{Next}
@@ -72,12 +72,13 @@ abbrev pub is_quiet : ℕ → Option Trouble → Bool
 is_quiet left None = nat_lt 100 left
 is_quiet left (Some trouble) = false
 
--- of which sort an event is whose kind, 0 to 63, was drawn
-abbrev pub sort_of : ℕ → Bool → Bool → Sort
-sort_of kind quiet lying =
+-- of which sort an event is whose kind, below 16n for n members, was drawn
+abbrev pub sort_of : ℕ → ℕ → Bool → Bool → Sort
+sort_of n kind quiet lying =
     if kind == 0 then (if quiet then sort.Trouble else sort.Delivery)
-    else (if nat_lt kind 4 then (if lying then sort.Lie else sort.Delivery)
-    else (if kind == 4 then sort.Proposal else sort.Delivery))
+    else (if kind == 1 then sort.Proposal
+    else (if nat_lt n kind then sort.Delivery
+    else (if lying then sort.Lie else sort.Delivery)))
 
 -- whether there is one
 abbrev pub has_some : List ℕ → Bool
@@ -139,8 +140,8 @@ of_sort cast left network sort.Delivery = delivery cast.correct network
 -- a drawn event, where nothing is owed now
 abbrev pub drawn_event : Cast → ℕ → Network → Drawn (Act × Network)
 drawn_event cast left network = do
-  kind ← below 64
-  of_sort cast left network (sort_of kind (is_quiet left network.owed) (has_some cast.liars))
+  kind ← below (16 * cast.size.n)
+  of_sort cast left network (sort_of cast.size.n kind (is_quiet left network.owed) (has_some cast.liars))
 
 -- what is owed now, or else a drawn event
 abbrev pub due_or_drawn : Cast → ℕ → Network → Option Act → Drawn (Act × Network)

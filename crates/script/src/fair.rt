@@ -1,7 +1,7 @@
 //! The events of a fair network: each link has its delivery in each pass of a shuffled deck, liars lie, and members fail
 //! and come back.
 
-ghost use Rattle.std.specs.Prelude.{◌≡◌, ◌≢◌, ◌<◌, ◌++◌, [], length, option_map, true, IfOk, OnOk};
+ghost use Rattle.std.specs.Prelude.{◌≡◌, ◌<◌, ◌++◌, length, option_map, IfOk, OnOk};
 ghost use Rattle.script.specs.Acts.{act_of};
 ghost use Rattle.script.specs.Fair as fair;
 ghost use Rattle.script.specs.Making.{cast_of};
@@ -14,8 +14,9 @@ use std::alloc::{AllocError, Global};
 use std::marker::Model;
 use terms::{Memory, Size};
 
-/// The number of kinds of events.
-const KINDS: u32 = 64;
+/// The number of kinds of events, by member: with many members, each of them fails as seldom, measured in passes of the
+/// deck.
+const KINDS: u32 = 16;
 
 /// The bound of a deal's word: below [`MOST_IN_GROUP`] it is a group, else a single delivery.
 const DEALS: u32 = 288;
@@ -230,18 +231,18 @@ fn is_quiet(left: u64, owed: Option<Trouble>) -> bool
     }
 }
 
-/// The sort of an event of this kind.
-fn sort_of(kind: u32, quiet: bool, lying: bool) -> Sort
-    ensures { result ≡ fair.sort_of kind quiet lying }
+/// The sort of an event of this kind, among so many members.
+fn sort_of(n: u8, kind: u32, quiet: bool, lying: bool) -> Sort
+    ensures { result ≡ fair.sort_of n kind quiet lying }
 {
-    if kind == 0 && quiet {
-        return Sort::Trouble;
+    if kind == 0 {
+        return if quiet { Sort::Trouble } else { Sort::Delivery };
     }
-    if kind > 0 && kind < 4 && lying {
-        return Sort::Lie;
-    }
-    if kind == 4 {
+    if kind == 1 {
         return Sort::Proposal;
+    }
+    if lying && kind <= u32::from(n) {
+        return Sort::Lie;
     }
     Sort::Delivery
 }
@@ -312,9 +313,10 @@ impl Fair {
         requires { 0 < length members.now.correct }
         ensures { IfOk result (λ event. ((act_of event, self.new), draw.new) ≡ fair.drawn_event members.now left self.old draw.old) }
     {
-        let kind = draw.below(KINDS);
+        let n = members.size.n();
+        let kind = draw.below(KINDS * u32::from(n));
         let quiet = is_quiet(left, self.owed);
-        match sort_of(kind, quiet, has_some(&members.liars)) {
+        match sort_of(n, kind, quiet, has_some(&members.liars)) {
             Sort::Trouble => Ok(self.trouble(draw, members.correct, left)),
             Sort::Lie => members.lie(alloc, draw),
             Sort::Proposal => Ok(members.proposal(draw)),
