@@ -11,3 +11,4 @@ pub mod Exact
 pub mod Determined
 pub mod Total
 pub mod Troubles
+pub mod Once
