@@ -2,9 +2,9 @@
 use Rattle.std.proofs.Common.{ℕ, ◌≡◌, ◌+◌, ◌*◌, ◌-◌, ◌<◌, ◌≤◌, ◌^◌, min, refl, sym, ap, ◌∙◌, subst, arith, inl, inr, ◌⊎◌, List, [], ◌∷◌, ◌++◌, length, drop, Result, Ok, Err, IfOk}
 use Rattle.terms_prelude.specs.Terms.{Size}
 use Rattle.sim.specs.declared.TheConstants.{MOST_EVENTS}
-use Rattle.script.specs.Words.{ScriptFault, Line, Order, words_of, ScriptStep, SaysStep, Once, Rounds, Random, Made, after_step, how_many, LeadsBy, BreakBy, numbered, order_step, made_by}
+use Rattle.script.specs.Words.{ScriptFault, Line, Order, words_of, ScriptStep, SaysStep, Once, Rounds, Random, Fair, Made, after_step, cast_of, how_many, LeadsBy, BreakBy, numbered, order_step, made_by}
 use Rattle.script.specs.declared.fault.ScriptFault.TheVariants as faults
-use Rattle.script.proofs.Counting.{length-add, length-rounds, length-draws, uncut}
+use Rattle.script.proofs.Counting.{length-add, length-rounds, length-draws, length-fairs, uncut}
 use Rattle.script.proofs.Leading.{Reached, line_at, reached_start, reached_next, broken_or_refused}
 
 -- how many events there are behind a step
@@ -13,6 +13,7 @@ pub length-after_step : (size : Size) (correct : List ℕ) (step : ScriptStep) (
 length-after_step size correct (Once act) made = length-add act made
 length-after_step size correct (Rounds k) made = length-rounds k correct made
 length-after_step size correct (Random k) made = length-draws size k made
+length-after_step size correct (Fair left network) made = length-fairs (cast_of size correct) left network made
 
 -- one order more
 pub made_more : (size : Size) (correct : List ℕ) (orders : List Order) (order : Order) (made : Made)

@@ -3,7 +3,7 @@ use Rattle.std.proofs.Common.{ℕ, zero, suc, ◌≡◌, ◌+◌, ◌*◌, ◌-�
 use Rattle.sim.specs.declared.TheConstants.{MOST_EVENTS}
 use Rattle.std.proofs.Math.Seq.{drop-cons}
 use Rattle.sim.specs.declared.events.Which.TheVariants.{Next}
-use Rattle.script.specs.Words.{Deliver, Act, Made, add, add_drawn, adds, draws, row, round, times}
+use Rattle.script.specs.Words.{Deliver, Act, Cast, Network, Made, add, add_drawn, add_fair, adds, draws, fairs, row, round, times}
 use Rattle.std.specs.List.{flat_map}
 use Rattle.terms_prelude.specs.Terms.{Size}
 
@@ -79,6 +79,28 @@ less-one n i h = omega arith
 pub draws-next : (size : Size) (n i : ℕ) (made : Made) → i < n
     → draws size (n - i) made ≡ draws size (n - (i + 1)) (add_drawn size made)
 draws-next size n i made h = ap (λ k. draws size k made) (less-one n i h)
+
+pub length-add_fair : (cast : Cast) (left : ℕ) (network : Network) (made : Made)
+    → length ((add_fair cast left network made).1).events ≡ length made.events + 1
+unfolding add_fair add
+length-add_fair cast left network made = length-append made.events _
+
+pub length-fairs : (cast : Cast) (k : ℕ) (network : Network) (made : Made) → length (fairs cast k network made).events ≡ length made.events + k
+length-fairs cast zero network made = omega arith
+length-fairs cast (suc k) network made =
+    let next : Network × Made = add_fair cast (suc k) network made in
+    let r = length-fairs cast k next.0 next.1 in
+    let a = length-add_fair cast (suc k) network made in
+    omega arith
+
+-- one event of a fair network of many
+pub fairs-next : (cast : Cast) (n i : ℕ) (network : Network) (made : Made) → i < n
+    → fairs cast (n - i) network made
+    ≡ fairs cast (n - (i + 1)) (add_fair cast (n - i) network made).0 (add_fair cast (n - i) network made).1
+fairs-next cast n i network made h =
+    subst
+    (λ (k : ℕ). fairs cast k network made ≡ fairs cast (n - (i + 1)) (add_fair cast k network made).0 (add_fair cast k network made).1)
+    (sym (less-one n i h)) refl
 
 -- one round, and those behind it
 pub round_first : (k : ℕ) (acts : List Act) (made : Made) → 0 < k → adds (times (k - 1) acts) (adds acts made) ≡ adds (times k acts) made

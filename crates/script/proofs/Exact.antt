@@ -130,6 +130,7 @@ one_behind verb.Restart ws s t (m, h, e) (n, g, f) = let k = one_one IsMember (o
 one_behind verb.Reset ws s t (m, q, h, e) (n, r, g, f) = let k = one_two IsMember IsMember (one_below 8) (one_below 8) ws m n q r h g in cc
 one_behind verb.Rounds ws s t (m, h, e) (n, g, f) = let k = one_one IsLong (one_below 64) ws m n h g in cc
 one_behind verb.Random ws s t (m, h, e) (n, g, f) = let k = one_one IsLong (one_below 64) ws m n h g in cc
+one_behind verb.Fair ws s t (m, h, e) (n, g, f) = let k = one_one IsLong (one_below 64) ws m n h g in cc
 
 -- a number that tells the names apart
 key : List ℕ → ℕ
@@ -146,7 +147,8 @@ verb_with k =
     (cond (eqb k (7 * 65536 + 114 * 256 + 101)) (Some verb.Restart)
     (cond (eqb k (5 * 65536 + 114 * 256 + 101)) (Some verb.Reset)
     (cond (eqb k (6 * 65536 + 114 * 256 + 111)) (Some verb.Rounds)
-    (Some verb.Random)))))))))
+    (cond (eqb k (6 * 65536 + 114 * 256 + 97)) (Some verb.Random)
+    (Some verb.Fair))))))))))
 
 of_name : (v : Verb) → verb_with (key (verb_name v)) ≡ Some v
 unfolding verb_with key
@@ -160,6 +162,7 @@ of_name verb.Restart = refl
 of_name verb.Reset = refl
 of_name verb.Rounds = refl
 of_name verb.Random = refl
+of_name verb.Fair = refl
 
 pub one_verb : (v w : Verb) → verb_name v ≡ verb_name w → v ≡ w
 one_verb v w e =

@@ -1,4 +1,5 @@
 pub mod Counting
+pub mod Decks
 pub mod Parts
 pub mod Splits
 pub mod Heads
@@ -9,3 +10,5 @@ pub mod Sources
 pub mod Exact
 pub mod Determined
 pub mod Total
+pub mod Troubles
+pub mod Once

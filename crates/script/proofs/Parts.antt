@@ -48,6 +48,7 @@ name_is_text verb.Restart = IsUtf8-from_ascii (codes "restart") (is_ascii (codes
 name_is_text verb.Reset = IsUtf8-from_ascii (codes "reset") (is_ascii (codes "reset") refl)
 name_is_text verb.Rounds = IsUtf8-from_ascii (codes "rounds") (is_ascii (codes "rounds") refl)
 name_is_text verb.Random = IsUtf8-from_ascii (codes "random") (is_ascii (codes "random") refl)
+name_is_text verb.Fair = IsUtf8-from_ascii (codes "fair") (is_ascii (codes "fair") refl)
 
 -- a list is empty where its length is 0
 empty_is : (xs : List ℕ) → is_empty xs ≡ (length xs == 0)

@@ -9,7 +9,7 @@ use Rattle.disk.specs.declared.Pick.{Pick}
 use Rattle.disk.specs.declared.Pick.TheVariants.{Kept, Lost, Fill}
 use Rattle.sim.specs.declared.events.Which.{Which}
 use Rattle.sim.specs.declared.events.Which.TheVariants.{Next, At}
-use Rattle.script.specs.Words.{ScriptFault, Verb, words_of, IsMember, IsCount, IsLong, IsGroupSize, IsBit, IsWhich, IsFuse, ArePick, AreMembers, Page, page_from, HasLine, line_number, TossedAct, Propose, Deliver, DeliverAll, Lie, Fuse, Crash, Restart, Reset, ScriptStep, verb_name, One, Two, Three, SaysBehind, SaysStep, Once, Rounds, Random, Made, after_step, correct_below, LeadTo, BreakBy, IsNumberNamed, AreListedLiars, IsSeed, MakeSize, SaysCluster, at_start, LacksLine, IsFirstFault}
+use Rattle.script.specs.Words.{ScriptFault, Verb, words_of, IsMember, IsCount, IsLong, IsGroupSize, IsBit, IsWhich, IsFuse, ArePick, AreMembers, Page, page_from, HasLine, line_number, TossedAct, Propose, Deliver, DeliverAll, Lie, Fuse, Crash, Restart, Reset, ScriptStep, verb_name, One, Two, Three, SaysBehind, SaysStep, Once, Rounds, Random, Fair, fresh, Made, after_step, correct_below, LeadTo, BreakBy, IsNumberNamed, AreListedLiars, IsSeed, MakeSize, SaysCluster, at_start, LacksLine, IsFirstFault}
 use Rattle.script.specs.declared.fault.ScriptFault.TheVariants as faults
 use Rattle.script.specs.declared.step.Verb.TheVariants as verb
 use Rattle.sim.specs.declared.TheConstants.{MOST_EVENTS}
@@ -31,7 +31,7 @@ same_list (x ∷ xs) (y ∷ ys) = step (eqb x y) refl (same_list xs ys)
     step true e (inr isnt) = inr (λ f. let g : xs ≡ ys = cc in isnt g)
     step false e r = inr (λ f. let g : x ≡ y = cc in let h : eqb x y ≡ true = eq-eqb x y g in cc)
 
-less_or : (a b : ℕ) → (a < b) ⊎ (b ≤ a)
+pub less_or : (a b : ℕ) → (a < b) ⊎ (b ≤ a)
 less_or a b = step (nat_lt a b) refl
   where
     step : (t : Bool) → nat_lt a b ≡ t → (a < b) ⊎ (b ≤ a)
@@ -295,20 +295,23 @@ behind verb.Rounds ws =
     elim (one IsLong (below 64) ws) [ inl (a, h) ↦ inl (Rounds a, (a, h, refl)) | inr isnt ↦ inr (λ s (a, h, e). isnt a h) ]
 behind verb.Random ws =
     elim (one IsLong (below 64) ws) [ inl (a, h) ↦ inl (Random a, (a, h, refl)) | inr isnt ↦ inr (λ s (a, h, e). isnt a h) ]
+behind verb.Fair ws =
+    elim (one IsLong (below 64) ws) [ inl (a, h) ↦ inl (Fair a fresh, (a, h, refl)) | inr isnt ↦ inr (λ s (a, h, e). isnt a h) ]
 
 -- the verb of a name
 no_verb : (w : List ℕ) → (w ≡ codes "group" → ⊥) → (w ≡ codes "propose" → ⊥) → (w ≡ codes "deliver" → ⊥) → (w ≡ codes "lie" → ⊥) → (w ≡ codes "fuse" → ⊥) → (w ≡ codes "crash" → ⊥)
-    → (w ≡ codes "restart" → ⊥) → (w ≡ codes "reset" → ⊥) → (w ≡ codes "rounds" → ⊥) → (w ≡ codes "random" → ⊥) → (v : Verb) → w ≡ verb_name v → ⊥
-no_verb w z a b c d e f g h i verb.Group = z
-no_verb w z a b c d e f g h i verb.Propose = a
-no_verb w z a b c d e f g h i verb.Deliver = b
-no_verb w z a b c d e f g h i verb.Lie = c
-no_verb w z a b c d e f g h i verb.Fuse = d
-no_verb w z a b c d e f g h i verb.Crash = e
-no_verb w z a b c d e f g h i verb.Restart = f
-no_verb w z a b c d e f g h i verb.Reset = g
-no_verb w z a b c d e f g h i verb.Rounds = h
-no_verb w z a b c d e f g h i verb.Random = i
+    → (w ≡ codes "restart" → ⊥) → (w ≡ codes "reset" → ⊥) → (w ≡ codes "rounds" → ⊥) → (w ≡ codes "random" → ⊥) → (w ≡ codes "fair" → ⊥) → (v : Verb) → w ≡ verb_name v → ⊥
+no_verb w z a b c d e f g h i j verb.Group = z
+no_verb w z a b c d e f g h i j verb.Propose = a
+no_verb w z a b c d e f g h i j verb.Deliver = b
+no_verb w z a b c d e f g h i j verb.Lie = c
+no_verb w z a b c d e f g h i j verb.Fuse = d
+no_verb w z a b c d e f g h i j verb.Crash = e
+no_verb w z a b c d e f g h i j verb.Restart = f
+no_verb w z a b c d e f g h i j verb.Reset = g
+no_verb w z a b c d e f g h i j verb.Rounds = h
+no_verb w z a b c d e f g h i j verb.Random = i
+no_verb w z a b c d e f g h i j verb.Fair = j
 
 verb_named : (w : List ℕ) → ((v : Verb) × (w ≡ verb_name v)) ⊎ ((v : Verb) → w ≡ verb_name v → ⊥)
 verb_named w =
@@ -342,7 +345,11 @@ verb_named w =
                                                           elim (same_list w (codes "random")) [
                                                             | inl e ↦ inl (verb.Random, e)
                                                             | inr j ↦
-                                                                inr (no_verb w z a b c d f g h i j)
+                                                                elim (same_list w (codes "fair")) [
+                                                                  | inl e ↦ inl (verb.Fair, e)
+                                                                  | inr k ↦
+                                                                      inr (no_verb w z a b c d f g h i j k)
+                                                                ]
                                                           ]
                                                     ]
                                               ]

@@ -115,12 +115,17 @@ reset size = do
   to ← member size
   pure (Reset from to)
 
+-- a statement of this liar to this member
+abbrev pub lie_of : Size → ℕ → ℕ → Drawn Act
+lie_of size liar to = do
+  s ← statement size
+  pure (Lie liar to (frame_bytes (message.Statement s)))
+
 abbrev pub lie : Size → Drawn Act
 lie size = do
   liar ← member size
   to ← member size
-  s ← statement size
-  pure (Lie liar to (frame_bytes (message.Statement s)))
+  lie_of size liar to
 
 abbrev pub pick : Drawn Pick
 pick = do
@@ -149,12 +154,17 @@ fuse size = do
   its_calls ← calls
   pure (Fuse its_member its_calls)
 
-abbrev pub propose : Size → Drawn Act
-propose size = do
-  its_member ← member size
+-- a proposal to this member
+abbrev pub propose_to : Size → ℕ → Drawn Act
+propose_to size its_member = do
   its_question ← question size
   bit ← below 2
   pure (Propose its_member its_question (bit == 1))
+
+abbrev pub propose : Size → Drawn Act
+propose size = do
+  its_member ← member size
+  propose_to size its_member
 
 -- the act of a kind, 0 to 15
 unfoldable pub act_of_kind : Size → ℕ → Drawn Act

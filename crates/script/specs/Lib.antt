@@ -2,9 +2,11 @@ pub mod LineWords
 pub mod Lines
 pub mod Acts
 pub mod Drawing
+pub mod Fair
 pub mod Steps
 pub mod Orders
 pub mod Making
+pub mod FairLines
 pub mod Scripts
 pub mod Sources
 pub mod Words

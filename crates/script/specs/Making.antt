@@ -12,8 +12,9 @@ use Rattle.script.specs.LineWords.{words_of}
 use Rattle.script.specs.Acts.{Act, TossedAct}
 use Rattle.script.specs.Acts.Act.{Deliver}
 use Rattle.script.specs.Drawing.{drawn, tossed}
+use Rattle.script.specs.Fair.{Cast, Network, event}
 use Rattle.script.specs.Steps.{ScriptStep, SaysStep}
-use Rattle.script.specs.Steps.ScriptStep.{Once, Rounds, Random}
+use Rattle.script.specs.Steps.ScriptStep.{Once, Rounds, Random, Fair}
 
 -- the members below a number that don't lie, upwards
 abbrev pub correct_below : ℕ → List ℕ → List ℕ
@@ -57,11 +58,27 @@ abbrev pub draws : Size → ℕ → Made → Made
 draws size zero made = made
 draws size (suc k) made = draws size k (add_drawn size made)
 
+-- who takes part in a cluster of that size in which these members don't lie
+abbrev pub cast_of : Size → List ℕ → Cast
+cast_of size correct = record { size = size; liars = correct_below size.n correct; correct = correct }
+
+-- an event of a fair network more, where so many of the line are left, and the network behind it
+unfoldable pub add_fair : Cast → ℕ → Network → Made → Network × Made
+add_fair cast left network made =
+    let drawn = event cast left network made.stream in
+    (drawn.0.1, add drawn.0.0 (record { events = made.events; stream = drawn.1 }))
+
+-- so many events of a fair network more
+abbrev pub fairs : Cast → ℕ → Network → Made → Made
+fairs cast zero network made = made
+fairs cast (suc k) network made = fairs cast k (add_fair cast (suc k) network made).0 (add_fair cast (suc k) network made).1
+
 -- what there is behind a step, in a cluster of that size in which these members don't lie
 abbrev pub after_step : Size → List ℕ → ScriptStep → Made → Made
 after_step size correct (Once act) made = add act made
 after_step size correct (Rounds k) made = adds (times k (round correct)) made
 after_step size correct (Random k) made = draws size k made
+after_step size correct (Fair left network) made = fairs (cast_of size correct) left network made
 
 -- what there is behind these steps, in turn
 abbrev pub after_steps : Size → List ℕ → List ScriptStep → Made → Made
@@ -73,12 +90,14 @@ abbrev pub how_many : ℕ → ScriptStep → ℕ
 how_many members (Once act) = 1
 how_many members (Rounds k) = k * (members * members)
 how_many members (Random k) = k
+how_many members (Fair left network) = left
 
 -- in how many turns, at most, a step's events are made
 abbrev pub turns : ScriptStep → ℕ
 turns (Once act) = 1
 turns (Rounds k) = k
 turns (Random k) = k
+turns (Fair left network) = left
 
 -- there are no more events than may be
 abbrev pub AreFew : Made → Type 0

@@ -6,7 +6,7 @@ use Rattle.script.specs.declared.step.Order.TheVariants as order
 use Rattle.script.specs.declared.lines.Line.{Line}
 use Rattle.script.specs.Acts.{act_of}
 use Rattle.script.specs.Steps.{ScriptStep}
-use Rattle.script.specs.Steps.ScriptStep.{Once, Rounds, Random}
+use Rattle.script.specs.Steps.ScriptStep.{Once, Rounds, Random, Fair}
 use Rattle.script.specs.Making.{Made, after_steps}
 pub use Rattle.numerals.specs.Sentences.{texts}
 
@@ -15,6 +15,7 @@ abbrev pub order_step : Order → ScriptStep
 order_step (order.Once event) = Once (act_of event)
 order_step (order.Rounds count) = Rounds count
 order_step (order.Random count) = Random count
+order_step (order.Fair left network) = Fair left network
 
 -- what there is behind what these orders stand for
 abbrev pub made_by : Size → List ℕ → List Order → Made → Made

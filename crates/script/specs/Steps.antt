@@ -7,6 +7,7 @@ use Rattle.script.specs.declared.step.Verb.TheVariants as verb
 use Rattle.script.specs.LineWords.{IsMember, IsCount, IsLong, IsGroupSize, IsBit, IsWhich, IsFuse, ArePick}
 use Rattle.numerals.specs.Numbers.{IsHexOf}
 use Rattle.script.specs.Acts.{Act}
+use Rattle.script.specs.Fair.{Network, fresh}
 use Rattle.script.specs.Acts.Act.{Propose, Deliver, DeliverAll, Lie, Fuse, Crash, Restart, Reset}
 
 -- an act, or many
@@ -14,6 +15,7 @@ pub data ScriptStep : Type 0 where
   Once : (act : Act) → ScriptStep
   Rounds : (count : ℕ) → ScriptStep
   Random : (count : ℕ) → ScriptStep
+  Fair : (left : ℕ) → (network : Network) → ScriptStep
 
 -- the word that a line begins with
 abbrev pub verb_name : Verb → List ℕ
@@ -27,6 +29,7 @@ verb_name verb.Restart = codes "restart"
 verb_name verb.Reset = codes "reset"
 verb_name verb.Rounds = codes "rounds"
 verb_name verb.Random = codes "random"
+verb_name verb.Fair = codes "fair"
 
 -- one word, of this form
 pub record One {A : Type 0} (First : List ℕ → A → Type 0) (words : List (List ℕ)) (a : A) : Type 0 where
@@ -82,6 +85,8 @@ SaysBehind verb.Reset words step = (from : ℕ) × (to : ℕ) × Two IsMember Is
 SaysBehind verb.Rounds words step = (count : ℕ) × One IsLong words count × (step ≡ Rounds count)
 -- random K
 SaysBehind verb.Random words step = (count : ℕ) × One IsLong words count × (step ≡ Random count)
+-- fair K
+SaysBehind verb.Fair words step = (count : ℕ) × One IsLong words count × (step ≡ Fair count fresh)
 
 -- the words of a line say the step
 pub record SaysStep (words : List (List ℕ)) (step : ScriptStep) : Type 0 where

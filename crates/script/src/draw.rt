@@ -65,12 +65,22 @@ impl Draw {
 
     /// A word modulo this number.
     #[tactic(auto, unfolding(crate::specs::Drawing::below))]
-    fn below(&mut self, bound: u32) -> u32
+    pub fn below(&mut self, bound: u32) -> u32
         requires { 0 < bound }
         ensures value { (result, self.new) ≡ drawing.below bound self.old }
         ensures within { result < bound }
     {
         self.rng.next_word() % bound
+    }
+
+    /// A place among so many: a word modulo their number.
+    #[tactic(auto, unfolding(crate::specs::Drawing::below))]
+    pub fn place(&mut self, count: usize) -> usize
+        requires { 0 < count }
+        ensures value { (result, self.new) ≡ drawing.below count self.old }
+        ensures within { result < count }
+    {
+        self.rng.next_word() as usize % count
     }
 
     /// A member, or an origin.
@@ -149,7 +159,7 @@ impl Draw {
     }
 
     /// What a crash leaves.
-    fn pick(&mut self) -> Pick
+    pub fn pick(&mut self) -> Pick
         ensures { (result, self.new) ≡ drawing.pick self.old }
     {
         match self.below(PICKS) {
@@ -160,7 +170,7 @@ impl Draw {
     }
 
     /// A fuse of 0 to 6 calls, or none.
-    fn calls(&mut self) -> Option<u64>
+    pub fn calls(&mut self) -> Option<u64>
         ensures { (result, self.new) ≡ drawing.calls self.old }
     {
         match self.below(8) {
@@ -234,11 +244,10 @@ impl Draw {
         Event::Fuse { member, calls }
     }
 
-    /// A proposal.
-    fn propose(&mut self, size: Size) -> Event
-        ensures { (act_of result, self.new) ≡ drawing.propose size self.old }
+    /// A proposal to this member.
+    pub fn propose_to(&mut self, size: Size, member: u8) -> Event
+        ensures { (act_of result, self.new) ≡ drawing.propose_to size member self.old }
     {
-        let member = self.member(size);
         let question = self.question(size);
         let bit = self.below(2) == 1;
         Event::Propose {
@@ -249,12 +258,18 @@ impl Draw {
         }
     }
 
-    /// A statement of a liar, as a frame.
-    fn lie(&mut self, alloc: Global, size: Size) -> Result<Event, Memory>
-        ensures { IfOk result (λ event. (act_of event, self.new) ≡ drawing.lie size self.old) }
+    /// A proposal.
+    fn propose(&mut self, size: Size) -> Event
+        ensures { (act_of result, self.new) ≡ drawing.propose size self.old }
     {
-        let liar = self.member(size);
-        let to = self.member(size);
+        let member = self.member(size);
+        self.propose_to(size, member)
+    }
+
+    /// A statement of this liar to this member, as a frame.
+    pub fn lie_of(&mut self, alloc: Global, size: Size, liar: u8, to: u8) -> Result<Event, Memory>
+        ensures { IfOk result (λ event. (act_of event, self.new) ≡ drawing.lie_of size liar to self.old) }
+    {
         let statement = self.statement(size);
         let mut bytes = Vec::new(alloc);
         encode(&Message::Statement(statement), &mut bytes)?;
@@ -264,6 +279,15 @@ impl Draw {
             bytes,
             toss: UNDRAWN,
         })
+    }
+
+    /// A statement of a liar, as a frame.
+    fn lie(&mut self, alloc: Global, size: Size) -> Result<Event, Memory>
+        ensures { IfOk result (λ event. (act_of event, self.new) ≡ drawing.lie size self.old) }
+    {
+        let liar = self.member(size);
+        let to = self.member(size);
+        self.lie_of(alloc, size, liar, to)
     }
 
     /// An event of this kind, 0 to 15, of a cluster of this size.

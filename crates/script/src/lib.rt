@@ -2,8 +2,8 @@
 //!
 //! A script is lines of words, one space between two words. Empty lines and lines that begin with `#` are skipped.
 //! The first five others are `n N`, `t T`, `questions Q`, `liars ..` and `seed S`, in this order; behind them stand
-//! the events, of which `rounds K` and `random K` stand for many. The tosses of the coins, and what `random` draws,
-//! are words of ChaCha20 on the seed, so a script says all that happens.
+//! the events, of which `rounds K`, `random K` and `fair K` stand for many. The tosses of the coins, and what `random` and
+//! `fair` draw, are words of ChaCha20 on the seed, so a script says all that happens.
 #![tactic(auto)]
 
 ghost use Rattle.std.specs.Prelude.{◌≡◌, ◌≤◌, ◌⊎◌, length, IfOk, IfErr};
@@ -11,6 +11,7 @@ ghost use Rattle.script.specs.Making.{correct_below};
 ghost use Rattle.script.specs.Scripts.{IsScript, IsFirstFault};
 
 mod draw;
+mod fair;
 mod fault;
 mod head;
 pub mod laws;

@@ -6,9 +6,10 @@ ghost use Rattle.sim.specs.declared.events.Which.TheVariants.{Next};
 ghost use Rattle.script.specs.Acts.{act_of, tossed_act};
 ghost use Rattle.script.specs.Acts.Act.{Deliver};
 ghost use Rattle.script.specs.Orders.{order_step};
-ghost use Rattle.script.specs.Making.{Made, add, add_drawn, adds, draws, row, round, times, turns, after_step};
+ghost use Rattle.script.specs.Making.{Made, add, add_drawn, add_fair, adds, cast_of, draws, fairs, row, round, times, turns, after_step};
 
 use crate::draw::Draw;
+use crate::fair::{Fair, Members};
 use crate::fault::ScriptFault;
 use crate::step::Order;
 use sim::{Event, Which};
@@ -120,6 +121,43 @@ impl Making {
         Ok(())
     }
 
+    /// Adds an event of a fair network, where so many of its line are left.
+    #[tactic(auto, unfolding(crate::specs::Making::add_fair, crate::specs::Making::add))]
+    fn add_fair(
+        &mut self,
+        alloc: Global,
+        members: &Members,
+        left: u64,
+        fair: &mut Fair,
+    ) -> Result<(), ScriptFault>
+        ensures ok { OnOk result ((fair.new, self.new) ≡ add_fair members.now left fair.old self.old) }
+        ensures err { IfErr result (λ fault. fault ≡ ScriptFault.Memory) }
+    {
+        let mut event = fair.event(alloc, &mut self.draw, members, left)?;
+        self.draw.toss_into(&mut event);
+        self.events.push(event)?;
+        Ok(())
+    }
+
+    /// Adds some of so many events of a fair network, and tells how many are left.
+    fn add_fairs(
+        &mut self,
+        alloc: Global,
+        members: &Members,
+        left: u64,
+        fair: &mut Fair,
+    ) -> Result<u64, ScriptFault>
+        ensures ok { IfOk result (λ rest. fairs members.now rest fair.new self.new ≡ fairs members.now left fair.old self.old) }
+        ensures fewer { IfOk result (λ rest. (left ≡ 0) ⊎ (rest < left)) }
+        ensures err { IfErr result (λ fault. fault ≡ ScriptFault.Memory) }
+    {
+        let now = left.min(PIECE);
+        for number in 0..now {
+            self.add_fair(alloc, members, left - number, fair)?;
+        }
+        Ok(left - now)
+    }
+
     /// Adds one of so many rounds, and gives the order of those behind it. Without members there is nothing to add.
     fn order_round(&mut self, count: u64, members: &[u8]) -> Result<Order, ScriptFault>
         ensures ok { IfOk result (λ rest.
@@ -147,6 +185,25 @@ impl Making {
         let now = count.min(PIECE);
         self.add_all_drawn(alloc, size, now)?;
         Ok(Order::Random(count - now))
+    }
+
+    /// Adds some of so many events of a fair network, and gives the order of those behind them.
+    fn order_fair(
+        &mut self,
+        alloc: Global,
+        members: &Members,
+        left: u64,
+        fair: Fair,
+    ) -> Result<Order, ScriptFault>
+        ensures ok { IfOk result (λ rest.
+            (size : Size) (correct : List ℕ) → members.now ≡ cast_of size correct
+            → after_step size correct (order_step rest) self.new ≡ fairs members.now left fair self.old) }
+        ensures fewer { IfOk result (λ rest. (left ≡ 0) ⊎ (turns (order_step rest) < left)) }
+        ensures err { IfErr result (λ fault. fault ≡ ScriptFault.Memory) }
+    {
+        let mut fair = fair;
+        let rest = self.add_fairs(alloc, members, left, &mut fair)?;
+        Ok(Order::Fair(rest, fair))
     }
 
     /// Adds the event.
@@ -178,6 +235,10 @@ impl Making {
             Order::Once(event) => self.take_one(event),
             Order::Rounds(count) => self.order_round(count, correct),
             Order::Random(count) => self.order_drawn(alloc, size, count),
+            Order::Fair(left, fair) => {
+                let members = Members::of(alloc, size, correct)?;
+                self.order_fair(alloc, &members, left, fair)
+            }
         }
     }
 

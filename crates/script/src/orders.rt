@@ -45,6 +45,7 @@ fn with_order(have: u64, order: &Order, correct: &[u8]) -> Result<u64, ScriptFau
         Order::Once(_) => with_room(have, 1),
         Order::Rounds(count) => with_room(have, count.saturating_mul(links(correct))),
         Order::Random(count) => with_room(have, *count),
+        Order::Fair(left, _) => with_room(have, *left),
     }
 }
 

@@ -170,5 +170,6 @@ fn is_over(order: &Order) -> bool
         Order::Once(_) => false,
         Order::Rounds(count) => *count == 0,
         Order::Random(count) => *count == 0,
+        Order::Fair(left, _) => *left == 0,
     }
 }

@@ -8,6 +8,7 @@ ghost use Rattle.script.specs.declared.step.Verb.{Verb};
 ghost use Rattle.script.specs.Orders.{order_step, texts};
 
 use crate::draw::UNDRAWN;
+use crate::fair::Fair;
 use crate::values::{bit, fuse, group_size, which};
 use disk::Pick;
 use numerals::{byte, bytes, is, number, number8, number16};
@@ -38,10 +39,12 @@ pub enum Verb {
     Rounds,
     /// `random K`
     Random,
+    /// `fair K`
+    Fair,
 }
 
 /// What a line says, before tosses are drawn and lines that stand for many events are unrolled.
-#[derive(Debug, PartialEq, Eq, Drop)]
+#[derive(Drop)]
 pub enum Order {
     /// One event, whose toss isn't drawn yet.
     Once(Event),
@@ -49,6 +52,8 @@ pub enum Order {
     Rounds(u64),
     /// So many drawn events.
     Random(u64),
+    /// So many events of a fair network that are left, and what it has kept of those before.
+    Fair(u64, Fair),
 }
 
 /// What the words behind `propose` say.
@@ -192,6 +197,17 @@ fn reset(words: &[&[u8]]) -> Option<Order>
     }))
 }
 
+/// Reads the words behind `fair`.
+fn fair(alloc: Global, words: &[&[u8]]) -> Option<Order>
+    ensures some { IfSome result (λ order. SaysBehind Verb.Fair (texts words.now) (order_step order)) }
+    ensures exact { (step : ScriptStep) → SaysBehind Verb.Fair (texts words.now) step → MatchOption result ⊥ (λ order. order_step order ≡ step) }
+{
+    let [k] = words else {
+        return None;
+    };
+    Some(Order::Fair(number(k)?, Fair::new(alloc)))
+}
+
 /// The number that stands behind `rounds` or `random`.
 fn count(words: &[&[u8]]) -> Option<u64>
     ensures some { IfSome result (One IsLong (texts words.now)) }
@@ -223,6 +239,7 @@ impl Verb {
             "reset" => Some(Verb::Reset),
             "rounds" => Some(Verb::Rounds),
             "random" => Some(Verb::Random),
+            "fair" => Some(Verb::Fair),
             _ => None,
         }
     }
@@ -251,6 +268,7 @@ impl Order {
                 Some(count) => Ok(Some(Order::Random(count))),
                 None => Ok(None),
             },
+            Verb::Fair => Ok(fair(alloc, words)),
         }
     }
 
