@@ -489,7 +489,9 @@ class Member:
 
     def hear_one(self, batch: list[tuple], sender: int, statement: Statement, toss: int) -> None:
         kind, question, origin, step, value = statement
-        heard = self.heard.setdefault(question, Question())
+        heard = self.heard.get(question)
+        if heard is None:
+            heard = self.heard[question] = Question()
         place = heard.places.get((origin, step))
         if place is None:
             place = heard.places[(origin, step)] = Broadcast()
@@ -629,8 +631,11 @@ class Cluster:
         if verb == "propose" and int(rest[1]) >= self.script.questions:
             return False
         is_liar = [m in self.script.liars for m in members]
-        if verb == "lie" and is_liar != [True, False] or verb == "reset" and is_liar[1] or verb not in ("lie", "reset") and any(is_liar):
+        if verb != "reset" and is_liar != ([True, False] if verb == "lie" else [False] * named):
             return False
+        if verb == "reset":
+            self.begin_anew(members[0], members[1])
+            return True
         return self.act(verb, members, rest[named:], event.toss or 0)
 
     def act(self, verb: str, members: list[int], rest: list[str], toss: int) -> bool:
@@ -645,8 +650,6 @@ class Cluster:
             member.crash(rest)
         elif verb == "restart":
             return self.restart(member)
-        elif verb == "reset":
-            self.begin_anew(members[0], members[1])
         elif verb == "lie":
             return self.lie(members[0], member, bytes.fromhex(rest[0]), toss)
         else:
@@ -739,8 +742,9 @@ def scripts() -> Iterator[tuple[str, list[str]]]:
     yield "16 members, with five liars, and without one.", script((16, 5, 1), five, 12, *split(16, 1, five), "fair 5000")
     yield "", script((16, 5, 1), [], 13, *split(16, 1, []), "fair 8000")
     yield "", script((16, 5, 3), [0, 15], 14, *split(16, 3, [0, 15]), "fair 9000")
-    many = list(range(0, 63, 3))
-    yield "64 members, with 21 liars.", script((64, 21, 1), many, 15, *split(64, 1, many), "fair 60000")
+    few, many = list(range(0, 63, 9)), list(range(0, 63, 3))
+    yield "64 members, with seven liars, and with 21.", script((64, 21, 1), few, 5, *split(64, 1, few), "fair 55000")
+    yield "", script((64, 21, 1), many, 2, *split(64, 1, many), "fair 80000")
 
 
 def rows() -> Iterator[str]:
