@@ -1,0 +1,27 @@
+"""A client of a bracha cluster.
+
+Up to t of the n members lie, so a client believes what more than t of them say: of any t + 1 members one is correct, and
+a correct member tells only decisions that it has saved. That is proved; README.md says where.
+
+    from bracha import Cluster
+
+    with Cluster.open("client.toml") as cluster:
+        cluster.decide(7, True)          # proposes 1 for question 7 to every member, and gives the decision
+        cluster.ask(7)                   # the decision, or None while there is none
+        for decision in cluster.follow():
+            print(decision.question, decision.bit)
+
+`AsyncCluster` has the same methods for asyncio.
+"""
+
+from .asynchronous import AsyncCluster
+from .errors import BadSettings, BrachaError, NoSuchQuestion, Undecided, Unreachable
+from .reading import Reading
+from .replies import Answer, Decision, Status
+from .settings import Settings
+from .synchronous import Cluster
+
+__all__ = [
+    "Answer", "AsyncCluster", "BadSettings", "BrachaError", "Cluster", "Decision", "NoSuchQuestion", "Reading", "Settings", "Status",
+    "Undecided", "Unreachable",
+]
