@@ -15,7 +15,9 @@ set -euo pipefail
 
 # The package of the library: library_package LIBRARY FOLDER VERSION.
 library_package() {
-    local made=$2/libbracha-dev_${3}_$(dpkg --print-architecture).deb
+    local machine made
+    machine=$(dpkg --print-architecture)
+    made=$2/libbracha-dev_${3}_$machine.deb
     for file in include/bracha.h lib/libbracha.a lib/libbracha.so.0 lib/pkgconfig/bracha.pc; do
         install -D -m 644 "$1/$file" "$room/tree/usr/$file"
     done
@@ -28,7 +30,7 @@ Package: libbracha-dev
 Version: $3
 Section: libdevel
 Priority: optional
-Architecture: $(dpkg --print-architecture)
+Architecture: $machine
 Depends: libc6
 Installed-Size: $(du -sk "$room/tree" | cut -f 1)
 Maintainer: The Weltsakum maintainers <bracha@localhost>

@@ -121,14 +121,16 @@ c_tests() {
     done
 }
 
+crate=(--offline --locked -q --manifest-path bindings/rust/Cargo.toml)
+
+# crate COMMAND..: has cargo do it with the crate of bindings/rust.
+crate() { cargo "$1" "${crate[@]}" "${@:2}"; }
+
 rust_tests() {
-    local cargo=(cargo --offline -q)
-    cd bindings/rust
-    does 'the crate without std' "${cargo[@]}" build --no-default-features
-    says 'cargo test' 0 'test result: ok' "${cargo[@]}" test
-    does 'cargo doc' env RUSTDOCFLAGS=-Dwarnings "${cargo[@]}" doc --no-deps
-    does 'the examples' "${cargo[@]}" build --examples
-    cd "$top"
+    does 'the crate without std' crate build --no-default-features
+    says 'cargo test' 0 'test result: ok' crate test
+    does 'cargo doc' env RUSTDOCFLAGS=-Dwarnings cargo doc "${crate[@]}" --no-deps
+    does 'the examples' crate build --examples
     says 'first of Rust' 0 'as the frame 00080302000000010101' "$room/target/debug/examples/first"
     for seed in 1 2 3; do says "cluster $seed of Rust" 0 '16 questions decided alike' "$room/target/debug/examples/cluster" "$seed" 16; done
 }
@@ -140,7 +142,7 @@ python_tests() {
     for seed in 1 2; do says "cluster.py $seed" 0 '8 questions decided alike' "${python[@]}" bindings/python/examples/cluster.py "$seed" 8; done
     counts reference.py "${python[@]}" tests/library/reference.py
     cp -r bindings/python "$room/python"
-    if python3 -c 'import pip, setuptools' 2>/dev/null; then
+    if python3 -c 'import setuptools' && python3 -m pip --version >/dev/null; then
         does 'pip install' python3 -m pip install -q --no-index --no-build-isolation --no-deps --target "$room/site" "$room/python"
         does 'what pip installed' env -C "$room" PYTHONPATH="$room/site" python3 -c 'import bracha_core; bracha_core.Core((4, 1, 1), 0)'
     else
@@ -155,7 +157,7 @@ other_abi_tests() {
     says 'first with another interface' 1 "$said" env LD_PRELOAD="$other" "$room/first"
     if has python3; then says 'Python with another interface' 1 "$said" env BRACHA_LIBRARY="$other" python3 -c 'import bracha_core'; fi
     if has cargo; then
-        (cd bindings/rust && does 'first of Rust, dynamically' env BRACHA_LINK=dynamic CARGO_TARGET_DIR="$room/dynamic" cargo --offline -q build --example first)
+        does 'first.rs, dynamically' env BRACHA_LINK=dynamic CARGO_TARGET_DIR="$room/dynamic" cargo build "${crate[@]}" --example first
         says 'first of Rust, dynamically' 0 'as the frame' "$room/dynamic/debug/examples/first"
         says 'Rust with another interface' 1 'OtherAbi(2)' env LD_PRELOAD="$other" "$room/dynamic/debug/examples/first"
     fi

@@ -9,7 +9,7 @@
 #include <stdlib.h>
 #include <string.h>
 
-enum { N = 4, T = 1, LIAR = 3, RESTART = 2000 };
+enum { N = 4, T = 1, LIAR = 3, RESTART = 150 /* deliveries a question, after which member 1 is opened again */ };
 
 /* A statement on its way. */
 struct letter {
@@ -134,7 +134,7 @@ static size_t deliver(void) {
     int32_t status = bracha_core_hear(&it->core, one.from, one.statement, bracha_toss_next(&it->toss), records, &count);
     if (status < 0) fail("a statement is refused");
     save_then_send(one.to, records, count);
-    if (++heard == RESTART) restart();
+    if (++heard == (size_t)RESTART * questions) restart();
   }
   return heard;
 }

@@ -45,7 +45,7 @@ int main(void) {
     print_frame(records + BRACHA_RECORD * i);
   }
   printf("member 0 says the same again: %s\n", outcome(bracha_core_hear(&core, 0, initial, 0, records, &count)));
-  printf("member 2 says it in member 0's name: %s\n", outcome(bracha_core_hear(&core, 2, initial, 0, records, &count)));
+  printf("member 2 sends member 0's Initial: %s\n", outcome(bracha_core_hear(&core, 2, initial, 0, records, &count)));
   bracha_core_close(core);
 
   if (bracha_core_open(&core, 4, 1, 1, 1, journal, saved) != BRACHA_OK) return 1;

@@ -191,7 +191,9 @@ def record_of(line: str) -> bytes:
 def journal(where: str, file: bytes, wanted: list[str]) -> None:
     """Compares a file with what the reference's dump ends with and writes."""
     head = file[:24].ljust(24, b"\x00")
-    member = Member(int.from_bytes(head[8:16], "big"), Size(head[16], head[17], int.from_bytes(head[18:20], "big")), head[20])
+    n, t, questions, me = head[16], head[17], int.from_bytes(head[18:20], "big"), head[20]
+    is_member = me < n <= 64 and n > 3 * t and 1 <= questions <= 4096  # a file that names none is nobody's journal
+    member = Member(int.from_bytes(head[8:16], "big"), Size(n, t, questions), me) if is_member else Member(7, Size(4, 1, 1), 1)
     try:
         records, end = read_journal(member, file)
     except Fault as fault:

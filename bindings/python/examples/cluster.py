@@ -11,7 +11,8 @@ import sys
 
 from bracha_core import Answer, Core, Size, Toss, audit, statements
 
-LIAR, RESTART = 3, 2000
+LIAR = 3
+RESTART = 150  # deliveries a question, after which member 1 is opened again
 Letter = tuple[int, int, bytes]
 
 
@@ -74,7 +75,7 @@ def main() -> int:
         sender, to, statement = post.pop()
         post += members[to].hear(sender, statement)
         heard += 1
-        if heard == RESTART:
+        if heard == RESTART * questions:
             post = restarted(members, post, size)
     last = 0
     for question in range(questions):

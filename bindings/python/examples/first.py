@@ -15,7 +15,7 @@ print(f"member 0 says Initial One to member 1: {answer.outcome.name}, {len(answe
 for due in answer.save(journal.extend):
     print(f"  it is saved, so send to all the frame {statement_frame(due).hex()}")
 print(f"member 0 says the same again: {core.hear(0, initial).outcome.name}")
-print(f"member 2 says it in member 0's name: {core.hear(2, initial).outcome.name}")
+print(f"member 2 sends member 0's Initial: {core.hear(2, initial).outcome.name}")
 
 answer = Core(size, 1, bytes(journal)).hear(0, initial)
 print(f"after a restart from the journal, once more: {answer.outcome.name}, {len(answer.records) // 7} records, for the Echo was said")

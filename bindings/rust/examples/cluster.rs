@@ -8,8 +8,8 @@
 use bracha::{Answer, Core, Decision, Fault, Size, Statement, Statements, Toss, audit};
 
 const LIAR: u8 = 3;
-/// After so many deliveries member 1 is opened again.
-const RESTART: usize = 2000;
+/// After so many deliveries a question, member 1 is opened again.
+const RESTART: usize = 150;
 
 /// A statement on its way.
 struct Letter {
@@ -129,7 +129,7 @@ fn deliver(
         let said = members[letter.to as usize].hear(letter.from, &letter.statement)?;
         send(&mut post, letter.to, said);
         heard += 1;
-        if heard == RESTART {
+        if heard == RESTART * usize::from(size.questions) {
             restart(members, &mut post, size, seed)?;
         }
     }

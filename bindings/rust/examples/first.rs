@@ -23,7 +23,7 @@ fn main() -> Result<(), Fault> {
     }
 
     println!("member 0 says the same again: {:?}", core.hear(0, &initial, 0)?.outcome());
-    println!("member 2 says it in member 0's name: {:?}", core.hear(2, &initial, 0)?.outcome());
+    println!("member 2 sends member 0's Initial: {:?}", core.hear(2, &initial, 0)?.outcome());
 
     let mut again = Core::open(size, 1, &journal)?;
     let answer = again.hear(0, &initial, 0)?;

@@ -1,6 +1,6 @@
 //! Journals in files.
 
-use crate::journal::{Disk, Journal, JournalFault};
+use crate::journal::{Disk, Journal, JournalFault, Opened};
 use crate::statement::Member;
 use std::fs::{File, OpenOptions, TryLockError};
 use std::io;
@@ -63,7 +63,7 @@ impl Journal<File> {
     pub fn open_file(
         path: &Path,
         member: &Member,
-    ) -> Result<(Journal<File>, Vec<u8>), JournalFault<io::Error>> {
+    ) -> Result<Opened<File>, JournalFault<io::Error>> {
         let read = || {
             let file = OpenOptions::new().read(true).write(true).open(path)?;
             lock(&file)?;

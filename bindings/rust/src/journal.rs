@@ -69,6 +69,9 @@ impl<E: fmt::Display> fmt::Display for JournalFault<E> {
 
 impl<E: fmt::Debug + fmt::Display> core::error::Error for JournalFault<E> {}
 
+/// A journal, and the bytes of the records that it had when it was opened, seven each.
+pub type Opened<D> = (Journal<D>, Vec<u8>);
+
 /// The journal of one member, in the format of `bracha run`: [`append`](Journal::append) saves records as one batch, of which
 /// a crash leaves all or nothing.
 ///
@@ -133,7 +136,7 @@ impl<D: Disk> Journal<D> {
         disk: D,
         member: &Member,
         file: &[u8],
-    ) -> Result<(Journal<D>, Vec<u8>), JournalFault<D::Error>> {
+    ) -> Result<Opened<D>, JournalFault<D::Error>> {
         let (records, end) = records_of(member, file)?;
         Ok((Journal { disk, end: end as u64, stopped: false, batch: Vec::new() }, records))
     }

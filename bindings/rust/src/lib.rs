@@ -58,7 +58,7 @@ pub use frames::{
     FRAME_ROOM, Feeder, Hello, IDLE, Message, idle_frame, statement_frame, statements_frame,
     welcome_frame,
 };
-pub use journal::{Disk, Journal, JournalFault};
+pub use journal::{Disk, Journal, JournalFault, Opened};
 pub use machine::{Answer, Core, Outcome, audit};
 pub use statement::{Decision, Member, RECORD, Size, Statement, Statements, decisions};
 pub use toss::Toss;
