@@ -141,12 +141,11 @@ python_tests() {
     says 'first.py' 0 'so send to all the frame 00080302000000010101' "${python[@]}" bindings/python/examples/first.py
     for seed in 1 2; do says "cluster.py $seed" 0 '8 questions decided alike' "${python[@]}" bindings/python/examples/cluster.py "$seed" 8; done
     counts reference.py "${python[@]}" tests/library/reference.py
-    cp -r bindings/python "$room/python"
-    if python3 -c 'import setuptools' && python3 -m pip --version >/dev/null; then
-        does 'pip install' python3 -m pip install -q --no-index --no-build-isolation --no-deps --target "$room/site" "$room/python"
+    if python3 -m pip --version >/dev/null 2>&1; then
+        does 'pip install' python3 -m pip install -q --disable-pip-version-check --no-index --no-deps --target "$room/site" bindings/python
         does 'what pip installed' env -C "$room" PYTHONPATH="$room/site" python3 -c 'import bracha_core; bracha_core.Core((4, 1, 1), 0)'
     else
-        has 'pip and setuptools' || true
+        has 'pip of python3' || true
     fi
 }
 
@@ -165,11 +164,11 @@ other_abi_tests() {
 
 # Starts the fuzzer, which ends after 20 seconds.
 start_fuzzer() {
-    local from=(-g -O1 -I"$out/include" tests/library/fuzz.c "$out/lib/libbracha.a")
+    local from=(-g -O2 -I"$out/include" tests/library/fuzz.c "$out/lib/libbracha.a")
     mkdir "$room/corpus"
     if command -v clang >/dev/null && clang -fsanitize=fuzzer,address "${from[@]}" -o "$room/fuzz" 2>"$room/fuzz-build"; then
-        "$room/fuzz" -max_total_time=20 -seed=1 -len_control=0 -max_len=4096 -timeout=30 -artifact_prefix="$room/" -print_final_stats=1 \
-            "$room/corpus" >"$room/fuzz-said" 2>&1 &
+        ASAN_OPTIONS=quarantine_size_mb=4 "$room/fuzz" -max_total_time=20 -seed=1 -len_control=0 -max_len=4096 -timeout=60 \
+            -artifact_prefix="$room/" -print_final_stats=1 "$room/corpus" >"$room/fuzz-said" 2>&1 &
     else
         echo 'clang has no libFuzzer: fuzz.c makes the bytes itself'
         "${CC:-cc}" -fsanitize=address -DALONE "${from[@]}" -o "$room/fuzz" && "$room/fuzz" 20 1 >"$room/fuzz-said" 2>&1 &
