@@ -139,8 +139,8 @@ bool bracha_core_verdict(bracha_core *core, uint16_t question, bracha_decision *
  * themselves proof that the question has this answer, in a cluster of this size. Somebody who took no part can check a decision so;
  * it proves only what was really sent.
  *
- * Returns 1 if they are, 0 if they aren't, or a refusal: of the size, BRACHA_BAD_RECORDS (not a multiple of 8 bytes),
- * BRACHA_BAD_STATEMENT, BRACHA_NO_SUCH_QUESTION, BRACHA_NO_SUCH_MEMBER (a sender or an origin) or BRACHA_MEMORY. */
+ * Returns 1 if they are, and 0 if they aren't: also if there is no such question, or a sender or an origin isn't below n. Otherwise a
+ * refusal: of the size; BRACHA_BAD_STATEMENT if the bytes aren't whole pairs of a sender and a statement; or BRACHA_MEMORY. */
 int32_t bracha_audit(uint8_t n, uint8_t t, uint16_t questions, uint16_t question, bool bit, const uint8_t *pairs, size_t len);
 
 /* ---- frames: what `bracha run` speaks over TCP ---- */

@@ -229,8 +229,9 @@ static void audit_chance(void) {
   for (size_t i = 0; i + 8 <= len && byte() % 2; i += 8)
     if (saved_len) memcpy(bytes + i + 1, saved + 7 * (word() % (saved_len / 7)), 7);
   int32_t status = bracha_audit(n, t, questions, question, byte() % 2, put(1, bytes, len), len);
-  CHECK(status == 0 || status == 1 || is_size_fault(status) || (status <= BRACHA_NO_SUCH_QUESTION && status >= BRACHA_BAD_RECORDS));
+  CHECK(status == 0 || status == 1 || status == BRACHA_BAD_STATEMENT || (len % 8 && status == BRACHA_BAD_RECORDS));
   CHECK(len % 8 == 0 || status < 0);
+  CHECK(question < questions || status != 1);
 }
 
 /* ---- frames and feeders ---- */

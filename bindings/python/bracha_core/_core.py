@@ -152,7 +152,8 @@ class Core(Handle):
 
 def audit(cluster: Size, question: int, bit: int | bool, pairs: Iterable[tuple[int, bytes]]) -> bool:
     """Checks whether pairs of a sender and a statement that it sent are by themselves proof that the question has this answer. It
-    proves only what was really sent. Fault: of the size, BAD_STATEMENT, NO_SUCH_QUESTION, NO_SUCH_MEMBER, MEMORY."""
+    proves only what was really sent; it is no proof if a sender, an origin or the question doesn't exist. Fault: of the size,
+    BAD_STATEMENT, MEMORY; NO_SUCH_QUESTION and NO_SUCH_MEMBER only for numbers that have no room in two bytes or one."""
     within(question, 65535, Status.NO_SUCH_QUESTION)
     rows = []
     for sender, statement in pairs:

@@ -108,8 +108,9 @@ class Cores(unittest.TestCase):
         self.assertEqual(bracha.decisions(records), [(0, Decision(1, 1))])
         self.assertEqual([bracha.audit(ONE, 0, bit, heard) for bit in (0, 1)], [False, True])
         self.assertFalse(bracha.audit(ONE, 0, 1, heard[:3]))
-        self.refuses(Status.NO_SUCH_QUESTION, bracha.audit, ONE, 1, 1, heard)
-        self.refuses(Status.NO_SUCH_MEMBER, bracha.audit, ONE, 0, 1, [(1, INITIAL)])
+        self.assertFalse(bracha.audit(ONE, 1, 1, heard))  # there is no such question
+        self.assertFalse(bracha.audit(ONE, 0, 1, [(1, statement) for _, statement in heard]))  # there is no such member
+        self.refuses(Status.NO_SUCH_MEMBER, bracha.audit, ONE, 0, 1, [(256, INITIAL)])
         self.refuses(Status.BAD_STATEMENT, bracha.audit, ONE, 0, 1, [(0, INITIAL[:3])])
         self.assertEqual(Core(ONE, 0, records).verdict(0), Decision(1, 1))
 

@@ -199,7 +199,7 @@ impl Drop for Core {
 }
 
 /// Checks whether pairs of eight bytes, a sender and a statement that it sent, are by themselves proof that the question has
-/// this answer. It proves only what was really sent.
+/// this answer. It proves only what was really sent; it is no proof if a sender, an origin or the question doesn't exist.
 ///
 /// ```
 /// # use bracha::{Size, audit};
@@ -209,8 +209,7 @@ impl Drop for Core {
 ///
 /// # Errors
 ///
-/// [`Fault::OtherAbi`], an error of the size, [`Fault::BadStatement`], [`Fault::NoSuchQuestion`], [`Fault::NoSuchMember`],
-/// [`Fault::Memory`].
+/// [`Fault::OtherAbi`], an error of the size, [`Fault::BadStatement`], [`Fault::Memory`].
 pub fn audit(size: Size, question: u16, bit: bool, pairs: &[[u8; 8]]) -> Result<bool, Fault> {
     check_abi()?;
     let Size { n, t, questions } = size;

@@ -115,8 +115,12 @@ fn what_was_heard_proves_the_decision() {
     assert_eq!(audit(ONE, 0, true, &heard), Ok(true));
     assert_eq!(audit(ONE, 0, false, &heard), Ok(false));
     assert_eq!(audit(ONE, 0, true, &heard[1..3]), Ok(false));
-    assert_eq!(audit(ONE, 1, true, &heard), Err(Fault::NoSuchQuestion));
-    assert_eq!(audit(ONE, 0, true, &[[1, 1, 0, 0, 0, 1, 1, 1]]), Err(Fault::NoSuchMember));
+    assert_eq!(audit(ONE, 1, true, &heard), Ok(false)); // there is no such question
+    let others: Vec<[u8; 8]> = heard
+        .iter()
+        .map(|pair| [1, pair[1], pair[2], pair[3], pair[4], pair[5], pair[6], pair[7]])
+        .collect();
+    assert_eq!(audit(ONE, 0, true, &others), Ok(false)); // there is no such member
     assert_eq!(audit(ONE, 0, true, &[[0, 9, 0, 0, 0, 1, 1, 1]]), Err(Fault::BadStatement));
     let mut again = Core::open(ONE, 0, &records).unwrap();
     assert_eq!(again.verdict(0), Some(Decision { round: 1, bit: true }));
