@@ -107,9 +107,11 @@ impl Member {
     fn open(settings: Settings, create: bool) -> Result<Member, Failed> {
         let path = Path::new(&settings.journal);
         if create {
-            drop(Journal::create_file(path, &settings.member)?);
+            let created = Journal::create_file(path, &settings.member);
+            created.map_err(|fault| format!("{}: {fault}", path.display()))?;
         }
-        let (journal, records) = Journal::open_file(path, &settings.member)?;
+        let opened = Journal::open_file(path, &settings.member);
+        let (journal, records) = opened.map_err(|fault| format!("{}: {fault}", path.display()))?;
         let size = settings.member.size;
         let core = Core::open(size, settings.member.me, &records)?;
         let outbox = Statements::of(&records).collect();
@@ -189,10 +191,11 @@ impl Member {
     }
 }
 
-/// Ends the process if the member can't go on: its journal failed, memory ran out, or it has forgotten what it said.
+/// Ends the process if the member can't go on: its journal failed, memory ran out, it has forgotten what it said, or it never
+/// could start.
 fn need<T>(done: Result<T, Failed>) -> T {
     done.unwrap_or_else(|fault| {
-        eprintln!("member: stopped: {fault}");
+        eprintln!("member: {fault}");
         std::process::exit(1)
     })
 }
@@ -461,19 +464,30 @@ fn start() -> Result<&'static Member, Failed> {
     Ok(Box::leak(Box::new(member))) // it lives as long as the process
 }
 
-fn main() -> Result<(), Failed> {
+/// Takes the other members' links, each on a thread of its own.
+fn accept(member: &'static Member, listener: &TcpListener) {
+    for stream in listener.incoming() {
+        match stream {
+            Ok(stream) => drop(thread::spawn(move || read_link(member, stream))),
+            Err(_) => thread::sleep(Duration::from_millis(100)), // too many files are open, say
+        }
+    }
+}
+
+fn run() -> Result<(), Failed> {
     let member = start()?;
     let own = usize::from(member.me());
-    let listener = TcpListener::bind(member.settings.peers[own])?;
-    thread::spawn(move || {
-        for stream in listener.incoming().flatten() {
-            thread::spawn(move || read_link(member, stream));
-        }
-    });
+    let address = member.settings.peers[own];
+    let listener = TcpListener::bind(address).map_err(|fault| format!("{address}: {fault}"))?;
+    thread::spawn(move || accept(member, &listener));
     for peer in (0..member.settings.member.size.n).filter(|peer| *peer != member.me()) {
         thread::spawn(move || keep_link(member, peer));
     }
     println!("member {own} ready");
     let asked = take_proposals(member);
     await_decisions(member, &asked)
+}
+
+fn main() {
+    need(run());
 }

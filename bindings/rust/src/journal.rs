@@ -59,7 +59,7 @@ impl<E> From<Fault> for JournalFault<E> {
 impl<E: fmt::Display> fmt::Display for JournalFault<E> {
     fn fmt(&self, f: &mut fmt::Formatter<'_>) -> fmt::Result {
         match self {
-            JournalFault::Disk(error) => write!(f, "the journal's disk failed: {error}"),
+            JournalFault::Disk(error) => write!(f, "the journal can't be opened or written: {error}"),
             JournalFault::Library(fault) => write!(f, "journal: {fault}"),
             JournalFault::Stopped => f.write_str("the journal's disk failed before"),
             JournalFault::Full => f.write_str("the journal is full"),
