@@ -1,6 +1,7 @@
-/* cluster [SEED [QUESTIONS]]: four members in one process. Every statement is delivered in a random order, member 3 lies to each other
- * member in another way, and member 1 is closed in mid-run and opened again from its saved records. It ends with status 0 if the three
- * correct members decided every question alike.
+/* cluster [SEED [QUESTIONS]]: four members in one process. Every statement is delivered in a random
+ * order, member 3 lies to each other member in another way, and member 1 is closed in mid-run and
+ * opened again from its saved records. It ends with status 0 if the three correct members decided
+ * every question alike.
  *
  *     cc cluster.c $(pkg-config --cflags --libs bracha) -o cluster && ./cluster 1 16
  */
@@ -9,7 +10,12 @@
 #include <stdlib.h>
 #include <string.h>
 
-enum { N = 4, T = 1, LIAR = 3, RESTART = 150 /* deliveries a question, after which member 1 is opened again */ };
+enum {
+  N = 4,
+  T = 1,
+  LIAR = 3,
+  RESTART = 150 /* deliveries a question, after which member 1 is opened again */
+};
 
 /* A statement on its way. */
 struct letter {
@@ -44,7 +50,8 @@ static void *grow(void *old, size_t *room, size_t wanted) {
   return grown;
 }
 
-/* Random numbers of the network (splitmix64): they decide nothing but the order. A member's tosses are bracha_toss_next's. */
+/* Random numbers of the network (splitmix64): they decide nothing but the order. A member's tosses
+ * are bracha_toss_next's. */
 static uint64_t draw(void) {
   uint64_t z = (network += 0x9e3779b97f4a7c15u);
   z = (z ^ (z >> 30)) * 0xbf58476d1ce4e5b9u;
@@ -64,7 +71,8 @@ static void open_member(uint8_t me) {
   struct member *it = &members[me];
   uint8_t seed[32] = {me}; /* a real seed is drawn from the system, and nobody else knows it */
   const uint8_t *records = it->saved ? it->journal : (const uint8_t *)"";
-  if (bracha_core_open(&it->core, N, T, questions, me, records, it->saved) != BRACHA_OK) fail("a member can't be opened");
+  if (bracha_core_open(&it->core, N, T, questions, me, records, it->saved) != BRACHA_OK)
+    fail("a member can't be opened");
   if (bracha_toss_open(&it->toss, seed, it->saved / BRACHA_RECORD) != BRACHA_OK) fail("no memory");
 }
 
@@ -73,7 +81,8 @@ static void close_member(uint8_t me) {
   bracha_toss_close(members[me].toss);
 }
 
-/* Saves the records, and then sends the statements among them to the three correct members, the sender included. */
+/* Saves the records, and then sends the statements among them to the three correct members, the
+ * sender included. */
 static void save_then_send(uint8_t me, const uint8_t *records, size_t count) {
   struct member *it = &members[me];
   size_t len = BRACHA_RECORD * count;
@@ -89,29 +98,35 @@ static void propose(uint8_t me, uint16_t question) {
   size_t count;
   bool bit = (me + question) % 2;
   uint64_t toss = bracha_toss_next(&members[me].toss);
-  if (bracha_core_propose(&members[me].core, question, bit, toss, records, &count) != BRACHA_OK) fail("a proposal is refused");
+  if (bracha_core_propose(&members[me].core, question, bit, toss, records, &count) != BRACHA_OK)
+    fail("a proposal is refused");
   save_then_send(me, records, count);
 }
 
-/* The lies of member 3 in a round and step: its Initial, and Echos and Readys of all, with a value of its own for each receiver. */
+/* The lies of member 3 in a round and step: its Initial, and Echos and Readys of all, with a value
+ * of its own for each receiver. */
 static void lie(uint16_t question, uint8_t to, uint8_t round, uint8_t step) {
   for (uint8_t kind = 1; kind <= 3; kind++)
     for (uint8_t origin = kind == 1 ? LIAR : 0; origin < N; origin++) {
       uint8_t value = (uint8_t)(step == 3 ? 2 + draw() % 3 : draw() % 2);
-      uint8_t said[BRACHA_RECORD] = {kind, (uint8_t)(question >> 8), (uint8_t)question, origin, round, step, value};
+      uint8_t said[BRACHA_RECORD] = {
+          kind, (uint8_t)(question >> 8), (uint8_t)question, origin, round, step, value};
       send_to(LIAR, to, said);
     }
 }
 
 static void lie_to_all(uint16_t question) {
   for (uint8_t to = 0; to < LIAR; to++)
-    for (uint8_t at = 0; at < 12; at++) lie(question, to, (uint8_t)(1 + at / 3), (uint8_t)(1 + at % 3));
+    for (uint8_t at = 0; at < 12; at++)
+      lie(question, to, (uint8_t)(1 + at / 3), (uint8_t)(1 + at % 3));
 }
 
-/* Opens member 1 again. What was on its way to it is lost, and it has heard nothing: each member says all to it once more. */
+/* Opens member 1 again. What was on its way to it is lost, and it has heard nothing: each member
+ * says all to it once more. */
 static void restart(void) {
   size_t left = 0;
-  printf("member 1 is closed, and opened again from its %zu saved records\n", members[1].saved / BRACHA_RECORD);
+  printf("member 1 is closed, and opened again from its %zu saved records\n",
+         members[1].saved / BRACHA_RECORD);
   close_member(1);
   open_member(1);
   for (size_t i = 0; i < posted; i++)
@@ -131,7 +146,8 @@ static size_t deliver(void) {
     struct letter one = post[at];
     post[at] = post[--posted];
     struct member *it = &members[one.to];
-    int32_t status = bracha_core_hear(&it->core, one.from, one.statement, bracha_toss_next(&it->toss), records, &count);
+    int32_t status = bracha_core_hear(&it->core, one.from, one.statement,
+                                      bracha_toss_next(&it->toss), records, &count);
     if (status < 0) fail("a statement is refused");
     save_then_send(one.to, records, count);
     if (++heard == (size_t)RESTART * questions) restart();
@@ -139,7 +155,8 @@ static size_t deliver(void) {
   return heard;
 }
 
-/* Prints what was decided on a question. Returns whether all three decided, and alike; `*last` is the greatest round. */
+/* Prints what was decided on a question. Returns whether all three decided, and alike; `*last` is
+ * the greatest round. */
 static bool show(uint16_t question, uint8_t *last) {
   bracha_decision all[LIAR];
   for (uint8_t me = 0; me < LIAR; me++) {
@@ -149,7 +166,8 @@ static bool show(uint16_t question, uint8_t *last) {
     }
     if (all[me].round > *last) *last = all[me].round;
   }
-  printf("question %d: bit %d, decided in rounds %d, %d, %d\n", question, all[0].bit, all[0].round, all[1].round, all[2].round);
+  printf("question %d: bit %d, decided in rounds %d, %d, %d\n", question, all[0].bit, all[0].round,
+         all[1].round, all[2].round);
   return all[0].bit == all[1].bit && all[1].bit == all[2].bit;
 }
 
@@ -166,7 +184,9 @@ int main(int argc, char **argv) {
   }
   size_t heard = deliver();
   for (uint16_t q = 0; q < questions; q++) alike = show(q, &last) && alike;
-  if (alike) printf("heard %zu statements; %d questions decided alike, the last in round %d\n", heard, questions, last);
+  if (alike)
+    printf("heard %zu statements; %d questions decided alike, the last in round %d\n", heard,
+           questions, last);
   for (uint8_t me = 0; me < LIAR; me++) {
     close_member(me);
     free(members[me].journal);

@@ -31,12 +31,14 @@ int main(void) {
   size_t count, saved;
 
   if (bracha_abi() != BRACHA_ABI) {
-    fprintf(stderr, "first: the library has interface %" PRIu32 ", and this program wants %u\n", bracha_abi(), BRACHA_ABI);
+    fprintf(stderr, "first: the library has interface %" PRIu32 ", and this program wants %u\n",
+            bracha_abi(), BRACHA_ABI);
     return 1;
   }
   if (bracha_core_open(&core, 4, 1, 1, 1, (const uint8_t *)"", 0) != BRACHA_OK) return 1;
   int32_t status = bracha_core_hear(&core, 0, initial, 0, records, &count);
-  printf("member 0 says Initial One to member 1: %s, %zu record to be saved\n", outcome(status), count);
+  printf("member 0 says Initial One to member 1: %s, %zu record to be saved\n", outcome(status),
+         count);
 
   saved = BRACHA_RECORD * count;
   memcpy(journal, records, saved); /* a real member writes to its disk here, and syncs */
@@ -44,13 +46,16 @@ int main(void) {
     printf("  it is saved, so send to all the frame ");
     print_frame(records + BRACHA_RECORD * i);
   }
-  printf("member 0 says the same again: %s\n", outcome(bracha_core_hear(&core, 0, initial, 0, records, &count)));
-  printf("member 2 sends member 0's Initial: %s\n", outcome(bracha_core_hear(&core, 2, initial, 0, records, &count)));
+  printf("member 0 says the same again: %s\n",
+         outcome(bracha_core_hear(&core, 0, initial, 0, records, &count)));
+  printf("member 2 sends member 0's Initial: %s\n",
+         outcome(bracha_core_hear(&core, 2, initial, 0, records, &count)));
   bracha_core_close(core);
 
   if (bracha_core_open(&core, 4, 1, 1, 1, journal, saved) != BRACHA_OK) return 1;
   status = bracha_core_hear(&core, 0, initial, 0, records, &count);
-  printf("after a restart from the journal, once more: %s, %zu records, for the Echo was said\n", outcome(status), count);
+  printf("after a restart from the journal, once more: %s, %zu records, for the Echo was said\n",
+         outcome(status), count);
   bracha_core_close(core);
   return 0;
 }

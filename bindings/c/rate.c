@@ -1,5 +1,6 @@
-/* rate [SECONDS]: how many events a second a core takes on this machine, and how much memory it has. It first has four members agree on
- * 256 questions and keeps what member 0 heard; then it opens member 0 again and again, and has it hear the same.
+/* rate [SECONDS]: how many events a second a core takes on this machine, and how much memory it
+ * has. It first has four members agree on 256 questions and keeps what member 0 heard; then it
+ * opens member 0 again and again, and has it hear the same.
  *
  *     cc -O2 rate.c $(pkg-config --cflags --libs bracha) -o rate && ./rate 3
  */
@@ -36,7 +37,8 @@ static size_t used(void) { return mallinfo2().uordblks + mallinfo2().hblkhd; }
 
 static bracha_core opened(uint8_t me) {
   bracha_core core;
-  if (bracha_core_open(&core, N, T, QUESTIONS, me, (const uint8_t *)"", 0) != BRACHA_OK) fail("no core");
+  if (bracha_core_open(&core, N, T, QUESTIONS, me, (const uint8_t *)"", 0) != BRACHA_OK)
+    fail("no core");
   return core;
 }
 
@@ -62,13 +64,15 @@ static void agree(void) {
   for (uint8_t me = 0; me < N; me++) {
     cores[me] = opened(me);
     for (uint16_t q = 0; q < QUESTIONS; q++) {
-      if (bracha_core_propose(&cores[me], q, q % 2, 0, records, &count) != BRACHA_OK) fail("a proposal is refused");
+      if (bracha_core_propose(&cores[me], q, q % 2, 0, records, &count) != BRACHA_OK)
+        fail("a proposal is refused");
       send_all(me, records, count);
     }
   }
   for (size_t at = 0; at < posted; at++) {
     struct letter one = post[at];
-    if (bracha_core_hear(&cores[one.to], one.from, one.statement, 0, records, &count) < 0) fail("a statement is refused");
+    if (bracha_core_hear(&cores[one.to], one.from, one.statement, 0, records, &count) < 0)
+      fail("a statement is refused");
     send_all(one.to, records, count);
   }
   for (uint8_t me = 0; me < N; me++) bracha_core_close(cores[me]);
@@ -89,9 +93,11 @@ static double run(size_t events, size_t *memory) {
   bracha_core core = opened(0);
   double began = now();
   for (uint16_t q = 0; q < QUESTIONS; q++)
-    if (bracha_core_propose(&core, q, q % 2, 0, records, &count) != BRACHA_OK) fail("a proposal is refused");
+    if (bracha_core_propose(&core, q, q % 2, 0, records, &count) != BRACHA_OK)
+      fail("a proposal is refused");
   for (size_t at = 0; at < events; at++)
-    if (bracha_core_hear(&core, post[at].from, post[at].statement, 0, records, &count) < 0) fail("a statement is refused");
+    if (bracha_core_hear(&core, post[at].from, post[at].statement, 0, records, &count) < 0)
+      fail("a statement is refused");
   double took = now() - began;
   *memory = used() - before;
   bracha_core_close(core);
@@ -108,8 +114,8 @@ int main(int argc, char **argv) {
     double took = run(events, &memory);
     if (took < best) best = took;
   } while (now() < until);
-  printf("%zu events on %d questions: %.1f million a second, %zu KB with all of it heard\n", events + QUESTIONS, QUESTIONS,
-         (double)(events + QUESTIONS) / best / 1e6, memory / 1024);
+  printf("%zu events on %d questions: %.1f million a second, %zu KB with all of it heard\n",
+         events + QUESTIONS, QUESTIONS, (double)(events + QUESTIONS) / best / 1e6, memory / 1024);
   free(post);
   return 0;
 }

@@ -1,5 +1,6 @@
-//! Finds the library of `include/bracha.h`: in the folder BRACHA_LIBRARY_DIR, else where pkg-config says, else where the
-//! linker looks. It is linked statically if the folder has `libbracha.a`, unless BRACHA_LINK is `dynamic`.
+//! Finds the library of `include/bracha.h`: in the folder BRACHA_LIBRARY_DIR, else where pkg-config
+//! says, else where the linker looks. It is linked statically if the folder has `libbracha.a`,
+//! unless BRACHA_LINK is `dynamic`.
 
 use std::path::Path;
 use std::process::Command;

@@ -1,8 +1,11 @@
-/* Has every function of include/bracha.h called with bytes of chance, and checks what the header says of each answer.
+/* Has every function of include/bracha.h called with bytes of chance, and checks what the header
+ * says of each answer.
  *
- * With clang: -fsanitize=fuzzer,address, and libFuzzer makes the bytes. Else -DALONE -fsanitize=address: `fuzz SECONDS SEED` makes them
- * itself. The library isn't compiled with the sanitizer, so every buffer that it reads or writes ends at a page that can't be touched:
- * a byte too many is a fault of the system, whoever touches it. What is wrong is named on standard error, and the program aborts. */
+ * With clang: -fsanitize=fuzzer,address, and libFuzzer makes the bytes. Else -DALONE
+ * -fsanitize=address: `fuzz SECONDS SEED` makes them itself. The library isn't compiled with the
+ * sanitizer, so every buffer that it reads or writes ends at a page that can't be touched: a byte
+ * too many is a fault of the system, whoever touches it. What is wrong is named on standard error,
+ * and the program aborts. */
 #define _DEFAULT_SOURCE
 #include "bracha.h"
 #include <stdio.h>
@@ -25,7 +28,8 @@ static uint8_t *ends[ARENAS];
 
 static void make_arenas(void) {
   for (int i = 0; i < ARENAS && !ends[i]; i++) {
-    uint8_t *at = mmap(NULL, ARENA + PAGE, PROT_READ | PROT_WRITE, MAP_PRIVATE | MAP_ANONYMOUS, -1, 0);
+    uint8_t *at =
+        mmap(NULL, ARENA + PAGE, PROT_READ | PROT_WRITE, MAP_PRIVATE | MAP_ANONYMOUS, -1, 0);
     CHECK(at != MAP_FAILED);
     CHECK(mprotect(at + ARENA, PAGE, PROT_NONE) == 0);
     ends[i] = at + ARENA;
@@ -40,9 +44,7 @@ static const uint8_t *put(int arena, const void *bytes, size_t len) {
 }
 
 /* Returns room of so many bytes before such a page, each of them 0xa5. */
-static uint8_t *room_of(int arena, size_t len) {
-  return memset(ends[arena] - len, 0xa5, len);
-}
+static uint8_t *room_of(int arena, size_t len) { return memset(ends[arena] - len, 0xa5, len); }
 
 static bool is_untouched(const uint8_t *at, size_t len) {
   for (size_t i = 0; i < len; i++)
@@ -81,9 +83,13 @@ static bracha_core core;
 static bool is_open;
 static int verdicts[256];
 
-static bool is_size_fault(int32_t status) { return status <= BRACHA_NO_MEMBERS && status >= BRACHA_TOO_MANY_QUESTIONS; }
+static bool is_size_fault(int32_t status) {
+  return status <= BRACHA_NO_MEMBERS && status >= BRACHA_TOO_MANY_QUESTIONS;
+}
 
-static bool is_size(void) { return n >= 1 && n <= 64 && n > 3 * t && questions >= 1 && questions <= 4096; }
+static bool is_size(void) {
+  return n >= 1 && n <= 64 && n > 3 * t && questions >= 1 && questions <= 4096;
+}
 
 static bool is_member(uint8_t it) { return it < n; }
 
@@ -143,7 +149,8 @@ static void hear(uint8_t from, const uint8_t statement[7]) {
   int32_t status = bracha_core_hear(&core, from, put(1, statement, 7), word(), records, &count);
   bool is_statement = bracha_encode_statement(statement, frame) == BRACHA_OK;
   CHECK((status == BRACHA_BAD_STATEMENT) == !is_statement);
-  CHECK(status >= 0 || status == BRACHA_BAD_STATEMENT || status == BRACHA_NO_SUCH_QUESTION || status == BRACHA_NO_SUCH_MEMBER);
+  CHECK(status >= 0 || status == BRACHA_BAD_STATEMENT || status == BRACHA_NO_SUCH_QUESTION ||
+        status == BRACHA_NO_SUCH_MEMBER);
   if (is_statement) {
     bool is_question = (statement[1] << 8 | statement[2]) < questions;
     CHECK((status >= 0) == (is_question && is_member(from) && is_member(statement[3])));
@@ -157,7 +164,8 @@ static void propose(uint16_t question, bool bit) {
   uint8_t *records = room_of(2, BRACHA_ROOM);
   int32_t status = bracha_core_propose(&core, question, bit, word(), records, &count);
   CHECK((status == BRACHA_NO_SUCH_QUESTION) == (question >= questions));
-  CHECK(question >= questions || status == BRACHA_OK || status == BRACHA_HAVE_ZERO || status == BRACHA_HAVE_ONE);
+  CHECK(question >= questions || status == BRACHA_OK || status == BRACHA_HAVE_ZERO ||
+        status == BRACHA_HAVE_ONE);
   save(status, records, count);
 }
 
@@ -229,7 +237,8 @@ static void audit_chance(void) {
   for (size_t i = 0; i + 8 <= len && byte() % 2; i += 8)
     if (saved_len) memcpy(bytes + i + 1, saved + 7 * (word() % (saved_len / 7)), 7);
   int32_t status = bracha_audit(n, t, questions, question, byte() % 2, put(1, bytes, len), len);
-  CHECK(status == 0 || status == 1 || status == BRACHA_BAD_STATEMENT || (len % 8 && status == BRACHA_BAD_RECORDS));
+  CHECK(status == 0 || status == 1 || status == BRACHA_BAD_STATEMENT ||
+        (len % 8 && status == BRACHA_BAD_RECORDS));
   CHECK(len % 8 == 0 || status < 0);
   CHECK(question < questions || status != 1);
 }
@@ -238,8 +247,10 @@ static void audit_chance(void) {
 
 enum { MOST_STREAM = 4096 };
 
-/* Feeds the bytes in chunks of chance, and writes the messages, each its type, its count and its body. */
-static size_t feed_all(const uint8_t *stream, size_t len, size_t chunk, uint8_t *told, int32_t *end) {
+/* Feeds the bytes in chunks of chance, and writes the messages, each its type, its count and its
+ * body. */
+static size_t feed_all(const uint8_t *stream, size_t len, size_t chunk, uint8_t *told,
+                       int32_t *end) {
   bracha_feeder feeder;
   uint8_t body[BRACHA_ROOM];
   size_t written = 0, count;
@@ -249,10 +260,12 @@ static size_t feed_all(const uint8_t *stream, size_t len, size_t chunk, uint8_t 
     *end = bracha_feeder_feed(&feeder, put(1, stream + at, now), now);
     CHECK(*end == BRACHA_OK || *end == BRACHA_BROKEN);
     int32_t kind;
-    while ((kind = bracha_feeder_next(&feeder, room_of(2, BRACHA_ROOM), &count)) != BRACHA_NOTHING) {
+    while ((kind = bracha_feeder_next(&feeder, room_of(2, BRACHA_ROOM), &count)) !=
+           BRACHA_NOTHING) {
       memcpy(body, ends[2] - BRACHA_ROOM, BRACHA_ROOM);
       size_t size = kind == BRACHA_HELLO ? 15 : kind == BRACHA_WELCOME ? 8 : 7 * count;
-      CHECK(kind >= 0 && kind <= 3 && (kind == BRACHA_STATEMENTS ? count >= 1 && count <= 99 : count == 0));
+      CHECK(kind >= 0 && kind <= 3 &&
+            (kind == BRACHA_STATEMENTS ? count >= 1 && count <= 99 : count == 0));
       CHECK(is_untouched(body + size, BRACHA_ROOM - size));
       told[written++] = (uint8_t)kind;
       told[written++] = (uint8_t)count;
@@ -272,22 +285,32 @@ static size_t append_frame(uint8_t *stream) {
   size_t written = 0, len;
   uint64_t number = word();
   switch (byte() % 6) {
-  case 0: bracha_encode_idle(frame = room_of(3, BRACHA_FRAME_IDLE)); written = BRACHA_FRAME_IDLE; break;
-  case 1: bracha_encode_welcome(number, frame = room_of(3, BRACHA_FRAME_WELCOME)); written = BRACHA_FRAME_WELCOME; break;
+  case 0:
+    bracha_encode_idle(frame = room_of(3, BRACHA_FRAME_IDLE));
+    written = BRACHA_FRAME_IDLE;
+    break;
+  case 1:
+    bracha_encode_welcome(number, frame = room_of(3, BRACHA_FRAME_WELCOME));
+    written = BRACHA_FRAME_WELCOME;
+    break;
   case 2: {
     uint8_t version = (uint8_t)(byte() % 4), from = byte(), to = (uint8_t)(byte() % n);
     if (byte() % 8) from = (uint8_t)(from % n);
-    int32_t status = bracha_encode_hello(version, number, n, t, questions, from, to, frame = room_of(3, BRACHA_FRAME_HELLO));
+    int32_t status = bracha_encode_hello(version, number, n, t, questions, from, to,
+                                         frame = room_of(3, BRACHA_FRAME_HELLO));
     CHECK((status == BRACHA_OK) == ((version == 1 || version == 2) && from < n));
     CHECK(status == BRACHA_OK || is_untouched(frame, BRACHA_FRAME_HELLO));
     written = status == BRACHA_OK ? BRACHA_FRAME_HELLO : 0;
     break;
   }
-  case 3: case 4: {
+  case 3:
+  case 4: {
     len = 7 * (byte() % 13);
     for (size_t i = 0; i < len; i += 7) {
-      if (saved_len && byte() % 8) memcpy(bytes + i, saved + 7 * (word() % (saved_len / 7)), 7);
-      else for (int k = 0; k < 7; k++) bytes[i + (size_t)k] = byte();
+      if (saved_len && byte() % 8)
+        memcpy(bytes + i, saved + 7 * (word() % (saved_len / 7)), 7);
+      else
+        for (int k = 0; k < 7; k++) bytes[i + (size_t)k] = byte();
     }
     if (byte() % 16 == 0 && len) len--;
     int32_t status = bracha_encode_statements(put(1, bytes, len), len, frame, &written);
@@ -304,10 +327,12 @@ static size_t append_frame(uint8_t *stream) {
 
 /* A feeder gives the same, however the stream is cut. */
 static void feed_chance(void) {
-  static uint8_t stream[MOST_STREAM + BRACHA_FRAME_ROOM], one[4 * MOST_STREAM], other[4 * MOST_STREAM];
+  static uint8_t stream[MOST_STREAM + BRACHA_FRAME_ROOM], one[4 * MOST_STREAM],
+      other[4 * MOST_STREAM];
   size_t len = 0;
   int32_t end = 0, other_end = 0;
-  for (int frames = byte() % 12; frames > 0 && len < MOST_STREAM; frames--) len += append_frame(stream + len);
+  for (int frames = byte() % 12; frames > 0 && len < MOST_STREAM; frames--)
+    len += append_frame(stream + len);
   if (byte() % 4 == 0 && len) stream[word() % len] = byte();
   size_t told = feed_all(stream, len, len ? len : 1, one, &end);
   size_t other_told = feed_all(stream, len, (size_t)(1 + byte() % 20), other, &other_end);
@@ -316,30 +341,37 @@ static void feed_chance(void) {
 
 /* ---- the journal's bytes ---- */
 
-static void read_batches(const uint8_t *file, size_t len, uint64_t cluster, const uint8_t *wanted, size_t wanted_len) {
+static void read_batches(const uint8_t *file, size_t len, uint64_t cluster, const uint8_t *wanted,
+                         size_t wanted_len) {
   size_t written = 9, end = 9, room = len / 6 * 7;
   uint8_t *records = room_of(2, room);
   const uint8_t *at = put(1, file, len);
-  int32_t status = bracha_batch_read(cluster, n, t, questions, me, at, len, records, room, &written, &end);
+  int32_t status =
+      bracha_batch_read(cluster, n, t, questions, me, at, len, records, room, &written, &end);
   CHECK(status <= 0 && status != BRACHA_NO_ROOM);
-  if (wanted) CHECK(status == BRACHA_OK && written == wanted_len && memcmp(records, wanted, written) == 0);
+  if (wanted)
+    CHECK(status == BRACHA_OK && written == wanted_len && memcmp(records, wanted, written) == 0);
   if (status != BRACHA_OK) return;
   CHECK(written % 7 == 0 && written <= room && end >= 24 && end < len);
   CHECK(is_untouched(records + written, room - written));
   if (!written) return;
   size_t need = 0, less = word() % written;
-  status = bracha_batch_read(cluster, n, t, questions, me, at, len, room_of(2, less), less, &need, &end);
+  status =
+      bracha_batch_read(cluster, n, t, questions, me, at, len, room_of(2, less), less, &need, &end);
   CHECK(status == BRACHA_NO_ROOM && need == written);
-  status = bracha_batch_read(cluster, n, t, questions, me, at, len, room_of(2, need), need, &written, &end);
+  status = bracha_batch_read(cluster, n, t, questions, me, at, len, room_of(2, need), need,
+                             &written, &end);
   CHECK(status == BRACHA_OK && need == written);
 }
 
-/* Makes a file of the member's records, in batches, as a program does, and reads it back: whole, torn and changed. */
+/* Makes a file of the member's records, in batches, as a program does, and reads it back: whole,
+ * torn and changed. */
 static void journal_chance(void) {
   static uint8_t file[64 + 6 * MOST_SAVED];
   uint64_t cluster = word();
   size_t end = BRACHA_JOURNAL_HEAD - 1, at = 0, written = 0;
-  CHECK(bracha_batch_head(cluster, n, t, questions, me, room_of(3, BRACHA_JOURNAL_HEAD)) == BRACHA_OK);
+  CHECK(bracha_batch_head(cluster, n, t, questions, me, room_of(3, BRACHA_JOURNAL_HEAD)) ==
+        BRACHA_OK);
   memcpy(file, ends[3] - BRACHA_JOURNAL_HEAD, BRACHA_JOURNAL_HEAD);
   read_batches(file, end + 1, cluster, saved, 0);
   while (at < saved_len && at < 7 * 600) {
@@ -347,10 +379,13 @@ static void journal_chance(void) {
     if (len > saved_len - at) len = saved_len - at;
     size_t need = BRACHA_BATCH_BYTES(len / 7);
     uint8_t *bytes = room_of(3, need - 1);
-    CHECK(bracha_batch_encode(put(1, saved + at, len), len, bytes, need - 1, &written) == BRACHA_NO_ROOM && written == need);
+    CHECK(bracha_batch_encode(put(1, saved + at, len), len, bytes, need - 1, &written) ==
+              BRACHA_NO_ROOM &&
+          written == need);
     CHECK(is_untouched(bytes, need - 1));
     bytes = room_of(3, need);
-    CHECK(bracha_batch_encode(put(1, saved + at, len), len, bytes, need, &written) == BRACHA_OK && written == need);
+    CHECK(bracha_batch_encode(put(1, saved + at, len), len, bytes, need, &written) == BRACHA_OK &&
+          written == need);
     memcpy(file + end, bytes, need);
     CHECK(file[end] == 0);
     read_batches(file, end + need, cluster, saved, at); /* the gate is closed: as before */
@@ -408,7 +443,8 @@ static void sizes_chance(void) {
 /* ---- one run ---- */
 
 static void begin(void) {
-  static const uint8_t sizes[][2] = {{1, 0}, {4, 1}, {4, 1}, {5, 1}, {7, 2}, {3, 0}, {10, 3}, {64, 21}};
+  static const uint8_t sizes[][2] = {{1, 0}, {4, 1}, {4, 1},  {5, 1},
+                                     {7, 2}, {3, 0}, {10, 3}, {64, 21}};
   const uint8_t *size = sizes[byte() % 8];
   n = size[0], t = size[1], me = (uint8_t)(byte() % n);
   questions = byte() % 16 ? (uint16_t)(1 + byte() % 4) : 4096;
@@ -428,9 +464,17 @@ static void step(void) {
   case 6: sizes_chance(); break;
   case 7: reopen(); break;
   case 8: check_verdicts(); break;
-  case 9: case 10: propose((uint16_t)(byte() % 8), byte() % 2); break;
-  case 11: case 12: case 13: case 14: hear_own(); break;
-  case 15: case 16: case 17: case 18: case 19: hear_chance(); break;
+  case 9:
+  case 10: propose((uint16_t)(byte() % 8), byte() % 2); break;
+  case 11:
+  case 12:
+  case 13:
+  case 14: hear_own(); break;
+  case 15:
+  case 16:
+  case 17:
+  case 18:
+  case 19: hear_chance(); break;
   default: hear_echo();
   }
 }

@@ -1,6 +1,7 @@
-/* Refuses memory: each request that the library makes, one after another, on the same 400 events and the same other calls. The answer
- * must be BRACHA_MEMORY, and what the header says must stand after it. It counts the requests in this process: its malloc and realloc
- * stand before the C library's. Prints what it did; the status is 1 if something isn't so. */
+/* Refuses memory: each request that the library makes, one after another, on the same 400 events
+ * and the same other calls. The answer must be BRACHA_MEMORY, and what the header says must stand
+ * after it. It counts the requests in this process: its malloc and realloc stand before the C
+ * library's. Prints what it did; the status is 1 if something isn't so. */
 #define _GNU_SOURCE
 #include "bracha.h"
 #include <stdio.h>
@@ -103,8 +104,9 @@ static int32_t tell(bracha_core *core, size_t heard) {
   size_t count;
   for (size_t at = 0; at < QUESTIONS + heard; at++) {
     const struct letter *one = &post[at - (at < QUESTIONS ? at : QUESTIONS)];
-    int32_t status = at < QUESTIONS ? bracha_core_propose(core, (uint16_t)at, at % 2, 0, records, &count)
-                                    : bracha_core_hear(core, one->from, one->statement, 0, records, &count);
+    int32_t status = at < QUESTIONS
+                         ? bracha_core_propose(core, (uint16_t)at, at % 2, 0, records, &count)
+                         : bracha_core_hear(core, one->from, one->statement, 0, records, &count);
     CHECK(status == BRACHA_OK || count == 0);
     if (status < 0) return status;
     save(records, count);
@@ -112,14 +114,16 @@ static int32_t tell(bracha_core *core, size_t heard) {
   return BRACHA_OK;
 }
 
-/* A core that was refused memory has failed; one that is opened with what it saved goes on, and decides. */
+/* A core that was refused memory has failed; one that is opened with what it saved goes on, and
+ * decides. */
 static void go_on(bracha_core core, size_t heard) {
   uint8_t records[BRACHA_ROOM];
   size_t count;
   bracha_decision decision;
   grant_all();
   CHECK(bracha_core_propose(&core, 0, true, 0, records, &count) == BRACHA_FAILED && count == 0);
-  CHECK(bracha_core_hear(&core, 0, post[0].statement, 0, records, &count) == BRACHA_FAILED && count == 0);
+  CHECK(bracha_core_hear(&core, 0, post[0].statement, 0, records, &count) == BRACHA_FAILED &&
+        count == 0);
   bracha_core_close(core);
   core = opened(0, saved, saved_len);
   int32_t status = tell(&core, heard);
@@ -156,7 +160,9 @@ static long refuse_core(size_t heard) {
   }
   bracha_core_close(core);
   CHECK(opens > 0 && later > 0);
-  printf("a core: %ld requests refused in turn, %ld of them when it was opened and %ld at an event\n", at, opens, later);
+  printf(
+      "a core: %ld requests refused in turn, %ld of them when it was opened and %ld at an event\n",
+      at, opens, later);
   return at;
 }
 
@@ -176,8 +182,10 @@ static void refuse_records(size_t heard) {
     status = bracha_core_open(&core, N, T, QUESTIONS, 0, saved, saved_len);
     grant_all();
     CHECK(status == BRACHA_OK || status == BRACHA_MEMORY);
-    if (status == BRACHA_OK) bracha_core_close(core);
-    else opens++;
+    if (status == BRACHA_OK)
+      bracha_core_close(core);
+    else
+      opens++;
   }
   for (int32_t status = BRACHA_MEMORY; status == BRACHA_MEMORY;) {
     grant(audits);
@@ -187,7 +195,8 @@ static void refuse_records(size_t heard) {
     audits += status == BRACHA_MEMORY;
   }
   CHECK(opens > 0 && audits > 0);
-  printf("opening with %zu records: %ld requests refused in turn; an audit: %ld\n", saved_len / BRACHA_RECORD, opens, audits);
+  printf("opening with %zu records: %ld requests refused in turn; an audit: %ld\n",
+         saved_len / BRACHA_RECORD, opens, audits);
 }
 
 /* ---- feeders, tosses, journals ---- */
@@ -196,7 +205,8 @@ static size_t make_stream(uint8_t *stream, size_t heard) {
   size_t len = 0, written;
   uint8_t frame[BRACHA_FRAME_ROOM], some[BRACHA_ROOM];
   for (size_t at = 0; at + 3 < heard && at < 60; at += 3) {
-    for (size_t i = 0; i < 3; i++) memcpy(some + BRACHA_RECORD * i, post[at + i].statement, BRACHA_RECORD);
+    for (size_t i = 0; i < 3; i++)
+      memcpy(some + BRACHA_RECORD * i, post[at + i].statement, BRACHA_RECORD);
     CHECK(bracha_encode_statements(some, 3 * BRACHA_RECORD, frame, &written) == BRACHA_OK);
     memcpy(stream + len, frame, written);
     len += written;
@@ -254,7 +264,9 @@ static void refuse_feeder(size_t heard) {
     bracha_feeder_close(feeder);
   }
   CHECK(feeds > 0);
-  printf("a feeder: %ld requests refused in turn, %ld of them when it was opened and %ld when it was fed\n", at - 1, opens, feeds);
+  printf("a feeder: %ld requests refused in turn, %ld of them when it was opened and %ld when it "
+         "was fed\n",
+         at - 1, opens, feeds);
 }
 
 static void refuse_toss(void) {
@@ -266,13 +278,16 @@ static void refuse_toss(void) {
     status = bracha_toss_open(&toss, seed, 5);
     grant_all();
     CHECK(status == BRACHA_OK || (status == BRACHA_MEMORY && was_refused));
-    if (status == BRACHA_OK) bracha_toss_close(toss);
-    else at++;
+    if (status == BRACHA_OK)
+      bracha_toss_close(toss);
+    else
+      at++;
   }
   printf("tosses: %ld requests refused in turn\n", at);
 }
 
-/* Encoding and reading a journal may want memory; if it is refused, the same call is good afterwards. */
+/* Encoding and reading a journal may want memory; if it is refused, the same call is good
+ * afterwards. */
 static void refuse_journal(void) {
   static uint8_t file[64 + 6 * MOST], records[BRACHA_RECORD * MOST];
   size_t written = 0, end = 0;
@@ -289,13 +304,15 @@ static void refuse_journal(void) {
   file[24] = 1;
   for (int32_t status = BRACHA_MEMORY; status == BRACHA_MEMORY;) {
     grant(reads);
-    status = bracha_batch_read(7, N, T, QUESTIONS, 0, file, len, records, sizeof records, &written, &end);
+    status = bracha_batch_read(7, N, T, QUESTIONS, 0, file, len, records, sizeof records, &written,
+                               &end);
     grant_all();
     CHECK(status == BRACHA_OK || (status == BRACHA_MEMORY && was_refused));
     reads += status == BRACHA_MEMORY;
   }
   CHECK(written == saved_len && memcmp(records, saved, saved_len) == 0 && end == len - 1);
-  printf("a journal of %zu records: encoding it %ld requests refused in turn, reading it %ld\n", written / BRACHA_RECORD, encodes, reads);
+  printf("a journal of %zu records: encoding it %ld requests refused in turn, reading it %ld\n",
+         written / BRACHA_RECORD, encodes, reads);
 }
 
 int main(void) {

@@ -1,5 +1,6 @@
-//! cluster [SEED [QUESTIONS]]: four members in one process. Every statement is delivered in a random order, member 3 lies to
-//! each other member in another way, and member 1 is closed in mid-run and opened again from its saved records.
+//! cluster [SEED [QUESTIONS]]: four members in one process. Every statement is delivered in a
+//! random order, member 3 lies to each other member in another way, and member 1 is closed in
+//! mid-run and opened again from its saved records.
 //!
 //!     BRACHA_LIBRARY_DIR=FOLDER cargo run --release --example cluster 1 16
 //!
@@ -79,8 +80,8 @@ fn send(post: &mut Vec<Letter>, from: u8, said: Vec<Statement>) {
     }
 }
 
-/// All lies of member 3 on a question: in four rounds its Initials, and Echos and Readys of all places, with a value of its
-/// own for each receiver.
+/// All lies of member 3 on a question: in four rounds its Initials, and Echos and Readys of all
+/// places, with a value of its own for each receiver.
 fn lie(post: &mut Vec<Letter>, draw: &mut Draw, question: u16) {
     let [high, low] = question.to_be_bytes();
     for (to, round, step) in
@@ -96,7 +97,8 @@ fn lie(post: &mut Vec<Letter>, draw: &mut Draw, question: u16) {
     }
 }
 
-/// Opens member 1 again. What was on its way to it is lost, and it has heard nothing: each member says all to it once more.
+/// Opens member 1 again. What was on its way to it is lost, and it has heard nothing: each member
+/// says all to it once more.
 fn restart(
     members: &mut [Member],
     post: &mut Vec<Letter>,
@@ -136,7 +138,8 @@ fn deliver(
     Ok(heard)
 }
 
-/// Prints what was decided on a question. Returns the round of the last of the three, if they decided alike.
+/// Prints what was decided on a question. Returns the round of the last of the three, if they
+/// decided alike.
 fn show(members: &mut [Member], question: u16) -> Option<u8> {
     let decisions: Vec<Option<Decision>> =
         members.iter_mut().map(|member| member.core.verdict(question)).collect();

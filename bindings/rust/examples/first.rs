@@ -28,7 +28,7 @@ fn main() -> Result<(), Fault> {
     let mut again = Core::open(size, 1, &journal)?;
     let answer = again.hear(0, &initial, 0)?;
     println!(
-        "after a restart from the journal, member 0 says it once more: {:?}, {} records, for the Echo was said",
+        "after a restart from the journal, once more: {:?}, {} records, for the Echo was said",
         answer.outcome(),
         answer.records().len() / 7
     );

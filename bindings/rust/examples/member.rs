@@ -1,18 +1,21 @@
-//! member [--create] [--wire 1] SETTINGS: one member of a cluster, built from the library alone. It decides together with
-//! processes of `bracha run`, over TCP, with its own journal and the settings that `bracha new-cluster` wrote:
+//! member [--create] [--wire 1] SETTINGS: one member of a cluster, built from the library alone. It
+//! decides together with processes of `bracha run`, over TCP, with its own journal and the settings
+//! that `bracha new-cluster` wrote:
 //!
 //!     bracha new-cluster --n 4 --t 1 --questions 64 --cluster 7 mine && cd mine
 //!     for m in 0 1 2; do bracha init member-$m.toml; bracha run --stay member-$m.toml & done
 //!     cargo run --example member -- --create member-3.toml
-//!     0 1                                 # proposes bit 1 for question 0; the others: bracha propose ADDRESS 0 1
+//!     0 1                       # proposes 1 for question 0; the others: bracha propose ADDRESS 0 1
 //!
-//! `--create` makes a new journal first; without it the member goes on with the one that is there, also with one of `bracha
-//! run`. `--wire 1` speaks version 1 of the wire alone. Once standard input has ended, the member ends as soon as each question that
-//! was proposed to it is decided, with status 0; or after 60 seconds, with status 1.
+//! `--create` makes a new journal first; without it the member goes on with the one that is there,
+//! also with one of `bracha run`. `--wire 1` speaks version 1 of the wire alone. Once standard
+//! input has ended, the member ends as soon as each question that was proposed to it is decided,
+//! with status 0; or after 60 seconds, with status 1.
 //!
-//! The order, for each event: hear, save and sync (`Member::settle`), then send (writers see only what `settle` has put into
-//! the outbox). docs/FORMATS.md has the sessions of links. Three things that `bracha run` does are left out here: it listens before it speaks, it paces members
-//! that run ahead, and it answers clients.
+//! The order, for each event: hear, save and sync (`Member::settle`), then send (writers see only
+//! what `settle` has put into the outbox). docs/FORMATS.md has the sessions of links. Three things
+//! that `bracha run` does are left out here: it listens before it speaks, it paces members that run
+//! ahead, and it answers clients.
 
 use bracha::{
     Core, FRAME_ROOM, Fault, Feeder, Hello, IDLE, Journal, Message, Outcome, Size, Statement,
@@ -116,7 +119,8 @@ impl Member {
         let core = Core::open(size, settings.member.me, &records)?;
         let outbox = Statements::of(&records).collect();
         let members = usize::from(size.n);
-        let life = 256 * (records.len() as u64 / 7); // so each life and each link has a stream of its own
+        // Each life and each link has a stream of its own.
+        let life = 256 * (records.len() as u64 / 7);
         let links = (0..u64::from(size.n))
             .map(|peer| Toss::open(&settings.seed, life + peer).map(Mutex::new));
         let links = links.collect::<Result<Vec<_>, _>>()?;
@@ -133,8 +137,8 @@ impl Member {
         self.settings.member.me
     }
 
-    /// Saves the records and only then puts their statements into the outbox; hears them itself, which may bring more
-    /// records, until none are due.
+    /// Saves the records and only then puts their statements into the outbox; hears them itself,
+    /// which may bring more records, until none are due.
     fn settle(
         &self,
         state: &mut State,
@@ -191,8 +195,8 @@ impl Member {
     }
 }
 
-/// Ends the process if the member can't go on: its journal failed, memory ran out, it has forgotten what it said, or it never
-/// could start.
+/// Ends the process if the member can't go on: its journal failed, memory ran out, it has forgotten
+/// what it said, or it never could start.
 fn need<T>(done: Result<T, Failed>) -> T {
     done.unwrap_or_else(|fault| {
         eprintln!("member: {fault}");
@@ -342,7 +346,8 @@ fn open_session(member: &Member, stream: &mut TcpStream, peer: u8, version: u8) 
     })
 }
 
-/// Stops a member of which more than t peers have heard more than its journal holds: it has forgotten what it said.
+/// Stops a member of which more than t peers have heard more than its journal holds: it has
+/// forgotten what it said.
 fn note_ahead(member: &Member, peer: u8, next: u64) {
     let mut state = member.state();
     let is_ahead = next > state.outbox.len() as u64;
@@ -355,7 +360,8 @@ fn note_ahead(member: &Member, peer: u8, next: u64) {
     }
 }
 
-/// Sends what the outbox has from a number on, and what it gets; an Idle after a second without anything.
+/// Sends what the outbox has from a number on, and what it gets; an Idle after a second without
+/// anything.
 fn write_statements(
     member: &Member,
     stream: &mut TcpStream,
@@ -374,7 +380,8 @@ fn write_statements(
     }
 }
 
-/// Returns the statements from a number on, at most so many, or none if there are none after a second.
+/// Returns the statements from a number on, at most so many, or none if there are none after a
+/// second.
 fn wait_for(member: &Member, at: usize, most: usize) -> Vec<Statement> {
     let state = member.state();
     let (state, _) = member
@@ -394,7 +401,8 @@ fn frame_of(due: &[Statement]) -> Result<Vec<u8>, Fault> {
     Ok(frame[..length].to_vec())
 }
 
-/// Keeps a link to a peer: redials at most once a second. A peer that closes before its Welcome may not know the version.
+/// Keeps a link to a peer: redials at most once a second. A peer that closes before its Welcome may
+/// not know the version.
 fn keep_link(member: &Member, peer: u8) {
     let mut version = member.settings.wire;
     loop {
@@ -432,7 +440,8 @@ fn take_proposals(member: &Member) -> Vec<u16> {
     asked
 }
 
-/// Waits at most a minute until all these questions are decided, and then a second, so that the peers hear of it.
+/// Waits at most a minute until all these questions are decided, and then a second, so that the
+/// peers hear of it.
 fn await_decisions(member: &Member, asked: &[u16]) -> Result<(), Failed> {
     let until = Instant::now() + Duration::from_secs(60);
     while !asked.iter().all(|question| member.state().core.verdict(*question).is_some()) {

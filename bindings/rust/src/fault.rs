@@ -8,9 +8,10 @@ pub const ABI: u32 = 1;
 
 /// An error of the library.
 ///
-/// After all of them the value that was called is as before, with two exceptions: a [`Core`](crate::Core) that answered
-/// [`Fault::Memory`] to an event answers [`Fault::Failed`] from then on, and a [`Feeder`](crate::Feeder) that answered
-/// [`Fault::Broken`] answers that from then on.
+/// After all of them the value that was called is as before, with two exceptions: a
+/// [`Core`](crate::Core) that answered [`Fault::Memory`] to an event answers [`Fault::Failed`] from
+/// then on, and a [`Feeder`](crate::Feeder) that answered [`Fault::Broken`] answers that from then
+/// on.
 #[derive(Clone, Copy, Debug, PartialEq, Eq, Hash)]
 #[non_exhaustive]
 pub enum Fault {
@@ -20,7 +21,8 @@ pub enum Fault {
     NoSuchMember,
     /// An allocation failed.
     Memory,
-    /// An earlier event met [`Fault::Memory`]. A core that is opened with the saved records goes on.
+    /// An earlier event met [`Fault::Memory`]. A core that is opened with the saved records goes
+    /// on.
     Failed,
     /// The bytes are no statement.
     BadStatement,
@@ -95,7 +97,8 @@ impl fmt::Display for Fault {
 
 impl core::error::Error for Fault {}
 
-/// Checks that the library has the interface of this crate. Each value checks that before its first other call.
+/// Checks that the library has the interface of this crate. Each value checks that before its first
+/// other call.
 pub(crate) fn check_abi() -> Result<(), Fault> {
     // SAFETY: this call has had the same form in every version of the library.
     match unsafe { sys::bracha_abi() } {

@@ -29,12 +29,14 @@ fn lock(file: &File) -> io::Result<()> {
 }
 
 impl Journal<File> {
-    /// Creates the journal of a new member in a file that isn't there yet, as `bracha init` does, and syncs the file and its
-    /// folder. Only ever create it once: a member whose journal is lost must not run again.
+    /// Creates the journal of a new member in a file that isn't there yet, as `bracha init` does,
+    /// and syncs the file and its folder. Only ever create it once: a member whose journal is lost
+    /// must not run again.
     ///
     /// # Errors
     ///
-    /// [`JournalFault::Disk`] if there is a file already, or a call of the system failed; [`JournalFault::Library`].
+    /// [`JournalFault::Disk`] if there is a file already, or a call of the system failed;
+    /// [`JournalFault::Library`].
     pub fn create_file(
         path: &Path,
         member: &Member,
@@ -53,13 +55,13 @@ impl Journal<File> {
         Ok(journal)
     }
 
-    /// Opens the journal of a member that ran before, and returns its records with it. It also opens one that `bracha init`
-    /// or `bracha run` left.
+    /// Opens the journal of a member that ran before, and returns its records with it. It also
+    /// opens one that `bracha init` or `bracha run` left.
     ///
     /// # Errors
     ///
-    /// [`JournalFault::Disk`] if there is no file, another process has it, or a call of the system failed;
-    /// [`JournalFault::Library`], as in [`open`](Journal::open).
+    /// [`JournalFault::Disk`] if there is no file, another process has it, or a call of the system
+    /// failed; [`JournalFault::Library`], as in [`open`](Journal::open).
     pub fn open_file(
         path: &Path,
         member: &Member,

@@ -32,7 +32,8 @@ impl Hello {
     ///
     /// # Errors
     ///
-    /// [`Fault::OtherAbi`], an error of the size, [`Fault::NoSuchMember`], [`Fault::BadStatement`] for another version.
+    /// [`Fault::OtherAbi`], an error of the size, [`Fault::NoSuchMember`], [`Fault::BadStatement`]
+    /// for another version.
     pub fn frame(&self) -> Result<[u8; 18], Fault> {
         check_abi()?;
         let mut frame = [0; 18];
@@ -79,8 +80,8 @@ pub fn idle_frame() -> Result<[u8; 3], Fault> {
     Ok(frame)
 }
 
-/// Returns the frame of a Welcome, the reply to a Hello: how many statements of that link this member has heard since it was
-/// opened.
+/// Returns the frame of a Welcome, the reply to a Hello: how many statements of that link this
+/// member has heard since it was opened.
 ///
 /// # Errors
 ///
@@ -112,11 +113,13 @@ pub fn statement_frame(statement: &Statement) -> Result<[u8; 10], Fault> {
     Ok(frame)
 }
 
-/// Writes one frame of 1 to 99 statements, for sessions of version 2, to the front of `frame`, and returns its length.
+/// Writes one frame of 1 to 99 statements, for sessions of version 2, to the front of `frame`, and
+/// returns its length.
 ///
 /// # Errors
 ///
-/// [`Fault::OtherAbi`], [`Fault::BadStatement`], and [`Fault::BadRecords`] for none or more than 99.
+/// [`Fault::OtherAbi`], [`Fault::BadStatement`], and [`Fault::BadRecords`] for none or more than
+/// 99.
 pub fn statements_frame(
     statements: &[Statement],
     frame: &mut [u8; FRAME_ROOM],
@@ -166,7 +169,7 @@ pub enum Message<'a> {
 /// assert!(feeder.next_message().is_none());
 /// feeder.feed(&[0, 0, 0, 1, 1, 1])?;
 /// let Some(Message::Statements(mut said)) = feeder.next_message() else { panic!() };
-/// assert_eq!(format!("{:?}", said.next().unwrap()), "Initial One (question 0, origin 0, round 1, step 1)");
+/// assert_eq!(said.next(), Some(bracha::Statement([1, 0, 0, 0, 1, 1, 1])));
 /// assert_eq!(feeder.feed(&[3]), Err(bracha::Fault::Broken)); // no frame begins so
 /// # Ok::<(), bracha::Fault>(())
 /// ```
@@ -197,16 +200,17 @@ impl Feeder {
     ///
     /// # Errors
     ///
-    /// - [`Fault::Broken`]: messages before the wrong byte are still given by [`next_message`](Feeder::next_message). Then
-    ///   close the connection; each later call answers the same.
+    /// - [`Fault::Broken`]: messages before the wrong byte are still given by
+    ///   [`next_message`](Feeder::next_message). Then close the connection; each later call answers
+    ///   the same.
     /// - [`Fault::Memory`]: nothing was read. Feed the same bytes again, or close the connection.
     pub fn feed(&mut self, bytes: &[u8]) -> Result<(), Fault> {
         // SAFETY: the handle is open; pointer and length are one slice's.
         checked(unsafe { sys::bracha_feeder_feed(&mut self.handle, bytes.as_ptr(), bytes.len()) })
     }
 
-    /// Takes the next message out, or returns `None` if more bytes are needed. The message fits the cluster's size; who
-    /// sent it, and whether it comes in its turn, is for the caller to check.
+    /// Takes the next message out, or returns `None` if more bytes are needed. The message fits the
+    /// cluster's size; who sent it, and whether it comes in its turn, is for the caller to check.
     pub fn next_message(&mut self) -> Option<Message<'_>> {
         let mut count = 0;
         // SAFETY: the handle is open; the body is the feeder's own 693 bytes.

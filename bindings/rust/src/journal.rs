@@ -14,8 +14,8 @@ const LAST_GATE: u64 = 1 << 31;
 
 /// A disk, or a file, that belongs to one journal alone.
 ///
-/// A sync that succeeds promises that all earlier writes survive a loss of power. [`Journal`] calls nothing more after an
-/// error.
+/// A sync that succeeds promises that all earlier writes survive a loss of power. [`Journal`] calls
+/// nothing more after an error.
 pub trait Disk {
     /// The error of a call that failed.
     type Error;
@@ -31,7 +31,8 @@ pub trait Disk {
     ///
     /// # Errors
     ///
-    /// The sync failed: nobody knows what of the writes since the last good sync a loss of power would leave.
+    /// The sync failed: nobody knows what of the writes since the last good sync a loss of power
+    /// would leave.
     fn sync(&mut self) -> Result<(), Self::Error>;
 }
 
@@ -39,10 +40,12 @@ pub trait Disk {
 #[derive(Debug)]
 #[non_exhaustive]
 pub enum JournalFault<E> {
-    /// The disk failed. The journal is stopped: send nothing of this batch, and open the member again from the disk; after
-    /// a failed sync only once the machine was restarted, because the system may show bytes that never reached the disk.
+    /// The disk failed. The journal is stopped: send nothing of this batch, and open the member
+    /// again from the disk; after a failed sync only once the machine was restarted, because the
+    /// system may show bytes that never reached the disk.
     Disk(E),
-    /// The library refused: [`Fault::BadRecords`] of a file means that it is no journal of this member.
+    /// The library refused: [`Fault::BadRecords`] of a file means that it is no journal of this
+    /// member.
     Library(Fault),
     /// The journal met an error of the disk before.
     Stopped,
@@ -59,7 +62,9 @@ impl<E> From<Fault> for JournalFault<E> {
 impl<E: fmt::Display> fmt::Display for JournalFault<E> {
     fn fmt(&self, f: &mut fmt::Formatter<'_>) -> fmt::Result {
         match self {
-            JournalFault::Disk(error) => write!(f, "the journal can't be opened or written: {error}"),
+            JournalFault::Disk(error) => {
+                write!(f, "the journal can't be opened or written: {error}")
+            }
             JournalFault::Library(fault) => write!(f, "journal: {fault}"),
             JournalFault::Stopped => f.write_str("the journal's disk failed before"),
             JournalFault::Full => f.write_str("the journal is full"),
@@ -72,8 +77,8 @@ impl<E: fmt::Debug + fmt::Display> core::error::Error for JournalFault<E> {}
 /// A journal, and the bytes of the records that it had when it was opened, seven each.
 pub type Opened<D> = (Journal<D>, Vec<u8>);
 
-/// The journal of one member, in the format of `bracha run`: [`append`](Journal::append) saves records as one batch, of which
-/// a crash leaves all or nothing.
+/// The journal of one member, in the format of `bracha run`: [`append`](Journal::append) saves
+/// records as one batch, of which a crash leaves all or nothing.
 ///
 /// ```
 /// use bracha::{Disk, Journal, Member, Size};
@@ -113,8 +118,8 @@ pub struct Journal<D> {
 }
 
 impl<D: Disk> Journal<D> {
-    /// Creates the journal of a new member on an empty disk, and syncs it. Only ever create it once: a member whose journal
-    /// is lost must not run again.
+    /// Creates the journal of a new member on an empty disk, and syncs it. Only ever create it
+    /// once: a member whose journal is lost must not run again.
     ///
     /// # Errors
     ///
@@ -130,8 +135,8 @@ impl<D: Disk> Journal<D> {
     ///
     /// # Errors
     ///
-    /// [`JournalFault::Library`]: [`Fault::BadRecords`] if the file is no journal of this member, [`Fault::Memory`], an
-    /// error of the size.
+    /// [`JournalFault::Library`]: [`Fault::BadRecords`] if the file is no journal of this member,
+    /// [`Fault::Memory`], an error of the size.
     pub fn open(
         disk: D,
         member: &Member,
@@ -141,15 +146,17 @@ impl<D: Disk> Journal<D> {
         Ok((Journal { disk, end: end as u64, stopped: false, batch: Vec::new() }, records))
     }
 
-    /// Saves records, seven bytes each, as one batch: writes it behind a closed gate byte, syncs, opens the gate, syncs. Once
-    /// it returns `Ok`, the statements among them may be sent. Without records it does nothing.
+    /// Saves records, seven bytes each, as one batch: writes it behind a closed gate byte, syncs,
+    /// opens the gate, syncs. Once it returns `Ok`, the statements among them may be sent. Without
+    /// records it does nothing.
     ///
     /// # Errors
     ///
-    /// - [`JournalFault::Disk`]: the batch is there or not; send nothing of it. The journal is stopped.
+    /// - [`JournalFault::Disk`]: the batch is there or not; send nothing of it. The journal is
+    ///   stopped.
     /// - [`JournalFault::Stopped`]: it was stopped before.
-    /// - [`JournalFault::Library`]: [`Fault::BadRecords`] for bytes that are no records, or for more than 65,535, or
-    ///   [`Fault::Memory`]; and [`JournalFault::Full`]. Nothing was written.
+    /// - [`JournalFault::Library`]: [`Fault::BadRecords`] for bytes that are no records, or for
+    ///   more than 65,535, or [`Fault::Memory`]; and [`JournalFault::Full`]. Nothing was written.
     pub fn append(&mut self, records: &[u8]) -> Result<(), JournalFault<D::Error>> {
         if self.stopped {
             return Err(JournalFault::Stopped);

@@ -1,8 +1,9 @@
-//! The proved core of a member of asynchronous Byzantine agreement (Bracha 1987), for programs that have a network and a disk
-//! of their own. It wraps the C library of `include/bracha.h`.
+//! The proved core of a member of asynchronous Byzantine agreement (Bracha 1987), for programs that
+//! have a network and a disk of their own. It wraps the C library of `include/bracha.h`.
 //!
-//! n members, of whom at most t are faulty, and n > 3t, settle questions: each has one answer, 0 or 1. A [`Core`] is one
-//! member's state machine. It has no socket, file, thread, clock or random number of its own.
+//! n members, of whom at most t are faulty, and n > 3t, settle questions: each has one answer, 0 or
+//! 1. A [`Core`] is one member's state machine. It has no socket, file, thread, clock or random
+//! number of its own.
 //!
 //! # The one rule: save, sync, then send
 //!
@@ -22,8 +23,8 @@
 //! # let mut toss = Toss::open(&[7; 32], 0)?;
 //! # let (from, statement) = (0, Statement([1, 0, 5, 0, 1, 1, 1]));
 //! let mut core = Core::open(size, me, &saved)?; // all records of earlier lives
-//! let answer = core.hear(from, &statement, toss.draw())?; // or core.propose(question, bit, toss.draw())
-//! for due in answer.save(|records| journal.append(records))? { // on the disk before anybody hears of it
+//! let answer = core.hear(from, &statement, toss.draw())?; // or core.propose(question, bit, ..)
+//! for due in answer.save(|records| journal.append(records))? { // on the disk before it is sent
 //!     send_to_all(due); // to yourself too: core.hear(me, &due, ..)
 //! }
 //! if let Some(decision) = core.verdict(5) { println!("question 5: {}", decision.bit); }
@@ -31,12 +32,14 @@
 //! # }
 //! ```
 //!
-//! A member that sends before it has saved may crash in between, and then contradict itself: that counts as lying. So does one
-//! that is opened with fewer records than it sent. [`Answer::save`] gives the statements only once they are saved.
+//! A member that sends before it has saved may crash in between, and then contradict itself: that
+//! counts as lying. So does one that is opened with fewer records than it sent. [`Answer::save`]
+//! gives the statements only once they are saved.
 //!
-//! What the links owe: the sender is authenticated, each sender's statements stay in order, and everything arrives in the
-//! end. A member that was opened again has heard nothing: each peer sends it everything once more. `examples/member.rs` does all
-//! of it over TCP, together with processes of `bracha run`.
+//! What the links owe: the sender is authenticated, each sender's statements stay in order, and
+//! everything arrives in the end. A member that was opened again has heard nothing: each peer sends
+//! it everything once more. `examples/member.rs` does all of it over TCP, together with processes
+//! of `bracha run`.
 #![no_std]
 
 extern crate alloc;

@@ -24,7 +24,8 @@ pub enum Outcome {
 
 /// The answer to an event: what it came to, and the records that it brought.
 ///
-/// [`save`](Answer::save) is the way to its statements, so that they can't be sent before they are on the disk.
+/// [`save`](Answer::save) is the way to its statements, so that they can't be sent before they are
+/// on the disk.
 #[must_use = "the records of an answer are to be saved, and then its statements to be sent"]
 #[derive(Debug, PartialEq, Eq)]
 pub struct Answer<'a> {
@@ -38,19 +39,22 @@ impl<'a> Answer<'a> {
         self.outcome
     }
 
-    /// Returns the bytes of the records, seven each, at most 99. There are none unless the outcome is [`Outcome::Taken`].
+    /// Returns the bytes of the records, seven each, at most 99. There are none unless the outcome
+    /// is [`Outcome::Taken`].
     ///
-    /// Take them to save several answers as one batch: nothing of any of them may be sent before that batch is on the disk.
+    /// Take them to save several answers as one batch: nothing of any of them may be sent before
+    /// that batch is on the disk.
     pub fn records(&self) -> &'a [u8] {
         self.records
     }
 
-    /// Has the records saved by `save`, and returns the statements among them, which may then be sent to all members, this
-    /// one included. Without records, `save` isn't called.
+    /// Has the records saved by `save`, and returns the statements among them, which may then be
+    /// sent to all members, this one included. Without records, `save` isn't called.
     ///
     /// # Errors
     ///
-    /// That of `save`. Nothing may be sent; stop the member, and open it again from what the journal has.
+    /// That of `save`. Nothing may be sent; stop the member, and open it again from what the
+    /// journal has.
     pub fn save<E>(self, save: impl FnOnce(&[u8]) -> Result<(), E>) -> Result<Statements<'a>, E> {
         if !self.records.is_empty() {
             save(self.records)?;
@@ -89,12 +93,12 @@ pub struct Core {
     room: Box<[u8; ROOM]>,
 }
 
-// SAFETY: a core is plain data behind one owner, with no state of a thread and no lock (bracha.h, THREADS).
+// SAFETY: plain data behind one owner, with no state of a thread and no lock (bracha.h, THREADS).
 unsafe impl Send for Core {}
 
 impl Core {
-    /// Opens the core of member `me`, with the bytes of all records that this member ever saved, oldest first: none for a
-    /// new one.
+    /// Opens the core of member `me`, with the bytes of all records that this member ever saved,
+    /// oldest first: none for a new one.
     ///
     /// # Errors
     ///
@@ -111,13 +115,15 @@ impl Core {
         Ok(Core { handle, room: Box::new([0; ROOM]) })
     }
 
-    /// Hears a statement from member `from`, which the link has authenticated. `toss` is 64 random bits that nobody else can
-    /// guess, fresh for each call: [`Toss::draw`](crate::Toss::draw).
+    /// Hears a statement from member `from`, which the link has authenticated. `toss` is 64 random
+    /// bits that nobody else can guess, fresh for each call: [`Toss::draw`](crate::Toss::draw).
     ///
     /// # Errors
     ///
-    /// - [`Fault::BadStatement`], [`Fault::NoSuchQuestion`], [`Fault::NoSuchMember`]: the core is as before;
-    /// - [`Fault::Memory`], [`Fault::Failed`]: nothing of this event was recorded. Open a core from the saved records.
+    /// - [`Fault::BadStatement`], [`Fault::NoSuchQuestion`], [`Fault::NoSuchMember`]: the core is
+    ///   as before;
+    /// - [`Fault::Memory`], [`Fault::Failed`]: nothing of this event was recorded. Open a core from
+    ///   the saved records.
     pub fn hear(
         &mut self,
         from: u8,
@@ -174,8 +180,8 @@ impl Core {
         Ok(Answer { outcome, records: &self.room[..RECORD * count] })
     }
 
-    /// Returns the decision of a question, if there is one. Act on it only after its record was saved. It wants the core for
-    /// itself (`&mut`), as every call of the library does.
+    /// Returns the decision of a question, if there is one. Act on it only after its record was
+    /// saved. It wants the core for itself (`&mut`), as every call of the library does.
     pub fn verdict(&mut self, question: u16) -> Option<Decision> {
         let mut decision = sys::RawDecision::default();
         // SAFETY: as in `hear`.
@@ -198,8 +204,9 @@ impl Drop for Core {
     }
 }
 
-/// Checks whether pairs of eight bytes, a sender and a statement that it sent, are by themselves proof that the question has
-/// this answer. It proves only what was really sent; it is no proof if a sender, an origin or the question doesn't exist.
+/// Checks whether pairs of eight bytes, a sender and a statement that it sent, are by themselves
+/// proof that the question has this answer. It proves only what was really sent; it is no proof if
+/// a sender, an origin or the question doesn't exist.
 ///
 /// ```
 /// # use bracha::{Size, audit};

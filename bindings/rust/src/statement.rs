@@ -30,10 +30,11 @@ pub struct Member {
     pub me: u8,
 }
 
-/// An Initial, Echo or Ready, in seven bytes: kind, question (two bytes), origin, round, step, value.
+/// An Initial, Echo or Ready, in seven bytes: kind, question (two bytes), origin, round, step,
+/// value.
 ///
-/// These bytes are not checked here: [`Core::hear`](crate::Core::hear) does it, and a [`Feeder`](crate::Feeder) gives only
-/// statements of its cluster.
+/// These bytes are not checked here: [`Core::hear`](crate::Core::hear) does it, and a
+/// [`Feeder`](crate::Feeder) gives only statements of its cluster.
 #[derive(Clone, Copy, PartialEq, Eq, Hash, PartialOrd, Ord)]
 pub struct Statement(pub [u8; RECORD]);
 
@@ -102,7 +103,8 @@ pub struct Statements<'a> {
 }
 
 impl<'a> Statements<'a> {
-    /// Returns the statements among the bytes of records: what a member said, and sends to a peer that has nothing.
+    /// Returns the statements among the bytes of records: what a member said, and sends to a peer
+    /// that has nothing.
     ///
     /// ```
     /// let saved = [1, 0, 0, 0, 1, 1, 1, /* a decision: */ 4, 0, 0, 0, 1, 0, 1];

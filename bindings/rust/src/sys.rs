@@ -1,4 +1,5 @@
-//! The declarations of `include/bracha.h`. Nothing but `tests/header.rs` compares them with the header.
+//! The declarations of `include/bracha.h`. Nothing but `tests/header.rs` compares them with the
+//! header.
 
 use core::ffi::c_void;
 

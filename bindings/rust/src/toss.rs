@@ -5,8 +5,9 @@ use crate::sys;
 
 /// A stream of tosses: ChaCha20 of a secret seed. Each event takes the next one.
 ///
-/// Never use a stream twice with one seed: whoever saw the first use knows the coins of the second. After a restart, take
-/// another: `bracha run` takes 256 times the number of records when the member was opened, plus the peer's number.
+/// Never use a stream twice with one seed: whoever saw the first use knows the coins of the second.
+/// After a restart, take another: `bracha run` takes 256 times the number of records when the
+/// member was opened, plus the peer's number.
 ///
 /// ```
 /// let seed = [7; 32]; // a real one is drawn from the system, and secret

@@ -1,4 +1,5 @@
-//! What the crate promises of the library, from outside: each error, the journal over a disk that fails, and cuts of streams.
+//! What the crate promises of the library, from outside: each error, the journal over a disk that
+//! fails, and cuts of streams.
 
 use bracha::{
     Core, Decision, Disk, FRAME_ROOM, Fault, Feeder, Hello, IDLE, Journal, JournalFault, Member,
@@ -198,8 +199,8 @@ fn tosses_are_their_seeds_and_streams() {
     assert_ne!(draw(1, 5)[0], draw(1, 5)[1]);
 }
 
-/// The first test vector of ChaCha20's block function for a key of zeros, nonce and counter 0 (RFC 8439, A.1): its words in
-/// pairs, the low one first.
+/// The first test vector of ChaCha20's block function for a key of zeros, nonce and counter 0 (RFC
+/// 8439, A.1): its words in pairs, the low one first.
 #[test]
 fn tosses_are_of_chacha20() {
     let mut toss = Toss::open(&[0; 32], 0).unwrap();
