@@ -2,9 +2,9 @@
  * programs that have a network and a disk of their own. C11 and C++. docs/EMBEDDING.md says when to
  * use it, docs/PROTOCOL.md has the rules, docs/FORMATS.md all bytes.
  *
- * n members, of whom at most t are faulty, and n > 3t, settle questions: each has one answer, 0 or
- * 1. A core is one member's state machine. It opens no file and no socket, starts no thread, reads
- * no clock, draws no random number and prints nothing. You tell it of two kinds of events, and it
+ * n members, of whom at most t are faulty, and n > 3t, settle questions, each with one bit. A
+ * core is one member's state machine. It opens no file and no socket, starts no thread, reads no
+ * clock, draws no random number and prints nothing. You tell it of two kinds of events, and it
  * answers each with records.
  *
  * THE ONE RULE: save, sync, then send.

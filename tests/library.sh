@@ -105,7 +105,7 @@ header_tests() {
 # Builds NAME of bindings/c against the shared library, as NAME, and the static one, as NAME-static.
 c_program() {
     local flags
-    flags=$(pkg-config --cflags --libs bracha)
+    if has pkg-config; then flags=$(pkg-config --cflags --libs bracha); else flags="-I$out/include -L$out/lib -lbracha"; fi
     # shellcheck disable=SC2086
     does "$1.c" "${CC:-cc}" -std=c11 -O2 -Wall -Wextra -Wpedantic -Werror "bindings/c/$1.c" $flags -o "$room/$1"
     does "$1.c, statically" "${CC:-cc}" -std=c11 -O2 -I"$out/include" "bindings/c/$1.c" "$out/lib/libbracha.a" -o "$room/$1-static"
@@ -170,14 +170,14 @@ start_fuzzer() {
         ASAN_OPTIONS=quarantine_size_mb=4 "$room/fuzz" -max_total_time=20 -seed=1 -len_control=0 -max_len=4096 -timeout=60 \
             -artifact_prefix="$room/" -print_final_stats=1 "$room/corpus" >"$room/fuzz-said" 2>&1 &
     else
-        echo 'clang has no libFuzzer: fuzz.c makes the bytes itself'
+        echo 'there is no libFuzzer of clang: fuzz.c makes the bytes itself'
         "${CC:-cc}" -fsanitize=address -DALONE "${from[@]}" -o "$room/fuzz" && "$room/fuzz" 20 1 >"$room/fuzz-said" 2>&1 &
     fi
     fuzzer=$!
 }
 
 end_fuzzer() {
-    if wait "$fuzzer"; then pass; else fails fuzz.c "$(cat "$room/fuzz-said")"; fi
+    if wait "$fuzzer"; then pass; else fails fuzz.c "$(cat "$room/fuzz-said" 2>&1)"; fi
     fuzzer=
     grep -h -e 'number_of_executed_units' -e ' runs, ' "$room/fuzz-said" || true
 }

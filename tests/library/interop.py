@@ -3,10 +3,11 @@
 decide together.
 
 PROGRAM is `bracha`, MEMBER the built example bindings/rust/examples/member.rs, WIRE the version of the wire that it speaks at most, 1 or
-2. It looks that all decide alike, by which version they spoke, and that the member's journal is one of `bracha`. With WIRE 2 the member
-is then ended and started again; a process is killed and started again; and at last `bracha run` goes on with the member's journal. It
-takes eight ports of 127.0.0.1 that nobody has. The last line is `N passed, M failed`; the status is 1 where M isn't 0."""
+2. It looks that all decide alike, by which version they spoke, and that the member's journal is one of `bracha`, in which it never said
+two things at a place. With WIRE 2 the member is then ended and started again; a process is killed and started again, and then the
+member; and at last `bracha run` goes on with the member's journal. It takes eight ports of 127.0.0.1 that nobody has. The last line is `N passed, M failed`; the status is 1 where M isn't 0."""
 
+import collections
 import os
 import random
 import re
@@ -18,7 +19,7 @@ import tempfile
 import time
 
 PROGRAM, MEMBER, WIRE = os.path.realpath(sys.argv[1]), os.path.realpath(sys.argv[2]), sys.argv[3]
-BITS = {0: [1, 1, 1, 1], 1: [0, 0, 0, 0], 2: [0, 1, 0, 1], 3: [1, 0, 1, 0], 4: [1, 1, 1, 0]}
+BITS = {0: [1, 1, 1, 1], 1: [0, 0, 0, 0], 2: [0, 1, 0, 1], 3: [1, 0, 1, 0], 4: [1, 1, 1, 0], 5: [0, 1, 0, 0]}
 started: list[subprocess.Popen[str]] = []
 passed = failed = 0
 
@@ -84,14 +85,18 @@ def member(*options: str) -> subprocess.Popen[str]:
     return start("member", [MEMBER, *options, "--wire", WIRE, "member-3.toml"])
 
 
-def decide(first: int, ours: subprocess.Popen[str], questions: list[int]) -> dict[int, str]:
-    """Proposes on the questions at all four, and returns what the first process decided. All others must say the same."""
+def propose(first: int, ours: subprocess.Popen[str], questions: list[int]) -> None:
+    """Proposes on the questions at all four."""
     assert ours.stdin is not None
     for q in questions:
         ours.stdin.write(f"{q} {BITS[q][3]}\n")
         ours.stdin.flush()
         for m in range(3):
             same(f"propose {q} at process {m}", say("propose", f"127.0.0.1:{first + 10 + m}", str(q), str(BITS[q][m])), ("OK\n", 0))
+
+
+def decided(first: int, questions: list[int]) -> dict[int, str]:
+    """What the first process decided. All others must say the same."""
     found = {}
     for q in questions:
         said = [say("ask", "--wait", "--timeout", "40", f"127.0.0.1:{first + 10 + m}", str(q))[0] for m in range(3)]
@@ -118,8 +123,10 @@ def dumped(found: dict[int, str]) -> None:
     """The member's journal, as `bracha dump` reads it, has these decisions."""
     text, status = say("dump", "member-3.journal")
     same("dump ends", status, 0)
-    told = dict(re.findall(r"^decided (\d+) \d+ ([01])$", text, re.M))
-    same("the journal's decisions", told, {str(q): bit for q, bit in found.items()})
+    told = re.findall(r"^decided (\d+) \d+ ([01])$", text, re.M)
+    same("the journal's decisions", sorted(told), sorted((str(q), bit) for q, bit in found.items()))
+    places = re.findall(r"^((?:initial|echo|ready) \d+ \d+ \d+ \d+) ", text, re.M)
+    same("places at which it said two things", [place for place, count in collections.Counter(places).items() if count > 1], [])
 
 
 def play(first: int) -> None:
@@ -128,7 +135,8 @@ def play(first: int) -> None:
         same(f"init {m}", say("init", f"member-{m}.toml"), ("", 0))
     processes = [run(m) for m in range(3)]
     ours = member("--create")
-    found = decide(first, ours, [0, 1, 2])
+    propose(first, ours, [0, 1, 2])
+    found = decided(first, [0, 1, 2])
     version = " version 1" if WIRE == "1" else ""
     for way in ("from", "to"):
         same(f"a link {way} the member", wait_for("process-0.log", f" link-up {way} 3{version}$"), True)
@@ -136,11 +144,18 @@ def play(first: int) -> None:
     dumped(found)
     if WIRE == "2":
         ours = member()
-        found |= decide(first, ours, [3])
+        propose(first, ours, [3])
+        found |= decided(first, [3])
         processes[0].kill()
         processes[0].wait()
         processes[0] = run(0)
-        found |= decide(first, ours, [4])
+        propose(first, ours, [4])
+        found |= decided(first, [4])
+        propose(first, ours, [5])
+        ours.kill()
+        ours.wait()
+        ours = member()
+        found |= decided(first, [5])
         end(ours, "the member")
         dumped(found)
         processes.append(run(3))

@@ -18,8 +18,8 @@
 //! ahead, and it answers clients.
 
 use bracha::{
-    Core, FRAME_ROOM, Fault, Feeder, Hello, IDLE, Journal, Message, Outcome, Size, Statement,
-    Statements, Toss, decisions, statement_frame, statements_frame, welcome_frame,
+    Core, Decision, FRAME_ROOM, Fault, Feeder, Hello, IDLE, Journal, Message, Outcome, Size,
+    Statement, Statements, Toss, decisions, statement_frame, statements_frame, welcome_frame,
 };
 use std::error::Error;
 use std::fs::File;
@@ -117,6 +117,9 @@ impl Member {
         let (journal, records) = opened.map_err(|fault| format!("{}: {fault}", path.display()))?;
         let size = settings.member.size;
         let core = Core::open(size, settings.member.me, &records)?;
+        for (question, decision) in decisions(&records) {
+            println!("{}, before this start", told(question, decision));
+        }
         let outbox = Statements::of(&records).collect();
         let members = usize::from(size.n);
         // Each life and each link has a stream of its own.
@@ -150,8 +153,7 @@ impl Member {
             let said: Vec<Statement> = Statements::of(&records).collect();
             state.outbox.extend_from_slice(&said);
             for (question, decision) in decisions(&records) {
-                let (bit, round) = (u8::from(decision.bit), decision.round);
-                println!("question {question}: decided {bit} in round {round}");
+                println!("{}", told(question, decision));
             }
             records.clear();
             for own in &said {
@@ -193,6 +195,11 @@ impl Member {
         self.settle(&mut state, records, &mut toss)?;
         Ok(outcome)
     }
+}
+
+fn told(question: u16, decision: Decision) -> String {
+    let Decision { round, bit } = decision;
+    format!("question {question}: decided {} in round {round}", u8::from(bit))
 }
 
 /// Ends the process if the member can't go on: its journal failed, memory ran out, it has forgotten

@@ -1,9 +1,9 @@
 //! The proved core of a member of asynchronous Byzantine agreement (Bracha 1987), for programs that
 //! have a network and a disk of their own. It wraps the C library of `include/bracha.h`.
 //!
-//! n members, of whom at most t are faulty, and n > 3t, settle questions: each has one answer, 0 or
-//! 1. A [`Core`] is one member's state machine. It has no socket, file, thread, clock or random
-//! number of its own.
+//! n members, of whom at most t are faulty, and n > 3t, settle questions, each with one bit. A
+//! [`Core`] is one member's state machine. It has no socket, file, thread, clock or random number of
+//! its own.
 //!
 //! # The one rule: save, sync, then send
 //!
