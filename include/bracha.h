@@ -155,8 +155,8 @@ typedef struct bracha_decision {
 } bracha_decision;
 
 /* Returns true if the question is decided, and only then writes `*decision`. A decision stands for
- * good; act on it only after its record was saved. A question that doesn't exist is never decided.
- * */
+ * good; act on it only after its record was saved. A question that doesn't exist is never decided,
+ * and a core that has failed (BRACHA_FAILED) knows of no decision: open it anew. */
 bool bracha_core_verdict(bracha_core *core, uint16_t question, bracha_decision *decision);
 
 /* Checks whether `len` bytes of pairs, 8 bytes each (a sender, then the 7 bytes of a statement that
@@ -200,11 +200,11 @@ void bracha_encode_welcome(uint64_t next, uint8_t frame[BRACHA_FRAME_WELCOME]);
 int32_t bracha_encode_statement(const uint8_t statement[BRACHA_RECORD],
                                 uint8_t frame[BRACHA_FRAME_STATEMENT]);
 
-/* Writes one frame of 1 to 99 statements, 7 bytes each, for sessions of version 2, and its length
- * to `*written`. A single statement gets the frame of both versions.
+/* Writes one frame of 1 to 99 statements, 7 bytes each, for sessions of version 2, and its length to
+ * `*written`. A single statement gets the frame of both versions.
  *
- * Returns BRACHA_OK; BRACHA_BAD_RECORDS if `len` isn't 7 to 693 bytes of whole statements; or
- * BRACHA_BAD_STATEMENT if one is none. `*written` is 0 unless BRACHA_OK. */
+ * Returns BRACHA_OK; BRACHA_BAD_STATEMENT if the bytes aren't 1 to 99 whole statements; or
+ * BRACHA_MEMORY. `*written` is 0 unless BRACHA_OK. */
 int32_t bracha_encode_statements(const uint8_t *statements, size_t len,
                                  uint8_t frame[BRACHA_FRAME_ROOM], size_t *written);
 

@@ -314,7 +314,7 @@ static size_t append_frame(uint8_t *stream) {
     }
     if (byte() % 16 == 0 && len) len--;
     int32_t status = bracha_encode_statements(put(1, bytes, len), len, frame, &written);
-    CHECK(status == BRACHA_OK || status == BRACHA_BAD_STATEMENT || status == BRACHA_BAD_RECORDS);
+    CHECK(status == BRACHA_OK || status == BRACHA_BAD_STATEMENT);
     CHECK(status == BRACHA_OK ? written == (len == 7 ? 10 : 4 + len) : written == 0);
     CHECK(is_untouched(frame + written, BRACHA_FRAME_ROOM - written));
     break;

@@ -124,6 +124,7 @@ static void go_on(bracha_core core, size_t heard) {
   CHECK(bracha_core_propose(&core, 0, true, 0, records, &count) == BRACHA_FAILED && count == 0);
   CHECK(bracha_core_hear(&core, 0, post[0].statement, 0, records, &count) == BRACHA_FAILED &&
         count == 0);
+  CHECK(!bracha_core_verdict(&core, 0, &decision) && !bracha_core_verdict(&core, 1, &decision));
   bracha_core_close(core);
   core = opened(0, saved, saved_len);
   int32_t status = tell(&core, heard);

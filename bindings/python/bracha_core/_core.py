@@ -141,7 +141,8 @@ class Core(Handle):
             return self._answer(_propose(self._live(), question, bool(bit), toss, self._room_at, self._count_at))
 
     def verdict(self, question: int) -> Decision | None:
-        """Returns the decision of a question, if there is one. Act on it only after its record was saved."""
+        """Returns the decision of a question, if there is one. Act on it only after its record was saved. A core that has failed
+        (FAILED) knows of none."""
         if not 0 <= question <= 65535:
             return None
         decision = (ctypes.c_uint8 * 2)()

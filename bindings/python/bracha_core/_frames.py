@@ -89,7 +89,7 @@ def statement_frame(statement: bytes) -> bytes:
 
 
 def statements_frame(statements: Iterable[bytes]) -> bytes:
-    """Returns one frame of 1 to 99 statements, for sessions of version 2. Fault: BAD_STATEMENT, BAD_RECORDS (none, or too many)."""
+    """Returns one frame of 1 to 99 statements, for sessions of version 2. Fault: BAD_STATEMENT (also none, or too many), MEMORY."""
     joined = b"".join(statements)
     frame, written = ctypes.create_string_buffer(697), ctypes.c_size_t()
     checked(_statements(joined, len(joined), frame, ctypes.byref(written)))

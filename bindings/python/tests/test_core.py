@@ -121,8 +121,8 @@ class Cores(unittest.TestCase):
         hello = Hello(version=2, cluster=7, size=Size(4, 1, 1), sender=0, to=1)
         self.assertEqual(bracha.hello_frame(hello).hex(), "001001020000000000000007040100010001")
         self.refuses(Status.NO_SUCH_MEMBER, bracha.hello_frame, hello._replace(to=4))
-        self.refuses(Status.BAD_RECORDS, bracha.statements_frame, [])
-        self.refuses(Status.BAD_RECORDS, bracha.statements_frame, [INITIAL] * 100)
+        self.refuses(Status.BAD_STATEMENT, bracha.statements_frame, [])
+        self.refuses(Status.BAD_STATEMENT, bracha.statements_frame, [INITIAL] * 100)
         self.refuses(Status.BAD_STATEMENT, bracha.statements_frame, [INITIAL, bytes(7)])
         self.assertEqual(len(bracha.statements_frame([INITIAL] * 99)), 697)
 

@@ -118,8 +118,7 @@ pub fn statement_frame(statement: &Statement) -> Result<[u8; 10], Fault> {
 ///
 /// # Errors
 ///
-/// [`Fault::OtherAbi`], [`Fault::BadStatement`], and [`Fault::BadRecords`] for none or more than
-/// 99.
+/// [`Fault::OtherAbi`], [`Fault::BadStatement`] (also for none, or more than 99), [`Fault::Memory`].
 pub fn statements_frame(
     statements: &[Statement],
     frame: &mut [u8; FRAME_ROOM],
@@ -127,7 +126,7 @@ pub fn statements_frame(
     check_abi()?;
     let mut bytes = [0; ROOM];
     if statements.len() > ROOM / RECORD {
-        return Err(Fault::BadRecords);
+        return Err(Fault::BadStatement);
     }
     for (place, statement) in bytes.chunks_exact_mut(RECORD).zip(statements) {
         place.copy_from_slice(&statement.0);

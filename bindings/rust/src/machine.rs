@@ -181,7 +181,8 @@ impl Core {
     }
 
     /// Returns the decision of a question, if there is one. Act on it only after its record was
-    /// saved. It wants the core for itself (`&mut`), as every call of the library does.
+    /// saved. A core that has failed ([`Fault::Failed`]) knows of none. It wants the core for itself
+    /// (`&mut`), as every call of the library does.
     pub fn verdict(&mut self, question: u16) -> Option<Decision> {
         let mut decision = sys::RawDecision::default();
         // SAFETY: as in `hear`.

@@ -138,8 +138,8 @@ fn frames() {
     assert_eq!(hello(1, 4), Err(Fault::NoSuchMember));
     assert!(hello(3, 1).is_err());
     let mut frame = [0; FRAME_ROOM];
-    assert_eq!(statements_frame(&[], &mut frame), Err(Fault::BadRecords));
-    assert_eq!(statements_frame(&[INITIAL; 100], &mut frame), Err(Fault::BadRecords));
+    assert_eq!(statements_frame(&[], &mut frame), Err(Fault::BadStatement));
+    assert_eq!(statements_frame(&[INITIAL; 100], &mut frame), Err(Fault::BadStatement));
     assert_eq!(statements_frame(&[INITIAL; 99], &mut frame), Ok(FRAME_ROOM));
     assert_eq!(statements_frame(&[INITIAL], &mut frame), Ok(10));
     assert_eq!(frame[..10], statement_frame(&INITIAL).unwrap());
