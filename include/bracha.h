@@ -298,8 +298,8 @@ int32_t bracha_batch_head(uint64_t cluster, uint8_t n, uint8_t t, uint16_t quest
  * BRACHA_BATCH_BYTES(len / 7), to `*written`. Their first byte is a closed gate: the second write
  * of an append opens it.
  *
- * Returns BRACHA_OK; BRACHA_BAD_RECORDS if these aren't 1 to 65,535 whole records; or
- * BRACHA_NO_ROOM, with the room that is needed in `*written`. */
+ * Returns BRACHA_OK; BRACHA_BAD_RECORDS if these aren't 1 to 65,535 whole records; BRACHA_NO_ROOM,
+ * with the room that is needed in `*written`; or BRACHA_MEMORY. */
 int32_t bracha_batch_encode(const uint8_t *records, size_t len, uint8_t *bytes, size_t room,
                             size_t *written);
 

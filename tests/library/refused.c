@@ -270,6 +270,23 @@ static void refuse_feeder(size_t heard) {
          at - 1, opens, feeds);
 }
 
+static void refuse_frame(void) {
+  uint8_t some[BRACHA_ROOM], frame[BRACHA_FRAME_ROOM];
+  size_t written;
+  long at = 0;
+  for (size_t i = 0; i < BRACHA_MOST_RECORDS; i++)
+    memcpy(some + BRACHA_RECORD * i, post[i].statement, BRACHA_RECORD);
+  for (int32_t status = BRACHA_MEMORY; status == BRACHA_MEMORY;) {
+    grant(at);
+    status = bracha_encode_statements(some, BRACHA_ROOM, frame, &written);
+    grant_all();
+    CHECK(status == BRACHA_OK ? written == BRACHA_FRAME_ROOM : written == 0);
+    CHECK(status == BRACHA_OK || (status == BRACHA_MEMORY && was_refused));
+    at += status == BRACHA_MEMORY;
+  }
+  printf("a frame of 99 statements: %ld requests refused in turn\n", at);
+}
+
 static void refuse_toss(void) {
   static const uint8_t seed[32] = {1};
   long at = 0;
@@ -321,6 +338,7 @@ int main(void) {
   refuse_core(heard);
   refuse_records(heard);
   refuse_feeder(heard);
+  refuse_frame();
   refuse_toss();
   refuse_journal();
   printf("every refusal was answered BRACHA_MEMORY, and what the header says stood after it\n");
