@@ -81,16 +81,24 @@ enum bracha_status {
   BRACHA_MEMORY = -3,           /* an allocation failed. At an event: the core has failed */
   BRACHA_FAILED = -4,           /* an earlier event met BRACHA_MEMORY: open the core anew */
   BRACHA_BAD_STATEMENT = -5,    /* the bytes are no statement. Nothing changed */
-  BRACHA_BAD_RECORDS = -6,      /* the bytes are no whole records, or no journal of this member */
+  BRACHA_BAD_RECORDS = -6,      /* the bytes are no whole records */
   BRACHA_BROKEN = -7,           /* no frame begins like the stream's bytes: close the connection */
   BRACHA_NOTHING = -8,          /* no message is complete yet: feed more bytes */
   BRACHA_NO_ROOM = -9,          /* `room` is too small; `*written` is the room that is needed */
 
-  BRACHA_NO_MEMBERS = -10,        /* refusals of a size: n is 0 */
-  BRACHA_TOO_MANY_MEMBERS = -11,  /* n is above 64 */
-  BRACHA_TOO_MANY_LIARS = -12,    /* n isn't above 3t */
-  BRACHA_NO_QUESTIONS = -13,      /* questions is 0 */
-  BRACHA_TOO_MANY_QUESTIONS = -14 /* questions is above 4,096 */
+  BRACHA_NO_MEMBERS = -10,         /* refusals of a size: n is 0 */
+  BRACHA_TOO_MANY_MEMBERS = -11,   /* n is above 64 */
+  BRACHA_TOO_MANY_LIARS = -12,     /* n isn't above 3t */
+  BRACHA_NO_QUESTIONS = -13,       /* questions is 0 */
+  BRACHA_TOO_MANY_QUESTIONS = -14, /* questions is above 4,096 */
+
+  BRACHA_BAD_VERSION = -15, /* there is no such version of the wire */
+
+  BRACHA_BAD_HEADER = -20,   /* refusals of a journal's file: it doesn't begin as one */
+  BRACHA_OTHER_HEADER = -21, /* it is of another cluster, size or member */
+  BRACHA_BAD_RECORD = -22,   /* a record is none */
+  BRACHA_CUT_SHORT = -23,    /* it ends before its last gate byte */
+  BRACHA_OLD_VERSION = -24   /* it is of version 1: `bracha migrate` converts it */
 };
 
 /* ---- the library ---- */
@@ -184,8 +192,8 @@ void bracha_encode_idle(uint8_t frame[BRACHA_FRAME_IDLE]);
 /* Writes a Hello, with which member `from` begins a session of its link to member `to`: version 1
  * or 2 of the wire, the cluster's number and size.
  *
- * Returns BRACHA_OK, a refusal of the size, BRACHA_NO_SUCH_MEMBER, or BRACHA_BAD_STATEMENT for
- * another version. `frame` is written only with BRACHA_OK. */
+ * Returns BRACHA_OK; a refusal of the size; BRACHA_BAD_VERSION; or BRACHA_NO_SUCH_MEMBER. `frame` is
+ * written only with BRACHA_OK. */
 int32_t bracha_encode_hello(uint8_t version, uint64_t cluster, uint8_t n, uint8_t t,
                             uint16_t questions, uint8_t from, uint8_t to,
                             uint8_t frame[BRACHA_FRAME_HELLO]);
@@ -304,12 +312,17 @@ int32_t bracha_batch_encode(const uint8_t *records, size_t len, uint8_t *bytes, 
                             size_t *written);
 
 /* Reads the `len` bytes of a journal's file. Writes its records, 7 bytes each, to `records`, which
- * has `room` bytes, the number of these bytes to `*written`, and to `*end` the position E of the
- * next batch. `len` / 6 * 7 bytes of room are always enough.
+ * has `room` bytes, the number of these bytes to `*written`, and to `*end` the position E of the next
+ * batch. `len` / 6 * 7 bytes of room are always enough.
  *
- * Returns BRACHA_OK; a refusal of the size; BRACHA_NO_SUCH_MEMBER; BRACHA_BAD_RECORDS if the file
- * is no journal of this member (another header, a torn batch, a bad record): never run this member
- * again; BRACHA_NO_ROOM, with the room that is needed in `*written`; or BRACHA_MEMORY. */
+ * Returns
+ *   BRACHA_OK
+ *   BRACHA_NO_ROOM  the file is a journal: `*end` is written, and `*written` is the room that is
+ *                   needed
+ *   BRACHA_BAD_HEADER to BRACHA_OLD_VERSION
+ *                   it is no journal of this member, by the first error in it (docs/FORMATS.md).
+ *                   Never start a new journal in its place. `*written` is 0
+ *   a refusal of the size, BRACHA_NO_SUCH_MEMBER, BRACHA_MEMORY */
 int32_t bracha_batch_read(uint64_t cluster, uint8_t n, uint8_t t, uint16_t questions, uint8_t me,
                           const uint8_t *file, size_t len, uint8_t *records, size_t room,
                           size_t *written, size_t *end);

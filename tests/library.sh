@@ -177,7 +177,11 @@ start_fuzzer() {
 }
 
 end_fuzzer() {
-    if wait "$fuzzer"; then pass; else fails fuzz.c "$(cat "$room/fuzz-said" 2>&1)"; fi
+    if wait "$fuzzer"; then
+        pass
+    else
+        fails fuzz.c "$(grep -a -h -e 'not so' -e ERROR -e '^    #' -e SUMMARY -e Base64 "$room/fuzz-said" "$room/fuzz-build" 2>&1)"
+    fi
     fuzzer=
     grep -h -e 'number_of_executed_units' -e ' runs, ' "$room/fuzz-said" || true
 }

@@ -237,9 +237,8 @@ static void audit_chance(void) {
   for (size_t i = 0; i + 8 <= len && byte() % 2; i += 8)
     if (saved_len) memcpy(bytes + i + 1, saved + 7 * (word() % (saved_len / 7)), 7);
   int32_t status = bracha_audit(n, t, questions, question, byte() % 2, put(1, bytes, len), len);
-  CHECK(status == 0 || status == 1 || status == BRACHA_BAD_STATEMENT ||
-        (len % 8 && status == BRACHA_BAD_RECORDS));
-  CHECK(len % 8 == 0 || status < 0);
+  CHECK(status == 0 || status == 1 || status == BRACHA_BAD_STATEMENT);
+  CHECK(len % 8 == 0 || status == BRACHA_BAD_STATEMENT);
   CHECK(question < questions || status != 1);
 }
 
@@ -348,7 +347,8 @@ static void read_batches(const uint8_t *file, size_t len, uint64_t cluster, cons
   const uint8_t *at = put(1, file, len);
   int32_t status =
       bracha_batch_read(cluster, n, t, questions, me, at, len, records, room, &written, &end);
-  CHECK(status <= 0 && status != BRACHA_NO_ROOM);
+  CHECK(status == BRACHA_OK || (status <= BRACHA_BAD_HEADER && status >= BRACHA_OLD_VERSION));
+  CHECK(status == BRACHA_OK || (written == 0 && is_untouched(records, room)));
   if (wanted)
     CHECK(status == BRACHA_OK && written == wanted_len && memcmp(records, wanted, written) == 0);
   if (status != BRACHA_OK) return;

@@ -9,7 +9,7 @@ code with the product (docs/TESTS.md). `rt ci` plays them on the crates; here th
 - transcripts_of_a_reference.txt: whether pairs of senders and statements prove a decision;
 - frames_of_the_reference.txt, frames_of_three.txt: the messages of a stream and whether it is broken, fed whole and byte by byte; each
   message, encoded again, is the bytes that it was read from;
-- journals_of_the_reference.txt: the records of a journal's file, or that it is none; the records, encoded again, are the file's.
+- journals_of_the_reference.txt: the records of a journal's file, or its first error; the records, encoded again, are the file's.
 
 Prints each row that differs, the count of each file, and `N passed, M failed` in its last line; the status is 1 where M isn't 0."""
 
@@ -197,7 +197,8 @@ def journal(where: str, file: bytes, wanted: list[str]) -> None:
     try:
         records, end = read_journal(member, file)
     except Fault as fault:
-        same(where, "a fault" if fault.status is Status.BAD_RECORDS else fault, "no fault" if wanted[0] == "0" else "a fault")
+        name = str(fault).title().replace("_", "")  # CUT_SHORT is the row's CutShort
+        same(where, f"journal {name}", wanted[0])
         return
     same(where, records.hex(), b"".join(map(record_of, wanted[2:])).hex() if wanted[0] == "0" else wanted[0])
     same(where, journal_head(member)[:24].hex(), head.hex())

@@ -60,9 +60,9 @@ IDLE = _idle_frame()
 
 
 def hello_frame(hello: Hello) -> bytes:
-    """Returns the frame of a Hello. Fault: of the size, NO_SUCH_MEMBER, BAD_STATEMENT for another version than 1 and 2."""
+    """Returns the frame of a Hello. Fault: of the size, BAD_VERSION, NO_SUCH_MEMBER."""
     frame = ctypes.create_string_buffer(18)
-    version = within(hello.version, 255, Status.BAD_STATEMENT)
+    version = within(hello.version, 255, Status.BAD_VERSION)
     if not 0 <= hello.cluster <= _MOST:
         raise ValueError("a cluster's number has 64 bits")
     ends = (within(end, 255, Status.NO_SUCH_MEMBER) for end in (hello.sender, hello.to))

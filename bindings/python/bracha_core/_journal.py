@@ -44,8 +44,8 @@ def batch_bytes(records: bytes) -> bytes:
 
 
 def read_journal(member: Member, file: bytes) -> tuple[bytes, int]:
-    """Returns the records of a journal's bytes, and where the next batch is written. Fault: BAD_RECORDS if the bytes are no
-    journal of this member, MEMORY, or of the size."""
+    """Returns the records of a journal's bytes, and where the next batch is written. Fault: BAD_HEADER, OTHER_HEADER,
+    BAD_RECORD, CUT_SHORT or OLD_VERSION if the bytes are no journal of this member; MEMORY; of the size or number."""
     room = len(file) // 6 * RECORD
     records, written, end = ctypes.create_string_buffer(room + 1), ctypes.c_size_t(), ctypes.c_size_t()
     status = _read(*member.numbers(), bytes(file), len(file), records, room, ctypes.byref(written), ctypes.byref(end))

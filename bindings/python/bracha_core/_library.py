@@ -27,7 +27,6 @@ class Status(enum.IntEnum):
     """An earlier event met MEMORY."""
     BAD_STATEMENT = -5
     BAD_RECORDS = -6
-    """The bytes are no records, or no journal of this member."""
     BROKEN = -7
     """No frame begins like the bytes of this stream: close the connection."""
     NO_ROOM = -9
@@ -36,6 +35,15 @@ class Status(enum.IntEnum):
     TOO_MANY_LIARS = -12
     NO_QUESTIONS = -13
     TOO_MANY_QUESTIONS = -14
+    BAD_VERSION = -15
+    BAD_HEADER = -20
+    """A file doesn't begin as a journal. This and the next four: it is no journal of this member; never start a new one in its place."""
+    OTHER_HEADER = -21
+    """It is of another cluster, size or member."""
+    BAD_RECORD = -22
+    CUT_SHORT = -23
+    OLD_VERSION = -24
+    """It is of version 1: `bracha migrate` converts it."""
 
 
 class Fault(Exception):

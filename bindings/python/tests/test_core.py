@@ -121,6 +121,7 @@ class Cores(unittest.TestCase):
         hello = Hello(version=2, cluster=7, size=Size(4, 1, 1), sender=0, to=1)
         self.assertEqual(bracha.hello_frame(hello).hex(), "001001020000000000000007040100010001")
         self.refuses(Status.NO_SUCH_MEMBER, bracha.hello_frame, hello._replace(to=4))
+        self.refuses(Status.BAD_VERSION, bracha.hello_frame, hello._replace(version=3))
         self.refuses(Status.BAD_STATEMENT, bracha.statements_frame, [])
         self.refuses(Status.BAD_STATEMENT, bracha.statements_frame, [INITIAL] * 100)
         self.refuses(Status.BAD_STATEMENT, bracha.statements_frame, [INITIAL, bytes(7)])
@@ -214,13 +215,15 @@ class Journals(unittest.TestCase):
                 self.assertIs(caught.exception.status, Status.BAD_RECORDS)
             journal.append(INITIAL)
         for other in (MEMBER._replace(cluster=8), MEMBER._replace(size=Size(1, 0, 2)), Member(7, FOUR, 1)):
-            with self.assertRaises(Fault):
+            with self.assertRaises(Fault) as caught:
                 Journal.open(self.path, other)
+            self.assertIs(caught.exception.status, Status.OTHER_HEADER)
         with open(self.path, "rb") as file:
             whole = file.read()
         for length in range(len(whole)):
-            with self.assertRaises(Fault):
+            with self.assertRaises(Fault) as caught:
                 bracha.read_journal(MEMBER, whole[:length])
+            self.assertIs(caught.exception.status, Status.BAD_HEADER if length < 24 else Status.CUT_SHORT)
         self.assertEqual(bracha.read_journal(MEMBER, whole), (INITIAL, len(whole) - 1))
 
 

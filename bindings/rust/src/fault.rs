@@ -26,7 +26,7 @@ pub enum Fault {
     Failed,
     /// The bytes are no statement.
     BadStatement,
-    /// The bytes are no records, or no journal of this member.
+    /// The bytes are no whole records.
     BadRecords,
     /// No frame begins like the bytes of this stream. The connection is to be closed.
     Broken,
@@ -40,6 +40,18 @@ pub enum Fault {
     NoQuestions,
     /// There are more than 4,096 questions.
     TooManyQuestions,
+    /// There is no such version of the wire.
+    BadVersion,
+    /// A file doesn't begin as a journal.
+    BadHeader,
+    /// A file is the journal of another cluster, size or member.
+    OtherHeader,
+    /// A record of a journal's file is none.
+    BadRecord,
+    /// A journal's file ends before its last gate byte.
+    CutShort,
+    /// A journal's file is of version 1: `bracha migrate` converts it.
+    OldVersion,
     /// The library that was linked or loaded has another interface: this number, and not [`ABI`].
     OtherAbi(u32),
     /// A status that this crate doesn't know.
@@ -62,6 +74,12 @@ impl Fault {
             -12 => Fault::TooManyLiars,
             -13 => Fault::NoQuestions,
             -14 => Fault::TooManyQuestions,
+            -15 => Fault::BadVersion,
+            -20 => Fault::BadHeader,
+            -21 => Fault::OtherHeader,
+            -22 => Fault::BadRecord,
+            -23 => Fault::CutShort,
+            -24 => Fault::OldVersion,
             other => Fault::Unknown(other),
         }
     }
@@ -77,13 +95,19 @@ impl fmt::Display for Fault {
                 "an earlier allocation failed: open the core again from its saved records"
             }
             Fault::BadStatement => "these bytes are no statement",
-            Fault::BadRecords => "these bytes are no records of this member",
+            Fault::BadRecords => "these bytes are no records",
             Fault::Broken => "no frame begins like these bytes",
             Fault::NoMembers => "a cluster has at least one member",
             Fault::TooManyMembers => "a cluster has at most 64 members",
             Fault::TooManyLiars => "n isn't above 3t",
             Fault::NoQuestions => "a cluster has at least one question",
             Fault::TooManyQuestions => "a cluster has at most 4096 questions",
+            Fault::BadVersion => "there is no such version of the wire",
+            Fault::BadHeader => "the file is no journal",
+            Fault::OtherHeader => "it is the journal of another cluster, size or member",
+            Fault::BadRecord => "the journal has a record that is none",
+            Fault::CutShort => "the journal is cut short",
+            Fault::OldVersion => "the journal is of version 1: bracha migrate converts it",
             Fault::OtherAbi(found) => {
                 return write!(f, "the library has interface {found}, and this crate wants {ABI}");
             }

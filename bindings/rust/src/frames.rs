@@ -32,8 +32,7 @@ impl Hello {
     ///
     /// # Errors
     ///
-    /// [`Fault::OtherAbi`], an error of the size, [`Fault::NoSuchMember`], [`Fault::BadStatement`]
-    /// for another version.
+    /// [`Fault::OtherAbi`], an error of the size, [`Fault::BadVersion`], [`Fault::NoSuchMember`].
     pub fn frame(&self) -> Result<[u8; 18], Fault> {
         check_abi()?;
         let mut frame = [0; 18];

@@ -44,8 +44,8 @@ pub enum JournalFault<E> {
     /// again from the disk; after a failed sync only once the machine was restarted, because the
     /// system may show bytes that never reached the disk.
     Disk(E),
-    /// The library refused: [`Fault::BadRecords`] of a file means that it is no journal of this
-    /// member.
+    /// The library refused. [`Fault::BadHeader`] to [`Fault::OldVersion`]: the file is no journal
+    /// of this member; never start a new one in its place.
     Library(Fault),
     /// The journal met an error of the disk before.
     Stopped,
@@ -135,8 +135,9 @@ impl<D: Disk> Journal<D> {
     ///
     /// # Errors
     ///
-    /// [`JournalFault::Library`]: [`Fault::BadRecords`] if the file is no journal of this member,
-    /// [`Fault::Memory`], an error of the size.
+    /// [`JournalFault::Library`]: [`Fault::BadHeader`], [`Fault::OtherHeader`],
+    /// [`Fault::BadRecord`], [`Fault::CutShort`] or [`Fault::OldVersion`] if the file is no journal
+    /// of this member; [`Fault::Memory`]; an error of the size or number.
     pub fn open(
         disk: D,
         member: &Member,

@@ -136,7 +136,7 @@ fn frames() {
     let hello = |version, to| Hello { version, cluster: 7, size: FOUR, from: 0, to }.frame();
     assert_eq!(hello(2, 1).unwrap(), [0, 16, 1, 2, 0, 0, 0, 0, 0, 0, 0, 7, 4, 1, 0, 2, 0, 1]);
     assert_eq!(hello(1, 4), Err(Fault::NoSuchMember));
-    assert!(hello(3, 1).is_err());
+    assert_eq!(hello(3, 1), Err(Fault::BadVersion));
     let mut frame = [0; FRAME_ROOM];
     assert_eq!(statements_frame(&[], &mut frame), Err(Fault::BadStatement));
     assert_eq!(statements_frame(&[INITIAL; 100], &mut frame), Err(Fault::BadStatement));
@@ -309,13 +309,22 @@ fn other_journals_are_refused() {
         Member { me: 1, size: FOUR, ..MEMBER },
         Member { size: size(1, 0, 2), ..MEMBER },
     ] {
-        assert!(open(&other, &file).is_err());
+        assert_eq!(open(&other, &file), Err(Fault::OtherHeader));
     }
     assert_eq!(open(&Member { me: 1, ..MEMBER }, &file), Err(Fault::NoSuchMember));
     for length in 0..file.len() {
-        assert!(open(&MEMBER, &file[..length]).is_err(), "cut at {length}");
+        let fault = if length < 24 { Fault::BadHeader } else { Fault::CutShort };
+        assert_eq!(open(&MEMBER, &file[..length]), Err(fault), "cut at {length}");
     }
-    assert!(open(&MEMBER, &file).is_ok());
+    let changed = |at: usize, byte| {
+        let mut file = file.clone();
+        file[at] = byte;
+        open(&MEMBER, &file)
+    };
+    assert_eq!(changed(7, b'1'), Err(Fault::OldVersion));
+    assert_eq!(changed(0, b'C'), Err(Fault::BadHeader));
+    assert_eq!(changed(27, 9), Err(Fault::BadRecord));
+    assert_eq!(open(&MEMBER, &file), Ok(vec![1, 0, 0, 0, 1, 1, 1]));
 }
 
 #[test]
