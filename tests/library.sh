@@ -114,6 +114,10 @@ c_program() {
 c_tests() {
     local kind seed
     for name in first cluster rate; do c_program "$name"; done
+    if has g++; then
+        does 'first.c as C++' g++ -std=c++11 -Wall -Wextra -Werror -I"$out/include" -x c++ bindings/c/first.c -x none "$out/lib/libbracha.a" -o "$room/first-c++"
+        says 'first as C++' 0 'so send to all the frame 00080302000000010101' "$room/first-c++"
+    fi
     for kind in '' -static; do
         says "first$kind" 0 'so send to all the frame 00080302000000010101' "$room/first$kind"
         for seed in 1 2 3; do says "cluster$kind $seed" 0 '16 questions decided alike' "$room/cluster$kind" "$seed" 16; done
