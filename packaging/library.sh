@@ -8,8 +8,8 @@
 # library, and nothing else; and of its own it shows the functions of the header alone. Both are looked at by nm, and the status is 1
 # if that isn't so. `PKG_CONFIG_PATH=OUTDIR/lib/pkgconfig pkg-config --cflags --libs bracha` names the flags; the folder may be moved.
 #
-# The archive is crates/bracha_c/out/libbracha_c.a, which `rt lib` proves and builds if it isn't there (many minutes). BRACHA_ARCHIVE
-# names another, and BRACHA_HEAP the toolchain's heap, else liblibc_c.a of the kit of `rt`. Wants a C compiler, ld, nm, objcopy and ar
+# The archive is crates/bracha_c/out/libbracha_c.a, which `rt lib` proves and builds (many minutes) if it isn't there, or is older than a
+# source of a crate. BRACHA_ARCHIVE names another, and BRACHA_HEAP the toolchain's heap, else liblibc_c.a of the kit of `rt`. Wants a C compiler, ld, nm, objcopy and ar
 # (CC, LD, NM, OBJCOPY, AR).
 set -euo pipefail
 out=$(realpath -m "${1:-"$(dirname "$0")/../out/library"}")
@@ -25,7 +25,11 @@ kit() {
     dirname "$(dirname "$program")"
 }
 heap=${BRACHA_HEAP:-$(kit)/c/liblibc_c.a}
-if [ ! -f "$archive" ]; then
+# Whether the archive is to be made: it isn't there, or a source was changed since.
+is_wanted() {
+    [ ! -f "$archive" ] || [ -n "$(find crates/*/src crates/*/specs crates/*/proofs -newer "$archive" -type f -print -quit 2>/dev/null)" ]
+}
+if [ -z "${BRACHA_ARCHIVE-}" ] && is_wanted; then
     (cd crates/bracha_c && rt lib) >"$room/built" 2>&1 || { tail -n 20 "$room/built" >&2; exit 1; }
 fi
 [ -f "$archive" ] || { echo "there is no $archive" >&2; exit 1; }
