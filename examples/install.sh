@@ -1,13 +1,15 @@
 #!/bin/sh
-# Puts the program, its man page and its completions into place, or takes them away again.
+# Puts the program, its man page and its completions into place, or takes them away again; with --library the C library in their
+# place, for programs that embed a member's core (docs/EMBEDDING.md).
 #
-#   examples/install.sh [--uninstall] [PREFIX]
+#   examples/install.sh [--uninstall] [--library] [PREFIX]
 #
 # PREFIX is /usr/local if it is left out. DESTDIR in the environment stands in front of every path. It prints each file that it
 # puts or takes away. Settings and journals are never touched.
 #
 # The program is crates/bracha/out/bracha of this repository, which `rt run` makes: (cd crates/bracha && rt run -- --version).
-# It is one file: copy it to a machine without the toolchain, with the folder packaging/ and this script.
+# It is one file: copy it to a machine without the toolchain, with the folder packaging/ and this script. The library is what
+# packaging/library.sh makes in out/library, or in the folder that BRACHA_LIBRARY_OUT names.
 #
 # Where a shell looks for completions: bash and zsh below /usr/local/share. fish looks below /usr/share and ~/.local/share, and
 # into /etc/fish/completions, but below /usr/local/share only if XDG_DATA_DIRS names it. So for /usr/local its file goes to /etc.
@@ -15,15 +17,19 @@ set -eu
 
 here=$(cd "$(dirname "$0")/.." && pwd)
 uninstall=
-if [ "${1-}" = --uninstall ]; then
-    uninstall=yes
+library=
+while :; do
+    case ${1-} in
+    --uninstall) uninstall=yes ;;
+    --library) library=yes ;;
+    -*)
+        sed -n '5s/^# *//p' "$0" >&2
+        exit 2
+        ;;
+    *) break ;;
+    esac
     shift
-fi
-case ${1-} in -*)
-    sed -n '4s/^# *//p' "$0" >&2
-    exit 2
-    ;;
-esac
+done
 prefix=${1:-/usr/local}
 to=${DESTDIR-}$prefix
 program=$here/crates/bracha/out/bracha
@@ -31,7 +37,7 @@ case $prefix in
 /usr/local) fish=${DESTDIR-}/etc/fish/completions ;;
 *) fish=$to/share/fish/vendor_completions.d ;;
 esac
-if [ -z "$uninstall" ] && [ ! -x "$program" ]; then
+if [ -z "$uninstall" ] && [ -z "$library" ] && [ ! -x "$program" ]; then
     echo "there is no program $program: make it by (cd crates/bracha && rt run -- --version)" >&2
     exit 1
 fi
@@ -47,6 +53,26 @@ put() {
         echo "$3"
     fi
 }
+if [ -n "$library" ]; then
+    built=${BRACHA_LIBRARY_OUT:-$here/out/library}
+    if [ -z "$uninstall" ] && [ ! -f "$built/lib/libbracha.a" ]; then
+        echo "there is no library in $built: make it by packaging/library.sh" >&2
+        exit 1
+    fi
+    put 644 "$built/include/bracha.h" "$to/include/bracha.h"
+    put 644 "$built/lib/libbracha.a" "$to/lib/libbracha.a"
+    put 644 "$built/lib/libbracha.so.0" "$to/lib/libbracha.so.0"
+    put 644 "$built/lib/pkgconfig/bracha.pc" "$to/lib/pkgconfig/bracha.pc"
+    if [ -z "$uninstall" ] || [ -L "$to/lib/libbracha.so" ]; then
+        rm -f "$to/lib/libbracha.so"
+        echo "$to/lib/libbracha.so"
+    fi
+    if [ -z "$uninstall" ]; then
+        ln -s libbracha.so.0 "$to/lib/libbracha.so"
+        [ -n "${DESTDIR-}" ] || echo "run ldconfig once, so that programs find libbracha.so.0 in $prefix/lib" >&2
+    fi
+    exit 0
+fi
 put 755 "$program" "$to/bin/bracha"
 put 644 "$here/packaging/bracha.1" "$to/share/man/man1/bracha.1"
 put 644 "$here/packaging/completions/bracha.bash" "$to/share/bash-completion/completions/bracha"

@@ -2,14 +2,59 @@
 # Makes a Debian package of the program: bracha_VERSION_ARCH.deb, and prints its path. Wants dpkg-deb, gzip and the program.
 #
 #   packaging/deb.sh [PROGRAM [FOLDER]]
+#   packaging/deb.sh --library [LIBRARY [FOLDER]]
 #
-# PROGRAM is crates/bracha/out/bracha, which `rt run` makes in crates/bracha; FOLDER, where the package goes, is this one.
+# The second makes a package of the C library in its place, libbracha-dev_VERSION_ARCH.deb: header, static and shared library, and
+# bracha.pc. LIBRARY is the folder that packaging/library.sh made, by default out/library. PROGRAM is crates/bracha/out/bracha, which `rt run` makes in crates/bracha; FOLDER, where the package goes, is this one.
 #
 # The package has the program, its man page, completions of three shells and the unit bracha@.service, which it doesn't start:
 # `systemctl enable --now bracha@3` starts the member of /etc/bracha/3.toml. At its installation it makes the system's user
 # bracha, /etc/bracha for settings (which only root and that user can read) and /var/lib/bracha for journals (that user's own).
 # Its removal, also with --purge, leaves settings, journals and the user: a member whose journal is lost may never run again.
 set -euo pipefail
+
+# The package of the library: library_package LIBRARY FOLDER VERSION.
+library_package() {
+    local machine made
+    machine=$(dpkg --print-architecture)
+    made=$2/libbracha-dev_${3}_$machine.deb
+    for file in include/bracha.h lib/libbracha.a lib/libbracha.so.0 lib/pkgconfig/bracha.pc; do
+        install -D -m 644 "$1/$file" "$room/tree/usr/$file"
+    done
+    ln -s libbracha.so.0 "$room/tree/usr/lib/libbracha.so"
+    install -D -m 644 LICENSE "$room/tree/usr/share/doc/libbracha-dev/copyright"
+    mkdir -p "$room/tree/DEBIAN"
+    echo 'activate-noawait ldconfig' >"$room/tree/DEBIAN/triggers"
+    cat >"$room/tree/DEBIAN/control" <<CONTROL
+Package: libbracha-dev
+Version: $3
+Section: libdevel
+Priority: optional
+Architecture: $machine
+Depends: libc6
+Installed-Size: $(du -sk "$room/tree" | cut -f 1)
+Maintainer: The Weltsakum maintainers <bracha@localhost>
+Description: core of a member of asynchronous Byzantine agreement, as a C library
+ For programs that have a network and a disk of their own and embed a member of
+ a bracha cluster: one function hears a statement, and answers with the records
+ to be saved and sent. Header, static and shared library.
+CONTROL
+    (cd "$room/tree" && find usr -type f -exec md5sum {} + | sort -k 2 >DEBIAN/md5sums)
+    dpkg-deb --build --root-owner-group "$room/tree" "$made" >/dev/null
+    echo "$made"
+}
+if [ "${1-}" = --library ]; then
+    folder=$(realpath "${3:-.}")
+    library=$(realpath -m "${2:-"$(dirname "$0")/../out/library"}")
+    cd "$(dirname "$0")/.."
+    [ -f "$library/lib/libbracha.a" ] || { echo "there is no library in $library: make it by packaging/library.sh" >&2; exit 1; }
+    version=$(sed -n 's/^Version: //p' "$library/lib/pkgconfig/bracha.pc")
+    room=$(mktemp -d)
+    trap 'rm -rf "$room"' EXIT
+    umask 022
+    library_package "$library" "$folder" "$version"
+    exit
+fi
 
 folder=$(realpath "${2:-.}")
 program=$(realpath "${1:-"$(dirname "$0")/../crates/bracha/out/bracha"}")

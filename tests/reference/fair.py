@@ -403,7 +403,7 @@ class Member:
     def open(self) -> None:
         """Opened again: it has its records, and heard nothing."""
         self.heard: dict[int, Question] = {}
-        self.outbox: list[Statement] = []
+        self.outbox: list[tuple] = [record for record in self.records if record[0] != "decided"]
         self.echoed: set[tuple[int, int, int]] = set()
         self.readied: set[tuple[int, int, int]] = set()
         self.own: dict[int, int] = {}
@@ -466,7 +466,6 @@ class Member:
         if self.doubt is not None:
             self.crash(["kept"])
         self.open()
-        self.outbox = [record for record in self.records if record[0] != "decided"]
 
     # The rules.
 

@@ -20,6 +20,7 @@ network_order line =
     if begins (codes "reset") line then order.Reset else
     if begins (codes "rounds") line then order.Rounds else
     if begins (codes "random") line then order.Random else
+    if begins (codes "fair") line then order.Fair else
     order.Other
 
 -- what a line is to be, by how it begins
@@ -60,7 +61,8 @@ name_text order.Restart = codes "restart"
 name_text order.Reset = codes "reset"
 name_text order.Rounds = codes "rounds"
 name_text order.Random = codes "random"
-name_text order.Other = codes "propose, deliver, group, lie, fuse, crash, restart, reset, rounds or random"
+name_text order.Fair = codes "fair"
+name_text order.Other = codes "propose, deliver, group, lie, fuse, crash, restart, reset, rounds, random or fair"
 
 -- how such a line is written
 abbrev pub form_text : Order → List ℕ
@@ -75,6 +77,7 @@ form_text order.Restart = codes "an event is `restart M`: member M, 0 to 255"
 form_text order.Reset = codes "an event is `reset A B`: members A and B, 0 to 255"
 form_text order.Rounds = codes "an event is `rounds K`: number K"
 form_text order.Random = codes "an event is `random K`: number K"
+form_text order.Fair = codes "an event is `fair K`: number K"
 form_text order.Members = codes "the first line is `n N`: N members, 1 to 64"
 form_text order.Liars = codes "the second line is `t T`: T of them may lie, less than a third"
 form_text order.Questions = codes "the third line is `questions Q`: Q questions, 1 to 4096"

@@ -30,6 +30,7 @@ pub enum Order {
     Reset,
     Rounds,
     Random,
+    Fair,
     /// No event begins so.
     Other,
 }
@@ -85,6 +86,9 @@ fn network_order(line: &[u8]) -> Order
     if begins(line, "random") {
         return Order::Random;
     }
+    if begins(line, "fair") {
+        return Order::Fair;
+    }
     Order::Other
 }
 
@@ -122,8 +126,9 @@ pub fn name_of(order: Order) -> &'static str
         Order::Reset => "reset",
         Order::Rounds => "rounds",
         Order::Random => "random",
+        Order::Fair => "fair",
         Order::Other =>
-            "propose, deliver, group, lie, fuse, crash, restart, reset, rounds or random",
+            "propose, deliver, group, lie, fuse, crash, restart, reset, rounds, random or fair",
     }
 }
 
@@ -146,6 +151,7 @@ pub fn form_of(order: Order) -> &'static str
         Order::Reset => "an event is `reset A B`: members A and B, 0 to 255",
         Order::Rounds => "an event is `rounds K`: number K",
         Order::Random => "an event is `random K`: number K",
+        Order::Fair => "an event is `fair K`: number K",
         Order::Members => "the first line is `n N`: N members, 1 to 64",
         Order::Liars => "the second line is `t T`: T of them may lie, less than a third",
         Order::Questions => "the third line is `questions Q`: Q questions, 1 to 4096",

@@ -73,7 +73,11 @@ fn parts_of(order: Order) -> (Option<Part>, Option<Part>, Option<Part>)
         Order::Fill => (member, Some(Part::Left), Some(Part::Byte)),
         Order::Restart => (member, None, None),
         Order::Reset => (member, member, None),
-        Order::Rounds | Order::Random | Order::Seed => (Some(Part::Number), None, None),
+        Order::Rounds | Order::Random | Order::Fair | Order::Seed => (
+            Some(Part::Number),
+            None,
+            None,
+        ),
         Order::Members | Order::Liars | Order::Questions => (Some(Part::Small), None, None),
         Order::Listed | Order::Other => (None, None, None),
     }

@@ -383,7 +383,7 @@ fn a_second_line_names_the_thing(rt: HostRuntime) -> Result<(), Fail> {
         ),
         Names(
             "simulate bracha_tests_more.script",
-            "bracha: line 7\nbracha_tests_more.script:7: delivr 0 0 next: word 1 must be propose, deliver, group, lie, fuse, crash, restart, reset, rounds or random: this is no event\n",
+            "bracha: line 7\nbracha_tests_more.script:7: delivr 0 0 next: word 1 must be propose, deliver, group, lie, fuse, crash, restart, reset, rounds, random or fair: this is no event\n",
         ),
         Names(
             "simulate bracha_tests_more_end.script",
