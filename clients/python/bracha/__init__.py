@@ -1,12 +1,12 @@
 """A client of a bracha cluster.
 
-Up to t of the n members lie, so a client believes what more than t of them say: of any t + 1 members one is correct, and
-a correct member tells only decisions that it has saved. That is proved; README.md says where.
+Up to t of the n members lie, so a client believes only what more than t of them say: one of any t + 1 members is correct, and a
+correct member tells only decisions that it has saved. README.md says where that is proved.
 
     from bracha import Cluster
 
     with Cluster.open("client.toml") as cluster:
-        cluster.decide(7, True)          # proposes 1 for question 7 to every member, and gives the decision
+        cluster.decide(7, True)          # proposes 1 on question 7 to every member, and returns the decision
         cluster.ask(7)                   # the decision, or None while there is none
         for decision in cluster.follow():
             print(decision.question, decision.bit)
@@ -15,13 +15,13 @@ a correct member tells only decisions that it has saved. That is proved; README.
 """
 
 from .asynchronous import AsyncCluster
-from .errors import BadSettings, BrachaError, NoSuchQuestion, Undecided, Unreachable
+from .errors import BadSettings, BrachaError, Closed, NoSuchMember, NoSuchQuestion, Undecided, Unreachable
 from .reading import Reading
 from .replies import Answer, Decision, Status
 from .settings import Settings
 from .synchronous import Cluster
 
 __all__ = [
-    "Answer", "AsyncCluster", "BadSettings", "BrachaError", "Cluster", "Decision", "NoSuchQuestion", "Reading", "Settings", "Status",
-    "Undecided", "Unreachable",
+    "Answer", "AsyncCluster", "BadSettings", "BrachaError", "Closed", "Cluster", "Decision", "NoSuchMember", "NoSuchQuestion",
+    "Reading", "Settings", "Status", "Undecided", "Unreachable",
 ]

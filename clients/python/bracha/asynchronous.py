@@ -1,107 +1,40 @@
 """A cluster's client for asyncio."""
 
 import asyncio
-from collections.abc import AsyncIterator, Collection
-from contextlib import suppress
+import operator
+from collections.abc import AsyncIterator, Awaitable, Callable, Collection
+from contextlib import aclosing
 from pathlib import Path
 from types import TracebackType
+from typing import TypeVar
 
-from .errors import NoSuchQuestion, Undecided, Unreachable
-from .reading import Reading
-from .replies import Answer, Decision, Status, decision_in, stands_in, status_in, told_in
-from .settings import Settings, address_of
+from .board import Board
+from .desk import PATIENCE, REST, Desk
+from .errors import Closed, NoSuchMember, NoSuchQuestion, Undecided, Unreachable
+from .replies import Answer, Decision, Status, decision_in, stands_in, status_in
+from .settings import Settings
 
-CONNECT = 3.0  # seconds for a connection
-REPLY = 5.0  # seconds for a reply that comes at once
-WAIT = 15.0  # seconds for a reply to AWAIT, which a member gives after ten
-SILENCE = 12.0  # seconds for a follower's line: a member writes one each five
-REST = 0.25  # seconds before another try
-WAITING = 256  # words of members that wait to be looked at
-LONGEST = 4096  # bytes of a line: a member that writes more lies
+T = TypeVar("T")
 
-
-class _Desk:
-    """One member's desk: connections that are kept, each with one line under way at a time."""
-
-    def __init__(self, member: int, desk: str) -> None:
-        self.member = member
-        self._address = address_of(desk)
-        self._idle: list[tuple[asyncio.StreamReader, asyncio.StreamWriter]] = []
-
-    async def connect(self) -> tuple[asyncio.StreamReader, asyncio.StreamWriter]:
-        if isinstance(self._address, str):
-            opening = asyncio.open_unix_connection(self._address, limit=LONGEST)
-        else:
-            opening = asyncio.open_connection(*self._address, limit=LONGEST)
-        return await asyncio.wait_for(opening, CONNECT)
-
-    async def say(self, line: str, within: float = REPLY) -> str | None:
-        """The reply to a line; None where none comes in time. A connection that was kept may be dead: then a new one is tried."""
-        for kept in (True, False):
-            if kept and not self._idle:
-                continue
-            streams = None
-            try:
-                streams = self._idle.pop() if kept else await self.connect()
-                reply = await asyncio.wait_for(self._exchange(streams, line), within)
-            except (OSError, asyncio.TimeoutError, asyncio.IncompleteReadError, ValueError, UnicodeDecodeError):
-                reply = None
-            except asyncio.CancelledError:
-                if streams:
-                    streams[1].close()
-                raise
-            if reply is not None and streams:
-                self._idle.append(streams)
-                return reply
-            if streams:
-                streams[1].close()
-        return None
-
-    @staticmethod
-    async def _exchange(streams: tuple[asyncio.StreamReader, asyncio.StreamWriter], line: str) -> str | None:
-        reader, writer = streams
-        writer.write(line.encode() + b"\n")
-        await writer.drain()
-        reply = await reader.readuntil(b"\n")
-        return reply[:-1].decode("ascii")
-
-    async def follow(self, number: int) -> AsyncIterator[tuple[int, bool] | None]:
-        """The member's decisions from that number on, as they come, over any number of connections; None where one is made anew
-        or it tells that it is there. A member that writes something else is left alone for a while."""
-        while True:
-            with suppress(OSError, asyncio.TimeoutError, asyncio.IncompleteReadError, asyncio.LimitOverrunError, ValueError):
-                reader, writer = await self.connect()
-                try:
-                    writer.write(f"FOLLOW {number}\n".encode())
-                    await writer.drain()
-                    while True:
-                        line = (await asyncio.wait_for(reader.readuntil(b"\n"), SILENCE))[:-1].decode("ascii")
-                        told = told_in(line)
-                        if line and told is None:
-                            break
-                        if told:
-                            number += 1
-                        yield told
-                finally:
-                    writer.close()
-            yield None
-            await asyncio.sleep(REST)
-
-    def close(self) -> None:
-        while self._idle:
-            self._idle.pop()[1].close()
+GRACE = 0.25  # seconds for the last members to be asked, once enough have answered
 
 
 class AsyncCluster:
-    """A cluster, as its clients see it. It keeps connections to its members; `async with` closes them."""
+    """A cluster, as its clients see it. It keeps at most two connections to each member; `async with` closes them.
+
+    All its calls are of one event loop, and as many as you like may be under way. `close` ends each with Closed.
+    """
 
     def __init__(self, settings: Settings) -> None:
         self.settings = settings
-        self._desks = [_Desk(member, desk) for member, desk in enumerate(settings.desks)]
+        self._desks = [Desk(member, desk) for member, desk in enumerate(settings.desks)]
+        self._board = Board(settings.n, settings.t)
+        self._followers: list[asyncio.Task[None]] = []
+        self._closed = False
 
     @classmethod
     def open(cls, path: str | Path) -> "AsyncCluster":
-        """The cluster of a client.toml. Nothing is sent. BadSettings: what is wrong with the file."""
+        """Returns the cluster of a client.toml. Nothing is sent. BadSettings: what is wrong with the file."""
         return cls(Settings.read(path))
 
     async def __aenter__(self) -> "AsyncCluster":
@@ -109,145 +42,177 @@ class AsyncCluster:
 
     async def __aexit__(self, kind: type[BaseException] | None, error: BaseException | None, trace: TracebackType | None) -> None:
         self.close()
+        await asyncio.gather(*self._followers, return_exceptions=True)
+        await asyncio.sleep(0)  # in which the transports close their sockets
 
     def close(self) -> None:
-        """Closes the connections that are kept."""
+        """Closes the connections at once."""
+        self._closed = True
+        for task in self._followers:
+            task.cancel()
         for desk in self._desks:
             desk.close()
+        self._board.close()
 
-    def _check(self, question: int) -> None:
-        if not 0 <= question < self.settings.questions:
-            raise NoSuchQuestion(f"{question}: the questions are 0 to {self.settings.questions - 1}")
+    async def propose(self, question: int, bit: bool, *, timeout: float = PATIENCE) -> list[Answer]:
+        """Proposes a bit to every member, and returns each member's answer. One that hasn't answered in time has None."""
+        question = self._checked(question)
 
-    async def propose(self, question: int, bit: bool) -> list[Answer]:
-        """Proposes a bit to every member, and gives the proposal that stands with each. It waits five seconds at most."""
-        self._check(question)
+        async def one(desk: Desk) -> Answer:
+            return Answer(desk.member, stands_in(await self._say(desk, f"PROPOSE {question} {int(bool(bit))}", timeout), bool(bit)))
 
-        async def one(desk: _Desk) -> Answer:
-            return Answer(desk.member, stands_in(await desk.say(f"PROPOSE {question} {int(bit)}") or "", bit))
+        return await self._each(one)
 
-        return list(await asyncio.gather(*map(one, self._desks)))
+    async def ask(self, question: int, *, trust: int | None = None, timeout: float = PATIENCE) -> bool | None:
+        """Returns the decision that more than t members tell, or None while there is none to be believed.
 
-    async def ask(self, question: int, *, trust: int | None = None) -> bool | None:
-        """The decision that more than t members tell, or None while there is none. With `trust`, that member's word alone, which
-        is worth as much as that member. Unreachable: t or fewer members answered."""
-        self._check(question)
+        With `trust`, it returns that member's word alone, which is worth as much as that member. Unreachable: t or fewer members
+        answered, or the trusted one didn't.
+        """
+        question = self._checked(question)
         if trust is not None:
-            reply = await self._desks[trust].say(f"ASK {question}")
-            if reply is None:
-                raise Unreachable([trust])
-            return decision_in(reply)
-        reading, silent, answered = Reading(self.settings.t), [], 0
-        tasks = {asyncio.ensure_future(desk.say(f"ASK {question}")): desk.member for desk in self._desks}
-        try:
-            for task in asyncio.as_completed(tasks):
-                await task
-                for done in [it for it in tasks if it.done()]:
-                    member, reply = tasks.pop(done), done.result()
-                    if reply is None:
-                        silent.append(member)
-                        continue
-                    answered += 1
-                    bit = decision_in(reply)
-                    if bit is not None:
-                        reading.take(member, bit)
-                if reading.decision is not None:
-                    return reading.decision
-                # As many as must be correct told that they have none, with no decision to be believed behind them.
-                if answered >= self.settings.n - self.settings.t and not reading.words:
-                    return None
-        finally:
-            for left in tasks:
-                left.cancel()
-        if answered <= self.settings.t:
-            raise Unreachable(sorted(silent))
-        return None
+            return await self._ask_member(self._member(trust), question, timeout)
+        if self._board.decision(question) is None:
+            await self._ask_all(question, timeout)
+        return self._board.decision(question)
 
     async def decide(self, question: int, bit: bool, *, timeout: float = 60.0) -> bool:
-        """Proposes a bit to every member, again to those that come back, and gives the decision that more than t of them tell. It
-        repairs a question that another client left half proposed. Undecided: the time is over."""
-        self._check(question)
-        return await self._await(question, timeout, f"PROPOSE {question} {int(bit)}")
+        """Proposes a bit to every member, again to those that don't answer, and returns the decision, which more than t tell.
 
-    async def wait(self, question: int, *, timeout: float = 60.0) -> bool:
-        """The decision that more than t members tell, once they do. It proposes nothing. Undecided: the time is over."""
-        self._check(question)
-        return await self._await(question, timeout, None)
+        It decides what another client left half proposed. The decision may be the other bit. Undecided: the time is over.
+        """
+        question, line = self._checked(question), f"PROPOSE {question} {int(bool(bit))}"
 
-    async def _await(self, question: int, timeout: float, proposal: str | None) -> bool:
-        words: asyncio.Queue[tuple[int, bool]] = asyncio.Queue()
-
-        async def one(desk: _Desk) -> None:
-            proposed = proposal is None
-            while True:
-                if not proposed and proposal is not None:
-                    proposed = await desk.say(proposal) in ("OK", "HAVE 0", "HAVE 1")
-                if proposed:
-                    reply = await desk.say(f"AWAIT {question}", WAIT)
-                    told = decision_in(reply or "")
-                    if told is not None:
-                        words.put_nowait((desk.member, told))
-                        return
-                    # A member that was restarted before it had the proposal on its disk has none.
-                    proposed = reply is not None or proposal is None
+        async def one(desk: Desk) -> None:
+            while stands_in(await self._say(desk, line, PATIENCE), bool(bit)) is None:
                 await asyncio.sleep(REST)
 
-        tasks = [asyncio.ensure_future(one(desk)) for desk in self._desks]
-        reading = Reading(self.settings.t)
+        tasks = [asyncio.create_task(one(desk)) for desk in self._desks]
+        try:
+            return await self.wait(question, timeout=timeout)
+        finally:
+            await _end(tasks)
+
+    async def wait(self, question: int, *, timeout: float = 60.0) -> bool:
+        """Returns the decision once more than t members tell it. It proposes nothing. Undecided: the time is over."""
+        question = self._checked(question)
+        self._start()
         try:
             async with asyncio.timeout(timeout):
-                while reading.decision is None:
-                    reading.take(*await words.get())
-                return reading.decision
+                return await self._board.wait(question)
         except TimeoutError as error:
-            raise Undecided(f"question {question} after {timeout} seconds; told: {reading.words}") from error
-        finally:
-            for task in tasks:
-                task.cancel()
-            await asyncio.gather(*tasks, return_exceptions=True)
+            words = self._board.words(question)
+            raise Undecided(f"question {question} after {timeout} seconds; told by members: {words}") from error
 
-    async def follow(
-        self, *, known: Collection[int] = (), trust: int | None = None, number: int = 0
-    ) -> AsyncIterator[Decision]:
-        """Decisions as they come, for ever, over restarts of members: those of before first, then each once more than t members
-        told it. Questions in `known` are left out: who comes back names those that it has. With `trust`, the decisions are that
-        member's alone, from that number on in the order of its journal, and each has its number."""
+    async def follow(self, *, known: Collection[int] = (), trust: int | None = None, number: int = 0) -> AsyncIterator[Decision]:
+        """Yields decisions for ever, also over restarts of members: first those of before, then each once more than t members
+        tell it. Questions in `known` are left out: after a restart, name those that you have.
+
+        With `trust`, it yields what that member alone tells, in the order of its journal, from that number on.
+        """
+        self._check_open()
         if trust is not None:
-            async for told in self._desks[trust].follow(number):
-                if told:
-                    yield Decision(*told, number)
+            async with aclosing(self._desks[self._member(trust)].follow(number, self.settings.questions)) as told:
+                async for question, bit in told:
+                    yield Decision(question, bit, number)
                     number += 1
-            return
-        words: asyncio.Queue[tuple[int, int, bool]] = asyncio.Queue(WAITING)
+        left_out = frozenset(known)
+        self._start()
+        async with aclosing(self._board.follow()) as decisions:
+            async for decision in decisions:
+                if decision.question not in left_out:
+                    yield decision
 
-        async def one(desk: _Desk) -> None:
-            async for told in desk.follow(0):
-                if told:
-                    await words.put((desk.member, *told))
+    async def status(self, *, timeout: float = PATIENCE) -> list[Status]:
+        """Returns each member's status by its own word. A member that doesn't answer in time isn't up."""
+        self._check_open()
 
-        tasks = [asyncio.ensure_future(one(desk)) for desk in self._desks]
-        readings: dict[int, Reading] = {}
-        believed = set(known)
+        async def one(desk: Desk) -> Status:
+            return status_in(desk.member, await self._say(desk, "STATUS", timeout))
+
+        return await self._each(one)
+
+    def _check_open(self) -> None:
+        if self._closed:
+            raise Closed("the cluster is closed")
+
+    def _checked(self, question: int) -> int:
+        self._check_open()
+        if not 0 <= operator.index(question) < self.settings.questions:
+            raise NoSuchQuestion(f"{question}: the questions are 0 to {self.settings.questions - 1}")
+        return operator.index(question)
+
+    def _member(self, member: int) -> int:
+        if not 0 <= operator.index(member) < self.settings.n:
+            raise NoSuchMember(f"{member}: the members are 0 to {self.settings.n - 1}")
+        return operator.index(member)
+
+    async def _say(self, desk: Desk, line: str, timeout: float) -> bytes | None:
+        """Sends a line to one member and returns its reply, or None if none comes in time. Closed."""
+        reply = None
         try:
-            while True:
-                member, question, bit = await words.get()
-                if question >= self.settings.questions or question in believed:
-                    continue
-                reading = readings.setdefault(question, Reading(self.settings.t))
-                reading.take(member, bit)
-                if reading.decision is not None:
-                    believed.add(question)
-                    del readings[question]
-                    yield Decision(question, reading.decision)
-        finally:
-            for task in tasks:
-                task.cancel()
-            await asyncio.gather(*tasks, return_exceptions=True)
+            async with asyncio.timeout(timeout):
+                reply = await desk.say(line)
+        except TimeoutError:
+            pass
+        self._check_open()
+        return reply
 
-    async def status(self) -> list[Status]:
-        """Each member: whether it is up, and how far it is, by its own word."""
-
-        async def one(desk: _Desk) -> Status:
-            return status_in(desk.member, await desk.say("STATUS"))
-
+    async def _each(self, one: Callable[[Desk], Awaitable[T]]) -> list[T]:
         return list(await asyncio.gather(*map(one, self._desks)))
+
+    def _start(self) -> None:
+        """Begins to follow every member, if that hasn't begun."""
+        self._check_open()
+
+        async def one(desk: Desk) -> None:
+            async with aclosing(desk.follow(0, self.settings.questions)) as told:
+                async for question, bit in told:
+                    self._board.take(desk.member, question, bit)
+
+        if not self._followers:
+            self._followers = [asyncio.create_task(one(desk)) for desk in self._desks]
+
+    async def _ask_member(self, member: int, question: int, timeout: float) -> bool | None:
+        reply = await self._say(self._desks[member], f"ASK {question}", timeout)
+        bit = decision_in(reply)
+        if bit is None and reply != b"UNDECIDED":
+            raise Unreachable([member])
+        return bit
+
+    async def _ask_all(self, question: int, timeout: float) -> None:
+        """Takes each member's word on a question, until a decision is believed, or the last members have had their time."""
+        answered: set[int] = set()
+
+        async def one(desk: Desk) -> None:
+            bit = None
+            try:
+                bit = await self._ask_member(desk.member, question, timeout)
+            except Unreachable:
+                return
+            answered.add(desk.member)
+            if bit is not None:
+                self._board.take(desk.member, question, bit)
+
+        tasks = {asyncio.create_task(one(desk)) for desk in self._desks}
+        try:
+            left = tasks
+            while left and self._board.decision(question) is None:
+                # n - t members answer whatever the faulty do. More may, but nobody is waited for.
+                grace = GRACE if len(answered) >= self.settings.n - self.settings.t else None
+                done, left = await asyncio.wait(left, timeout=grace, return_when=asyncio.FIRST_COMPLETED)
+                for task in done:
+                    task.result()
+                if not done:
+                    break
+        finally:
+            await _end(tasks)
+        if len(answered) <= self.settings.t and self._board.decision(question) is None:
+            raise Unreachable(sorted(set(range(self.settings.n)) - answered))
+
+
+async def _end(tasks: Collection[asyncio.Task[None]]) -> None:
+    """Cancels tasks, and waits until they have ended, which is at once."""
+    for task in tasks:
+        task.cancel()
+    await asyncio.gather(*tasks, return_exceptions=True)

@@ -1,5 +1,6 @@
 """The settings of a client, `client.toml`."""
 
+import ipaddress
 import tomllib
 from dataclasses import dataclass
 from pathlib import Path
@@ -7,10 +8,12 @@ from typing import Any
 
 from .errors import BadSettings
 
+_RANGES = (("cluster", 0, 2**64 - 1), ("n", 1, 64), ("t", 0, 21), ("questions", 1, 4096))
+
 
 @dataclass(frozen=True)
 class Settings:
-    """A cluster as a client knows it. It holds no secret."""
+    """A cluster as a client knows it. It holds no secret. BadSettings: what is wrong with the values."""
 
     cluster: int
     n: int
@@ -18,42 +21,47 @@ class Settings:
     questions: int
     desks: tuple[str, ...]
 
-    @staticmethod
-    def read(path: str | Path) -> "Settings":
-        """Reads the file that `bracha new-cluster` wrote. BadSettings says what is wrong with it."""
+    def __post_init__(self) -> None:
+        for key, least, most in _RANGES:
+            value = getattr(self, key)
+            if type(value) is not int or not least <= value <= most:
+                raise BadSettings(f"{key}: must be an integer from {least} to {most}")
+        if self.n <= 3 * self.t:
+            raise BadSettings("n: must be above 3 times t")
+        if len(self.desks) != self.n:
+            raise BadSettings(f"desks: must be {self.n} addresses")
+        # One desk under two numbers would count as two members.
+        if len({address_of(desk) for desk in self.desks}) != self.n:
+            raise BadSettings("desks: must differ")
+
+    @classmethod
+    def read(cls, path: str | Path) -> "Settings":
+        """Reads the file that `bracha new-cluster` wrote. BadSettings: it can't be read, or what is wrong with it."""
         try:
             with open(path, "rb") as file:
-                table = tomllib.load(file)
+                return cls.from_table(tomllib.load(file))
         except OSError as error:
             raise BadSettings(f"{path}: {error.strerror}") from error
-        except (tomllib.TOMLDecodeError, UnicodeDecodeError) as error:
+        except (tomllib.TOMLDecodeError, UnicodeDecodeError, BadSettings) as error:
             raise BadSettings(f"{path}: {error}") from error
-        return Settings.from_table(table, str(path))
 
-    @staticmethod
-    def from_table(table: dict[str, Any], path: str = "settings") -> "Settings":
-        """The settings in a table, as TOML's reader gives it."""
-        numbers = {}
-        for key, most in (("cluster", 2**64 - 1), ("n", 64), ("t", 21), ("questions", 4096)):
-            value = table.get(key)
-            if not isinstance(value, int) or isinstance(value, bool) or not 0 <= value <= most:
-                raise BadSettings(f"{path}: `{key}` must be a number from 0 to {most}")
-            numbers[key] = value
+    @classmethod
+    def from_table(cls, table: dict[str, Any]) -> "Settings":
+        """Returns the settings in a table that a TOML reader gave. Other keys are ignored. BadSettings: what is wrong."""
         desks = table.get("desks")
-        if not isinstance(desks, list) or len(desks) != numbers["n"] or not all(isinstance(it, str) for it in desks):
-            raise BadSettings(f"{path}: `desks` must be {numbers['n']} texts HOST:PORT")
-        if numbers["n"] <= 3 * numbers["t"]:
-            raise BadSettings(f"{path}: `n` must be above 3 times `t`")
-        for desk in desks:
-            address_of(desk, path)
-        return Settings(desks=tuple(desks), **numbers)
+        if not isinstance(desks, list) or not all(isinstance(desk, str) for desk in desks):
+            raise BadSettings("desks: must be texts HOST:PORT")
+        numbers = {key: table.get(key, -1) for key, _, _ in _RANGES}
+        return cls(desks=tuple(desks), **numbers)
 
 
-def address_of(desk: str, path: str = "settings") -> tuple[str, int] | str:
-    """Where a desk is: a host and a port, or the path of a Unix socket."""
-    if desk.startswith("unix:") and len(desk) > 5:
-        return desk[5:]
-    host, colon, port = desk.rpartition(":")
-    if not (colon and host and port.isascii() and port.isdigit() and 0 < int(port) < 65536):
-        raise BadSettings(f"{path}: {desk!r} is no desk: HOST:PORT or unix:PATH")
-    return host, int(port)
+def address_of(desk: str) -> tuple[str, int]:
+    """Returns the IPv4 address and the port of a desk, `HOST:PORT`. BadSettings: the text is no desk."""
+    host, _, port = desk.rpartition(":")
+    try:
+        address = str(ipaddress.IPv4Address("127.0.0.1" if host == "localhost" else host))
+    except ValueError as error:
+        raise BadSettings(f"desks: {desk!r}: HOST must be localhost or an IPv4 address") from error
+    if not (port.isascii() and port.isdigit() and len(port) <= 5 and 0 < int(port) < 65536):
+        raise BadSettings(f"desks: {desk!r}: PORT must be from 1 to 65535")
+    return address, int(port)

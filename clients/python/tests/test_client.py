@@ -1,80 +1,62 @@
-"""The client beside members that lie, and against a cluster that runs. BRACHA names the program; without it the tests that want
-one are left out."""
+"""The client next to desks of faulty members, and against a cluster that runs. BRACHA names the program; without it the tests that
+need one are left out."""
 
 import asyncio
-import os
-import random
-import signal
+import gc
 import socket
-import subprocess
 import tempfile
 import threading
 import time
+import tracemalloc
 import unittest
+from itertools import islice, repeat
 from pathlib import Path
 
-from bracha import AsyncCluster, BadSettings, Cluster, NoSuchQuestion, Reading, Settings, Undecided, Unreachable
-
-PROGRAM = os.environ.get("BRACHA")
-
-
-class Fake:
-    """A desk that answers each line by a function of it; None closes the connection, a number waits so many seconds first."""
-
-    def __init__(self, answer):
-        self._answer = answer
-        self._listener = socket.create_server(("127.0.0.1", 0), backlog=64)
-        self.desk = f"127.0.0.1:{self._listener.getsockname()[1]}"
-        self.lines = []
-        threading.Thread(target=self._accept, daemon=True).start()
-
-    def _accept(self):
-        while True:
-            try:
-                link, _ = self._listener.accept()
-            except OSError:
-                return
-            threading.Thread(target=self._serve, args=(link,), daemon=True).start()
-
-    def _serve(self, link):
-        with link:
-            try:
-                for line in link.makefile("r"):
-                    self.lines.append(line.strip())
-                    for reply in self._answer(line.strip()):
-                        if isinstance(reply, float):
-                            time.sleep(reply)
-                        elif reply is None:
-                            return
-                        else:
-                            link.sendall(reply.encode())
-            except OSError:
-                pass
-
-    def close(self):
-        self._listener.close()
+from bracha import (AsyncCluster, BadSettings, Closed, Cluster, NoSuchMember, NoSuchQuestion, Reading, Settings, Undecided,
+                    Unreachable)
+from tests.members import PROGRAM, Fake, Kills, Members, closed_port, links_to
 
 
 def says(reply):
     return lambda line: [reply + "\n"]
 
 
-def closed_port():
-    with socket.create_server(("127.0.0.1", 0)) as listener:
-        return f"127.0.0.1:{listener.getsockname()[1]}"
+def silent(line):
+    yield 60.0
+
+
+def true(line):
+    """The desk of a correct member that decided 1 on question 3."""
+    return ["DECIDED 3 1\n", 60.0] if line.startswith("FOLLOW") else ["DECIDED 1\n"]
+
+
+def own_threads():
+    return [thread for thread in threading.enumerate() if thread.name == "bracha"]
 
 
 class Beside(unittest.TestCase):
-    """Four desks, of which one is faulty, at each place."""
+    """Four desks, of which one is a faulty member's, at each place."""
 
     FAULTS = {
-        "another bit": says("DECIDED 0"), "no reply": says("WHAT"), "a long line": says("x" * 5000), "no text": says("DECIDED \u00e9"),
-        "silent": lambda line: [30.0], "closes": lambda line: [None], "drips": lambda line: ["D", 0.2] * 60,
+        "another bit": lambda line: ["DECIDED 3 0\n", 60.0] if line.startswith("FOLLOW") else ["DECIDED 0\n"],
+        "no reply": says("WHAT"),
+        "a number that is none": says("DECIDED 3 +1"),
+        "a question past the end": says("DECIDED 64 0"),
+        "a long line": says("x" * 5000),
+        "no text": says("DECIDED \u00e9"),
+        "silent": silent,
+        "closes": lambda line: [None],
+        "drips": lambda line: ["D", 0.2] * 60,
+        "floods without a line": lambda line: repeat("x" * 65536),
+        "floods empty lines": lambda line: repeat("\n" * 65536),
+        "floods decisions": lambda line: repeat("DECIDED 3 0\n" * 4096),
+        "floods replies": lambda line: repeat("DECIDED 0\n" * 4096),
     }
 
     def desks(self, *answers):
-        fakes = [Fake(it) for it in answers]
-        self.addCleanup(lambda: [it.close() for it in fakes])
+        fakes = [Fake(answer) for answer in answers]
+        for fake in fakes:
+            self.addCleanup(fake.close)
         return fakes
 
     def cluster(self, desks, t=1):
@@ -83,38 +65,72 @@ class Beside(unittest.TestCase):
         return cluster
 
     def test_one_fault_is_outvoted(self):
-        right = [it.desk for it in self.desks(*[says("DECIDED 1")] * 3)]
-        faulty = {name: fake.desk for name, fake in zip(self.FAULTS, self.desks(*self.FAULTS.values()))} | {"down": closed_port()}
-        for name, desk in faulty.items():
+        right = [fake.desk for fake in self.desks(true, true, true)]
+        for name, answer in (*self.FAULTS.items(), ("down", None)):
+            fake = Fake(answer) if answer else None
+            desk = fake.desk if fake else closed_port()
             for place in range(4):
-                with self.subTest(fault=name, place=place):
+                with self.subTest(fault=name, place=place), Cluster(Settings(7, 4, 1, 64, (*right[:place], desk, *right[place:]))) as cluster:
                     begun = time.monotonic()
-                    cluster = self.cluster(right[:place] + [desk] + right[place:])
                     self.assertIs(cluster.ask(3), True)
                     self.assertIs(cluster.wait(3, timeout=5), True)
-                    self.assertLess(time.monotonic() - begun, 3)
+                    self.assertIs(next(cluster.follow()).bit, True)
+                    self.assertLess(time.monotonic() - begun, 2)
+            if fake:
+                fake.close()
+
+    def test_nobody_holds_up_a_question_without_a_decision(self):
+        open_yet = [fake.desk for fake in self.desks(*[says("UNDECIDED")] * 3)]
+        for name, answer in self.FAULTS.items():
+            with self.subTest(fault=name):
+                fake = Fake(answer)
+                cluster = self.cluster([*open_yet, fake.desk])
+                begun = time.monotonic()
+                self.assertIsNone(cluster.ask(5))
+                self.assertLess(time.monotonic() - begun, 2)
+                fake.close()
+
+    def test_a_flood_takes_bounded_memory(self):
+        for name in self.FAULTS:
+            if name.startswith("floods"):
+                with self.subTest(fault=name):
+                    fake, = self.desks(self.FAULTS[name])
+                    with Cluster(Settings(7, 1, 0, 64, (fake.desk,))) as cluster:
+                        tracemalloc.start()
+                        for _ in range(20):
+                            try:
+                                cluster.ask(7, timeout=0.05)
+                                cluster.wait(9, timeout=0.05)
+                            except (Undecided, Unreachable):
+                                pass
+                        self.assertLess(tracemalloc.get_traced_memory()[1], 4_000_000)
+                        tracemalloc.stop()
+                    fake.close()
 
     def test_one_alone_is_not_believed(self):
         fakes = self.desks(says("DECIDED 0"), *[lambda line: [0.3, "UNDECIDED\n"]] * 3)
-        cluster = self.cluster([it.desk for it in fakes])
+        cluster = self.cluster([fake.desk for fake in fakes])
         self.assertIsNone(cluster.ask(5))
         with self.assertRaises(Undecided):
             cluster.wait(5, timeout=1)
         self.assertIs(cluster.ask(5, trust=0), False)
+        self.assertIsNone(cluster.ask(5, trust=1))
 
     def test_two_values_are_not_mixed(self):
         fakes = self.desks(says("DECIDED 0"), says("DECIDED 1"), says("UNDECIDED"), says("UNDECIDED"))
-        self.assertIsNone(self.cluster([it.desk for it in fakes]).ask(5))
+        self.assertIsNone(self.cluster([fake.desk for fake in fakes]).ask(5))
 
     def test_a_liar_that_decides_everything_is_not_followed(self):
-        flood = "".join(f"DECIDED {question} 0\n" for question in range(64)) * 50
-        true = lambda line: ["DECIDED 9 1\n", 0.2, "DECIDED 2 0\n", 30.0]
+        flood = "".join(f"DECIDED {question} {int(question == 2)}\n" for question in range(64)) * 50
+
+        def correct(line):
+            return ["DECIDED 9 1\n", 0.2, "DECIDED 2 0\n", 30.0]
+
         for place in range(4):
-            fakes = self.desks(true, true, true)
+            fakes = self.desks(correct, correct, correct)
             fakes.insert(place, *self.desks(lambda line: [flood, 30.0]))
-            decisions = self.cluster([it.desk for it in fakes]).follow(known=[4])
-            self.assertEqual([(it.question, it.bit) for it in (next(decisions), next(decisions))], [(9, True), (2, False)])
-            decisions.close()
+            decisions = self.cluster([fake.desk for fake in fakes]).follow(known=[4])
+            self.assertEqual([(it.question, it.bit) for it in islice(decisions, 2)], [(9, True), (2, False)])
 
     def test_a_follower_goes_on_where_it_was(self):
         def answer(line):
@@ -123,42 +139,93 @@ class Beside(unittest.TestCase):
 
         fake, = self.desks(answer)
         decisions = self.cluster([fake.desk], t=0).follow(trust=0, number=2)
-        self.assertEqual([(it.number, it.question, it.bit) for it in (next(decisions) for _ in range(3))],
-                         [(2, 12, False), (3, 13, True), (4, 14, False)])
-        decisions.close()
+        self.assertEqual([(it.number, it.question, it.bit) for it in islice(decisions, 3)], [(2, 12, False), (3, 13, True), (4, 14, False)])
         self.assertEqual(fake.lines[:3], ["FOLLOW 2", "FOLLOW 3", "FOLLOW 4"])
 
     def test_proposals(self):
         fakes = self.desks(says("OK"), says("HAVE 0"), says("STOPPED"), says("HAVE 1"))
-        cluster = self.cluster([it.desk for it in fakes])
+        cluster = self.cluster([fake.desk for fake in fakes])
         self.assertEqual([it.stands for it in cluster.propose(63, True)], [True, False, None, True])
         self.assertEqual(fakes[0].lines, ["PROPOSE 63 1"])
-        with self.assertRaises(NoSuchQuestion):
-            cluster.propose(64, True)
-        with self.assertRaises(NoSuchQuestion):
-            cluster.ask(-1)
+        for call in (lambda: cluster.propose(64, True), lambda: cluster.ask(-1), lambda: cluster.wait(64), lambda: cluster.decide(64, True)):
+            self.assertRaises(NoSuchQuestion, call)
+        self.assertRaises(NoSuchMember, cluster.ask, 0, trust=4)
+        self.assertRaises(NoSuchMember, next, cluster.follow(trust=-1))
+        self.assertRaises(TypeError, cluster.ask, "0")
+
+    def test_a_silent_member_has_no_answer(self):
+        fakes = self.desks(says("OK"), silent, says("OK"), says("OK"))
+        cluster = self.cluster([fake.desk for fake in fakes])
+        self.assertEqual([it.stands for it in cluster.propose(1, False, timeout=0.3)], [False, None, False, False])
+        self.assertEqual([it.stands for it in cluster.propose(2, False, timeout=0.3)], [False, None, False, False])
 
     def test_all_are_down(self):
         cluster = self.cluster([closed_port() for _ in range(4)])
         with self.assertRaises(Unreachable) as caught:
             cluster.ask(0)
         self.assertEqual(caught.exception.silent, [0, 1, 2, 3])
-        with self.assertRaises(Undecided):
-            cluster.decide(0, True, timeout=1)
+        self.assertRaises(Unreachable, cluster.ask, 0, trust=2)
+        self.assertRaises(Undecided, cluster.decide, 0, True, timeout=1)
         self.assertEqual([it.up for it in cluster.status()], [False] * 4)
 
-    def test_a_connection_is_kept(self):
-        count = []
-        fake, = self.desks(lambda line: count.append(line) or ["UP 18 1\n"])
-        cluster = self.cluster([fake.desk], t=0)
-        for _ in range(5):
-            self.assertEqual([(it.up, it.statements, it.decided) for it in cluster.status()], [(True, 18, 1)])
-        self.assertEqual(len(count), 5)
+    def test_lines_share_a_connection(self):
+        async def many():
+            async with AsyncCluster(Settings(7, 1, 0, 64, (fake.desk,))) as cluster:
+                return await asyncio.gather(*(cluster.status() for _ in range(200)))
+
+        fake, = self.desks(says("UP 18 1"))
+        told = asyncio.run(many())
+        self.assertEqual({(it.up, it.statements, it.decided) for status in told for it in status}, {(True, 18, 1)})
+        self.assertEqual(len(fake._links), 1)
+
+    def test_close_ends_all_calls_at_once(self):
+        fakes = self.desks(*[silent] * 4)
+        before = own_threads()
+        cluster, ended = Cluster(Settings(7, 4, 1, 64, tuple(fake.desk for fake in fakes))), []
+        calls = (lambda: cluster.ask(3), lambda: cluster.wait(3), lambda: cluster.decide(3, True), lambda: cluster.propose(3, True),
+                 cluster.status, lambda: next(cluster.follow()), lambda: next(cluster.follow(trust=0)), lambda: cluster.ask(3, trust=1))
+
+        def end(call):
+            try:
+                call()
+            except Closed:
+                ended.append(call)
+
+        callers = [threading.Thread(target=end, args=(call,)) for call in calls]
+        for caller in callers:
+            caller.start()
+        time.sleep(0.3)
+        begun = time.monotonic()
+        cluster.close()
+        for caller in callers:
+            caller.join()
+        self.assertLess(time.monotonic() - begun, 0.5)
+        self.assertEqual(len(ended), len(calls))
+        cluster.close()
+        self.assertRaises(Closed, cluster.ask, 3)
+        self.assertEqual((links_to(fakes), own_threads()), (0, before))
+
+    def test_a_dropped_iterator_leaves_nothing(self):
+        fakes = self.desks(*[true] * 4)
+        with Cluster(Settings(7, 4, 1, 64, tuple(fake.desk for fake in fakes))) as cluster:
+            self.assertIs(next(cluster.follow()).bit, True)
+            time.sleep(0.2)
+
+            def left():
+                gc.collect()
+                time.sleep(0.2)
+                return len(asyncio.all_tasks(cluster._loop)), len(own_threads()), links_to(fakes)
+
+            before = left()
+            for _ in range(20):
+                self.assertIs(next(cluster.follow()).bit, True)
+                self.assertIs(next(cluster.follow(trust=2)).bit, True)
+            self.assertEqual(left(), before)
 
 
 class Words(unittest.TestCase):
     def test_readings(self):
-        reading = Reading(2)
+        reading = Reading(7, 2)
         for member, bit in ((0, True), (0, True), (1, True), (2, False), (1, False), (3, False), (4, False)):
             self.assertIsNone(reading.decision)
             reading.take(member, bit)
@@ -166,127 +233,103 @@ class Words(unittest.TestCase):
         reading.take(5, True)
         reading.take(6, True)
         self.assertIs(reading.decision, False)
+        self.assertRaises(NoSuchMember, reading.take, 7, True)
+        self.assertRaises(NoSuchMember, reading.take, -1, True)
 
     def test_settings(self):
         with tempfile.TemporaryDirectory() as folder:
             path = Path(folder) / "client.toml"
-            whole = 'cluster = 7\nn = 4\nt = 1\nquestions = 64\ndesks = ["localhost:1", "127.0.0.1:2", "unix:/x", "10.0.0.1:65535"]\n'
-            path.write_text(whole)
+            whole = {"cluster": "7", "n": "4", "t": "1", "questions": "64",
+                     "desks": '["localhost:1", "127.0.0.1:2", "10.0.0.2:2", "10.0.0.1:65535"]'}
+
+            def write(**other):
+                path.write_text("".join(f"{key} = {value}\n" for key, value in (whole | other).items() if value))
+
+            write()
             self.assertEqual(Settings.read(path).n, 4)
-            for wrong in ("n = 4", "n = 3", "n = 65", "n = true", "t = 2", "questions = 5000", "= 4", 'desks = ["x"]'):
-                key = wrong.split(" ")[0]
-                path.write_text("".join(line + "\n" for line in whole.splitlines() if not line.startswith(key)) + (wrong if wrong != "n = 4" else ""))
-                with self.subTest(wrong), self.assertRaises(BadSettings):
-                    Settings.read(path)
+            for key, *wrong in (("cluster", "", "-1", '"7"', "7.0"), ("n", "", "3", "5", "65", "true", "x"), ("t", "", "2"), ("questions", "", "0", "4097"),
+                                ("desks", "", '"a"', '["127.0.0.1:1"]', '["localhost:1", "127.0.0.1:1", "10.0.0.2:2", "10.0.0.1:3"]',
+                                 '["host:1", "127.0.0.1:2", "10.0.0.2:2", "10.0.0.1:3"]', '["[::1]:1", "127.0.0.1:2", "10.0.0.2:2", "10.0.0.1:0"]')):
+                for value in wrong:
+                    write(**{key: value})
+                    with self.subTest(f"{key} = {value}"), self.assertRaises(BadSettings):
+                        Settings.read(path)
             path.unlink()
-            with self.assertRaises(BadSettings):
-                Cluster.open(path)
+            self.assertRaises(BadSettings, Cluster.open, path)
 
 
 @unittest.skipUnless(PROGRAM, "BRACHA names no program")
 class Running(unittest.TestCase):
-    """A cluster of four, of whose desks one is a liar's, with kills."""
+    """A cluster of four that runs, with kills, and with the desk of a liar in place of one member's."""
 
     def setUp(self):
-        self.folder = tempfile.TemporaryDirectory()
-        self.addCleanup(self.folder.cleanup)
-        for _ in range(20):
-            port = random.randrange(20000, 30000)
-            ran = subprocess.run([PROGRAM, "new-cluster", "--cluster", "7", "--n", "4", "--t", "1", "--questions", "512", "--port", str(port), "c"],
-                                 cwd=self.folder.name, capture_output=True, text=True, check=True)
-            self.assertEqual(ran.returncode, 0)
-            break
-        self.path = Path(self.folder.name) / "c"
-        self.members = {}
-        self.addCleanup(self.stop)
-        for member in range(4):
-            subprocess.run([PROGRAM, "init", self.file(member)], check=True, capture_output=True)
-            self.start(member)
+        self.members = Members(PROGRAM, 1024)
+        self.addCleanup(self.members.close)
+        self.settings = Settings.read(self.members.client)
 
-    def file(self, member):
-        return str(self.path / f"member-{member}.toml")
+    def settings_with(self, place, fake):
+        desks = list(self.settings.desks)
+        desks[place] = fake.desk
+        return Settings(7, 4, 1, 1024, tuple(desks))
 
-    def start(self, member):
-        self.members[member] = subprocess.Popen([PROGRAM, "run", "--stay", self.file(member)], stdin=subprocess.DEVNULL,
-                                                stdout=subprocess.PIPE, stderr=subprocess.DEVNULL)
-        self.assertIn(b"ready", self.members[member].stdout.readline())
-
-    def kill(self, member):
-        process = self.members.pop(member)
-        process.kill()
-        process.wait()
-        process.stdout.close()
-
-    def stop(self):
-        for member in list(self.members):
-            self.kill(member)
-
-    def settings(self, liar=None):
-        settings = Settings.read(self.path / "client.toml")
-        if liar is None:
-            return settings
-        member, fake = liar
-        desks = list(settings.desks)
-        desks[member] = fake.desk
-        return Settings(settings.cluster, settings.n, settings.t, settings.questions, tuple(desks))
-
-    def test_decisions_beside_a_liar_and_kills(self):
+    def test_decisions_next_to_a_liar_and_kills(self):
         def lies(line):
             words = line.split()
-            if words[0] in ("ASK", "AWAIT"):
-                return [f"DECIDED {1 - int(words[1]) % 2}\n"]
             if words[0] == "FOLLOW":
-                return ["".join(f"DECIDED {q} {1 - q % 2}\n" for q in range(512)), 60.0]
-            return ["OK\n"]
+                return ["".join(f"DECIDED {question} {1 - question % 2}\n" for question in range(int(words[1]), 1024)), 60.0]
+            return [f"DECIDED {1 - int(words[1]) % 2}\n" if words[0] == "ASK" else "OK\n"]
+
+        async def decides(place):
+            # The member at the liar's place runs as well, and is proposed to: so the others decide while one of them is down.
+            async with AsyncCluster(self.settings_with(place, fake)) as cluster, AsyncCluster(self.settings) as all_desks:
+                for first in range(place * 250, place * 250 + 250, 50):
+                    questions = range(first, first + 50)
+                    asyncio.gather(*(all_desks.decide(question, bool(question % 2)) for question in questions), return_exceptions=True)
+                    told = await asyncio.gather(*(cluster.decide(question, bool(question % 2)) for question in questions))
+                    self.assertEqual(told, [bool(question % 2) for question in questions])
+                    asked = await asyncio.gather(*(cluster.ask(question) for question in questions))
+                    self.assertEqual(asked, told)
+                followed = cluster.follow(known=range(place * 250))
+                for question, bit in sorted([(it.question, it.bit) for it in [await anext(followed) for _ in range(250)]]):
+                    self.assertIs(bit, bool(question % 2))
 
         fake = Fake(lies)
         self.addCleanup(fake.close)
-        stop = threading.Event()
-
-        def kills():
-            while not stop.is_set():
-                member = random.choice((0, 1, 2))
-                self.kill(member)
-                time.sleep(0.2)
-                self.start(member)
-                stop.wait(1.5)
-
-        killer = threading.Thread(target=kills)
-        killer.start()
-        self.addCleanup(killer.join)
-        self.addCleanup(stop.set)
-        with Cluster(self.settings((3, fake))) as cluster, Cluster(self.settings()) as honest:
-            followed = cluster.follow()
-            for question in range(60):
-                # The liar's member runs all the same, so that the others decide; a proposal reaches it beside its desk.
-                honest.propose(question, bool(question % 2))
-                self.assertIs(cluster.decide(question, bool(question % 2)), bool(question % 2))
-            told = [next(followed) for _ in range(60)]
-            followed.close()
-            self.assertEqual(sorted((it.question, it.bit) for it in told), [(q, bool(q % 2)) for q in range(60)])
+        for place in range(4):
+            kills = Kills(self.members, [member for member in range(4) if member != place])
+            try:
+                asyncio.run(decides(place))
+            finally:
+                kills.close()
 
     def test_half_a_proposal_is_repaired(self):
-        with Cluster(self.settings()) as cluster:
-            with socket.create_connection(("127.0.0.1", int(cluster.settings.desks[1].rpartition(":")[2]))) as link:
+        with Cluster.open(self.members.client) as cluster:
+            host, _, port = cluster.settings.desks[1].rpartition(":")
+            with socket.create_connection((host, int(port))) as link, link.makefile("r") as replies:
                 link.sendall(b"PROPOSE 9 1\n")
-                self.assertEqual(link.makefile("r").readline(), "OK\n")
-            time.sleep(0.5)
+                self.assertEqual(replies.readline(), "OK\n")
+            time.sleep(0.3)
             self.assertIsNone(cluster.ask(9))
-            bit = cluster.decide(9, True)
-            self.assertEqual([cluster.ask(9), cluster.ask(9, trust=2), cluster.wait(9)], [bit] * 3)
+            bit = cluster.decide(9, False)
+            self.assertEqual([cluster.ask(9), cluster.wait(9)], [bit] * 2)
+            self.assertIs(cluster.propose(9, True)[1].stands, True)
             self.assertEqual([it.up for it in cluster.status()], [True] * 4)
+        with Cluster.open(self.members.client) as another:
+            self.assertIs(another.decide(9, not bit), bit)
 
-    def test_asyncio(self):
-        async def decides():
-            async with AsyncCluster(self.settings()) as cluster:
-                bits = await asyncio.gather(*(cluster.decide(question, bool(question % 3)) for question in range(100, 130)))
-                self.assertEqual(bits, [bool(question % 3) for question in range(100, 130)])
-                decisions = cluster.follow()
-                told = [await anext(decisions) for _ in range(30)]
-                await decisions.aclose()
-                self.assertEqual({it.question for it in told}, set(range(100, 130)))
-
-        asyncio.run(decides())
+    def test_one_member_is_followed_over_its_restarts(self):
+        with Cluster.open(self.members.client) as cluster:
+            for question in range(20):
+                cluster.decide(question, True)
+            told = list(islice(cluster.follow(trust=2), 20))
+            self.assertEqual([it.number for it in told], list(range(20)))
+            rest = cluster.follow(trust=2, number=15)
+            self.assertEqual([next(rest) for _ in range(5)], told[15:])
+            self.members.kill(2)
+            for question in range(20, 30):
+                self.assertIs(cluster.decide(question, False), False)
+            self.members.start(2)
+            self.assertEqual([(it.number, it.bit) for it in islice(rest, 10)], [(number, False) for number in range(20, 30)])
 
 
 if __name__ == "__main__":

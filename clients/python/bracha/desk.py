@@ -1,0 +1,174 @@
+"""One member's desk: lines and their replies over one connection, and the decisions that the member tells."""
+
+import asyncio
+from collections import deque
+from collections.abc import AsyncIterator
+
+from .replies import told_in
+from .settings import address_of
+
+CONNECT = 3.0  # seconds for a connection
+PATIENCE = 5.0  # seconds after which a reply that hasn't come ends its connection
+SILENCE = 12.0  # seconds without a line to a follower; a member writes one every five
+REST = 0.25  # seconds before another connection to a member that wasn't there
+DISTRUST = 5.0  # seconds before another connection to a member that broke the protocol
+LONGEST = 4096  # bytes of a line
+UNDER_WAY = 1024  # lines without a reply on one connection
+
+
+class Wire(asyncio.Protocol):
+    """A connection on which each line gets one reply, in order. Many lines may be under way."""
+
+    def __init__(self) -> None:
+        self._ended = False
+        self._rest = b""
+        self._waiting: deque[tuple[float, asyncio.Future[bytes | None]]] = deque()
+        self._transport: asyncio.Transport | None = None
+
+    def connection_made(self, transport: asyncio.BaseTransport) -> None:
+        assert isinstance(transport, asyncio.Transport)
+        self._transport = transport
+
+    def data_received(self, data: bytes) -> None:
+        *lines, self._rest = (self._rest + data).split(b"\n")
+        for line in lines:
+            if not self._waiting or len(line) > LONGEST:
+                return self.end()
+            _, reply = self._waiting.popleft()
+            if not reply.done():
+                reply.set_result(line)
+        if len(self._rest) > LONGEST:
+            self.end()
+
+    def connection_lost(self, error: Exception | None) -> None:
+        self.end()
+
+    def end(self) -> None:
+        """Closes the connection at once. Lines under way get no reply."""
+        self._ended = True
+        if self._transport:
+            self._transport.abort()
+        self._rest = b""
+        while self._waiting:
+            _, reply = self._waiting.popleft()
+            if not reply.done():
+                reply.set_result(None)
+
+    def is_open(self) -> bool:
+        """Returns True if a line can be sent."""
+        return not self._ended and self._transport is not None and not self._transport.is_closing()
+
+    def is_stuck(self) -> bool:
+        """Returns True if the oldest line under way has had no reply for too long."""
+        return bool(self._waiting) and asyncio.get_running_loop().time() - self._waiting[0][0] > PATIENCE
+
+    async def say(self, line: str) -> bytes | None:
+        """Sends a line and returns its reply, or None once the connection has ended."""
+        if self._transport is None or not self.is_open():
+            return None
+        loop = asyncio.get_running_loop()
+        reply: asyncio.Future[bytes | None] = loop.create_future()
+        self._waiting.append((loop.time(), reply))
+        self._transport.write(f"{line}\n".encode())
+        return await reply
+
+
+class Desk:
+    """One member's desk, over a connection that is kept, and made anew if it ended."""
+
+    def __init__(self, member: int, desk: str) -> None:
+        self.member = member
+        self._address = address_of(desk)
+        self._wire: Wire | None = None
+        self._opening: asyncio.Task[Wire | None] | None = None
+        self._places = asyncio.Semaphore(UNDER_WAY)
+
+    async def _open(self) -> Wire | None:
+        try:
+            async with asyncio.timeout(CONNECT):
+                _, self._wire = await asyncio.get_running_loop().create_connection(Wire, *self._address)
+                return self._wire
+        except OSError:  # TimeoutError is one
+            return None
+
+    async def _connected(self) -> Wire | None:
+        """Returns the connection, or a new one if it ended, or None. All that wait for a new one share it."""
+        if self._wire and self._wire.is_stuck():
+            self._wire.end()
+        if self._wire and self._wire.is_open():
+            return self._wire
+        if self._opening is None or self._opening.done():
+            self._opening = asyncio.create_task(self._open())
+        opening = self._opening
+        try:
+            return await asyncio.shield(opening)
+        except asyncio.CancelledError:
+            if opening.cancelled():  # by `close`, and not the caller
+                return None
+            raise
+
+    async def say(self, line: str) -> bytes | None:
+        """Sends a line and returns its reply, or None if there is none. A kept connection may have ended unnoticed: then the line
+        is sent once more, which does no harm. The caller limits the time."""
+        async with self._places:
+            kept = self._wire
+            wire = await self._connected()
+            reply = await wire.say(line) if wire else None
+            if reply is None and wire and wire is kept:
+                wire = await self._connected()
+                reply = await wire.say(line) if wire else None
+            return reply
+
+    async def follow(self, number: int, questions: int) -> AsyncIterator[tuple[int, bool]]:
+        """Yields the member's decisions from that number of its journal on, for ever, over any number of connections. A member
+        that breaks the protocol is left alone for a while."""
+        seen: set[int] = set()
+        while True:
+            rest = REST
+            try:
+                async with asyncio.timeout(CONNECT):
+                    reader, writer = await asyncio.open_connection(*self._address, limit=LONGEST)
+                try:
+                    writer.write(f"FOLLOW {number}\n".encode())
+                    lines = _Lines(reader)
+                    while told := await lines.next():
+                        if told[0] >= questions or told[0] in seen:
+                            break
+                        seen.add(told[0])
+                        number += 1
+                        yield told
+                finally:
+                    writer.transport.abort()
+                rest = DISTRUST
+            except (OSError, EOFError):  # TimeoutError is the first, the end of the stream the second
+                pass
+            except asyncio.LimitOverrunError:
+                rest = DISTRUST
+            await asyncio.sleep(rest)
+
+    def close(self) -> None:
+        """Closes the connection at once."""
+        if self._opening:
+            self._opening.cancel()
+        if self._wire:
+            self._wire.end()
+
+
+class _Lines:
+    """The lines of a follower's connection."""
+
+    def __init__(self, reader: asyncio.StreamReader) -> None:
+        self._reader = reader
+        self._begun = asyncio.get_running_loop().time()
+        self._empty = 0
+
+    async def next(self) -> tuple[int, bool] | None:
+        """Returns what the next line tells that isn't empty. None: it isn't of the protocol, or empty ones come too often."""
+        while True:
+            async with asyncio.timeout(SILENCE):
+                line = (await self._reader.readuntil(b"\n"))[:-1]
+            self._empty += not line
+            if line:
+                return told_in(line)
+            if self._empty > 3 + (asyncio.get_running_loop().time() - self._begun) / 4:
+                return None
