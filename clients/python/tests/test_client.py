@@ -75,7 +75,7 @@ class Beside(unittest.TestCase):
                     self.assertIs(cluster.ask(3), True)
                     self.assertIs(cluster.wait(3, timeout=5), True)
                     self.assertIs(next(cluster.follow()).bit, True)
-                    self.assertLess(time.monotonic() - begun, 2)
+                    self.assertLess(time.monotonic() - begun, 4)
             if fake:
                 fake.close()
 
@@ -87,7 +87,7 @@ class Beside(unittest.TestCase):
                 cluster = self.cluster([*open_yet, fake.desk])
                 begun = time.monotonic()
                 self.assertIsNone(cluster.ask(5))
-                self.assertLess(time.monotonic() - begun, 2)
+                self.assertLess(time.monotonic() - begun, 4)
                 fake.close()
 
     def test_a_flood_takes_bounded_memory(self):
@@ -199,7 +199,7 @@ class Beside(unittest.TestCase):
         cluster.close()
         for caller in callers:
             caller.join()
-        self.assertLess(time.monotonic() - begun, 0.5)
+        self.assertLess(time.monotonic() - begun, 2)
         self.assertEqual(len(ended), len(calls))
         cluster.close()
         self.assertRaises(Closed, cluster.ask, 3)

@@ -1,0 +1,37 @@
+//! A client of a bracha cluster.
+//!
+//! Up to t of the n members lie, so a client believes only what more than t of them say: one of
+//! any t + 1 members is correct, and a correct member tells only decisions that it has saved.
+//! `README.md` says where that is proved.
+//!
+//! ```no_run
+//! use bracha_client::{Cluster, PATIENCE};
+//! use std::time::Duration;
+//!
+//! # fn main() -> Result<(), bracha_client::Error> {
+//! let cluster = Cluster::open("client.toml")?;
+//! let bit = cluster.decide(7, true, Duration::from_secs(60))?;
+//! assert_eq!(cluster.ask(7, PATIENCE)?, Some(bit));
+//! for decision in cluster.follow()? {
+//!     println!("question {} is decided: {}", decision.question, decision.bit);
+//! }
+//! # Ok(())
+//! # }
+//! ```
+
+mod board;
+mod cluster;
+mod error;
+mod follower;
+mod halt;
+mod line;
+mod reading;
+mod reply;
+mod settings;
+mod wire;
+
+pub use cluster::{Cluster, Follow, FollowMember, PATIENCE};
+pub use error::Error;
+pub use reading::Reading;
+pub use reply::{Answer, Decision, Status};
+pub use settings::Settings;

@@ -1,0 +1,107 @@
+/// A decision.
+#[derive(Debug, Clone, Copy, PartialEq, Eq, Hash)]
+pub struct Decision {
+    /// The question, from 0.
+    pub question: u16,
+    /// The bit that it is decided as.
+    pub bit: bool,
+    /// Its place in one member's journal, from 0, if that member alone is trusted.
+    pub number: Option<usize>,
+}
+
+/// One member's answer to a proposal.
+#[derive(Debug, Clone, Copy, PartialEq, Eq, Hash)]
+pub struct Answer {
+    /// The member.
+    pub member: usize,
+    /// The bit that it has as its proposal, or `None` if it didn't answer or is stopped.
+    pub stands: Option<bool>,
+}
+
+/// One member, by its own word.
+#[derive(Debug, Clone, Copy, PartialEq, Eq, Hash)]
+pub struct Status {
+    /// The member.
+    pub member: usize,
+    /// Whether it is up.
+    pub up: bool,
+    /// The number of its statements.
+    pub statements: u64,
+    /// The number of questions that it decided.
+    pub decided: u64,
+}
+
+/// Returns the bit of a reply `DECIDED b`, or `None` for any other.
+pub(crate) fn decision_in(reply: &[u8]) -> Option<bool> {
+    match reply {
+        b"DECIDED 0" => Some(false),
+        b"DECIDED 1" => Some(true),
+        _ => None,
+    }
+}
+
+/// Returns the proposal of the member that gave this reply to a proposal of `bit`.
+pub(crate) fn stands_in(reply: &[u8], bit: bool) -> Option<bool> {
+    match reply {
+        b"OK" => Some(bit),
+        b"HAVE 0" => Some(false),
+        b"HAVE 1" => Some(true),
+        _ => None,
+    }
+}
+
+/// Returns the number in a word of decimal digits, without zeros before it.
+fn number_in(word: &str) -> Option<u64> {
+    let digits = word.bytes().all(|byte| byte.is_ascii_digit());
+    let plain = word == "0" || !word.starts_with('0');
+    if digits && plain { word.parse().ok() } else { None }
+}
+
+/// Returns the question and the bit of a follower's line `DECIDED q b`, or `None` for any other.
+pub(crate) fn told_in(line: &[u8]) -> Option<(u16, bool)> {
+    let rest = std::str::from_utf8(line).ok()?.strip_prefix("DECIDED ")?;
+    let (question, bit) = rest.split_once(' ')?;
+    let bit = match bit {
+        "0" => false,
+        "1" => true,
+        _ => return None,
+    };
+    Some((u16::try_from(number_in(question)?).ok()?, bit))
+}
+
+/// Returns the status in a reply `UP m d`. Any other reply is from a member that isn't up.
+pub(crate) fn status_in(member: usize, reply: &[u8]) -> Status {
+    let counts = || {
+        let rest = std::str::from_utf8(reply).ok()?.strip_prefix("UP ")?;
+        let (statements, decided) = rest.split_once(' ')?;
+        Some((number_in(statements)?, number_in(decided)?))
+    };
+    match counts() {
+        Some((statements, decided)) => Status { member, up: true, statements, decided },
+        None => Status { member, up: false, statements: 0, decided: 0 },
+    }
+}
+
+#[cfg(test)]
+mod tests {
+    use super::{status_in, told_in};
+
+    #[test]
+    fn lines_of_followers() {
+        assert_eq!(told_in(b"DECIDED 12 1"), Some((12, true)));
+        for wrong in ["DECIDED 1", "DECIDED  1 1", "DECIDED 1 2", "DECIDED +1 1", "DECIDED 01 1"] {
+            assert_eq!(told_in(wrong.as_bytes()), None, "{wrong}");
+        }
+        assert_eq!(told_in(b"DECIDED 65536 1"), None);
+        assert_eq!(told_in(b"DECIDED \xff 1"), None);
+    }
+
+    #[test]
+    fn statuses() {
+        let status = status_in(2, b"UP 18 1");
+        assert_eq!((status.up, status.statements, status.decided), (true, 18, 1));
+        for wrong in ["", "UP", "UP 1", "UP 1 2 3", "UP x 1", "STOPPED"] {
+            assert!(!status_in(2, wrong.as_bytes()).up, "{wrong}");
+        }
+    }
+}

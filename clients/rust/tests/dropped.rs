@@ -1,0 +1,40 @@
+//! What a cluster leaves that is dropped. It counts the process's threads, so it has this file alone.
+
+mod common;
+
+use bracha_client::{Cluster, Settings};
+use common::{Desk, links_to};
+use std::thread;
+use std::time::{Duration, Instant};
+
+const SECOND: Duration = Duration::from_secs(1);
+
+/// Returns how many threads of clusters this process has.
+fn own_threads() -> usize {
+    let tasks = std::fs::read_dir("/proc/self/task").unwrap().map_while(Result::ok);
+    let names = tasks.filter_map(|task| std::fs::read_to_string(task.path().join("comm")).ok());
+    names.filter(|name| name.trim() == "bracha").count()
+}
+
+#[test]
+fn a_cluster_that_is_dropped_leaves_nothing() {
+    let desks = [0; 4].map(|_| Desk::new(|_, link| link.rest(60.0)));
+    let addresses = desks.each_ref().map(|desk| desk.address);
+    let settings = Settings::new(7, 1, 64, addresses.to_vec()).unwrap();
+    let cluster = Cluster::new(settings).unwrap();
+    assert!(cluster.ask(3, SECOND / 5).is_err());
+    assert!(cluster.decide(3, true, SECOND / 5).is_err());
+    // Each of the four now waits at both of its connections.
+    assert_eq!((own_threads(), links_to(&addresses)), (8, 8));
+    let mut dropped = cluster.follow().unwrap();
+    assert_eq!(dropped.next_within(SECOND / 10), None);
+    thread::scope(|scope| {
+        scope.spawn(|| cluster.wait(3, SECOND / 2).unwrap_err());
+        cluster.propose(4, true, SECOND / 10).unwrap();
+    });
+    assert_eq!((own_threads(), links_to(&addresses)), (8, 8));
+    let begun = Instant::now();
+    drop(cluster);
+    assert!(begun.elapsed() < SECOND, "{:?}", begun.elapsed());
+    assert_eq!((own_threads(), links_to(&addresses)), (0, 0));
+}
