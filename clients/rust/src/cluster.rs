@@ -254,7 +254,7 @@ impl Cluster {
 
     fn say(&self, member: usize, line: &str, deadline: Instant, reply: &Sender<Reply>) {
         let job = Job { line: line.to_string(), deadline, reply: reply.clone() };
-        // It fails only if the member's thread is gone. Then nothing comes, as from a silent member.
+        // It fails only if the member's thread is gone: then nothing comes, as from a silent one.
         let _ = self.jobs[member].send(job);
     }
 
