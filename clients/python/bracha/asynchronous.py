@@ -76,10 +76,10 @@ class AsyncCluster:
             await self._ask_all(question, timeout)
         return self._board.decision(question)
 
-    async def decide(self, question: int, bit: bool, *, timeout: float = 60.0) -> bool:
+    async def decide(self, question: int, bit: bool, *, timeout: float | None = 60.0) -> bool:
         """Proposes a bit to every member, again to those that don't answer, and returns the decision, which more than t tell.
 
-        It decides what another client left half proposed. The decision may be the other bit. Undecided: the time is over.
+        It decides what another client left half proposed. The decision may be the other bit. Undecided: the time, if any, is over.
         """
         question, line = self._checked(question), f"PROPOSE {question} {int(bool(bit))}"
 
@@ -93,8 +93,8 @@ class AsyncCluster:
         finally:
             await _end(tasks)
 
-    async def wait(self, question: int, *, timeout: float = 60.0) -> bool:
-        """Returns the decision once more than t members tell it. It proposes nothing. Undecided: the time is over."""
+    async def wait(self, question: int, *, timeout: float | None = 60.0) -> bool:
+        """Returns the decision once more than t members tell it. It proposes nothing. Undecided: the time, if any, is over."""
         question = self._checked(question)
         self._start()
         try:

@@ -90,11 +90,11 @@ class Cluster:
         """As `AsyncCluster.ask`."""
         return self._run(self._cluster.ask(question, trust=trust, timeout=timeout))
 
-    def decide(self, question: int, bit: bool, *, timeout: float = 60.0) -> bool:
+    def decide(self, question: int, bit: bool, *, timeout: float | None = 60.0) -> bool:
         """As `AsyncCluster.decide`."""
         return self._run(self._cluster.decide(question, bit, timeout=timeout))
 
-    def wait(self, question: int, *, timeout: float = 60.0) -> bool:
+    def wait(self, question: int, *, timeout: float | None = 60.0) -> bool:
         """As `AsyncCluster.wait`."""
         return self._run(self._cluster.wait(question, timeout=timeout))
 

@@ -1,0 +1,141 @@
+"""A ledger over a cluster of bracha: values in slots 0, 1, 2 .., the same in the same slots for everybody.
+
+    ledger.py witness M              keeps the ledger next to member M, and trusts that member alone: it's on the same machine
+    ledger.py put SLOT TEXT          gives a value to all witnesses
+    ledger.py lie SLOT TEXT TEXT     gives one value to half of them, and another to the others
+
+A question has one bit, and a value is bytes. So slot s is question s: "has a value's hash come into slot s for all?", and the bytes
+go from witness to witness. A witness holds the first value of a slot that it gets. It locks a hash that more than (n + t) / 2
+witnesses hold, or that more than t have locked: so no two correct witnesses lock different ones. It votes 1, at its own member, once
+2t + 1 have locked: then all correct ones will. It votes 0 if that takes too long, and a slot that is decided 0 stays empty: its
+value is to be put again. All that it holds and locks is on the disk before anybody hears of it. Here are client.toml and its folder.
+"""
+
+import asyncio
+import hashlib
+import os
+import sys
+from collections import Counter
+from contextlib import suppress
+from pathlib import Path
+
+from bracha import AsyncCluster, Settings, Undecided
+
+PATIENCE = 2.5  # seconds for a slot, once values are there for it or a later one
+WINDOW = 8  # slots that are settled at once; they are entered in order
+
+
+def save(path: Path, data: bytes) -> bytes:
+    """Writes a file for good, if it isn't there, and returns what it has."""
+    if not path.exists():
+        draft = path.with_suffix(".draft")
+        with draft.open("wb") as file:
+            file.write(data)
+            file.flush()
+            os.fsync(file.fileno())
+        draft.rename(path)
+        folder = os.open(path.parent, os.O_RDONLY)
+        os.fsync(folder)
+        os.close(folder)
+    return path.read_bytes()
+
+
+async def say(witness: int, line: str) -> list[str]:
+    """Returns the words of a witness's reply, none if it gives none in time."""
+    try:
+        async with asyncio.timeout(1):
+            reader, writer = await asyncio.open_unix_connection(f"witness-{witness}.socket")
+            writer.write(line.encode() + b"\n")
+            words = (await reader.readline()).decode("ascii", "replace").split()
+            writer.close()
+            return words
+    except OSError:
+        return []
+
+
+class Witness:
+    def __init__(self, me: int, settings: Settings) -> None:
+        self.me, self.n, self.t, self.questions = me, settings.n, settings.t, settings.questions
+        self.member = AsyncCluster(Settings(settings.cluster, 1, 0, settings.questions, (settings.desks[me],)))
+        self.folder = Path(f"witness-{me}")
+        self.folder.mkdir(exist_ok=True)
+
+    def at(self, slot: int, what: str) -> str:
+        path = self.folder / f"{slot}.{what}"
+        return path.read_text() if path.exists() else "-"
+
+    def end(self) -> int:
+        return max((int(path.stem) + 1 for path in self.folder.glob("*.held")), default=0)
+
+    async def serve(self, reader: asyncio.StreamReader, writer: asyncio.StreamWriter) -> None:
+        what, name, *more = (await reader.readline()).decode().split()
+        if what == "PUT" and 0 <= int(name) < self.questions:
+            digest = hashlib.sha256(bytes.fromhex(more[0])).hexdigest()
+            save(self.folder / f"{digest}.value", bytes.fromhex(more[0]))
+            writer.write(save(self.folder / f"{int(name)}.held", digest.encode()) + b"\n")
+        elif what == "TELL":  # what it holds and has locked in a slot, and the end of the slots in which it holds something
+            writer.write(f"{self.at(int(name), 'held')} {self.at(int(name), 'locked')} {self.end()}\n".encode())
+        elif what == "GET" and name.isalnum():
+            path = self.folder / f"{name}.value"
+            writer.write((path.read_bytes().hex() if path.exists() else "-").encode() + b"\n")
+        writer.close()
+
+    async def settle(self, slot: int) -> bytes | None:
+        """Returns the value that came into a slot, or None if it stays empty."""
+        loop = asyncio.get_running_loop()
+        begun, voted = None, False
+        while True:
+            replies = await asyncio.gather(*(say(witness, f"TELL {slot}") for witness in range(self.n)))
+            told = [words for words in replies if len(words) == 3 and words[2].isdecimal()]
+            held, locked = (Counter(words[part] for words in told if words[part] != "-").most_common(1) for part in (0, 1))
+            if held and 2 * held[0][1] > self.n + self.t:
+                save(self.folder / f"{slot}.locked", held[0][0].encode())
+            if locked and locked[0][1] > self.t:
+                save(self.folder / f"{slot}.locked", locked[0][0].encode())
+            if sum(int(words[2]) > slot for words in told) > self.t:  # a liar alone makes no slot end
+                begun = begun or loop.time()
+            full = bool(locked) and locked[0][1] > 2 * self.t
+            if not voted and (full or begun and loop.time() - begun > PATIENCE):
+                voted = (await self.member.propose(slot, full))[0].stands is not None
+            try:
+                if not await self.member.wait(slot, timeout=0.1):
+                    return None
+                if locked and locked[0][1] > self.t:
+                    return await self.fetch(locked[0][0])
+            except Undecided:
+                pass
+
+    async def fetch(self, digest: str) -> bytes:
+        """Returns the bytes of a hash that a correct witness holds."""
+        while True:
+            for witness in (self.me, *range(self.n)):
+                with suppress(ValueError, IndexError):  # it lies, or has no answer
+                    value = bytes.fromhex((await say(witness, f"GET {digest}"))[0])
+                    if hashlib.sha256(value).hexdigest() == digest:
+                        return save(self.folder / f"{digest}.value", value)
+            await asyncio.sleep(0.1)
+
+    async def run(self) -> None:
+        socket = Path(f"witness-{self.me}.socket")
+        socket.unlink(missing_ok=True)
+        async with self.member, await asyncio.start_unix_server(self.serve, socket):
+            print("ready", flush=True)
+            slots = {slot: asyncio.create_task(self.settle(slot)) for slot in range(min(WINDOW, self.questions))}
+            with Path(f"ledger-{self.me}").open("w") as ledger:  # made anew from what is on the disk and what the member tells
+                for slot in range(self.questions):
+                    value = await slots.pop(slot)
+                    if slot + WINDOW < self.questions:
+                        slots[slot + WINDOW] = asyncio.create_task(self.settle(slot + WINDOW))
+                    print(slot, "(empty)" if value is None else value.decode(), file=ledger, flush=True)
+
+
+async def main(what: str, *words: str) -> None:
+    settings = Settings.read("client.toml")
+    if what == "witness":
+        await Witness(int(words[0]), settings).run()
+    values = [text.encode().hex() for text in words[1:]]
+    for witness in range(settings.n if what in ("put", "lie") else 0):
+        await say(witness, f"PUT {words[0]} {values[witness * len(values) // settings.n]}")
+
+
+asyncio.run(main(*sys.argv[1:]))

@@ -1,0 +1,53 @@
+#!/usr/bin/env bash
+# Shows a ledger over four members: ledger.py says how it works. Values come, in any order; a writer lies; a witness and its member
+# are killed, miss some values, and are started again. At the end all four ledgers are the same. It takes some seconds, and ports
+# below 32768 that are free.
+#
+#   examples/ledger/run.sh [PROGRAM]     PROGRAM is bracha; left out, it is crates/bracha/out/bracha of this repository
+set -euo pipefail
+here=$(cd "$(dirname "$0")" && pwd)
+top=$(realpath "$here/../..")
+program=$(realpath -m "${1:-$top/crates/bracha/out/bracha}")
+# shellcheck source=examples/commit/members.sh
+. "$here/../commit/members.sh"
+
+ledger() { python3 "$here/ledger.py" "$@"; }
+
+# witness M: starts a witness.
+witness() { begins "witness-$1" python3 "$here/ledger.py" witness "$1"; }
+
+# until_slots COUNT M..: waits until these witnesses' ledgers have so many slots.
+until_slots() {
+    for _ in {1..400}; do
+        if [ "$(for m in "${@:2}"; do head -n "$1" "ledger-$m"; done | wc -l)" = $(($1 * ($# - 1))) ]; then return; fi
+        sleep 0.05
+    done
+    echo "no $1 slots after 20 seconds" >&2
+    tail -n 3 ledger-* witness-*.out >&2
+    exit 1
+}
+
+members 64
+for m in 0 1 2 3; do witness "$m"; done
+
+echo '* three values, the second last; and a writer that tells two values for slot 3'
+ledger put 0 'genesis'
+ledger put 2 'bob pays carol 5'
+ledger put 1 'alice pays bob 10'
+ledger lie 3 'dave pays erin 7' 'dave pays frank 7'
+until_slots 3 0 1 2 3
+echo '* witness 2 and its member are killed, and miss two values'
+ends witness-2
+ends member-2
+ledger put 4 'carol pays alice 1'
+ledger put 5 'bob pays alice 2'
+until_slots 6 0 1 3
+echo '* both are started again, and a value comes'
+member 2
+witness 2
+ledger put 6 'erin pays dave 3'
+until_slots 7 0 1 2 3
+cat ledger-0
+for m in 1 2 3; do cmp ledger-0 "ledger-$m"; done
+grep -qx '5 bob pays alice 2' ledger-2 && grep -qx '3 (empty)' ledger-2 && grep -qx '6 erin pays dave 3' ledger-2
+echo 'all four ledgers are the same'
