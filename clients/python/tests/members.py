@@ -147,10 +147,11 @@ class Kills:
         self._thread.start()
 
     def _kill(self):
-        while not self._stop.wait(0.3):
+        # A member that was started again has its links within a second or so: more kills would leave no time for decisions.
+        while not self._stop.wait(0.2):
             member = random.choice(self._which)
             self._members.kill(member)
-            self._stop.wait(0.2)
+            self._stop.wait(0.1)
             for _ in range(20):
                 try:
                     self._members.start(member)
@@ -158,6 +159,7 @@ class Kills:
                 except RuntimeError:  # another process had the port for a moment
                     self._members.kill(member)
                     time.sleep(0.2)
+            self._stop.wait(1.5)
 
     def close(self):
         self._stop.set()
