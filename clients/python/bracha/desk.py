@@ -82,6 +82,7 @@ class Desk:
         self._wire: Wire | None = None
         self._opening: asyncio.Task[Wire | None] | None = None
         self._places = asyncio.Semaphore(UNDER_WAY)
+        self._closed = False
 
     async def _open(self) -> Wire | None:
         try:
@@ -93,6 +94,8 @@ class Desk:
 
     async def _connected(self) -> Wire | None:
         """Returns the connection, or a new one if it ended, or None. All that wait for a new one share it."""
+        if self._closed:
+            return None
         if self._wire and self._wire.is_stuck():
             self._wire.end()
         if self._wire and self._wire.is_open():
@@ -147,7 +150,8 @@ class Desk:
             await asyncio.sleep(rest)
 
     def close(self) -> None:
-        """Closes the connection at once."""
+        """Closes the connection at once, and lets nobody make another."""
+        self._closed = True
         if self._opening:
             self._opening.cancel()
         if self._wire:

@@ -32,14 +32,14 @@ fn liar(questions: u16) -> Desk {
 
 #[test]
 fn a_liar_and_kills_at_each_place() {
-    let Some(members) = Members::start(1000) else { return };
+    let Some(members) = Members::start(400) else { return };
     let all = Settings::read(members.folder.join("client.toml")).unwrap();
-    let liar = liar(1000);
+    let liar = liar(400);
     let expected = |question: u16| question % 2 == 1;
     for place in 0..4 {
         let mut desks = all.desks().to_vec();
         desks[place] = liar.address;
-        let cluster = Cluster::new(Settings::new(7, 1, 1000, desks).unwrap()).unwrap();
+        let cluster = Cluster::new(Settings::new(7, 1, 400, desks).unwrap()).unwrap();
         // The member at the liar's place runs too, and is proposed to by another client: so the
         // others decide while one of them is down.
         let other = Cluster::new(all.clone()).unwrap();
@@ -59,10 +59,10 @@ fn a_liar_and_kills_at_each_place() {
                     thread::sleep(Duration::from_millis(100));
                 }
             });
-            let askers: Vec<_> = (0..25u16)
+            let askers: Vec<_> = (0..20u16)
                 .map(|part| {
                     scope.spawn(move || {
-                        for question in (0..10).map(|it| 250 * place as u16 + 10 * part + it) {
+                        for question in (0..5).map(|it| 100 * place as u16 + 5 * part + it) {
                             let bit = expected(question);
                             other.propose(question, bit, PATIENCE).unwrap();
                             assert_eq!(cluster.decide(question, bit, MINUTE), Ok(bit));
@@ -75,7 +75,7 @@ fn a_liar_and_kills_at_each_place() {
             ended.store(true, Ordering::SeqCst);
             assert!(right);
         });
-        let told: Vec<_> = cluster.follow().unwrap().take(250 * (place + 1)).collect();
+        let told: Vec<_> = cluster.follow().unwrap().take(100 * (place + 1)).collect();
         assert!(told.iter().all(|decision| decision.bit == expected(decision.question)));
     }
 }
