@@ -57,7 +57,8 @@ has() {
 python_tests() {
     counts 'the tests of Python' 'Ran [0-9]+ tests' env -C clients/python python3 -W error -m unittest discover -t . -s tests
     if python3 -m pip --version >/dev/null 2>&1; then
-        does 'pip install' python3 -m pip install -q --disable-pip-version-check --root-user-action ignore --no-index --no-deps --target "$room/site" clients/python
+        local pip=(python3 -m pip install -q --disable-pip-version-check --root-user-action ignore --no-index --no-deps)
+        does 'pip install' "${pip[@]}" --target "$room/site" clients/python
         does 'what pip installed' env -C "$room" PYTHONPATH="$room/site" python3 -c 'import bracha; bracha.Reading(4, 1).take(3, True)'
     else
         has 'pip of python3' || true

@@ -103,7 +103,8 @@ class Members:
     def _begin(self, questions):
         first = free_ports()
         self.path = Path(self._room.name) / str(first)
-        self._do("new-cluster", "--cluster", "7", "--n", "4", "--t", "1", "--questions", str(questions), "--port", str(first), str(self.path))
+        size = ("--cluster", "7", "--n", "4", "--t", "1", "--questions", str(questions))
+        self._do("new-cluster", *size, "--port", str(first), str(self.path))
         for member in range(4):
             self._do("init", f"member-{member}.toml", cwd=self.path)
             self.start(member)

@@ -70,7 +70,8 @@ class Beside(unittest.TestCase):
             fake = Fake(answer) if answer else None
             desk = fake.desk if fake else closed_port()
             for place in range(4):
-                with self.subTest(fault=name, place=place), Cluster(Settings(7, 4, 1, 64, (*right[:place], desk, *right[place:]))) as cluster:
+                settings = Settings(7, 4, 1, 64, (*right[:place], desk, *right[place:]))
+                with self.subTest(fault=name, place=place), Cluster(settings) as cluster:
                     begun = time.monotonic()
                     self.assertIs(cluster.ask(3), True)
                     self.assertIs(cluster.wait(3, timeout=5), True)
@@ -147,8 +148,11 @@ class Beside(unittest.TestCase):
         cluster = self.cluster([fake.desk for fake in fakes])
         self.assertEqual([it.stands for it in cluster.propose(63, True)], [True, False, None, True])
         self.assertEqual(fakes[0].lines, ["PROPOSE 63 1"])
-        for call in (lambda: cluster.propose(64, True), lambda: cluster.ask(-1), lambda: cluster.wait(64), lambda: cluster.decide(64, True)):
-            self.assertRaises(NoSuchQuestion, call)
+        for question in (64, -1):
+            self.assertRaises(NoSuchQuestion, cluster.propose, question, True)
+            self.assertRaises(NoSuchQuestion, cluster.decide, question, True)
+            self.assertRaises(NoSuchQuestion, cluster.ask, question)
+            self.assertRaises(NoSuchQuestion, cluster.wait, question)
         self.assertRaises(NoSuchMember, cluster.ask, 0, trust=4)
         self.assertRaises(NoSuchMember, next, cluster.follow(trust=-1))
         self.assertRaises(TypeError, cluster.ask, "0")
@@ -167,6 +171,36 @@ class Beside(unittest.TestCase):
         self.assertRaises(Unreachable, cluster.ask, 0, trust=2)
         self.assertRaises(Undecided, cluster.decide, 0, True, timeout=1)
         self.assertEqual([it.up for it in cluster.status()], [False] * 4)
+
+    def test_a_member_that_breaks_the_protocol_is_cut_off(self):
+        for text in ("DECIDED 3 0\n", "\n", "x", "DECIDED 64 0\n"):
+            with self.subTest(text=text):
+                sent = []
+
+                def answer(line):
+                    while True:
+                        sent.append(line)
+                        yield text * 4096
+
+                fake, = self.desks(answer)
+                self.assertRaises(Undecided, self.cluster([fake.desk], t=0).wait, 5, timeout=0.5)
+                before = len(sent)
+                time.sleep(0.3)
+                self.assertEqual((len(sent), len(fake._links)), (before, 1))
+
+    def test_a_decision_costs_a_line(self):
+        def answer(line):
+            return ["".join(f"DECIDED {question} 1\n" for question in range(64)), 60.0] if line.startswith("FOLLOW") else ["OK\n"]
+
+        fakes = self.desks(*[answer] * 4)
+        cluster = self.cluster([fake.desk for fake in fakes])
+        for question in range(20):
+            self.assertIs(cluster.decide(question, True), True)
+        cluster.propose(63, True)
+        for fake in fakes:
+            followed = [line for line in fake.lines if line == "FOLLOW 0"]
+            proposed = [line for line in fake.lines if line.startswith("PROPOSE ")]
+            self.assertEqual((len(followed), len(proposed) <= 21, len(fake.lines) - len(proposed)), (1, True, 1))
 
     def test_lines_share_a_connection(self):
         async def many():
@@ -247,10 +281,11 @@ class Words(unittest.TestCase):
 
             write()
             self.assertEqual(Settings.read(path).n, 4)
-            for key, *wrong in (("cluster", "", "-1", '"7"', "7.0"), ("n", "", "3", "5", "65", "true", "x"), ("t", "", "2"), ("questions", "", "0", "4097"),
-                                ("desks", "", '"a"', '["127.0.0.1:1"]', '["localhost:1", "127.0.0.1:1", "10.0.0.2:2", "10.0.0.1:3"]',
-                                 '["host:1", "127.0.0.1:2", "10.0.0.2:2", "10.0.0.1:3"]', '["[::1]:1", "127.0.0.1:2", "10.0.0.2:2", "10.0.0.1:0"]')):
-                for value in wrong:
+            firsts = ("127.0.0.1:2", "localhost:2", "host:1", "[::1]:1", "10.0.0.1:0", "10.0.0.1:65536", "10.0.0.1:+1", "10.0.0.1", "unix:/x")
+            rows = {"cluster": ["", "-1", '"7"', "7.0"], "n": ["", "3", "5", "65", "true", "x"], "t": ["", "2"], "questions": ["", "0", "4097"],
+                    "desks": ["", '"a"', '["127.0.0.1:1"]', *(f'["{first}", "127.0.0.1:2", "10.0.0.2:2", "10.0.0.3:3"]' for first in firsts)]}
+            for key, values in rows.items():
+                for value in values:
                     write(**{key: value})
                     with self.subTest(f"{key} = {value}"), self.assertRaises(BadSettings):
                         Settings.read(path)

@@ -176,6 +176,9 @@ impl Cluster {
     /// - [`Error::Thread`] if the system refused a thread.
     pub fn decide(&self, question: u16, bit: bool, timeout: Duration) -> Result<bool, Error> {
         self.check(question)?;
+        if let Some(bit) = self.board.decision(question) {
+            return Ok(bit);
+        }
         self.start()?;
         let deadline = after(timeout);
         let line = format!("PROPOSE {question} {}", u8::from(bit));
@@ -313,6 +316,12 @@ impl Cluster {
             })?);
         }
         Ok(())
+    }
+}
+
+impl std::fmt::Debug for Cluster {
+    fn fmt(&self, out: &mut std::fmt::Formatter<'_>) -> std::fmt::Result {
+        out.debug_struct("Cluster").field("settings", &self.settings).finish_non_exhaustive()
     }
 }
 

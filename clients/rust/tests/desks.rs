@@ -5,6 +5,8 @@ mod common;
 use bracha_client::{Cluster, Error, Settings};
 use common::{Desk, closed_port};
 use std::net::SocketAddrV4;
+use std::sync::Arc;
+use std::sync::atomic::{AtomicUsize, Ordering};
 use std::time::{Duration, Instant};
 
 const SECOND: Duration = Duration::from_secs(1);
@@ -43,6 +45,10 @@ fn faulty() -> Vec<(&'static str, Desk)> {
         ("no reply", says("WHAT\n")),
         ("a number that is none", says("DECIDED 3 +1\n")),
         ("a question past the end", says("DECIDED 64 0\n")),
+        (
+            "a long line",
+            Desk::new(|_, link| link.say(&("DECIDED 3 1".to_string() + &" ".repeat(9000) + "\n"))),
+        ),
         ("no text", Desk::new(|_, link| link.bytes(b"DECIDED \xff\n"))),
         ("silent", Desk::new(|_, link| link.rest(60.0))),
         ("closes", Desk::new(|_, _| false)),
@@ -189,4 +195,42 @@ fn lines_of_many_threads_share_a_connection() {
         }
     });
     assert_eq!(desk.connections(), 1);
+}
+
+#[test]
+fn a_decision_costs_a_line() {
+    let desks = [0; 4].map(|_| {
+        Desk::new(|line, link| match line.starts_with("FOLLOW") {
+            true => (0..64).all(|q| link.say(&format!("DECIDED {q} 1\n"))) && link.rest(60.0),
+            false => link.say("OK\n"),
+        })
+    });
+    let cluster = cluster(1, &desks.each_ref().map(|desk| desk.address));
+    for question in 0..20 {
+        assert_eq!(cluster.decide(question, true, 5 * SECOND), Ok(true));
+    }
+    assert_eq!(cluster.propose(63, true, 5 * SECOND).unwrap().len(), 4);
+    for desk in &desks {
+        let lines = desk.lines();
+        assert_eq!(lines.iter().filter(|line| *line == "FOLLOW 0").count(), 1);
+        let proposals = lines.iter().filter(|line| line.starts_with("PROPOSE ")).count();
+        assert!(proposals <= 21 && lines.len() == proposals + 1, "{lines:?}");
+    }
+}
+
+#[test]
+fn a_member_that_breaks_the_protocol_is_cut_off() {
+    for text in ["DECIDED 3 0\n", "\n", "x", "DECIDED 64 0\n"] {
+        let ended = Arc::new(AtomicUsize::new(0));
+        let own = ended.clone();
+        let desk = Desk::new(move |_, link| {
+            let flood = text.repeat(4096);
+            while link.say(&flood) {}
+            own.fetch_add(1, Ordering::SeqCst);
+            false
+        });
+        let cluster = cluster(0, &[desk.address]);
+        assert!(cluster.wait(5, SECOND).is_err());
+        assert_eq!((ended.load(Ordering::SeqCst), desk.connections()), (1, 1), "{text:?}");
+    }
 }
