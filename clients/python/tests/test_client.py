@@ -3,7 +3,10 @@ need one are left out."""
 
 import asyncio
 import gc
+import os
 import socket
+import subprocess
+import sys
 import tempfile
 import threading
 import time
@@ -336,6 +339,24 @@ class Running(unittest.TestCase):
                 asyncio.run(decides(place))
             finally:
                 kills.close()
+
+    def test_the_lines_of_the_readme(self):
+        top = Path(__file__).parents[1]
+        lines = [line[4:] for line in (top / "README.md").read_text().split("\n## ")[0].splitlines() if line.startswith("    ")]
+        command = [sys.executable, "-u", "-c", "\n".join(lines)]
+        environment = os.environ | {"PYTHONPATH": str(top)}
+        with subprocess.Popen(command, cwd=self.members.path, stdout=subprocess.PIPE, text=True, env=environment) as process:
+            self.addCleanup(process.kill)
+            timer = threading.Timer(20, process.kill)
+            timer.start()
+            self.assertEqual(process.stdout.readline(), "question 7 is decided: True\n")
+            self.assertEqual(process.stdout.readline(), "None\n")
+            self.assertEqual([process.stdout.readline().split()[:2] for _ in range(4)], [[str(member), "True"] for member in range(4)])
+            with Cluster.open(self.members.client) as cluster:
+                self.assertIs(cluster.decide(8, False), False)
+            self.assertEqual(process.stdout.readline(), "8 False\n")
+            timer.cancel()
+            process.kill()
 
     def test_half_a_proposal_is_repaired(self):
         with Cluster.open(self.members.client) as cluster:

@@ -35,3 +35,8 @@ pub use error::Error;
 pub use reading::Reading;
 pub use reply::{Answer, Decision, Status};
 pub use settings::Settings;
+
+/// The example of the README, which the tests of the documentation compile.
+#[cfg(doctest)]
+#[doc = include_str!("../README.md")]
+struct Readme;
