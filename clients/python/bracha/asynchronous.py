@@ -8,7 +8,7 @@ from pathlib import Path
 from types import TracebackType
 from typing import TypeVar
 
-from .board import Board
+from .board import Board, Decisions
 from .desk import PATIENCE, REST, Desk
 from .errors import Closed, NoSuchMember, NoSuchQuestion, Undecided, Unreachable
 from .replies import Answer, Decision, Status, decision_in, stands_in, status_in
@@ -104,24 +104,25 @@ class AsyncCluster:
             words = self._board.words(question)
             raise Undecided(f"question {question} after {timeout} seconds; told by members: {words}") from error
 
-    async def follow(self, *, known: Collection[int] = (), trust: int | None = None, number: int = 0) -> AsyncIterator[Decision]:
-        """Yields decisions for ever, also over restarts of members: first those of before, then each once more than t members
-        tell it. Questions in `known` are left out: after a restart, name those that you have.
+    def follow(self, *, known: Collection[int] = (), trust: int | None = None, number: int = 0) -> AsyncIterator[Decision]:
+        """Returns an iterator over decisions, for ever, also over restarts of members: first those of before, then each once more
+        than t members tell it. Questions in `known` are left out: after a restart, name those that you have. An `anext` that is
+        cancelled, as by a timeout, loses nothing.
 
-        With `trust`, it yields what that member alone tells, in the order of its journal, from that number on.
+        With `trust`, it yields what that member alone tells, in the order of its journal, from that number on. An `anext` that is
+        cancelled ends it: go on with another, from the number after the last.
         """
         self._check_open()
         if trust is not None:
-            async with aclosing(self._desks[self._member(trust)].follow(number, self.settings.questions)) as told:
-                async for question, bit in told:
-                    yield Decision(question, bit, number)
-                    number += 1
-        left_out = frozenset(known)
+            return self._follow_member(self._member(trust), number)
         self._start()
-        async with aclosing(self._board.follow()) as decisions:
-            async for decision in decisions:
-                if decision.question not in left_out:
-                    yield decision
+        return Decisions(self._board, known)
+
+    async def _follow_member(self, member: int, number: int) -> AsyncIterator[Decision]:
+        async with aclosing(self._desks[member].follow(number, self.settings.questions)) as told:
+            async for question, bit in told:
+                yield Decision(question, bit, number)
+                number += 1
 
     async def status(self, *, timeout: float = PATIENCE) -> list[Status]:
         """Returns each member's status by its own word. A member that doesn't answer in time isn't up."""

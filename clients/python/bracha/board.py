@@ -1,7 +1,7 @@
 """What a client believes of all questions."""
 
 import asyncio
-from collections.abc import AsyncIterator
+from collections.abc import AsyncIterator, Collection
 
 from .errors import Closed
 from .reading import Reading
@@ -45,14 +45,11 @@ class Board:
             await self._next(question)
         return bit
 
-    async def follow(self) -> AsyncIterator[Decision]:
-        """Yields each decision that is believed, in the order in which they came to be. Closed."""
-        place = 0
-        while True:
-            while place < len(self._decisions):
-                place += 1
-                yield self._decisions[place - 1]
+    async def at(self, place: int) -> Decision:
+        """Returns the decision at a place of the order in which they came to be believed, once there is one. Closed."""
+        while place >= len(self._decisions):
             await self._next(None)
+        return self._decisions[place]
 
     async def _next(self, question: int | None) -> None:
         """Waits for the decision of a question, or for any. Closed."""
@@ -78,3 +75,22 @@ class Board:
         self._closed = True
         for question in self._waiting:
             self._wake(question)
+
+
+class Decisions(AsyncIterator[Decision]):
+    """The decisions on a board, for ever. It holds nothing, so it may be dropped, and an `anext` that is cancelled loses nothing."""
+
+    def __init__(self, board: Board, left_out: Collection[int]) -> None:
+        self._board = board
+        self._left_out = frozenset(left_out)
+        self._place = 0
+
+    async def __anext__(self) -> Decision:
+        while True:
+            decision = await self._board.at(self._place)
+            self._place += 1
+            if decision.question not in self._left_out:
+                return decision
+
+    async def aclose(self) -> None:
+        """Does nothing: as a generator has it, for the same use."""

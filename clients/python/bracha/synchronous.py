@@ -2,7 +2,7 @@
 
 import asyncio
 import threading
-from collections.abc import Collection, Coroutine, Iterator
+from collections.abc import AsyncIterator, Collection, Coroutine, Iterator
 from concurrent.futures import CancelledError, Future
 from contextlib import suppress
 from pathlib import Path
@@ -100,7 +100,11 @@ class Cluster:
 
     def follow(self, *, known: Collection[int] = (), trust: int | None = None, number: int = 0) -> Iterator[Decision]:
         """As `AsyncCluster.follow`. An iterator that is dropped ends what it holds; `close` of the cluster ends it with Closed."""
-        decisions = self._cluster.follow(known=known, trust=trust, number=number)
+
+        async def begin() -> AsyncIterator[Decision]:
+            return self._cluster.follow(known=known, trust=trust, number=number)
+
+        decisions = self._run(begin())
 
         async def next_one() -> Decision:
             return await anext(decisions)

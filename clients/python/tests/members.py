@@ -16,9 +16,9 @@ class Fake:
     def __init__(self, answer):
         self._answer = answer
         self._listener = socket.create_server(("127.0.0.1", 0), backlog=64)
-        self._links = []
         self.desk = f"127.0.0.1:{self._listener.getsockname()[1]}"
         self.lines = []
+        self.links, self.ended = [], 0
         threading.Thread(target=self._accept, daemon=True).start()
 
     def _accept(self):
@@ -27,7 +27,7 @@ class Fake:
                 link, _ = self._listener.accept()
             except OSError:
                 return
-            self._links.append(link)
+            self.links.append(link)
             threading.Thread(target=self._serve, args=(link,), daemon=True).start()
 
     def _serve(self, link):
@@ -45,9 +45,11 @@ class Fake:
                                 link.sendall(reply.encode())
             except OSError:
                 pass
+            finally:
+                self.ended += 1
 
     def close(self):
-        for end in (self._listener, *self._links):
+        for end in (self._listener, *self.links):
             try:
                 end.shutdown(socket.SHUT_RDWR)
             except OSError:

@@ -12,7 +12,7 @@ import threading
 import time
 import tracemalloc
 import unittest
-from itertools import islice, repeat
+from itertools import count, islice, repeat
 from pathlib import Path
 
 from bracha import (AsyncCluster, BadSettings, Closed, Cluster, NoSuchMember, NoSuchQuestion, Reading, Settings, Undecided,
@@ -176,20 +176,12 @@ class Beside(unittest.TestCase):
         self.assertEqual([it.up for it in cluster.status()], [False] * 4)
 
     def test_a_member_that_breaks_the_protocol_is_cut_off(self):
-        for text in ("DECIDED 3 0\n", "\n", "x", "DECIDED 64 0\n"):
-            with self.subTest(text=text):
-                sent = []
-
-                def answer(line):
-                    while True:
-                        sent.append(line)
-                        yield text * 4096
-
-                fake, = self.desks(answer)
-                self.assertRaises(Undecided, self.cluster([fake.desk], t=0).wait, 5, timeout=0.5)
-                before = len(sent)
-                time.sleep(0.3)
-                self.assertEqual((len(sent), len(fake._links)), (before, 1))
+        past_the_end = (f"DECIDED {question} 0\n" for question in count(64))
+        for flood in (repeat("DECIDED 3 0\n" * 4096), repeat("\n" * 4096), repeat("x" * 4096), past_the_end):
+            with self.subTest(flood=flood):
+                fake, = self.desks(lambda line: flood)
+                self.assertRaises(Undecided, self.cluster([fake.desk], t=0).wait, 5, timeout=1)
+                self.assertEqual((fake.ended, len(fake.links)), (1, 1))
 
     def test_a_decision_costs_a_line(self):
         def answer(line):
@@ -213,7 +205,26 @@ class Beside(unittest.TestCase):
         fake, = self.desks(says("UP 18 1"))
         told = asyncio.run(many())
         self.assertEqual({(it.up, it.statements, it.decided) for status in told for it in status}, {(True, 18, 1)})
-        self.assertEqual(len(fake._links), 1)
+        self.assertEqual(len(fake.links), 1)
+
+    def test_a_wait_for_the_next_decision_may_be_given_up(self):
+        def answer(line):
+            return ["DECIDED 3 1\n", 0.5, "DECIDED 4 0\n", 60.0] if line.startswith("FOLLOW") else ["DECIDED 1\n"]
+
+        async def follows():
+            async with AsyncCluster(Settings(7, 4, 1, 64, tuple(fake.desk for fake in fakes))) as cluster:
+                decisions, told = cluster.follow(), []
+                while len(told) < 2:
+                    try:
+                        async with asyncio.timeout(0.1):
+                            told.append(await anext(decisions))
+                    except TimeoutError:
+                        pass
+                self.assertEqual(await anext(cluster.follow(known=[3])), told[1])
+                return [(it.question, it.bit) for it in told]
+
+        fakes = self.desks(*[answer] * 4)
+        self.assertEqual(asyncio.run(follows()), [(3, True), (4, False)])
 
     def test_close_ends_all_calls_at_once(self):
         fakes = self.desks(*[silent] * 4)
