@@ -14,6 +14,7 @@ import tracemalloc
 import unittest
 from itertools import count, islice, repeat
 from pathlib import Path
+from unittest import mock
 
 from bracha import (AsyncCluster, BadSettings, Closed, Cluster, NoSuchMember, NoSuchQuestion, Reading, Settings, Undecided,
                     Unreachable)
@@ -182,6 +183,26 @@ class Beside(unittest.TestCase):
                 fake, = self.desks(lambda line: flood)
                 self.assertRaises(Undecided, self.cluster([fake.desk], t=0).wait, 5, timeout=1)
                 self.assertEqual((fake.ended, len(fake.links)), (1, 1))
+
+    def test_a_connection_that_hangs_is_made_anew(self):
+        fake, = self.desks(lambda line: ["DECIDED 1\n"] if fake.lines[1:] else [60.0])
+        cluster = self.cluster([fake.desk], t=0)
+        with mock.patch("bracha.desk.PATIENCE", 0.2):
+            self.assertRaises(Unreachable, cluster.ask, 5, timeout=0.3)
+            self.assertIs(cluster.ask(5), True)
+        self.assertEqual(len(fake.links), 2)
+
+    def test_a_connection_that_ended_is_made_anew(self):
+        fake, = self.desks(lambda line: ["DECIDED 1\n", None])
+        cluster = self.cluster([fake.desk], t=0)
+        self.assertEqual([cluster.ask(5, trust=0) for _ in range(5)], [True] * 5)
+        self.assertEqual(len(fake.links), 5)
+
+    def test_what_nobody_asked_for_is_no_reply(self):
+        fake, = self.desks(lambda line: ["UNDECIDED\nDECIDED 1\n"])
+        cluster = self.cluster([fake.desk], t=0)
+        self.assertEqual([cluster.ask(5, trust=0) for _ in range(5)], [None] * 5)
+        self.assertEqual(len(fake.links), 5)
 
     def test_a_decision_costs_a_line(self):
         def answer(line):

@@ -234,3 +234,39 @@ fn a_member_that_breaks_the_protocol_is_cut_off() {
         assert_eq!((ended.load(Ordering::SeqCst), desk.connections()), (1, 1), "{text:?}");
     }
 }
+
+#[test]
+fn a_connection_that_hangs_is_made_anew() {
+    let lines = AtomicUsize::new(0);
+    let desk = Desk::new(move |_, link| match lines.fetch_add(1, Ordering::SeqCst) {
+        0 => link.rest(60.0),
+        _ => link.say("DECIDED 1\n"),
+    });
+    let cluster = cluster(0, &[desk.address]);
+    assert_eq!(cluster.ask_member(0, 5, SECOND / 3), Err(Error::Unreachable(vec![0])));
+    assert_eq!(cluster.ask_member(0, 5, 4 * SECOND), Ok(Some(true)));
+    assert_eq!(desk.connections(), 2);
+}
+
+#[test]
+fn a_connection_that_ended_is_made_anew() {
+    let closing = Desk::new(|_, link| {
+        link.say("DECIDED 1\n");
+        false
+    });
+    let cluster = cluster(0, &[closing.address]);
+    for _ in 0..5 {
+        assert_eq!(cluster.ask_member(0, 5, 4 * SECOND), Ok(Some(true)));
+    }
+    assert_eq!(closing.connections(), 5);
+}
+
+#[test]
+fn what_nobody_asked_for_is_no_reply() {
+    let desk = says("UNDECIDED\nDECIDED 1\n");
+    let cluster = cluster(0, &[desk.address]);
+    for _ in 0..5 {
+        assert_eq!(cluster.ask_member(0, 5, 4 * SECOND), Ok(None));
+    }
+    assert_eq!(desk.connections(), 5);
+}
