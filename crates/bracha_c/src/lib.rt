@@ -1,17 +1,19 @@
-//! The engine as a C library. `include/bracha.h` declares these functions.
+//! The engine as a C library. `include/bracha.h` declares these functions, and says what C owes them.
 #![tactic(auto)]
 
-ghost use Rattle.std.specs.Prelude.{◌⊎◌};
-ghost use Rattle.terms_prelude.specs.Terms.{Proposal};
-ghost use Rattle.bracha_c.specs.Answers.{HeardAs, Replied, Refused};
+ghost use Rattle.std.specs.Prelude.{◌≡◌, ◌≢◌, ◌⊎◌, ◌<◌, ◌≤◌, ℕ, List, None, true, pos, IfOk, IfErr};
+ghost use Rattle.terms_prelude.specs.Terms.{Proposal, Record, Statement, decided, new_size};
+ghost use Rattle.questions.specs.Readers.{CoreStandsFor, core_size, core_failed};
+ghost use Rattle.engine.specs.Outcomes.{core_of, Opens, OpensNothing};
+ghost use Rattle.bracha_c.specs.Answers.{HeardAs, NotHeard, Replied, NotReplied, TellsDecision, OpenedAs, WrongSize, NotOpened, AuditedAs, NotAudited};
 
 mod handle;
 mod status;
 
-use engine::{Engine, MOST_BYTES, audit_bytes};
+use engine::{Engine, EngineFault, MOST_BYTES, audit_bytes};
 pub use handle::{Handle, Hidden};
 use rounds::Toss;
-use status::{MEMORY, OK, code_of, code_of_fault, code_of_size};
+use status::{status_of, status_of_fault, status_of_size, status_of_yes};
 use std::alloc::Global;
 use terms::Size;
 
@@ -25,7 +27,8 @@ pub struct Decision {
     pub bit: u8,
 }
 
-/// Opens a core. `*core` is written only if the answer is 0.
+/// Opens the core of member `me`, with the records that it saved in earlier lives, seven bytes each. `*core` is written
+/// only if the answer is 0.
 #[unsafe(no_mangle)]
 pub extern "C" fn bracha_core_open(
     alloc: Global,
@@ -35,21 +38,36 @@ pub extern "C" fn bracha_core_open(
     questions: u16,
     me: u8,
     records: &[u8],
-) -> i32 {
+) -> i32
+    ensures status { OpenedAs n t questions me records.now result ⊎ WrongSize n t questions result
+        ⊎ NotOpened n t questions me records.now result }
+    ensures same { result ≢ pos 0 → core.new ≡ core.old }
+{
     let size = match Size::new(n, t, questions) {
         Ok(size) => size,
-        Err(fault) => return code_of_size(fault),
+        Err(fault) => return status_of_size(fault),
     };
-    let engine = match Engine::open(alloc, size, me, records) {
-        Ok(engine) => engine,
-        Err(fault) => return code_of_fault(fault),
-    };
-    match Box::new(alloc, engine) {
+    match open_box(alloc, size, me, records) {
         Ok(engine) => {
             *core = handle::hand_out(engine);
-            OK
+            0
         }
-        Err(_) => MEMORY,
+        Err(fault) => status_of_fault(fault),
+    }
+}
+
+/// A box of the engine.
+fn open_box(alloc: Global, size: Size, me: u8, records: &[u8]) -> Result<Box<Engine>, EngineFault>
+    ensures opened { IfOk result (λ engine. Opens size me records.now (core_of engine.value)) }
+    ensures fault { IfErr result (λ fault. OpensNothing size me records.now fault) }
+{
+    let engine = match Engine::open(alloc, size, me, records) {
+        Ok(engine) => engine,
+        Err(fault) => return Err(fault),
+    };
+    match Box::new(alloc, engine) {
+        Ok(engine) => Ok(engine),
+        Err(_) => Err(EngineFault::Memory),
     }
 }
 
@@ -59,7 +77,8 @@ pub extern "C" fn bracha_core_close(core: Handle) {
     drop(core.into_box());
 }
 
-/// Hears the seven bytes of a statement from the member `from`.
+/// Hears the seven bytes of a statement from the member `from`, and writes the records that are due to the front of
+/// `records`, and how many there are to `*count`.
 #[unsafe(no_mangle)]
 pub extern "C" fn bracha_core_hear(
     core: &mut Handle,
@@ -69,22 +88,22 @@ pub extern "C" fn bracha_core_hear(
     records: &mut [u8; MOST_BYTES],
     count: &mut usize,
 ) -> i32
-    ensures { HeardAs core.old.engine.core core.new.engine.core toss from statement.now result count.new records.old records.new
-        ⊎ Refused result count.new }
+    ensures { HeardAs (core_of core.old.engine) (core_of core.new.engine) toss from statement.now result count.new records.old records.new
+        ⊎ NotHeard (core_of core.old.engine) (core_of core.new.engine) from statement.now result count.new records.old records.new }
 {
     match core.engine().hear(from, statement, Toss(toss), records) {
         Ok(told) => {
             *count = told.records;
-            code_of(told.outcome)
+            status_of(told.outcome)
         }
         Err(fault) => {
             *count = 0;
-            code_of_fault(fault)
+            status_of_fault(fault)
         }
     }
 }
 
-/// Takes a bit that is proposed for the question.
+/// Takes a bit that is proposed for the question, and writes the records that are due as `bracha_core_hear` does.
 #[unsafe(no_mangle)]
 pub extern "C" fn bracha_core_propose(
     core: &mut Handle,
@@ -94,29 +113,45 @@ pub extern "C" fn bracha_core_propose(
     records: &mut [u8; MOST_BYTES],
     count: &mut usize,
 ) -> i32
-    ensures { Replied core.old.engine.core core.new.engine.core toss (Proposal question bit) result count.new records.old records.new
-        ⊎ Refused result count.new }
+    ensures { Replied (core_of core.old.engine) (core_of core.new.engine) toss (Proposal question bit) result count.new records.old records.new
+        ⊎ NotReplied (core_of core.old.engine) (core_of core.new.engine) (Proposal question bit) result count.new records.old records.new }
 {
     match core.engine().propose(question, bit, Toss(toss), records) {
         Ok(told) => {
             *count = told.records;
-            code_of(told.outcome)
+            status_of(told.outcome)
         }
         Err(fault) => {
             *count = 0;
-            code_of_fault(fault)
+            status_of_fault(fault)
         }
     }
 }
 
-/// The first decision of the question, if there is one: whether `*decision` was written.
+/// The first decision of the question, if there is one: whether `*decision` was written. The core is as it was.
 #[unsafe(no_mangle)]
 pub extern "C" fn bracha_core_verdict(
     core: &mut Handle,
     question: u16,
     decision: &mut Decision,
-) -> bool {
-    match core.engine().verdict(question) {
+) -> bool
+    ensures known { (records : List Record) (heard : List (ℕ × Statement)) →
+        CoreStandsFor (core_of core.old.engine) records heard → question < (core_size (core_of core.old.engine)).questions →
+        TellsDecision (decided records question) result decision.old decision.new }
+    ensures unknown { (core_size (core_of core.old.engine)).questions ≤ question →
+        TellsDecision None result decision.old decision.new }
+    ensures failed { core_failed (core_of core.old.engine) ≡ true → TellsDecision None result decision.old decision.new }
+    ensures same { core.new.engine ≡ core.old.engine }
+{
+    let known = core.engine().verdict(question);
+    tell(known, decision)
+}
+
+/// Writes a decision that there may be, and tells whether there is one.
+fn tell(known: Option<(u8, bool)>, decision: &mut Decision) -> bool
+    ensures { TellsDecision known result decision.old decision.new }
+{
+    match known {
         Some((round, bit)) => {
             *decision = Decision {
                 round,
@@ -138,14 +173,16 @@ pub extern "C" fn bracha_audit(
     question: u16,
     bit: bool,
     pairs: &[u8],
-) -> i32 {
+) -> i32
+    ensures { AuditedAs n t questions question bit pairs.now result ⊎ WrongSize n t questions result
+        ⊎ NotAudited n t questions pairs.now result }
+{
     let size = match Size::new(n, t, questions) {
         Ok(size) => size,
-        Err(fault) => return code_of_size(fault),
+        Err(fault) => return status_of_size(fault),
     };
     match audit_bytes(alloc, size, question, bit, pairs) {
-        Ok(true) => 1,
-        Ok(false) => 0,
-        Err(fault) => code_of_fault(fault),
+        Ok(yes) => status_of_yes(yes),
+        Err(fault) => status_of_fault(fault),
     }
 }

@@ -1,17 +1,15 @@
 -- `into_box` gives what the handle owns to `Box::from_raw`: a walk of its MIR by hand.
 use Rattle.std.proofs.Common.{◌≡◌, List, [], ◌∷◌, ◌++◌, refl}
 use Rattle.std.proofs.raw_atomic.Walks.{proved_at}
-use seplogic.Ra.Ura.{Ura}
 use base.Fraction.{full_share}
-use base.Logic.{SProp, ent, sep, emp, id⊢}
+use base.Logic.{emp, id⊢}
 use base.Fml.{Lft, ftrue, fsep, flft}
 use contract.BorrowLft.{◌⊑◌, ⊑_refl}
 use contract.Monad.{fact, fact_i}
 use contract.Running.{tables}
 use mir.Val.{Val, vptr}
 use prog.Wp.{WpFn}
-use types.Logic.{Logic, sem}
-use types.Kit.{‵, raw, ◌⊛◌, some, later, prop, at_ret, ◌$◌, ◌∵◌, !, qed, done, move, keep, drop, use0, use1, use2, split, split3, join, fjoin, feq_i, pick, await, regoal, suffices}
+use types.Kit.{‵, raw, ◌⊛◌, some, later, prop, at_ret, ◌$◌, ◌∵◌, !, qed, done, move, keep, drop, use0, use1, split, split3, join, fjoin, feq_i, pick, await, regoal, suffices}
 use types.Run.{enter, of_opd, stop, fld, no_more, and_then, first, blocks, exec, returns}
 use types.ByLocal.{alloc_all, pass_all, free_all, look_at, get, get_in, sets, lands_last, env}
 use types.Part.{whole, sub}
@@ -23,16 +21,13 @@ use denote.Signature.{plain}
 use denote.Steps.{nothing, heard, peeks}
 use denote.Triple.Call.{calls_at_last}
 use denote.Triple.Spec.{triple_of}
-use denote.Triple.Statement.{Contract}
 use denote.Triple.Table.{framed}
 use denote.Triple.Walked.{Stays, walk_of, says, stay_dropped, Goes-dropped, ends_at}
-use Rattle.std_alloc.specs.Box.Ownership.{box_owns}
 use Rattle.std_alloc.specs.contracts.boxed.Box.from_raw as g
 use Rattle.std_alloc.proofs.boxed.Box.from_raw.Met.{met}
 use Rattle.std_alloc.proofs.boxed.Box.TheLaws.{the_field_loose}
-use Rattle.std_alloc.proofs.BoxSteps.Form.{D, R, B, handle, box_typed}
+use Rattle.std_alloc.proofs.BoxSteps.Form.{D, B, box_typed}
 use Rattle.std_alloc.proofs.BoxSteps.Steps.{box_out}
-use Rattle.std.proofs.alloc.Calls.{token}
 use Rattle.std_heap.specs.contracts.GlobalAllocator.TheImpl.{ghosts, dict}
 use Rattle.std_heap.proofs.GlobalAllocator.TheImpl.Met.{passed}
 use Rattle.bracha_c.specs.contracts.handle.Handle.{the_row as H}
