@@ -8,7 +8,7 @@ use Rattle.terms_prelude.specs.Terms.{Kind, Initial, Echo, Ready, Value, Stateme
 use Rattle.statement_codec.specs.Statements.{kind_byte, statement_bytes, value_from}
 use Rattle.statement_codec.proofs.Statements.{value_again}
 use Rattle.journal.proofs.Headers.{two_fit}
-use Rattle.engine.specs.Texts.{bit_byte, record_bytes, saying_bytes, IsRecord, IsSaying, NoStatement, NoRecord}
+use Rattle.engine.specs.Texts.{bit_byte, record_bytes, saying_bytes, IsStatement, IsRecord, IsSaying, NoStatement, NoRecord}
 use Rattle.engine.proofs.Rows.{past}
 
 -- the first seven bytes
@@ -63,6 +63,9 @@ length-record (Decided question round bit) = refl
 
 pub length-saying : (e : ℕ × Statement) → length (saying_bytes e) ≡ 8
 length-saying e = refl
+
+pub length-statement : (s : Statement) → length (statement_bytes s) ≡ 7
+length-statement s = refl
 
 -- the question that the second and the third byte are
 abbrev pub asked : List ℕ → ℕ
@@ -147,6 +150,9 @@ ReadRecords all rest now = AllByRecursion IsRecord now × (flat_map record_bytes
 
 abbrev pub ReadSayings : List ℕ → List ℕ → List (ℕ × Statement) → Type 0
 ReadSayings all rest now = AllByRecursion IsSaying now × (flat_map saying_bytes now ++ rest ≡ all)
+
+abbrev pub ReadStatements : List ℕ → List ℕ → List Statement → Type 0
+ReadStatements all rest now = AllByRecursion IsStatement now × (flat_map statement_bytes now ++ rest ≡ all)
 
 -- seven bytes have a record's length
 abbrev pub seven_some : 1 ≤ 7
