@@ -1,12 +1,14 @@
 //! The engine as a C library. `include/bracha.h` declares these functions, and says what C owes them.
 #![tactic(auto)]
 
-ghost use Rattle.std.specs.Prelude.{◌≡◌, ◌≢◌, ◌⊎◌, ◌<◌, ◌≤◌, ℕ, List, None, true, pos, IfOk, IfErr};
+ghost use Rattle.std.specs.Prelude.{◌≡◌, ◌≢◌, ◌⊎◌, ◌*◌, ◌<◌, ◌≤◌, ℕ, List, None, true, pos, IfOk, IfErr};
 ghost use Rattle.terms_prelude.specs.Terms.{Proposal, Record, Statement, decided, new_size};
 ghost use Rattle.questions.specs.Readers.{CoreStandsFor, core_size, core_failed};
 ghost use Rattle.engine.specs.Outcomes.{core_of, Opens, OpensNothing};
 ghost use Rattle.bracha_c.specs.Answers.{HeardAs, NotHeard, Replied, NotReplied, TellsDecision, OpenedAs, WrongSize, NotOpened, AuditedAs, NotAudited};
 
+mod batches;
+mod frames;
 mod handle;
 mod status;
 
@@ -16,6 +18,22 @@ use rounds::Toss;
 use status::{status_of, status_of_fault, status_of_size, status_of_yes};
 use std::alloc::Global;
 use terms::Size;
+
+/// The number of this interface: it is raised where a call's meaning or form changes.
+#[unsafe(no_mangle)]
+pub extern "C" fn bracha_abi() -> u32
+    ensures { result ≡ 1 }
+{
+    1
+}
+
+/// The version of this library, as 0x00MMmmpp: 0.3.0.
+#[unsafe(no_mangle)]
+pub extern "C" fn bracha_version() -> u32
+    ensures { result ≡ 3 * 256 }
+{
+    0x000300
+}
 
 /// A decision, as C sees it.
 #[repr(C)]

@@ -169,8 +169,8 @@ fn statements_of(alloc: Global, bytes: &[u8]) -> Result<Vec<Statement>, EngineFa
     }
 }
 
-/// Writes the bytes to the front of `out`, and answers how many they are.
-pub(crate) fn put(bytes: &[u8], out: &mut [u8]) -> usize
+/// Writes the bytes to the front of `out`, which has room for them, and answers how many they are.
+pub fn put(bytes: &[u8], out: &mut [u8]) -> usize
     requires { length bytes.now ≤ length out.old }
     ensures count { result ≡ length bytes.now }
     ensures after { out.new ≡ bytes.now ++ drop (length bytes.now) out.old }
