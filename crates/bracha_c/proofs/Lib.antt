@@ -1,1 +1,1 @@
-mod EngineBox
+mod Boxes

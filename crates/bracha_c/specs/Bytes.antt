@@ -1,6 +1,6 @@
 -- What C has of frames and of a journal's bytes.
 use Rattle.std.specs.Prelude.{ℕ, ℤ, ◌≡◌, ◌≢◌, ◌⊎◌, ◌<◌, ◌≤◌, List, [], ◌∷◌, ◌++◌, None, pos, negsuc, length, drop}
-use Rattle.terms_prelude.specs.Terms.{Statement, Header, new_size, size_fault, new_header}
+use Rattle.terms_prelude.specs.Terms.{Statement, new_size, size_fault, new_header}
 use Rattle.statement_codec.specs.Statements.{statement_bytes}
 use Rattle.wire.specs.Texts.{frame_bytes, version_byte}
 use Rattle.wire.specs.declared.message.Message.TheVariants as message

@@ -8,16 +8,22 @@ ghost use Rattle.engine.specs.Outcomes.{core_of, Opens, OpensNothing};
 ghost use Rattle.bracha_c.specs.Answers.{HeardAs, NotHeard, Replied, NotReplied, TellsDecision, OpenedAs, WrongSize, NotOpened, AuditedAs, NotAudited};
 
 mod batches;
+mod feeder_handle;
+mod feeders;
 mod frames;
 mod handle;
 mod status;
+mod toss_handle;
+mod tosses;
 
 use engine::{Engine, EngineFault, MOST_BYTES, audit_bytes};
+pub use feeder_handle::FeederHandle;
 pub use handle::{Handle, Hidden};
 use rounds::Toss;
 use status::{status_of, status_of_fault, status_of_size, status_of_yes};
 use std::alloc::Global;
 use terms::Size;
+pub use toss_handle::TossHandle;
 
 /// The number of this interface: it is raised where a call's meaning or form changes.
 #[unsafe(no_mangle)]

@@ -1,5 +1,5 @@
 -- Messages that wait in two lists, of which one is turned.
-use Rattle.std.proofs.Common.{◌≡◌, ℕ, List, [], ◌∷◌, ◌++◌, reverse, refl, sym, ◌∙◌, ap, append_assoc, Result, Ok, Err, IfOk}
+use Rattle.std.proofs.Common.{◌≡◌, ℕ, List, [], ◌∷◌, ◌++◌, reverse, sym, ◌∙◌, ap, append_assoc, Result, Ok, Err, IfOk}
 use Rattle.std.proofs.lemmas.List.{reverse-append}
 use Rattle.terms_prelude.specs.Terms.{Size}
 use Rattle.wire.specs.declared.message.Message.{Message}

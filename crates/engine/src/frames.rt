@@ -93,11 +93,7 @@ pub fn statement_frame(bytes: &[u8; 7]) -> Option<[u8; 10]>
 ///
 /// [`EngineFault::BadStatement`]: the bytes are no list of 1 to 99 statements. [`EngineFault::Memory`]: there was none.
 /// Nothing was written.
-pub fn statements_frame(
-    alloc: Global,
-    bytes: &[u8],
-    out: &mut [u8],
-) -> Result<usize, EngineFault>
+pub fn statements_frame(alloc: Global, bytes: &[u8], out: &mut [u8]) -> Result<usize, EngineFault>
     requires { 697 ≤ length out.old }
     ensures written { IfOk result (λ count. IsFrameOf bytes.now count out.old out.new) }
     ensures bad { IsErrOf result EngineFault.BadStatement → IsNoFrame bytes.now }
@@ -114,11 +110,7 @@ pub fn statements_frame(
 }
 
 /// Writes the message's frame to the front of `out`, and answers how many bytes it has.
-fn write_frame(
-    alloc: Global,
-    message: &Message,
-    out: &mut [u8],
-) -> Result<usize, EngineFault>
+fn write_frame(alloc: Global, message: &Message, out: &mut [u8]) -> Result<usize, EngineFault>
     requires { length (frame_bytes message.now) ≤ length out.old }
     ensures count { IfOk result (λ count. count ≡ length (frame_bytes message.now)) }
     ensures written { OnOk result (out.new ≡ frame_bytes message.now ++ drop (length (frame_bytes message.now)) out.old) }

@@ -103,7 +103,10 @@ pub fn write_body(message: &Message, out: &mut [u8]) -> usize
             size,
             from,
             to,
-        } => put(&hello_frame(*version, *cluster, *size, *from, *to)[3..], out),
+        } => put(
+            &hello_frame(*version, *cluster, *size, *from, *to)[3..],
+            out,
+        ),
         Message::Welcome { next } => put(&welcome_frame(*next)[3..], out),
         Message::Statement(statement) => put(&statement_bytes(statement), out),
         Message::Statements(many) => {

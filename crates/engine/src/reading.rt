@@ -62,11 +62,7 @@ fn is_old(bytes: &[u8; 24]) -> bool
 }
 
 /// The place of the closed gate, counted from the first of these bytes, and the records before it.
-fn read(
-    alloc: Global,
-    header: &Header,
-    bytes: &[u8],
-) -> Result<(usize, Vec<Record>), JournalFault>
+fn read(alloc: Global, header: &Header, bytes: &[u8]) -> Result<(usize, Vec<Record>), JournalFault>
     ensures held { IfOk result (λ held. ReadsBatches header.now bytes.now held.0 held.1.items) }
     ensures within { IfOk result (λ held. held.0 < length bytes.now) }
     ensures refused { IfErr result (λ fault. BreaksBatches header.now fault bytes.now) }

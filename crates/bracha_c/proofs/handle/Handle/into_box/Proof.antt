@@ -35,7 +35,7 @@ use Rattle.bracha_c.specs.contracts.handle.Handle.into_box as f
 use prog.Routine.{Env}
 use prog.Wired.{Wired, node, end}
 use denote.Param.NoDrop as no_drop_code
-use Rattle.bracha_c.proofs.EngineBox.{engine_box, no_drop, engine_row as C, engine_row_laws as C-laws, heap_row as A, heap_row_laws as A-laws}
+use Rattle.bracha_c.proofs.Boxes.{engine_box, no_drop, engine_row as C, engine_row_laws as C-laws, heap_row as A, heap_row_laws as A-laws}
 use Rattle.bracha_c.proofs.Destruct++none.drop.Code as dropped
 use Rattle.bracha_c.proofs.handle.Handle.into_box.Statement.{statement}
 use Rattle.bracha_c.proofs.handle.Handle.into_box.Code as code
@@ -64,7 +64,7 @@ into_box_spec {M} 𝓤 𝓛 𝓜 𝓡 wired =
     let Token = ‵ (flft static full_share) in let free = 𝓛.lfts.lft-nil full_share in
     qed 𝓛 ((‵ ftrue ⊛ ‵ ((B engine_box).own_val d vs) ⊛ ‵ ftrue) ∷ ‵ ftrue ∷ []) ∵ split ! $ drop ! $ split ! $
     box_out engine_box ! d vs (λ b o hv e is fits. fjoin ! $
-    -- [what a box of the engine owns; the allocator; ..]
+    -- [what a box of it owns; the allocator; ..]
     let z : G.Ghost = (((static, (static, tt)), (full_share, (full_share, tt)), tt, (a, (block_ptr b o, tt)), (hv ∷ [], (vptr b o ∷ [], tt))), h.engine) in
     regoal ! (λ us. prop (WpFn 𝓤 𝓛.H 𝓣.C 𝓣.Λ code.function (us ++ []) (W.post y))) is refl $
     enter ! _ _ _ _ _ $ alloc_all ! (λ l. pass_all ! refl (box_typed engine_box hv b o fits, tt) $
