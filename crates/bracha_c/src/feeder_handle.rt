@@ -27,7 +27,7 @@ impl Model for FeederHandle {
 impl FeederHandle {
     ghost use Rattle.bracha_c.specs.Lends.{LendsInbox};
 
-    /// What lies behind the pointer, lent. Once the loan is over the handle has what it became.
+    /// The inbox behind the pointer, lent. Once the loan is over the handle has what it became.
     #[inline(always)]
     pub(crate) fn inbox(&mut self) -> &mut Inbox
         ensures* lent { sem 𝓛 (LendsInbox self.entry result) }

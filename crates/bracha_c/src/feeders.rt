@@ -106,7 +106,7 @@ fn status_of_message(message: &Message) -> i32
     }
 }
 
-/// How many statements a message has.
+/// The number of a message's statements.
 fn count_of(message: &Message) -> usize
     ensures { result ≡ statements_in message.now }
 {

@@ -8,8 +8,8 @@ ghost use Rattle.bracha_c.specs.Bytes.{IsHello, WrongVersion, WrongMembers, IsSt
 
 use crate::status::{status_of_fault, status_of_size};
 use engine::{
-    EngineFault, MOST_FRAME, hello_frame, idle_frame, statement_frame, statements_frame, version_of,
-    welcome_frame,
+    EngineFault, MOST_FRAME, hello_frame, idle_frame, statement_frame, statements_frame,
+    version_of, welcome_frame,
 };
 use std::alloc::Global;
 use terms::Size;

@@ -7,7 +7,7 @@ use engine::Engine;
 use std::alloc::Global;
 use std::marker::Model;
 
-/// What a handle points to, as C sees it. An export may name no type that holds a `Vec` or a `Box`, not even behind a
+/// The target of a handle's pointer, as C sees it. An export may name no type that holds a `Vec` or a `Box`, not even behind a
 /// pointer, so the pointer's type is this one.
 #[repr(C)]
 #[derive(Drop)]

@@ -187,7 +187,7 @@ fn tell(known: Option<(u8, bool)>, decision: &mut Decision) -> bool
     }
 }
 
-/// Whether senders and statements, eight bytes each, are proof of the bit: 1 or 0, or why there is no answer.
+/// Tells if senders and statements, eight bytes each, are proof of the bit: 1 or 0, or why there is no answer.
 #[unsafe(no_mangle)]
 pub extern "C" fn bracha_audit(
     alloc: Global,

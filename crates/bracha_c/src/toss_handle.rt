@@ -27,7 +27,7 @@ impl Model for TossHandle {
 impl TossHandle {
     ghost use Rattle.bracha_c.specs.Lends.{LendsTosses};
 
-    /// What lies behind the pointer, lent. Once the loan is over the handle has what it became.
+    /// The tosses behind the pointer, lent. Once the loan is over the handle has what they became.
     #[inline(always)]
     pub(crate) fn tosses(&mut self) -> &mut Tosses
         ensures* lent { sem 𝓛 (LendsTosses self.entry result) }

@@ -18,7 +18,7 @@ use statement_codec::{byte_of_kind, byte_of_value};
 use std::alloc::{AllocError, Global};
 use terms::{Header, Record, Statement};
 
-/// What a decision begins with.
+/// The first byte of a decision.
 const DECIDED: u8 = 4;
 
 /// The most records of a batch.
@@ -78,7 +78,7 @@ fn journal_statement(s: Statement) -> [u8; 6]
     ]
 }
 
-/// What an append of 1 to 65,535 records, seven bytes each, writes first: the batch behind a closed gate, with another closed
+/// The first write of an append of 1 to 65,535 records, seven bytes each: the batch behind a closed gate, with another closed
 /// gate behind it. It is written over the closed gate at the journal's end, and synced; then the one byte 1 is written over
 /// its first, and synced.
 ///
@@ -120,7 +120,7 @@ fn shut(alloc: Global, records: &[Record]) -> Result<Vec<u8>, AllocError>
     Ok(batch)
 }
 
-/// What a journal's file has: the records, seven bytes each, oldest first, and the place of the closed gate where the next
+/// The content of a journal's file: the records, seven bytes each, oldest first, and the place of the closed gate where the next
 /// batch is added.
 #[derive(Drop)]
 pub struct JournalRead {

@@ -15,7 +15,7 @@ use std::alloc::Global;
 use terms::{Size, Statement};
 use wire::{Many, Message, Version, encode, encode_alone};
 
-/// How many bytes the longest frame has: that of 99 statements.
+/// The length of the longest frame in bytes: that of 99 statements.
 pub const MOST_FRAME: usize = 697;
 
 /// The version of a byte, 1 or 2.

@@ -17,14 +17,14 @@ use wire::{Fed, Feeder, Message};
 #[derive(Drop)]
 pub struct Inbox {
     feeder: Feeder,
-    /// What was read, in order, behind what stands in `first`.
+    /// The messages that were read, in order. Those of `first` come before them.
     read: Vec<Message>,
-    /// What is given next, the last of the list first.
+    /// The messages that are given next, the last of the list first.
     first: Vec<Message>,
 }
 
 impl Inbox {
-    /// Of a cluster of this size, at the beginning of a link. It takes no memory.
+    /// An inbox for a cluster of this size, at the beginning of a link. It takes no memory.
     pub fn new(alloc: Global, size: Size) -> Inbox
         ensures size { size_of result ≡ size }
         ensures end { end_of result ≡ Rest [] }

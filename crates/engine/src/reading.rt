@@ -12,13 +12,13 @@ use journal::{JournalFault, header_of, record_of};
 use std::alloc::Global;
 use terms::{Header, Record};
 
-/// How many bytes a header has.
+/// The length of a header in bytes.
 const HEADER: usize = 24;
 
-/// How many bytes a record has in a journal.
+/// The length of a journal's record in bytes.
 const RECORD: usize = 6;
 
-/// What each header of version 1 begins with.
+/// The first bytes of each header of version 1.
 const OLD_MARK: [u8; 8] = *b"BRACHAJ1";
 
 /// The place of the closed gate, and the records before it.
@@ -54,7 +54,7 @@ fn behind_header<'a>(header: &Header, bytes: &'a [u8]) -> Result<&'a [u8], Journ
     }
 }
 
-/// Whether they begin as each header of version 1 does.
+/// Tells if the bytes begin as each header of version 1 does.
 fn is_old(bytes: &[u8; 24]) -> bool
     ensures { IsTrue result ↔ (take 8 bytes.now ≡ codes "BRACHAJ1") }
 {
