@@ -118,7 +118,7 @@ impl Deadline {
             return None;
         };
         match rest_of(total, passed) {
-            Some(left) => Some(left.as_millis().clamp(1, u128::from(most)) as u32),
+            Some(left) => Some(left.as_millis().min(u128::from(most)).max(1) as u32),
             None => None,
         }
     }

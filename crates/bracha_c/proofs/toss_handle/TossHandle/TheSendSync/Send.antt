@@ -1,0 +1,18 @@
+-- A handle may go to another thread, as a box of what lies behind it may.
+use mir.Raw.{raw}
+use denote.Memory.{lone}
+use denote.Struct.Struct.{exits_of}
+use denote.Struct.Owning.{shape, fields, to}
+use denote.Param.Send.{IsSend, AllSend, owning_send, struct_send, sendable}
+use Rattle.std.proofs.Crossing as heap
+use Rattle.std_alloc.proofs.SendSync.{quiet, lies}
+use Rattle.std_heap.proofs.Global.TheSendSync as handle
+use Rattle.engine.specs.contracts.tosses.Tosses as Tosses
+use Rattle.engine.proofs.tosses.Tosses.TheSendSync.{the_send as tosses}
+use Rattle.bracha_c.specs.contracts.toss_handle.TossHandle.{the_row, the_type}
+
+pub send : IsSend the_row
+send =
+    let all : AllSend (fields the_type) = (search sendable, (handle.the_field_send, tt)) in
+    owning_send the_type all (λ d. (lies Tosses.the_row tosses d.at d.tosses, heap.frees.frees d.alloc (raw (lone Tosses.the_row.mir)) d.at))
+    (λ k. quiet (to the_type) (exits_of k (fields the_type)) ((struct_send (shape the_type) all).leaving k))
