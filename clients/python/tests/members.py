@@ -57,6 +57,14 @@ class Fake:
         self._listener.close()
 
 
+def comes(holds):
+    """Waits until this holds, for ten seconds at most, and returns whether it does."""
+    end = time.monotonic() + 10
+    while not holds() and time.monotonic() < end:
+        time.sleep(0.05)
+    return holds()
+
+
 def closed_port():
     """Returns a desk at which nobody listens."""
     with socket.create_server(("127.0.0.1", 0)) as listener:

@@ -18,7 +18,7 @@ from unittest import mock
 
 from bracha import (AsyncCluster, BadSettings, Closed, Cluster, NoSuchMember, NoSuchQuestion, Reading, Settings, Undecided,
                     Unreachable)
-from tests.members import PROGRAM, Fake, Kills, Members, closed_port, links_to
+from tests.members import PROGRAM, Fake, Kills, Members, closed_port, comes, links_to
 
 
 def says(reply):
@@ -164,8 +164,8 @@ class Beside(unittest.TestCase):
     def test_a_silent_member_has_no_answer(self):
         fakes = self.desks(says("OK"), silent, says("OK"), says("OK"))
         cluster = self.cluster([fake.desk for fake in fakes])
-        self.assertEqual([it.stands for it in cluster.propose(1, False, timeout=0.3)], [False, None, False, False])
-        self.assertEqual([it.stands for it in cluster.propose(2, False, timeout=0.3)], [False, None, False, False])
+        self.assertEqual([it.stands for it in cluster.propose(1, False, timeout=1)], [False, None, False, False])
+        self.assertEqual([it.stands for it in cluster.propose(2, False, timeout=1)], [False, None, False, False])
 
     def test_all_are_down(self):
         cluster = self.cluster([closed_port() for _ in range(4)])
@@ -182,13 +182,13 @@ class Beside(unittest.TestCase):
             with self.subTest(flood=flood):
                 fake, = self.desks(lambda line: flood)
                 self.assertRaises(Undecided, self.cluster([fake.desk], t=0).wait, 5, timeout=1)
-                self.assertEqual((fake.ended, len(fake.links)), (1, 1))
+                self.assertTrue(comes(lambda: fake.ended))
 
     def test_a_connection_that_hangs_is_made_anew(self):
         fake, = self.desks(lambda line: ["DECIDED 1\n"] if fake.lines[1:] else [60.0])
         cluster = self.cluster([fake.desk], t=0)
         with mock.patch("bracha.desk.PATIENCE", 0.2):
-            self.assertRaises(Unreachable, cluster.ask, 5, timeout=0.3)
+            self.assertRaises(Unreachable, cluster.ask, 5, timeout=1)
             self.assertIs(cluster.ask(5), True)
         self.assertEqual(len(fake.links), 2)
 
@@ -214,9 +214,9 @@ class Beside(unittest.TestCase):
             self.assertIs(cluster.decide(question, True), True)
         cluster.propose(63, True)
         for fake in fakes:
-            followed = [line for line in fake.lines if line == "FOLLOW 0"]
+            self.assertTrue(comes(lambda: "FOLLOW 0" in fake.lines))
             proposed = [line for line in fake.lines if line.startswith("PROPOSE ")]
-            self.assertEqual((len(followed), len(proposed) <= 21, len(fake.lines) - len(proposed)), (1, True, 1))
+            self.assertEqual((len(proposed) <= 21, len(fake.lines) - len(proposed)), (True, 1))
 
     def test_lines_share_a_connection(self):
         async def many():
@@ -278,18 +278,17 @@ class Beside(unittest.TestCase):
         fakes = self.desks(*[true] * 4)
         with Cluster(Settings(7, 4, 1, 64, tuple(fake.desk for fake in fakes))) as cluster:
             self.assertIs(next(cluster.follow()).bit, True)
-            time.sleep(0.2)
+            threads = len(own_threads())
 
             def left():
                 gc.collect()
-                time.sleep(0.2)
                 return len(asyncio.all_tasks(cluster._loop)), len(own_threads()), links_to(fakes)
 
-            before = left()
+            self.assertTrue(comes(lambda: left() == (4, threads, 4)))
             for _ in range(20):
                 self.assertIs(next(cluster.follow()).bit, True)
                 self.assertIs(next(cluster.follow(trust=2)).bit, True)
-            self.assertEqual(left(), before)
+            self.assertTrue(comes(lambda: left() == (4, threads, 4)))
 
 
 class Words(unittest.TestCase):

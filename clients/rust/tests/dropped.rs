@@ -4,7 +4,7 @@
 mod common;
 
 use bracha_client::{Cluster, Settings};
-use common::{Desk, links_to};
+use common::{Desk, comes, links_to};
 use std::thread;
 use std::time::{Duration, Instant};
 
@@ -26,8 +26,7 @@ fn a_cluster_that_is_dropped_leaves_nothing() {
     assert!(cluster.ask(3, SECOND / 5).is_err());
     assert!(cluster.decide(3, true, SECOND / 5).is_err());
     // A follower keeps its connection to a silent member. A line that had no reply in time has none.
-    assert_eq!(own_threads(), 8);
-    assert!(links_to(&addresses) >= 4);
+    assert!(comes(|| own_threads() == 8 && links_to(&addresses) >= 4));
     let mut dropped = cluster.follow().unwrap();
     assert_eq!(dropped.next_within(SECOND / 10), None);
     thread::scope(|scope| {
@@ -38,5 +37,6 @@ fn a_cluster_that_is_dropped_leaves_nothing() {
     let begun = Instant::now();
     drop(cluster);
     assert!(begun.elapsed() < SECOND, "{:?}", begun.elapsed());
-    assert_eq!((own_threads(), links_to(&addresses)), (0, 0));
+    // The system may list a thread for a moment that was waited for.
+    assert!(comes(|| own_threads() == 0 && links_to(&addresses) == 0));
 }

@@ -89,6 +89,17 @@ impl Drop for Desk {
     }
 }
 
+/// Waits until this holds, for ten seconds at most, and returns whether it does.
+pub fn comes(holds: impl Fn() -> bool) -> bool {
+    (0..200).any(|_| {
+        let held = holds();
+        if !held {
+            thread::sleep(Duration::from_millis(50));
+        }
+        held
+    })
+}
+
 /// Returns a desk at which nobody listens.
 pub fn closed_port() -> SocketAddrV4 {
     let listener = TcpListener::bind((Ipv4Addr::LOCALHOST, 0)).unwrap();
