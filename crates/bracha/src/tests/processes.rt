@@ -808,14 +808,25 @@ fn answer_one(desk: &TcpListener, reply: &str) -> Result<(), Fail> {
     Ok(())
 }
 
-/// A client that waits asks until there is a decision.
+/// Takes a client that waits at the desk, and answers its line.
+fn answer_wait(desk: &TcpListener, reply: &str) -> Result<(), Fail> {
+    let (mut client, _) = desk.accept()?;
+    let mut line = [0; 8];
+    client.read_exact(&mut line)?;
+    want(line == *b"AWAIT 5\n", "the line that waits")?;
+    client.write_all(reply.as_bytes())?;
+    Ok(())
+}
+
+/// A client that waits asks once, and then waits at the desk until there is a decision.
 #[test]
 fn a_decision_is_waited_for(rt: HostRuntime) -> Result<(), Fail> {
     let address = SocketAddr::new(IpAddr::V4(Ipv4Addr::new(127, 0, 0, 1)), 7141);
     let desk = TcpListener::bind(&rt, address)?;
     let child = piped(&rt, "ask --wait 127.0.0.1:7141 5", Stdio::null())?;
-    for reply in ["UNDECIDED\n", "UNDECIDED\n", "DECIDED 0\n"] {
-        answer_one(&desk, reply)?;
+    answer_one(&desk, "UNDECIDED\n")?;
+    for reply in ["UNDECIDED\n", "DECIDED 0\n"] {
+        answer_wait(&desk, reply)?;
     }
     let (printed, said) = texts(child.wait_with_output(rt.alloc())?)?;
     assert!(rt;
