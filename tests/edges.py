@@ -471,6 +471,15 @@ def who_waits_is_told_at_once(folder, port):
         for number, it in enumerate(waiting):
             reply, took = it.result()
             found += differs("AWAIT", (reply, 1 <= took < decided + 1), (f"DECIDED {1 - number % 2}", True))
+        late = []
+        for question in range(10, 21):
+            waits = pool.submit(told, desks[0], f"AWAIT {question}")
+            time.sleep(0.1)
+            propose(desks, question, question % 2)
+            begun = time.monotonic()
+            found += differs("AWAIT, one by one", waits.result()[0], f"DECIDED {question % 2}")
+            late.append(time.monotonic() - begun)
+        found += differs(f"half of them at once ({sorted(late)[5]:.2f} s)", sorted(late)[5] < 0.3, True)
         reply, took = vain.result()
         found += differs("AWAIT in vain", (reply, 8.5 < took < 11.5), ("UNDECIDED", True))
         last = pool.submit(told, desks[3], "AWAIT 9")
@@ -509,6 +518,14 @@ def who_follows_misses_nothing(folder, port):
             if number == 2:
                 again(1)
         soon(lambda: sum(1 for it in lines if it) == len(order))
+        late = []
+        for question in range(30, 39):
+            order.append(question)
+            propose(desks, question, question % 2)
+            begun = time.monotonic()
+            soon(lambda: sum(1 for it in lines if it) == len(order))
+            late.append(time.monotonic() - begun)
+        found = differs(f"half of them told at once ({sorted(late)[4]:.2f} s)", sorted(late)[4] < 0.3, True)
         time.sleep(6)
         members[1].send_signal(signal.SIGKILL)
         stop.set()
@@ -517,7 +534,7 @@ def who_follows_misses_nothing(folder, port):
         saved = [line.split() for line in dumped.splitlines() if line.startswith("decided")]
         journal = [f"DECIDED {it[it.index('question') + 1] if 'question' in it else it[1]} {it[-1]}" for it in saved]
         heard = [it for it in lines if it]
-        found = differs("the follower and the journal", heard, journal)
+        found += differs("the follower and the journal", heard, journal)
         found += differs("all questions", sorted(int(it.split()[1]) for it in heard), sorted(order))
         found += differs("the follower from number 3 on", [it for it in later if it], heard[3:])
         return found + differs("an empty line", "" in lines, True)
