@@ -11,9 +11,8 @@ ghost use Rattle.engine.specs.Texts.{records_bytes};
 ghost use Rattle.engine.specs.Batches.{shut_batch, IsShutBatchOf, IsNoBatch, IsReadOf};
 
 use crate::fault::EngineFault;
-use crate::reading::read_file;
 use crate::records;
-use journal::JournalFault;
+use journal::{JournalFault, read_file};
 use statement_codec::{byte_of_kind, byte_of_value};
 use std::alloc::{AllocError, Global};
 use terms::{Header, Record, Statement};

@@ -52,5 +52,5 @@ pub use draft::Draft;
 pub use fault::JournalFault;
 pub use header::header_of;
 pub use journal::Journal;
-pub use open::{create, peek};
+pub use open::{create, peek, read_file};
 pub use record::record_of;

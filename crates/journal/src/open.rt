@@ -147,8 +147,14 @@ pub(crate) fn behind_header<'a>(header: &Header, bytes: &'a [u8]) -> Result<&'a 
     }
 }
 
-/// The place of the closed gate, and the records before it.
-fn read_file(
+/// Reads a journal's bytes, as a file of it has them: the place of its closed gate, and the records before it, oldest
+/// first. A disk is no part of it, so it is for who keeps a journal's bytes elsewhere; [`Journal::adopt`](crate::Journal::adopt)
+/// reads one from a disk.
+///
+/// Refused with the first fault in the file: [`JournalFault::BadHeader`], where it begins as no journal does, and
+/// [`JournalFault::OldVersion`], where as one of version 1; [`JournalFault::OtherHeader`], where it is another member's;
+/// [`JournalFault::CutShort`] and [`JournalFault::BadRecord`]. [`JournalFault::Memory`]: there was none for the records.
+pub fn read_file(
     alloc: Global,
     header: &Header,
     bytes: &[u8],
