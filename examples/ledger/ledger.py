@@ -9,6 +9,12 @@ go from witness to witness. A witness holds the first value of a slot that it ge
 witnesses hold, or that more than t have locked: so no two correct witnesses lock different ones. It votes 1, at its own member, once
 2t + 1 have locked: then all correct ones will. It votes 0 if that takes too long, and a slot that is decided 0 stays empty: its
 value is to be put again. All that it holds and locks is on the disk before anybody hears of it. Here are client.toml and its folder.
+
+Chance may leave a question open for ever, and a slot with it. So the second half of the questions asks of each slot: "is it given
+up?". A witness takes one stand on a slot, for good: it keeps the slot once its member has decided it, or leaves it once its member
+is spent, after 32 rounds. A decision is entered once more than (n + t) / 2 witnesses keep the slot. Where as many leave it,
+a witness votes to give it up; where its member has decided and another has left, it votes not to. A slot that is given up stays
+empty. As more than half of the correct witnesses can't both keep and leave a slot, nobody enters what others give up.
 """
 
 import asyncio
@@ -19,7 +25,7 @@ from collections import Counter
 from contextlib import suppress
 from pathlib import Path
 
-from bracha import AsyncCluster, Settings, Undecided
+from bracha import AsyncCluster, Settings, Stage, Undecided
 
 PATIENCE = 2.5  # seconds for a slot, once values are there for it or a later one
 WINDOW = 8  # slots that are settled at once; they are entered in order
@@ -55,7 +61,8 @@ async def say(witness: int, line: str) -> list[str]:
 
 class Witness:
     def __init__(self, me: int, settings: Settings) -> None:
-        self.me, self.n, self.t, self.questions = me, settings.n, settings.t, settings.questions
+        self.me, self.n, self.t = me, settings.n, settings.t
+        self.slots = settings.questions // 2
         self.member = AsyncCluster(Settings(settings.cluster, 1, 0, settings.questions, (settings.desks[me],)))
         self.folder = Path(f"witness-{me}")
         self.folder.mkdir(exist_ok=True)
@@ -69,16 +76,20 @@ class Witness:
 
     async def serve(self, reader: asyncio.StreamReader, writer: asyncio.StreamWriter) -> None:
         what, name, *more = (await reader.readline()).decode().split()
-        if what == "PUT" and 0 <= int(name) < self.questions:
+        if what == "PUT" and 0 <= int(name) < self.slots:
             digest = hashlib.sha256(bytes.fromhex(more[0])).hexdigest()
             save(self.folder / f"{digest}.value", bytes.fromhex(more[0]))
             writer.write(save(self.folder / f"{int(name)}.held", digest.encode()) + b"\n")
-        elif what == "TELL":  # what it holds and has locked in a slot, and the end of the slots in which it holds something
-            writer.write(f"{self.at(int(name), 'held')} {self.at(int(name), 'locked')} {self.end()}\n".encode())
+        elif what == "TELL":  # what it holds and has locked in a slot, its stand, and the end of the slots in which it holds something
+            held, locked, stand = (self.at(int(name), what) for what in ("held", "locked", "stand"))
+            writer.write(f"{held} {locked} {stand} {self.end()}\n".encode())
         elif what == "GET" and name.isalnum():
             path = self.folder / f"{name}.value"
             writer.write((path.read_bytes().hex() if path.exists() else "-").encode() + b"\n")
         writer.close()
+
+    def is_quorum(self, count: int) -> bool:
+        return 2 * count > self.n + self.t
 
     async def settle(self, slot: int) -> bytes | None:
         """Returns the value that came into a slot, or None if it stays empty."""
@@ -86,24 +97,44 @@ class Witness:
         begun, voted = None, False
         while True:
             replies = await asyncio.gather(*(say(witness, f"TELL {slot}") for witness in range(self.n)))
-            told = [words for words in replies if len(words) == 3 and words[2].isdecimal()]
+            told = [words for words in replies if len(words) == 4 and words[3].isdecimal()]
             held, locked = (Counter(words[part] for words in told if words[part] != "-").most_common(1) for part in (0, 1))
-            if held and 2 * held[0][1] > self.n + self.t:
+            if held and self.is_quorum(held[0][1]):
                 save(self.folder / f"{slot}.locked", held[0][0].encode())
             if locked and locked[0][1] > self.t:
                 save(self.folder / f"{slot}.locked", locked[0][0].encode())
-            if sum(int(words[2]) > slot for words in told) > self.t:  # a liar alone makes no slot end
+            if sum(int(words[3]) > slot for words in told) > self.t:  # a liar alone makes no slot end
                 begun = begun or loop.time()
             full = bool(locked) and locked[0][1] > 2 * self.t
             if not voted and (full or begun and loop.time() - begun > PATIENCE):
                 voted = (await self.member.propose(slot, full))[0].stands is not None
-            try:
-                if not await self.member.wait(slot, timeout=0.1):
-                    return None
-                if locked and locked[0][1] > self.t:
-                    return await self.fetch(locked[0][0])
-            except Undecided:
-                pass
+            bit, given_up = await self.judge(slot, voted, Counter(words[2] for words in told))
+            if given_up or bit is False:
+                return None
+            if bit and locked and locked[0][1] > self.t:
+                return await self.fetch(locked[0][0])
+
+    async def judge(self, slot: int, voted: bool, stands: Counter[str]) -> tuple[bool | None, bool]:
+        """Returns the bit of a slot, once it may be entered, and whether the slot is given up."""
+        bit = await self.decision(slot)
+        if bit is not None:
+            save(self.folder / f"{slot}.stand", b"keeps")
+        elif voted and (await self.member.state(slot))[0].stage is Stage.SPENT:
+            save(self.folder / f"{slot}.stand", b"leaves")
+        if self.is_quorum(stands["keeps"]) or not stands["leaves"]:
+            return (bit if self.is_quorum(stands["keeps"]) else None), False
+        question = self.slots + slot
+        if self.is_quorum(stands["leaves"]) or bit is not None:
+            await self.member.propose(question, self.is_quorum(stands["leaves"]))
+        given_up = await self.decision(question)
+        return (bit if given_up is False else None), given_up is True
+
+    async def decision(self, question: int) -> bool | None:
+        """Returns what this witness's member decided, waiting a moment for it."""
+        try:
+            return await self.member.wait(question, timeout=0.1)
+        except Undecided:
+            return None
 
     async def fetch(self, digest: str) -> bytes:
         """Returns the bytes of a hash that a correct witness holds."""
@@ -120,11 +151,11 @@ class Witness:
         socket.unlink(missing_ok=True)
         async with self.member, await asyncio.start_unix_server(self.serve, socket):
             print("ready", flush=True)
-            slots = {slot: asyncio.create_task(self.settle(slot)) for slot in range(min(WINDOW, self.questions))}
+            slots = {slot: asyncio.create_task(self.settle(slot)) for slot in range(min(WINDOW, self.slots))}
             with Path(f"ledger-{self.me}").open("w") as ledger:  # made anew from what is on the disk and what the member tells
-                for slot in range(self.questions):
+                for slot in range(self.slots):
                     value = await slots.pop(slot)
-                    if slot + WINDOW < self.questions:
+                    if slot + WINDOW < self.slots:
                         slots[slot + WINDOW] = asyncio.create_task(self.settle(slot + WINDOW))
                     print(slot, "(empty)" if value is None else value.decode(), file=ledger, flush=True)
 

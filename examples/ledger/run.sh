@@ -1,7 +1,7 @@
 #!/usr/bin/env bash
 # Shows a ledger over four members: ledger.py says how it works. Values come, in any order; a writer lies; a witness and its member
-# are killed, miss some values, and are started again. At the end all four ledgers are the same. It takes some seconds, and ports
-# below 32768 that are free.
+# are killed, miss some values, and are started again; a slot whose question chance left open is given up. At the end all four
+# ledgers are the same. It takes some seconds, and ports below 32768 that are free.
 #
 #   examples/ledger/run.sh [PROGRAM]     PROGRAM is bracha; left out, it is crates/bracha/out/bracha of this repository
 set -euo pipefail
@@ -27,7 +27,26 @@ until_slots() {
     exit 1
 }
 
+# spends QUESTION M: puts into the new journal of member M what it said on a question in 32 rounds without a decision: a split of the
+# members, whose votes of step 3 are always unsure. docs/FORMATS.md has the bytes of a journal.
+spends() {
+    python3 - "$@" <<'END'
+import sys
+question, member = map(int, sys.argv[1:])
+with open(f"member-{member}.journal", "r+b") as journal:
+    header = journal.read(24)
+    said = [bytes((1, 0, question, member, round, 16 * step + (4 if step == 3 else member // 2))) for round in range(1, 33) for step in (1, 2, 3)]
+    journal.seek(0)
+    journal.write(header + bytes((1, 0, len(said))) + b"".join(said) + bytes(1))
+END
+}
+
 members 64
+for m in 0 1 2 3; do ends "member-$m"; done
+for m in 0 1 2 3; do
+    spends 7 "$m"
+    member "$m"
+done
 for m in 0 1 2 3; do witness "$m"; done
 
 echo '* three values, the second last; and a writer that tells two values for slot 3'
@@ -47,7 +66,11 @@ member 2
 witness 2
 ledger put 6 'erin pays dave 3'
 until_slots 7 0 1 2 3
+echo '* a value comes behind a slot whose question stays open after 32 rounds'
+ledger put 8 'frank pays dave 1'
+until_slots 9 0 1 2 3
 cat ledger-0
 for m in 1 2 3; do cmp ledger-0 "ledger-$m"; done
 grep -qx '5 bob pays alice 2' ledger-2 && grep -qx '3 (empty)' ledger-2 && grep -qx '6 erin pays dave 3' ledger-2
+grep -qx '7 (empty)' ledger-2 && grep -qx '8 frank pays dave 1' ledger-2
 echo 'all four ledgers are the same'

@@ -17,11 +17,11 @@ correct member tells only decisions that it has saved. README.md says where that
 from .asynchronous import AsyncCluster
 from .errors import BadSettings, BrachaError, Closed, NoSuchMember, NoSuchQuestion, Undecided, Unreachable
 from .reading import Reading
-from .replies import Answer, Decision, Status
+from .replies import Answer, Decision, Stage, State, Status
 from .settings import Settings
 from .synchronous import Cluster
 
 __all__ = [
     "Answer", "AsyncCluster", "BadSettings", "BrachaError", "Closed", "Cluster", "Decision", "NoSuchMember", "NoSuchQuestion",
-    "Reading", "Settings", "Status", "Undecided", "Unreachable",
+    "Reading", "Settings", "Stage", "State", "Status", "Undecided", "Unreachable",
 ]

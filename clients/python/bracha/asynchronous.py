@@ -11,7 +11,7 @@ from typing import TypeVar
 from .board import Board, Decisions
 from .desk import PATIENCE, REST, Desk
 from .errors import Closed, NoSuchMember, NoSuchQuestion, Undecided, Unreachable
-from .replies import Answer, Decision, Status, decision_in, stands_in, status_in
+from .replies import Answer, Decision, State, Status, decision_in, stands_in, state_in, status_in
 from .settings import Settings
 
 T = TypeVar("T")
@@ -123,6 +123,15 @@ class AsyncCluster:
             async for question, bit in told:
                 yield Decision(question, bit, number)
                 number += 1
+
+    async def state(self, question: int, *, timeout: float = PATIENCE) -> list[State]:
+        """Returns how far each member is on a question by its own word: so what one says is worth as much as that member."""
+        question = self._checked(question)
+
+        async def one(desk: Desk) -> State:
+            return state_in(desk.member, await self._say(desk, f"STATE {question}", timeout))
+
+        return await self._each(one)
 
     async def status(self, *, timeout: float = PATIENCE) -> list[Status]:
         """Returns each member's status by its own word. A member that doesn't answer in time isn't up."""

@@ -1,6 +1,7 @@
 """What members reply, as values."""
 
 from dataclasses import dataclass
+from enum import Enum
 
 
 @dataclass(frozen=True)
@@ -30,6 +31,27 @@ class Status:
     decided: int = 0
 
 
+class Stage(Enum):
+    """How far a member is on a question."""
+
+    UNPROPOSED = "unproposed"  # nothing was proposed to it
+    OPEN = "open"
+    SPENT = "spent"  # undecided after its last round: it says no more of its own
+    DECIDED = "decided"
+
+
+@dataclass(frozen=True)
+class State:
+    """How far one member is on a question, by its own word. `stage` is None if it didn't answer or is stopped. `round` (1 to 32) and
+    `step` (1 to 3) are those of an open question, `bit` that of a decided one, and otherwise None."""
+
+    member: int
+    stage: Stage | None
+    round: int | None = None
+    step: int | None = None
+    bit: bool | None = None
+
+
 def decision_in(reply: bytes | None) -> bool | None:
     """Returns the bit of a reply `DECIDED b`, or None for any other."""
     return {b"DECIDED 0": False, b"DECIDED 1": True}.get(reply or b"")
@@ -52,6 +74,20 @@ def told_in(line: bytes) -> tuple[int, bool] | None:
     if question is None or words[0] != b"DECIDED" or words[2] not in (b"0", b"1"):
         return None
     return question, words[2] == b"1"
+
+
+def state_in(member: int, reply: bytes | None) -> State:
+    """Returns the state in a reply to `STATE q`. Any other reply is from a member that doesn't say."""
+    bit = decision_in(reply)
+    if bit is not None:
+        return State(member, Stage.DECIDED, bit=bit)
+    stage = {b"UNPROPOSED": Stage.UNPROPOSED, b"SPENT": Stage.SPENT}.get(reply or b"")
+    words = (reply or b"").split(b" ")
+    if len(words) == 3 and words[0] == b"OPEN":
+        round_, step = map(number_in, words[1:])
+        if round_ in range(1, 33) and step in range(1, 4):
+            return State(member, Stage.OPEN, round_, step)
+    return State(member, stage)
 
 
 def status_in(member: int, reply: bytes | None) -> Status:

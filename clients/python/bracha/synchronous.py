@@ -12,7 +12,7 @@ from typing import Any, TypeVar
 from .asynchronous import AsyncCluster
 from .desk import PATIENCE
 from .errors import Closed
-from .replies import Answer, Decision, Status
+from .replies import Answer, Decision, State, Status
 from .settings import Settings
 
 T = TypeVar("T")
@@ -120,6 +120,10 @@ class Cluster:
             # The collector may drop an iterator in any thread, so nobody waits here.
             with suppress(Closed):
                 self._submit(end())
+
+    def state(self, question: int, *, timeout: float = PATIENCE) -> list[State]:
+        """As `AsyncCluster.state`."""
+        return self._run(self._cluster.state(question, timeout=timeout))
 
     def status(self, *, timeout: float = PATIENCE) -> list[Status]:
         """As `AsyncCluster.status`."""

@@ -16,8 +16,8 @@ from itertools import count, islice, repeat
 from pathlib import Path
 from unittest import mock
 
-from bracha import (AsyncCluster, BadSettings, Closed, Cluster, NoSuchMember, NoSuchQuestion, Reading, Settings, Undecided,
-                    Unreachable)
+from bracha import (AsyncCluster, BadSettings, Closed, Cluster, NoSuchMember, NoSuchQuestion, Reading, Settings, Stage, State,
+                    Undecided, Unreachable)
 from tests.members import PROGRAM, Fake, Kills, Members, closed_port, comes, links_to
 
 
@@ -166,6 +166,16 @@ class Beside(unittest.TestCase):
         cluster = self.cluster([fake.desk for fake in fakes])
         self.assertEqual([it.stands for it in cluster.propose(1, False, timeout=1)], [False, None, False, False])
         self.assertEqual([it.stands for it in cluster.propose(2, False, timeout=1)], [False, None, False, False])
+
+    def test_each_member_says_how_far_it_is(self):
+        replies = ["OPEN 32 2", "SPENT", "UNPROPOSED", "DECIDED 1", "DECIDED 0", "STOPPED", "OPEN 33 1", "OPEN 1 4", "OPEN 0 1", "OPEN 1"]
+        fakes = self.desks(*map(says, replies))
+        told = self.cluster([fake.desk for fake in fakes], t=3).state(5)
+        self.assertEqual([fake.lines for fake in fakes], [["STATE 5"]] * 10)
+        self.assertEqual(told, [
+            State(0, Stage.OPEN, round=32, step=2), State(1, Stage.SPENT), State(2, Stage.UNPROPOSED),
+            State(3, Stage.DECIDED, bit=True), State(4, Stage.DECIDED, bit=False), *(State(member, None) for member in range(5, 10))])
+        self.assertEqual(self.cluster([closed_port()], t=0).state(5), [State(0, None)])
 
     def test_all_are_down(self):
         cluster = self.cluster([closed_port() for _ in range(4)])
@@ -399,6 +409,8 @@ class Running(unittest.TestCase):
             self.assertIsNone(cluster.ask(9))
             bit = cluster.decide(9, False)
             self.assertEqual([cluster.ask(9), cluster.wait(9)], [bit] * 2)
+            self.assertTrue(comes(lambda: [it.bit for it in cluster.state(9)] == [bit] * 4))
+            self.assertEqual({it.stage for it in cluster.state(10)}, {Stage.UNPROPOSED})
             self.assertIs(cluster.propose(9, True)[1].stands, True)
             self.assertEqual([it.up for it in cluster.status()], [True] * 4)
         with Cluster.open(self.members.client) as another:

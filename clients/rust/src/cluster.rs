@@ -2,8 +2,8 @@ use crate::board::Board;
 use crate::follower::Follower;
 use crate::halt::Halt;
 use crate::line::{Job, Line, Reply};
-use crate::reply::{decision_in, stands_in, status_in};
-use crate::{Answer, Decision, Error, Settings, Status};
+use crate::reply::{decision_in, stage_in, stands_in, status_in};
+use crate::{Answer, Decision, Error, Settings, State, Status};
 use std::net::SocketAddrV4;
 use std::path::Path;
 use std::sync::mpsc::{Receiver, Sender, channel};
@@ -238,6 +238,19 @@ impl Cluster {
     pub fn follow_member(&self, member: usize, number: usize) -> Result<FollowMember<'_>, Error> {
         let follower = Follower::new(self.desk(member)?, self.settings.questions(), number);
         Ok(FollowMember { _cluster: self, follower, halt: Halt::default() })
+    }
+
+    /// Returns how far each member is on a question by its own word. What one says is worth as much as
+    /// that member.
+    ///
+    /// # Errors
+    ///
+    /// [`Error::NoSuchQuestion`] if there is no such question.
+    pub fn state(&self, question: u16, timeout: Duration) -> Result<Vec<State>, Error> {
+        self.check(question)?;
+        let replies = self.say_all(&format!("STATE {question}"), after(timeout));
+        let members = replies.iter().enumerate();
+        Ok(members.map(|(member, reply)| State { member, stage: stage_in(reply) }).collect())
     }
 
     /// Returns each member's status by its own word. A member that doesn't answer in time isn't up.

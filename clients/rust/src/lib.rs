@@ -33,7 +33,7 @@ mod wire;
 pub use cluster::{Cluster, Follow, FollowMember, PATIENCE};
 pub use error::Error;
 pub use reading::Reading;
-pub use reply::{Answer, Decision, Status};
+pub use reply::{Answer, Decision, Stage, State, Status};
 pub use settings::Settings;
 
 /// The example of the README, which the tests of the documentation compile.

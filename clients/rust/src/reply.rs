@@ -18,6 +18,28 @@ pub struct Answer {
     pub stands: Option<bool>,
 }
 
+/// How far a member is on a question.
+#[derive(Debug, Clone, Copy, PartialEq, Eq, Hash)]
+pub enum Stage {
+    /// Nothing was proposed to it.
+    Unproposed,
+    /// It is in this round (1 to 32) and step (1 to 3).
+    Open { round: u8, step: u8 },
+    /// It is undecided after its last round, and says no more of its own.
+    Spent,
+    /// It decided the question as this bit.
+    Decided(bool),
+}
+
+/// How far one member is on a question, by its own word.
+#[derive(Debug, Clone, Copy, PartialEq, Eq, Hash)]
+pub struct State {
+    /// The member.
+    pub member: usize,
+    /// How far it is, or `None` if it didn't answer or is stopped.
+    pub stage: Option<Stage>,
+}
+
 /// One member, by its own word.
 #[derive(Debug, Clone, Copy, PartialEq, Eq, Hash)]
 pub struct Status {
@@ -69,6 +91,25 @@ pub(crate) fn told_in(line: &[u8]) -> Option<(u16, bool)> {
     Some((u16::try_from(number_in(question)?).ok()?, bit))
 }
 
+/// Returns how far the member is that gave this reply to `STATE q`, or `None` for any other reply.
+pub(crate) fn stage_in(reply: &[u8]) -> Option<Stage> {
+    if let Some(bit) = decision_in(reply) {
+        return Some(Stage::Decided(bit));
+    }
+    match reply {
+        b"UNPROPOSED" => return Some(Stage::Unproposed),
+        b"SPENT" => return Some(Stage::Spent),
+        _ => {}
+    }
+    let rest = std::str::from_utf8(reply).ok()?.strip_prefix("OPEN ")?;
+    let (round, step) = rest.split_once(' ')?;
+    let (round, step) = (number_in(round)?, number_in(step)?);
+    if !(1..=32).contains(&round) || !(1..=3).contains(&step) {
+        return None;
+    }
+    Some(Stage::Open { round: round as u8, step: step as u8 })
+}
+
 /// Returns the status in a reply `UP m d`. Any other reply is from a member that isn't up.
 pub(crate) fn status_in(member: usize, reply: &[u8]) -> Status {
     let counts = || {
@@ -84,7 +125,7 @@ pub(crate) fn status_in(member: usize, reply: &[u8]) -> Status {
 
 #[cfg(test)]
 mod tests {
-    use super::{status_in, told_in};
+    use super::{Stage, stage_in, status_in, told_in};
 
     #[test]
     fn lines_of_followers() {
@@ -94,6 +135,20 @@ mod tests {
         }
         assert_eq!(told_in(b"DECIDED 65536 1"), None);
         assert_eq!(told_in(b"DECIDED \xff 1"), None);
+    }
+
+    #[test]
+    fn stages() {
+        assert_eq!(stage_in(b"OPEN 32 2"), Some(Stage::Open { round: 32, step: 2 }));
+        assert_eq!(stage_in(b"OPEN 1 3"), Some(Stage::Open { round: 1, step: 3 }));
+        assert_eq!(stage_in(b"SPENT"), Some(Stage::Spent));
+        assert_eq!(stage_in(b"UNPROPOSED"), Some(Stage::Unproposed));
+        assert_eq!(stage_in(b"DECIDED 0"), Some(Stage::Decided(false)));
+        for wrong in
+            ["", "OPEN", "OPEN 1", "OPEN 0 1", "OPEN 33 1", "OPEN 1 4", "OPEN 01 1", "UNDECIDED"]
+        {
+            assert_eq!(stage_in(wrong.as_bytes()), None, "{wrong}");
+        }
     }
 
     #[test]

@@ -3,7 +3,7 @@
 
 mod common;
 
-use bracha_client::{Cluster, PATIENCE, Settings};
+use bracha_client::{Cluster, PATIENCE, Settings, Stage};
 use common::{Desk, Members};
 use std::io::{BufRead, BufReader, Write};
 use std::net::TcpStream;
@@ -94,6 +94,10 @@ fn half_a_proposal_is_repaired() {
     let bit = cluster.decide(9, false, MINUTE).unwrap();
     assert_eq!(cluster.wait(9, MINUTE), Ok(bit));
     assert_eq!(cluster.propose(9, true, PATIENCE).unwrap()[1].stands, Some(true));
+    let stage = cluster.state(9, PATIENCE).unwrap()[1].stage;
+    assert!(matches!(stage, Some(Stage::Decided(_) | Stage::Open { .. })), "{stage:?}");
+    let stages = cluster.state(10, PATIENCE).unwrap();
+    assert!(stages.iter().all(|state| state.stage == Some(Stage::Unproposed)));
     assert!(cluster.status(PATIENCE).iter().all(|status| status.up));
     let another = Cluster::open(members.folder.join("client.toml")).unwrap();
     assert_eq!(another.decide(9, !bit, MINUTE), Ok(bit));
