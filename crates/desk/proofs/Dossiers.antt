@@ -5,7 +5,7 @@ use Rattle.node.specs.Transcripts.{DossierView, IsDossier}
 use Rattle.node.specs.Views.{BookView}
 use Rattle.node.proofs.Dossiers.{given, withheld}
 use Rattle.desk.specs.declared.reply.Reply.{Reply}
-use Rattle.desk.specs.declared.reply.Reply.TheVariants.{Taken, Have, Stopped, Decided, Undecided, Up, Transcript, Links, Thin, BadLine, BadQuestion, BadBit, Memory}
+use Rattle.desk.specs.declared.reply.Reply.TheVariants.{Taken, Have, Stopped, Decided, Undecided, Up, Transcript, Links, State, Thin, BadLine, BadQuestion, BadBit, Memory}
 use Rattle.desk.specs.Answers.{IsDossierReply, IsTranscriptReply, MayBeShown}
 
 pub replied : {D : Type 0} (b : BookView D) (q : ℕ) (d : DossierView) (reply : Reply) → MayBeShown b q → IsDossier b q d → IsDossierReply d reply → IsTranscriptReply b q reply
@@ -20,5 +20,6 @@ replied b q d (Have bit) may is r = absurd r
 replied b q d (Decided bit) may is r = absurd r
 replied b q d (Up statements decided) may is r = absurd r
 replied b q d (Links count size) may is r = absurd r
+replied b q d (State state) may is r = absurd r
 replied b q d BadLine may is r = absurd r
 replied b q d BadBit may is r = absurd r

@@ -4,7 +4,7 @@ use Rattle.std.specs.Str.Parse.{digits_value}
 use Rattle.std.proofs.lemmas.Int.Digits.{digits_value-lt}
 use Rattle.std.proofs.Math.Nat.{pow-le-pow_right}
 use Rattle.desk.specs.declared.line.LineRequest.{LineRequest}
-use Rattle.desk.specs.declared.line.LineRequest.TheVariants.{Propose, Ask, Await, Status, Transcript, Links}
+use Rattle.desk.specs.declared.line.LineRequest.TheVariants.{Propose, Ask, Await, Status, Transcript, Links, State}
 use Rattle.numerals.specs.Numbers.{IsBelow}
 use Rattle.numerals.specs.Spaces.{NoSpace}
 use Rattle.desk.specs.Lines.{IsQuestion, IsWord, IsBitWord, IsProposal, Asks}
@@ -58,6 +58,8 @@ proposes text rest Status is whole =
     let first : 83 ≡ 80 = ap (λ (bytes : List ℕ). get_or bytes 0 0) (sym whole ∙ is) in absurd (omega (arith, first))
 proposes text rest Links is whole =
     let first : 76 ≡ 80 = ap (λ (bytes : List ℕ). get_or bytes 0 0) (sym whole ∙ is) in absurd (omega (arith, first))
+proposes text rest (State question) is (digits, whole, q) =
+    let first : 83 ≡ 80 = ap (λ (bytes : List ℕ). get_or bytes 0 0) (sym whole ∙ is) in absurd (omega (arith, first))
 
 -- the parts of equal pairs
 pair_parts : (q r : ℕ) (b d : Option Bool) → ◌≡◌ {A = Option (ℕ × Option Bool)} (Some (q, b)) (Some (r, d)) → (q ≡ r) × (b ≡ d)

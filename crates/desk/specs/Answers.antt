@@ -15,10 +15,12 @@ use Rattle.node.specs.Books.{Applies, RefusesEvent, decided_below}
 use Rattle.questions.specs.Audits.{IsProof}
 use Rattle.node.specs.Transcripts.{DossierView, HasNoTranscript, IsTranscript, ShowsNothing, questions_of}
 use Rattle.node.specs.Views.{BookView}
+use Rattle.node.specs.States.{IsState}
+use Rattle.node.specs.declared.state.QuestionState.{QuestionState}
 use Rattle.node.specs.declared.link_table.LinkCount.{LinkCount}
 use Rattle.node.specs.declared.transcript.TranscriptFault.TheVariants as thin
 use Rattle.desk.specs.declared.reply.Reply.{Reply}
-use Rattle.desk.specs.declared.reply.Reply.TheVariants.{Taken, Have, Stopped, Decided, Undecided, Up, Transcript, Links, Thin, BadLine, BadQuestion, BadBit, Memory}
+use Rattle.desk.specs.declared.reply.Reply.TheVariants.{Taken, Have, Stopped, Decided, Undecided, Up, Transcript, Links, State, Thin, BadLine, BadQuestion, BadBit, Memory}
 
 -- the reply to a proposal that the member answered so; it calls none foreign or a repeat
 abbrev pub IsReplyFor : Answers → Reply → Type 0
@@ -79,6 +81,16 @@ abbrev pub standing_links : Option (ℕ × ℕ) → LinkCount → Size → Reply
 standing_links None count size = Stopped
 standing_links (Some status) count size = Links count size
 
+-- the reply by how a question of the cluster stands; none where it isn't decided and the member is stopped
+abbrev pub state_reply : Option QuestionState → Reply
+state_reply None = Stopped
+state_reply (Some state) = State state
+
+-- the reply to who asks how a question stands at a book's member
+pub record IsStateReply {D : Type 0} (b : BookView D) (question : ℕ) (reply : Reply) : Type 0 where
+  pub absent : questions_of b ≤ question → reply ≡ BadQuestion
+  pub there : question < questions_of b → (state : Option QuestionState) × IsState b question state × (reply ≡ state_reply state)
+
 -- the question is the book's, and its member isn't stopped
 pub record MayBeShown {D : Type 0} (b : BookView D) (question : ℕ) : Type 0 where
   pub asked : question < questions_of b
@@ -98,6 +110,7 @@ IsDossierReply d (Have bit) = ⊥
 IsDossierReply d (Decided bit) = ⊥
 IsDossierReply d (Up statements decided) = ⊥
 IsDossierReply d (Links count size) = ⊥
+IsDossierReply d (State state) = ⊥
 IsDossierReply d BadLine = ⊥
 IsDossierReply d BadBit = ⊥
 
@@ -115,5 +128,6 @@ IsTranscriptReply b question (Have bit) = ⊥
 IsTranscriptReply b question (Decided bit) = ⊥
 IsTranscriptReply b question (Up statements decided) = ⊥
 IsTranscriptReply b question (Links count size) = ⊥
+IsTranscriptReply b question (State state) = ⊥
 IsTranscriptReply b question BadLine = ⊥
 IsTranscriptReply b question BadBit = ⊥

@@ -3,7 +3,7 @@ use Rattle.std.specs.Prelude.{ℕ, ◌≡◌, ◌-◌, ◌<◌, ◌≤◌, ◌==
 use Rattle.std.specs.Str.Parse.{IsNumeral, digits_value}
 use Rattle.numerals.specs.Spaces.{NoSpace}
 use Rattle.desk.specs.declared.line.LineRequest.{LineRequest}
-use Rattle.desk.specs.declared.line.LineRequest.TheVariants.{Propose, Ask, Await, Status, Transcript, Links}
+use Rattle.desk.specs.declared.line.LineRequest.TheVariants.{Propose, Ask, Await, Status, Transcript, Links, State}
 
 -- decimal digits alone, one to five of them, that write the number
 pub record IsQuestion (digits : List ℕ) (question : ℕ) : Type 0 where
@@ -39,6 +39,7 @@ Asks text (Await question) = (digits : List ℕ) × (text ≡ codes "AWAIT " ++ 
 Asks text Status = text ≡ codes "STATUS"
 Asks text (Transcript question) = (digits : List ℕ) × (text ≡ codes "TRANSCRIPT " ++ digits) × IsQuestion digits question
 Asks text Links = text ≡ codes "LINKS"
+Asks text (State question) = (digits : List ℕ) × (text ≡ codes "STATE " ++ digits) × IsQuestion digits question
 
 -- what is asked is a proposal
 abbrev pub IsPropose : LineRequest → Type 0
@@ -48,6 +49,17 @@ IsPropose (Await question) = ⊥
 IsPropose Status = ⊥
 IsPropose (Transcript question) = ⊥
 IsPropose Links = ⊥
+IsPropose (State question) = ⊥
+
+-- what is asked is a proposal, or how a question stands
+abbrev pub AsksLast : LineRequest → Type 0
+AsksLast (Propose question bit) = Unit {0}
+AsksLast (Ask question) = ⊥
+AsksLast (Await question) = ⊥
+AsksLast Status = ⊥
+AsksLast (Transcript question) = ⊥
+AsksLast Links = ⊥
+AsksLast (State question) = Unit {0}
 
 -- what is asked is none of the first three
 abbrev pub AsksLonger : LineRequest → Type 0
@@ -57,6 +69,7 @@ AsksLonger (Await question) = Unit {0}
 AsksLonger Status = ⊥
 AsksLonger (Transcript question) = Unit {0}
 AsksLonger Links = ⊥
+AsksLonger (State question) = Unit {0}
 
 -- a byte 13
 abbrev pub is_return : Option ℕ → Bool

@@ -5,17 +5,19 @@ use Rattle.numerals.specs.Lines.{NoEnd, line}
 use Rattle.node.specs.declared.link_table.LinkCount.{LinkCount}
 use Rattle.node.specs.Verdicts.{known_at, KnowsMore}
 use Rattle.node.specs.Views.{BookView}
+use Rattle.node.specs.States.{IsState}
+use Rattle.node.specs.declared.state.QuestionState.{QuestionState}
 use Rattle.links.specs.Told.{Told, has_written, has_failed, has_ended, BreaksOff}
 use Rattle.node.specs.declared.order.Decision.{Decision}
 use Rattle.member.specs.Readers.{member_header, member_is_stopped}
 use Rattle.desk.specs.Following.{Tells, FailsToTell}
 use Rattle.desk.specs.Lines.{AsksToFollow, LineAsks, IsRequest}
 use Rattle.desk.specs.Commands.{AsksNothing, command_for}
-use Rattle.desk.specs.Answers.{IsTranscriptReply, Proposes, links_reply, status_reply, verdict_reply}
+use Rattle.desk.specs.Answers.{IsTranscriptReply, Proposes, links_reply, state_reply, status_reply, verdict_reply}
 use Rattle.desk.specs.Replies.{reply_text}
 use Rattle.desk.specs.declared.line.LineRequest.{LineRequest}
 use Rattle.desk.specs.declared.command.Command.{Command}
-use Rattle.desk.specs.declared.command.Command.TheVariants.{Propose, Ask, Await, Status, Transcript, Links}
+use Rattle.desk.specs.declared.command.Command.TheVariants.{Propose, Ask, Await, Status, Transcript, Links, State}
 use Rattle.desk.specs.declared.reply.Reply.{Reply}
 use Rattle.desk.specs.declared.reply.Reply.TheVariants.{BadLine, Decided, Stopped, Undecided}
 use Rattle.desk.specs.declared.serving.DeskEnd.{DeskEnd}
@@ -52,6 +54,13 @@ pub record IsLinksReply (D : Type 0) (reply : Reply) : Type 0 where
   pub outgoing : count.outgoing ≤ (member_header book.member).size.n
   pub links : reply ≡ links_reply book count
 
+-- how a question stands at the member of a book that was asked
+pub record IsStateTold (D : Type 0) (question : ℕ) (reply : Reply) : Type 0 where
+  pub book : BookView D
+  pub state : Option QuestionState
+  pub state_is : IsState book question state
+  pub told : reply ≡ state_reply state
+
 -- the reply to who waits for a decision, by what is known then: that decision; or that there is none yet, or that the member
 -- of a book that was asked is stopped
 abbrev pub IsAwaitReply : Type 0 → Option Bool → Reply → Type 0
@@ -73,6 +82,7 @@ AnswersCommand D may_toss before Status reply after =
 -- no toss is drawn
 AnswersCommand D may_toss before (Transcript question) reply after =
     (after ≡ before) × (book : BookView D) × IsTranscriptReply book question reply
+AnswersCommand D may_toss before (State question) reply after = (after ≡ before) × IsStateTold D question reply
 AnswersCommand D may_toss before Links reply after = (after ≡ before) × IsLinksReply D reply
 
 -- the reply to a command, or the refusal where there is none

@@ -3,15 +3,15 @@
 ghost use Rattle.std.specs.Prelude.{ℕ, ◌≡◌, Bool, IfOk, IfErr};
 ghost use Rattle.member.specs.Readers.{member_disk};
 ghost use Rattle.node.specs.Transcripts.{IsDossier};
-ghost use Rattle.desk.specs.Answers.{IsDossierReply, IsTranscriptReply, MayBeShown, Proposes, WhyStopped, verdict_reply, asking_reply, links_reply, status_reply, standing_reply, standing_links, refusal_reply};
-ghost use Rattle.desk.specs.declared.command.Command.TheVariants.{Propose, Ask, Await, Status, Transcript, Links};
+ghost use Rattle.desk.specs.Answers.{IsDossierReply, IsStateReply, IsTranscriptReply, MayBeShown, Proposes, WhyStopped, verdict_reply, asking_reply, links_reply, status_reply, standing_reply, state_reply, standing_links, refusal_reply};
+ghost use Rattle.desk.specs.declared.command.Command.TheVariants.{Propose, Ask, Await, Status, Transcript, Links, State};
 ghost use Rattle.desk.specs.declared.reply.Reply.TheVariants as reply;
 
 use crate::command::Command;
 use crate::reply::Reply;
 use disk::Disk;
 use member::MemberFault;
-use node::{Book, Dossier, LinkCount, Naming, TranscriptFault};
+use node::{Book, Dossier, LinkCount, Naming, QuestionState, TranscriptFault};
 use questions::Answer;
 use rounds::Toss;
 use terms::Size;
@@ -118,6 +118,27 @@ fn links_reply<D: Disk, J: Naming>(book: &Book<D, J>, count: LinkCount) -> Reply
     Reply::Links { count, size }
 }
 
+/// The reply by how a question of the cluster stands.
+pub(crate) fn state_reply(state: Option<QuestionState>) -> Reply
+    ensures { result ≡ state_reply state }
+{
+    match state {
+        Some(state) => Reply::State(state),
+        None => Reply::Stopped,
+    }
+}
+
+/// Says how a question stands at the member.
+fn state<D: Disk, J: Naming>(book: &Book<D, J>, question: u16) -> Reply
+    ensures { IsStateReply book.now question result }
+{
+    if question < book.header().size().questions() {
+        state_reply(book.state(question))
+    } else {
+        Reply::BadQuestion
+    }
+}
+
 /// What a transcript of a question is made of, or the reply where there is none.
 pub(crate) fn dossier_of<D: Disk, J: Naming>(
     book: &Book<D, J>,
@@ -195,6 +216,8 @@ pub fn answer<D: Disk, J: Naming>(book: &mut Book<D, J>, command: &Command, toss
     ensures status { command.now ≡ Status → (book.new ≡ book.old) × (result ≡ status_reply book.old) }
     ensures transcript { (question : ℕ) → command.now ≡ Transcript question →
         (book.new ≡ book.old) × IsTranscriptReply book.old question result }
+    ensures state { (question : ℕ) → command.now ≡ State question →
+        (book.new ≡ book.old) × IsStateReply book.old question result }
     ensures links { command.now ≡ Links →
         (book.new ≡ book.old) × (result ≡ links_reply book.old (record { incoming = 0; outgoing = 0 })) }
 {
@@ -205,5 +228,6 @@ pub fn answer<D: Disk, J: Naming>(book: &mut Book<D, J>, command: &Command, toss
         Command::Status => status(book),
         Command::Transcript { question } => transcribe(book, question),
         Command::Links => links_reply(book, NO_LINKS),
+        Command::State { question } => state(book, question),
     }
 }

@@ -39,6 +39,11 @@ pub enum Command {
     },
     /// How many of the member's links are up.
     Links,
+    /// To be told how a question stands at the member.
+    State {
+        /// The question, counted from 0, as in a proposal.
+        question: u16,
+    },
 }
 
 /// The question, if there are so many.
@@ -71,6 +76,10 @@ fn command_for(asked: LineRequest, questions: u16) -> Result<Command, Reply>
             Ok(question) => Ok(Command::Transcript { question }),
             Err(refusal) => Err(refusal),
         },
+        LineRequest::State { question } => match below(question, questions) {
+            Ok(question) => Ok(Command::State { question }),
+            Err(refusal) => Err(refusal),
+        },
         LineRequest::Propose { question, bit } => match below(question, questions) {
             Ok(question) => match bit {
                 Some(bit) => Ok(Command::Propose { question, bit }),
@@ -85,7 +94,8 @@ fn command_for(asked: LineRequest, questions: u16) -> Result<Command, Reply>
 /// before the end of the input; one byte 13 at its end is dropped. It takes no memory.
 ///
 /// Refused with the first that holds: [`Reply::BadLine`], where the line has more than 4,096 bytes or is none of
-/// `PROPOSE q v`, `ASK q`, `AWAIT q`, `STATUS`, `TRANSCRIPT q` and `LINKS`, with one space between two words and one to five decimal digits for q;
+/// `PROPOSE q v`, `ASK q`, `AWAIT q`, `STATE q`, `STATUS`, `TRANSCRIPT q` and `LINKS`, with one space between two words and one
+/// to five decimal digits for q;
 /// [`Reply::BadQuestion`], where there is no such question; [`Reply::BadBit`], where v is neither `0` nor `1`.
 pub fn parse(line: &[u8], size: Size) -> Result<Command, Reply>
     ensures asked { (asked : LineRequest) → LineAsks line.now asked → result ≡ command_for size.questions asked }

@@ -5,6 +5,7 @@
 //! | `PROPOSE q v` | `OK` where the bit v is taken, `HAVE b` with the bit that stands, or `STOPPED` |
 //! | `ASK q` | `DECIDED b` or `UNDECIDED` |
 //! | `AWAIT q` | `DECIDED b` once the question is decided, `UNDECIDED` after ten seconds, or `STOPPED` |
+//! | `STATE q` | `DECIDED b`, `OPEN r s` with the round and step of the member's last own Initial, `SPENT` where that is round 32 step 3, `UNPROPOSED`, or `STOPPED` |
 //! | `STATUS` | `UP m d`, with m statements in the outbox and d questions decided, or `STOPPED` |
 //! | `LINKS` | `LINKS i o n w`: links come in from i of n members, o go out, w = n - t are needed each way; or `STOPPED` |
 //! | `TRANSCRIPT q` | `STOPPED`, `UNDECIDED`, `THIN`, or `transcript q bit b count c` and c lines, each a sender and a frame |

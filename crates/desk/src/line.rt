@@ -1,7 +1,7 @@
 //! What a line asks, whether or not there is such a question.
 
 ghost use Rattle.std.specs.Prelude.{ℕ, ◌≡◌, ◌-◌, ◌<◌, ◌↔◌, ◌∷◌, ◌++◌, List, Bool, Option, Some, length, slice_get, IfSome, IfNone, IsTrue, MatchOption};
-ghost use Rattle.desk.specs.Lines.{IsQuestion, IsWord, IsBitWord, IsProposal, IsPropose, Asks, AsksLonger, AsksToFollow, LineAsks, is_return, trimmed};
+ghost use Rattle.desk.specs.Lines.{IsQuestion, IsWord, IsBitWord, IsProposal, IsPropose, Asks, AsksLast, AsksLonger, AsksToFollow, LineAsks, is_return, trimmed};
 ghost use Rattle.desk.specs.declared.line.LineRequest.{LineRequest};
 
 use numerals::{behind, first_space, is, number, split_at_space};
@@ -24,6 +24,8 @@ pub(crate) enum LineRequest {
     Transcript { question: u64 },
     /// How many links are up.
     Links,
+    /// To be told how a question stands.
+    State { question: u64 },
 }
 
 /// The number that one to five decimal digits write.
@@ -99,6 +101,20 @@ fn proposed(text: &[u8]) -> Option<LineRequest>
     }
 }
 
+/// The request of a text that asks how a question stands, or proposes.
+fn asked_last(text: &[u8]) -> Option<LineRequest>
+    ensures some { IfSome result (Asks text.now) }
+    ensures exact { (asked : LineRequest) → AsksLast asked → Asks text.now asked → result ≡ Some asked }
+{
+    match behind(text, "STATE ") {
+        Some(digits) => match question(digits) {
+            Some(question) => Some(LineRequest::State { question }),
+            None => None,
+        },
+        None => proposed(text),
+    }
+}
+
 /// What the text asks.
 fn asked(text: &[u8]) -> Option<LineRequest>
     ensures some { IfSome result (Asks text.now) }
@@ -134,7 +150,7 @@ fn asked_longer(text: &[u8]) -> Option<LineRequest>
                 Some(question) => Some(LineRequest::Transcript { question }),
                 None => None,
             },
-            None => proposed(text),
+            None => asked_last(text),
         },
     }
 }

@@ -2,7 +2,7 @@
 
 ghost use Rattle.std.specs.Prelude.{◌≡◌, ◌-◌};
 
-use node::{LinkCount, Transcript};
+use node::{LinkCount, QuestionState, Transcript};
 use std::fmt;
 use terms::Size;
 use transcripts::TranscriptText;
@@ -41,6 +41,8 @@ pub enum Reply {
         /// The size of the cluster: there are n links each way, and n - t of them are needed to decide.
         size: Size,
     },
+    /// The question stands so at the member.
+    State(QuestionState),
     /// The question was decided in an earlier life, and what was heard since then is no proof of the decision.
     Thin,
     /// 1: there is no such line.
@@ -100,6 +102,11 @@ impl fmt::Display for Reply {
                     needed(*size)
                 )
             }
+            Reply::State(QuestionState::Unproposed) => f.write_str("UNPROPOSED"),
+            Reply::State(QuestionState::Open { round, step }) => write!(f, "OPEN {round} {step}"),
+            Reply::State(QuestionState::Spent) => f.write_str("SPENT"),
+            Reply::State(QuestionState::Decided(false)) => f.write_str("DECIDED 0"),
+            Reply::State(QuestionState::Decided(true)) => f.write_str("DECIDED 1"),
             Reply::Thin => f.write_str("THIN"),
             Reply::BadLine => f.write_str("ERR 1 line"),
             Reply::BadQuestion => f.write_str("ERR 2 question"),

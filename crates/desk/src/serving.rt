@@ -6,11 +6,12 @@ ghost use Rattle.links.specs.Told.{Told, has_ended};
 ghost use Rattle.node.specs.Standings.{IsDecisionOf};
 ghost use Rattle.node.specs.Views.{BookView};
 ghost use Rattle.desk.specs.Answers.{IsTranscriptReply, verdict_reply};
-ghost use Rattle.desk.specs.Sessions.{Sitting, sitting, AnswersLine, IsAwaitReply, IsLinksReply, IsProposalReply, IsStatusReply, Serves};
+ghost use Rattle.desk.specs.Sessions.{Sitting, sitting, AnswersLine, IsAwaitReply, IsLinksReply, IsProposalReply, IsStateTold, IsStatusReply, Serves};
 ghost use Rattle.desk.specs.Turns.{FailsToSay, Refuses, Says, Serving};
 
 use crate::answering::{
-    dossier_of, propose, standing_links, standing_reply, transcript_reply, verdict_reply,
+    dossier_of, propose, standing_links, standing_reply, state_reply, transcript_reply,
+    verdict_reply,
 };
 use crate::command::{Command, parse};
 use crate::following::follow;
@@ -157,6 +158,13 @@ impl<D: Disk, J: Naming, R: Wait> Server<'_, D, J, R> {
         standing_reply(self.hub.status(self.rt))
     }
 
+    /// Says how a question stands at the member. It waits for the book.
+    fn state_of(&self, question: u16) -> Reply
+        ensures { IsStateTold D question result }
+    {
+        state_reply(self.hub.state(self.rt, question))
+    }
+
     /// How many links are up, if the member is, by what the hub shows of it.
     fn links(&self) -> Reply
         ensures { IsLinksReply D result }
@@ -181,6 +189,7 @@ impl<D: Disk, J: Naming, R: Wait> Server<'_, D, J, R> {
             Ok(Command::Status) => self.status(tosser),
             Ok(Command::Transcript { question }) => self.transcript_of(question),
             Ok(Command::Links) => self.links(),
+            Ok(Command::State { question }) => self.state_of(question),
         }
     }
 
@@ -319,7 +328,7 @@ impl<D: Disk, J: Naming, R: Wait> Server<'_, D, J, R> {
 ///
 /// A line ends at the byte 10, and bytes behind the last one are a line too. `ASK` and `AWAIT` go by the board; `ASK` takes no
 /// lock, and `AWAIT` and `FOLLOW` only that of what the hub shows, and not while they wait;
-/// `PROPOSE`, which waits until the member speaks, and `TRANSCRIPT` take the book's; `STATUS` and `LINKS` only that of what the
+/// `PROPOSE`, which waits until the member speaks, `STATE` and `TRANSCRIPT` take the book's; `STATUS` and `LINKS` only that of what the
 /// hub shows, behind which nobody waits for a disk. `PROPOSE` and `STATUS` take a toss each. What comes of a proposal is shown
 /// before its reply is written, so a `STATUS` behind it counts it. Replies are written without memory, and no lock is held while
 /// they are. The pass is of the hub's board, and knows each decision that was written, so a decision that was told is told again.

@@ -9,6 +9,7 @@ pub mod Decisions
 pub mod Tallies
 pub mod Keeps
 pub mod Standings
+pub mod States
 pub mod Histories
 pub mod Settled
 pub mod Groups

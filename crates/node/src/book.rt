@@ -24,6 +24,7 @@ ghost use Rattle.node.specs.Keeps.{AreDecided, IsTied};
 ghost use Rattle.node.specs.Lives.{LivesOn, Spares};
 ghost use Rattle.node.specs.Settled.{is_settled};
 ghost use Rattle.node.specs.Standings.{status_of};
+ghost use Rattle.node.specs.States.{IsState};
 ghost use Rattle.node.specs.Transcripts.{IsDossier, IsTranscript, HasNoDossier, HasNoTranscript};
 ghost use Rattle.node.specs.Verdicts.{known_at, KnowsMore};
 
@@ -38,6 +39,7 @@ use crate::order::Decision;
 use crate::seat::Seat;
 use crate::settle::is_settled;
 use crate::shown::part;
+use crate::state::{QuestionState, state_at};
 use crate::tally::Tally;
 use crate::transcript::{Dossier, Transcript, TranscriptFault};
 use disk::Disk;
@@ -407,6 +409,20 @@ impl<D: Disk, J: Naming> Book<D, J> {
         ensures asked { (member_header self.now.member).size.questions ≤ question → result ≡ None }
     {
         self.tally.verdict(question)
+    }
+
+    /// Returns how the question stands at the member: none where there is no such question, and where it isn't decided and
+    /// the member is stopped. It goes through no records.
+    pub fn state(&self, question: u16) -> Option<QuestionState>
+        ensures { IsState self.now question result }
+    {
+        if let Some(bit) = self.verdict(question) {
+            return Some(QuestionState::Decided(bit));
+        }
+        if question >= self.header().size().questions() || self.is_stopped() {
+            return None;
+        }
+        Some(state_at(self.member.progress(question)))
     }
 
     /// The decisions that the member has saved, in this life and in earlier ones, in the order of its journal: all of them,

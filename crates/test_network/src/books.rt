@@ -3,12 +3,13 @@
 //! `hear PEER FRAME TOSS` hands a statement in, and `all PEER FRAME TOSS FRAME TOSS ..` a group: they answer what the member does, and
 //! behind it the number with which the peer goes on. `tell NUMBER TOSS` has the member hear what it said by that number. `propose
 //! QUESTION BIT TOSS` answers. `verdict QUESTION` is what the book has, and `ask QUESTION` what the board says to one who asks for the
-//! first time, each a bit or `none`. `pull FROM MOST` are the statements from a number on, each behind its number.
+//! first time, each a bit or `none`. `state QUESTION` is how it stands there: `unproposed`, `open ROUND STEP`, `spent`, `decided BIT`, or
+//! `none`. `pull FROM MOST` are the statements from a number on, each behind its number.
 ghost use Rattle.std.specs.Prelude.{◌≤◌, length};
 
 use disk::MemDisk;
 use member::MemberFault;
-use node::{Board, Hub, Naming, Rack, Seat};
+use node::{Board, Hub, Naming, QuestionState, Rack, Seat};
 use questions::Answer;
 use rounds::Toss;
 use std::alloc::Global;
@@ -125,6 +126,17 @@ fn bit_text(alloc: Global, bit: Option<bool>) -> Option<String> {
     }
 }
 
+/// Says how a question stands.
+fn state_text(alloc: Global, state: Option<QuestionState>) -> Option<String> {
+    match state {
+        Some(QuestionState::Unproposed) => format!(in alloc; "unproposed").ok(),
+        Some(QuestionState::Open { round, step }) => format!(in alloc; "open {round} {step}").ok(),
+        Some(QuestionState::Spent) => format!(in alloc; "spent").ok(),
+        Some(QuestionState::Decided(bit)) => format!(in alloc; "decided {}", u8::from(bit)).ok(),
+        None => format!(in alloc; "none").ok(),
+    }
+}
+
 /// What the board says to one who asks for the first time.
 fn ask(alloc: Global, board: &Board, question: u16) -> Option<String> {
     let mut pass = board.pass().ok()?;
@@ -177,6 +189,7 @@ pub fn told<J: Naming, R: Wait>(
             let verdict = hub.lock(rt).verdict(question);
             bit_text(alloc, verdict)
         }
+        ["state", question] => state_text(alloc, hub.state(rt, question.parse().ok()?)),
         ["ask", question] => ask(alloc, hub.board(), question.parse().ok()?),
         ["pull", from, most] => pull(rt, alloc, hub, from.parse().ok()?, most.parse().ok()?),
         _ => None,

@@ -4,7 +4,7 @@
 //! DIGITS` the same of bytes. `reply NAME ..` is the line of a reply.
 
 use desk::{Command, Reply, parse};
-use node::LinkCount;
+use node::{LinkCount, QuestionState};
 use std::alloc::Global;
 use terms::Size;
 use test_words::{bytes_of, size_of, words_of};
@@ -27,6 +27,21 @@ fn command_text(alloc: Global, command: Command) -> Option<String> {
         Command::Status => format!(in alloc; "STATUS").ok(),
         Command::Transcript { question } => format!(in alloc; "TRANSCRIPT {question}").ok(),
         Command::Links => format!(in alloc; "LINKS").ok(),
+        Command::State { question } => format!(in alloc; "STATE {question}").ok(),
+    }
+}
+
+/// The state of a question in these words.
+fn state_of(words: &[&str]) -> Option<QuestionState> {
+    match words {
+        ["Unproposed"] => Some(QuestionState::Unproposed),
+        ["Open", round, step] => Some(QuestionState::Open {
+            round: round.parse().ok()?,
+            step: step.parse().ok()?,
+        }),
+        ["Spent"] => Some(QuestionState::Spent),
+        ["Decided", bit] => Some(QuestionState::Decided(*bit == "1")),
+        _ => None,
     }
 }
 
@@ -50,6 +65,7 @@ fn reply_of(words: &[&str], size: Size) -> Option<Reply> {
             },
             size,
         }),
+        ["State", words @ ..] => Some(Reply::State(state_of(words)?)),
         ["BadLine"] => Some(Reply::BadLine),
         ["BadQuestion"] => Some(Reply::BadQuestion),
         ["BadBit"] => Some(Reply::BadBit),

@@ -1,5 +1,5 @@
 use Rattle.std.proofs.Common.{◌≡◌, ◌∙◌, ap, refl, rules, Err, Ok}
-use Rattle.desk.specs.declared.command.Command.TheVariants.{Propose, Ask, Await, Status, Transcript, Links}
+use Rattle.desk.specs.declared.command.Command.TheVariants.{Propose, Ask, Await, Status, Transcript, Links, State}
 use Rattle.desk.specs.Sessions.{sitting}
 use Rattle.desk.proofs.Exchanging.{answers_line}
 use Rattle.desk.proofs.serving.Server.reply_to.Goals as goal
@@ -51,6 +51,14 @@ returns-in-Ok-Links-clause-reply g c =
     (sitting c.args.pass.now.known c.args.tosser.now) (sitting c.args.pass.now.known c.args.tosser.now)
     c.args.line.now c.parse.result (Ok Links) c.links.result c.parse.ensures.either count (c.in-Ok-Links.is ∙ ap Ok c.in-Ok-Links.field-0-is)
     (refl, c.links.ensures)
+
+pub returns-in-Ok-State-clause-reply : goal.returns-in-Ok-State-clause-reply
+returns-in-Ok-State-clause-reply g c =
+    let count : c.size.result.questions ≡ c.args.self.now.hub.now.size.questions = search rules in
+    answers_line g.row.D.Denot g.T.Tosser.may_toss c.args.self.now.hub.now.size.questions c.size.result.questions
+    (sitting c.args.pass.now.known c.args.tosser.now) (sitting c.args.pass.now.known c.args.tosser.now)
+    c.args.line.now c.parse.result (Ok (State c.in-Ok-State.question)) c.state_of.result c.parse.ensures.either count (c.in-Ok-State.is ∙ ap Ok c.in-Ok-State.field-0-is)
+    (refl, c.state_of.ensures)
 
 pub returns-in-Ok-Await-clause-reply : goal.returns-in-Ok-Await-clause-reply
 returns-in-Ok-Await-clause-reply g c =
