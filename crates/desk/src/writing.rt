@@ -6,12 +6,13 @@ ghost use Rattle.numerals.specs.Lines.{line};
 ghost use Rattle.links.specs.Told.{has_written, BreaksOff};
 ghost use Rattle.desk.specs.Replies.{reply_text};
 ghost use Rattle.desk.specs.declared.reply.Reply.TheVariants as reply;
+ghost use Rattle.node.specs.declared.state.QuestionState.TheVariants.{Open};
 
 use crate::reply::{Reply, needed};
 use crate::serving::DeskEnd;
 use itoa::Buffer;
 use links::{Stream, write_all};
-use node::{LinkCount, Transcript};
+use node::{LinkCount, QuestionState, Transcript};
 use terms::Size;
 use transcripts::{Block, put, put_head, put_pair};
 
@@ -63,6 +64,38 @@ fn write_links<S: Stream>(stream: &mut S, count: LinkCount, size: Size) -> Resul
     put(&mut block, digits.format(needed(size)).as_bytes());
     put(&mut block, b"\n");
     write_bytes(stream, &block)
+}
+
+/// Writes the round and step in which an open question is.
+fn write_open<S: Stream>(stream: &mut S, round: u8, step: u8) -> Result<(), DeskEnd>
+    ensures ok { OnOk result (S.told stream.new
+        ≡ has_written (S.told stream.old) (line (reply_text (reply.State (Open round step))))) }
+    ensures err { IfErr result (λ why. (why ≡ DeskEnd.Lost)
+        × BreaksOff (S.told stream.old) (S.told stream.new) (line (reply_text (reply.State (Open round step))))) }
+{
+    let mut digits = Buffer::new();
+    let mut block = Block::new();
+    put(&mut block, b"OPEN ");
+    put(&mut block, digits.format(round).as_bytes());
+    put(&mut block, b" ");
+    put(&mut block, digits.format(step).as_bytes());
+    put(&mut block, b"\n");
+    write_bytes(stream, &block)
+}
+
+/// Writes how a question stands.
+fn write_state<S: Stream>(stream: &mut S, state: QuestionState) -> Result<(), DeskEnd>
+    ensures ok { OnOk result (S.told stream.new ≡ has_written (S.told stream.old) (line (reply_text (reply.State state)))) }
+    ensures err { IfErr result (λ why. (why ≡ DeskEnd.Lost)
+        × BreaksOff (S.told stream.old) (S.told stream.new) (line (reply_text (reply.State state)))) }
+{
+    match state {
+        QuestionState::Unproposed => write_bytes(stream, b"UNPROPOSED\n"),
+        QuestionState::Open { round, step } => write_open(stream, round, step),
+        QuestionState::Spent => write_bytes(stream, b"SPENT\n"),
+        QuestionState::Decided(false) => write_bytes(stream, b"DECIDED 0\n"),
+        QuestionState::Decided(true) => write_bytes(stream, b"DECIDED 1\n"),
+    }
 }
 
 /// Where the block has no room for a line more, writes it out and empties it.
@@ -134,6 +167,7 @@ pub(crate) fn write_reply<S: Stream>(stream: &mut S, reply: &Reply) -> Result<()
             transcript,
         } => write_transcript(stream, *question, transcript),
         Reply::Links { count, size } => write_links(stream, *count, *size),
+        Reply::State(state) => write_state(stream, *state),
         Reply::Thin => write_bytes(stream, b"THIN\n"),
         Reply::BadLine => write_bytes(stream, b"ERR 1 line\n"),
         Reply::BadQuestion => write_bytes(stream, b"ERR 2 question\n"),

@@ -1,11 +1,11 @@
 -- Decisions that are shown.
-use Rattle.std.proofs.Common.{ℕ, zero, suc, ◌≡◌, ◌⊎◌, ◌+◌, ◌<◌, ◌≤◌, inl, inr, refl, sym, ap, subst, ◌∙◌, arith, Option, Some, None, List, [], ◌∷◌, ◌++◌, length, drop, slice_get, append-nil, get_or}
+use Rattle.std.proofs.Common.{ℕ, zero, suc, ◌≡◌, ◌⊎◌, ◌<◌, inl, inr, sym, ap, ◌∙◌, Some, List, [], ◌∷◌, ◌++◌, length, drop, slice_get, append-nil, get_or}
 use Rattle.std.proofs.lemmas.Option.{slice_get-get_or}
 use mathlib.Core.List.{IsPrefix}
 use Rattle.terms_prelude.specs.Terms.{Header}
 use Rattle.member.specs.Words.{member_saved}
 use Rattle.node.specs.declared.order.Decision.{Decision}
-use Rattle.node.specs.Words.{AreDecisions, AreDecisionsOf, BookView, IsBookOf, IsDecisionOf, decisions_in}
+use Rattle.node.specs.Words.{AreDecisions, AreDecisionsOf, BookView, IsBookOf, decisions_in}
 
 -- what stands in a beginning stands there in all
 in_front : {A : Type 0} (xs all : List A) (k : ℕ) (x : A) → IsPrefix xs all → slice_get xs k ≡ Some x → slice_get all k ≡ Some x

@@ -1,4 +1,4 @@
-use Rattle.std.proofs.Common.{sym, ap, subst, ◌∙◌, List}
+use Rattle.std.proofs.Common.{sym, subst, List}
 use Rattle.member.specs.Words.{member_saved}
 use Rattle.node.specs.declared.order.Decision.{Decision}
 use Rattle.node.specs.Words.{AreDecisions, BookView}

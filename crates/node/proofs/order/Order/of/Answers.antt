@@ -1,5 +1,5 @@
 use Rattle.std.proofs.Common.{List, take, subst, sym}
-use Rattle.questions.proofs.Knowing.{take_more, sound_more}
+use Rattle.questions.proofs.Knowing.{take_more}
 use Rattle.terms_prelude.specs.Terms.{Record}
 use Rattle.node.specs.Words.{IsOrdered}
 use Rattle.node.proofs.order.Order.of.Goals as goal

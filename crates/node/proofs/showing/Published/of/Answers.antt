@@ -1,4 +1,4 @@
-use Rattle.std.proofs.Common.{◌≡◌, List, subst, sym, rules}
+use Rattle.std.proofs.Common.{List, subst, sym}
 use Rattle.node.specs.declared.order.Decision.{Decision}
 use Rattle.node.specs.Words.{AreDecisionsOf}
 use Rattle.node.proofs.showing.Published.of.Goals as goal
