@@ -23,8 +23,13 @@ pub struct Answer {
 pub enum Stage {
     /// Nothing was proposed to it.
     Unproposed,
-    /// It is in this round (1 to 32) and step (1 to 3).
-    Open { round: u8, step: u8 },
+    /// It is in this round and step.
+    Open {
+        /// The round, 1 to 32.
+        round: u8,
+        /// The step, 1 to 3.
+        step: u8,
+    },
     /// It is undecided after its last round, and says no more of its own.
     Spent,
     /// It decided the question as this bit.
