@@ -1,5 +1,6 @@
 //! A line for all members of a cluster, and the reply of each: begin at `propose_to_all` and `status_of_all`, last.
 
+use crate::board::News;
 use crate::callers::{Caller, Calls, Cluster, Lines};
 use crate::calls::Manner;
 use crate::clients::read_client;
@@ -60,18 +61,26 @@ impl Replies {
         let deadline = cluster.deadline(host)?;
         let mut all = Replies::new(host.alloc(), client.size.n())?;
         let calls = Calls::start(rt, host.alloc(), client, lines, deadline)?;
-        while all.open > 0 {
+        for _ in 0..u64::MAX {
+            if all.open == 0 {
+                break;
+            }
             let Some(news) = calls.next(rt, host) else {
                 break;
             };
             for one in news {
-                all.open = all.open.saturating_sub(1);
-                if let Some(place) = all.replies.get_mut(usize::from(one.member)) {
-                    *place = one.reply;
-                }
+                all.take(one);
             }
         }
         Ok(all)
+    }
+
+    /// Takes a member's reply, or that it doesn't answer.
+    fn take(&mut self, news: News) {
+        self.open = self.open.saturating_sub(1);
+        if let Some(place) = self.replies.get_mut(usize::from(news.member)) {
+            *place = news.reply;
+        }
     }
 }
 
