@@ -7,6 +7,10 @@ mod apart;
 mod arguments;
 mod asking;
 mod asking_all;
+mod board;
+mod callers;
+mod calls;
+mod chance;
 mod clients;
 mod cluster;
 mod desks;
@@ -15,6 +19,7 @@ mod fault;
 mod files;
 mod forgotten;
 mod forms;
+mod hearsay;
 mod input;
 mod limits;
 mod live;
@@ -29,7 +34,9 @@ mod process;
 mod reading;
 mod replaced;
 mod rows;
+mod shapes;
 mod signals;
+mod stating;
 mod status;
 mod streams;
 mod telling;
@@ -38,22 +45,25 @@ mod unsynced;
 mod words;
 
 pub use arguments::{own_words, wants_quiet};
-pub use asking::{
-    ask_at, await_at, links_at, propose_at, propose_to_all, status_at, transcript_at,
-};
-pub use asking_all::{Query, ask_all};
+pub use asking::{ask_at, await_at, links_at, propose_at, status_at, transcript_at};
+pub use asking_all::{Motion, Query, ask_all, decide};
+pub use callers::{Caller, Cluster};
+pub use chance::{Measuring, measure_rounds};
 pub use cluster::{NewCluster, new_cluster};
 pub use commands::Choice;
 pub use fault::Fault;
 pub use files::{
     audit_file, check_file, dump_file, hear_input, init_file, migrate_file, simulate_file,
 };
+pub use hearsay::{audit_all, transcript_of_all};
 pub use limits::{clients_within, descriptors_lack, open_limit};
 pub use live::run_file;
 pub use log::{LogForm, log_form};
 pub use pages::{Page, write_page};
 pub use patience::patience_of;
+pub use shapes::{AuditWords, Audited, SimulateWords, audited_of, simulate};
 pub use signals::{is_blocked, is_called};
+pub use stating::{StateForm, propose_to_all, status_of_all};
 pub use streams::{HeldStreams, hold_streams};
 pub use trouble::{Failure, Trouble, Whereabouts};
 pub use words::{hear_end, number_words, size_of};
