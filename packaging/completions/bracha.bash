@@ -27,7 +27,7 @@ _bracha() {
     propose) mapfile -t COMPREPLY < <(compgen -W "--all --timeout --quiet --help" -f -- "$word") ;;
     ask) mapfile -t COMPREPLY < <(compgen -W "--all --wait --json --timeout --quiet --help" -f -- "$word") ;;
     decide) mapfile -t COMPREPLY < <(compgen -W "--all --json --timeout --quiet --help" -f -- "$word") ;;
-    status) mapfile -t COMPREPLY < <(compgen -W "--all --links --ready --json --timeout --quiet --help" -f -- "$word") ;;
+    status) mapfile -t COMPREPLY < <(compgen -W "--all --question --links --ready --json --timeout --quiet --help" -f -- "$word") ;;
     transcript) mapfile -t COMPREPLY < <(compgen -W "--all --timeout --quiet --help" -f -- "$word") ;;
     help) mapfile -t COMPREPLY < <(compgen -W "new-cluster init check run propose ask decide status transcript audit dump migrate simulate rounds hear" -- "$word") ;;
     esac

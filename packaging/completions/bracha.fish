@@ -33,6 +33,7 @@ complete -c bracha -n "__fish_seen_subcommand_from new-cluster" -l port -x -d "T
 complete -c bracha -n "__fish_seen_subcommand_from new-cluster" -l desk -x -d "The host of the desks"
 complete -c bracha -n "__fish_seen_subcommand_from status" -l links -d "How many links come and go"
 complete -c bracha -n "__fish_seen_subcommand_from status" -l ready -d "Whether these are enough"
+complete -c bracha -n "__fish_seen_subcommand_from status" -l question -x -d "How far a member is on a question"
 complete -c bracha -n "__fish_seen_subcommand_from propose ask decide status transcript audit" -l all -d "All members of a client.toml"
 complete -c bracha -n "__fish_seen_subcommand_from ask" -l wait -d "Until it is decided"
 complete -c bracha -n "__fish_seen_subcommand_from ask decide status check dump" -l json -d "Objects of JSON"

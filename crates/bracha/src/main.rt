@@ -17,8 +17,8 @@ use system::{
     NewCluster, Query, SimulateWords, StateForm, ask_all, ask_at, audit_all, audit_file,
     audited_of, await_at, check_file, decide, dump_file, hear_end, hear_input, hold_streams,
     init_file, links_at, log_form, measure_rounds, migrate_file, new_cluster, number_words,
-    own_words, patience_of, propose_at, propose_to_all, run_file, simulate, size_of, status_at,
-    status_of_all, transcript_at, transcript_of_all, wants_quiet,
+    own_words, patience_of, propose_at, propose_to_all, run_file, simulate, size_of, state_at,
+    status_at, status_of_all, transcript_at, transcript_of_all, wants_quiet,
 };
 
 /// The member or the cluster that a client speaks to, and for how long.
@@ -96,6 +96,9 @@ fn ask_state<R: Caller>(
 ) -> Result<u8, Failure> {
     if whom.all {
         return status_of_all(rt, host, &whom.cluster(), form);
+    }
+    if let Some(question) = form.question {
+        return state_at(host, whom.place, question, form.json, whom.timeout);
     }
     if form.links || form.ready {
         return links_at(host, whom.place, form.ready, form.json, whom.timeout);
@@ -233,9 +236,15 @@ fn work<R: Caller>(rt: &R, host: &HostRuntime, task: Task) -> Result<u8, Failure
             ready,
             json,
             timeout,
+            question,
         } => {
             let whom = Whom::new(host, address, all, timeout)?;
-            let form = StateForm { links, ready, json };
+            let form = StateForm {
+                links,
+                ready,
+                question,
+                json,
+            };
             ask_state(rt, host, whom, form)
         }
         Task::Transcript {

@@ -178,9 +178,11 @@ status_demands words e =
     let links = flag_in (codes "links") rows in
     let ready = flag_in (codes "ready") rows in
     let json = flag_in (codes "json") rows in
-    let timeout = text_in (codes "timeout") rows in (
-      Status (at_some_place address.0) all.0 links.0 ready.0 json.0 timeout.0,
-      (refl, address.1, all.1, links.1, ready.1, json.1, timeout.1),
+    let timeout = text_in (codes "timeout") rows in
+    let question = may_have 16 65535 (codes "question") rows (omega arith)
+    (perhaps_in (built_at status_app) words solid e _ (inr (inr (inl refl)))) in (
+      Status (at_some_place address.0) all.0 links.0 ready.0 json.0 timeout.0 question.0,
+      (refl, address.1, all.1, links.1, ready.1, json.1, timeout.1, question.1),
     )
 
 ask_demands : Demanding ask_app

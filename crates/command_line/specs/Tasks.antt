@@ -60,11 +60,12 @@ Names name rows (Decide file question bit json timeout) = (name ≡ codes "decid
     × HasText (codes "file") rows file.now × HasNumberOption 16 (codes "question") rows question
     × HasNumberOption 8 (codes "bit") rows bit × HasFlag (codes "json") rows json
     × MayHaveText (codes "timeout") rows (option_map (λ text. text.now) timeout)
-Names name rows (Status address all links ready json timeout) = (name ≡ codes "status")
+Names name rows (Status address all links ready json timeout question) = (name ≡ codes "status")
     × HasText (codes "address") rows address.now × HasFlag (codes "all") rows all
     × HasFlag (codes "links") rows links × HasFlag (codes "ready") rows ready
     × HasFlag (codes "json") rows json
     × MayHaveText (codes "timeout") rows (option_map (λ text. text.now) timeout)
+    × MayHaveNumber 16 (codes "question") rows question
 Names name rows (Transcript address question all timeout) = (name ≡ codes "transcript")
     × HasText (codes "address") rows address.now
     × HasNumberOption 16 (codes "question") rows question × HasFlag (codes "all") rows all

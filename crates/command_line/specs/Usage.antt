@@ -124,10 +124,11 @@ decide_app = taking (codes "decide")
     (word_rule (codes "file") ∷ as_u16 (word_rule (codes "question")) ∷ as_u8 (word_rule (codes "bit"))
     ∷ needed_all_rule ∷ json_rule ∷ timeout_rule ∷ [])
 
--- `bracha status [--all] [--links] [--ready] [--json] [--timeout S] ADDRESS`
+-- `bracha status [--all] [--question Q] [--links] [--ready] [--json] [--timeout S] ADDRESS`
 abbrev pub status_app : App
 status_app = taking (codes "status")
-    (address_rule ∷ all_rule ∷ flag_rule (codes "links") ∷ flag_rule (codes "ready") ∷ json_rule ∷ timeout_rule ∷ [])
+    (address_rule ∷ all_rule ∷ as_u16 (option_rule (codes "question")) ∷ flag_rule (codes "links")
+    ∷ flag_rule (codes "ready") ∷ json_rule ∷ timeout_rule ∷ [])
 
 -- `bracha transcript [--all] [--timeout S] ADDRESS Q`
 abbrev pub transcript_app : App

@@ -81,8 +81,8 @@ pub enum Task<'a> {
         timeout: Option<&'a str>,
     },
     /// Asks the member whose desk is at this address whether it is up; or how many links come and go, or also whether these are
-    /// as many as are needed; or all members of the cluster of the client's settings in this file. Waits as long as this text
-    /// says.
+    /// as many as are needed, or how this question stands there; or all members of the cluster of the client's settings in
+    /// this file. Waits as long as this text says.
     Status {
         address: &'a str,
         all: bool,
@@ -90,6 +90,7 @@ pub enum Task<'a> {
         ready: bool,
         json: bool,
         timeout: Option<&'a str>,
+        question: Option<u16>,
     },
     /// Asks the member whose desk is at this address for what it heard of a question that is decided; or the members of the
     /// cluster of the client's settings in this file, until one tells it. Waits as long as this text says.
@@ -484,12 +485,15 @@ fn status<'a>(alloc: Global) -> Built<'a>
 {
     let about = "Print whether a member is up";
     let examples =
-        "Prints UP M D if the member is up: it has made M statements and decided D questions. Prints STOPPED, with status 1, if it is stopped. With --links or --ready, prints LINKS I O N W: of N links, I come in and O go out, and W of both are needed to decide. With --all, ADDRESS is the file client.toml of `new-cluster`, and a line `member M REPLY` is printed for each member; the status is the highest of any.\n\nExamples (is it up; can it decide; are all):\n  bracha status 127.0.0.1:7111\n  bracha status --ready 127.0.0.1:7111\n  bracha status --all client.toml";
+        "Prints UP M D if the member is up: it has made M statements and decided D questions. Prints STOPPED, with status 1, if it is stopped. With --links or --ready, prints LINKS I O N W: of N links, I come in and O go out, and W of both are needed to decide. With --question, prints DECIDED B, OPEN R S (the member is in round R, step S), SPENT (undecided after 32 rounds: it says nothing more of its own) or UNPROPOSED. With --all, ADDRESS is the file client.toml of `new-cluster`, and a line `member M REPLY` is printed for each member; the status is the highest of any.\n\nExamples (is it up; can it decide; are all):\n  bracha status 127.0.0.1:7111\n  bracha status --ready 127.0.0.1:7111\n  bracha status --all client.toml\n\nExample (how far are all on question 7):\n  bracha status --all --question 7 client.toml";
     let every = "Ask every member; ADDRESS is the file client.toml";
+    let question = "Print how far the member is on question Q instead";
     let links = "Print how many links come in and go out";
     let ready = "The same, with status 0 only if the links are enough to decide";
     let command = with_arg(named(alloc, "status", about, examples), address(alloc));
     let command = with_arg(command, all(alloc, every));
+    let question = option(alloc, "question", "Q", question);
+    let command = with_arg(command, of_u16(question));
     let command = with_arg(command, flag(alloc, "links", links));
     let command = with_arg(command, flag(alloc, "ready", ready));
     let command = with_arg(command, json(alloc));
@@ -856,6 +860,7 @@ fn status_of<'a>(options: &ArgMatches<'a>) -> Option<Task<'a>>
         ready: flag_of(options, "ready"),
         json: flag_of(options, "json"),
         timeout: text_of(options, "timeout"),
+        question: u16_of(options, "question"),
     })
 }
 

@@ -13,3 +13,4 @@ pub mod Migrating
 pub mod Owning
 pub mod Asking
 mod Counting
+pub mod Staging

@@ -4,6 +4,8 @@ use Rattle.std.specs.Fmt.{decimal}
 use Rattle.numerals.specs.Numbers.{IsBelow}
 use Rattle.numerals.specs.Spaces.{NoSpace}
 use Rattle.commands.specs.declared.replies.Links.{Links}
+use Rattle.commands.specs.declared.stages.Stage.{Stage}
+use Rattle.commands.specs.declared.stages.Stage.TheVariants.{Unproposed, Spent, Open}
 
 -- the digits write the number, with no zero before it
 abbrev pub IsCount : List ℕ → ℕ → Type 0
@@ -72,21 +74,59 @@ links_object links =
     codes "{\"state\":\"links\",\"in\":" ++ (decimal links.coming ++ (codes ",\"out\":" ++ (decimal links.going
     ++ (codes ",\"members\":" ++ (decimal links.members ++ (codes ",\"needed\":" ++ (decimal links.needed ++ codes "}")))))))
 
--- the object says the same as a reply that isn't of links
+-- the object says the same as a reply that isn't of links and none to `STATE`
 abbrev pub SaysPlain : List ℕ → List ℕ → Type 0
 SaysPlain reply object = SaysFixed reply object ⊎ ((m d : ℕ) × HasCounts reply m d × (object ≡ up_object m d))
 
+-- a round, and a step of it
+pub record IsRoundAndStep (round step : ℕ) : Type 0 where
+  pub from_one : 1 ≤ round
+  pub to_last : round ≤ 32
+  pub first : 1 ≤ step
+  pub third : step ≤ 3
+
+-- the words are both, with a space between them
+abbrev pub AreRoundAndStep : List ℕ → ℕ → ℕ → Type 0
+AreRoundAndStep words round step = AreCounts words round step × IsRoundAndStep round step
+
+-- the reply says that the question stands so
+abbrev pub SaysStage : List ℕ → Stage → Type 0
+SaysStage reply Unproposed = reply ≡ codes "UNPROPOSED"
+SaysStage reply Spent = reply ≡ codes "SPENT"
+SaysStage reply (Open round step) = (words : List ℕ) × (reply ≡ codes "OPEN " ++ words) × AreRoundAndStep words round step
+
+-- it is such a reply
+abbrev pub IsStage : List ℕ → Type 0
+IsStage reply = (stage : Stage) × SaysStage reply stage
+
+-- the object that says the same
+abbrev pub stage_object : Stage → List ℕ
+stage_object Unproposed = codes "{\"unproposed\":true}"
+stage_object Spent = codes "{\"spent\":true}"
+stage_object (Open round step) = codes "{\"open\":true,\"round\":" ++ (decimal round ++ (codes ",\"step\":" ++ (decimal step ++ codes "}")))
+
+abbrev pub SaysStageSame : List ℕ → List ℕ → Type 0
+SaysStageSame reply object = (stage : Stage) × SaysStage reply stage × (object ≡ stage_object stage)
+
+-- the object says the same as a reply that isn't of links
+abbrev pub SaysUnlinked : List ℕ → List ℕ → Type 0
+SaysUnlinked reply object = SaysPlain reply object ⊎ SaysStageSame reply object
+
 -- the object says the same as the reply
 abbrev pub SaysSame : List ℕ → List ℕ → Type 0
-SaysSame reply object = SaysPlain reply object ⊎ ((links : Links) × HasLinks reply links × (object ≡ links_object links))
+SaysSame reply object = SaysUnlinked reply object ⊎ ((links : Links) × HasLinks reply links × (object ≡ links_object links))
 
--- the line is a reply that isn't of links
+-- the line is a reply that isn't of links and none to `STATE`
 abbrev pub IsPlainReply : List ℕ → Type 0
 IsPlainReply line = ((object : List ℕ) × SaysFixed line object) ⊎ ((m d : ℕ) × HasCounts line m d)
 
+-- the line is a reply that isn't of links
+abbrev pub IsUnlinked : List ℕ → Type 0
+IsUnlinked line = IsPlainReply line ⊎ IsStage line
+
 -- the line is a reply
 abbrev pub IsReply : List ℕ → Type 0
-IsReply line = IsPlainReply line ⊎ IsLinks line
+IsReply line = IsUnlinked line ⊎ IsLinks line
 
 -- the line of a member's number and of the object that says the same as its reply, or of no reply of a desk
 abbrev pub member_object : ℕ → List ℕ → List ℕ

@@ -3,7 +3,7 @@ use Rattle.std.specs.Prelude.{ℕ, ◌≡◌, ◌⊎◌, Bool, false, true, Opti
 use Rattle.std.specs.Fmt.{decimal}
 use Rattle.numerals.specs.Lines.{line}
 use Rattle.numerals.specs.Sentences.{sentence}
-use Rattle.commands.specs.Replies.{HasCounts, IsLinks, IsReady}
+use Rattle.commands.specs.Replies.{HasCounts, IsLinks, IsStage, IsReady}
 
 -- the line that proposes a bit on a question
 abbrev pub propose_line : ℕ → ℕ → List ℕ
@@ -12,6 +12,10 @@ propose_line question bit = line (sentence (codes "PROPOSE" ∷ decimal question
 -- the line that asks for the decision of a question
 abbrev pub ask_line : ℕ → List ℕ
 ask_line question = line (sentence (codes "ASK" ∷ decimal question ∷ []))
+
+-- the line that asks how it stands
+abbrev pub state_line : ℕ → List ℕ
+state_line question = line (sentence (codes "STATE" ∷ decimal question ∷ []))
 
 -- the line that waits for its decision
 abbrev pub await_line : ℕ → List ℕ
@@ -52,11 +56,15 @@ member_line member reply = (member_words member ++ reply) ++ 10 ∷ []
 abbrev pub IsUp : List ℕ → Type 0
 IsUp reply = (m d : ℕ) × HasCounts reply m d
 
+-- the reply says how far the member is, how many of its links are up, or how a question stands there
+abbrev pub SaysStanding : List ℕ → Type 0
+SaysStanding reply = IsUp reply ⊎ (IsLinks reply ⊎ IsStage reply)
+
 -- the member did as it was asked
 abbrev pub IsGood : List ℕ → Type 0
 IsGood reply =
     (reply ≡ codes "OK") ⊎ ((reply ≡ codes "HAVE 0") ⊎ ((reply ≡ codes "HAVE 1") ⊎ ((reply ≡ codes "DECIDED 0")
-    ⊎ ((reply ≡ codes "DECIDED 1") ⊎ ((reply ≡ codes "UNDECIDED") ⊎ (IsUp reply ⊎ IsLinks reply))))))
+    ⊎ ((reply ≡ codes "DECIDED 1") ⊎ ((reply ≡ codes "UNDECIDED") ⊎ SaysStanding reply)))))
 
 -- the status for a reply: 0 where the member did as it was asked, and 1 else
 abbrev pub HasStatus : List ℕ → ℕ → Type 0

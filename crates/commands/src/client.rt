@@ -3,12 +3,13 @@
 ghost use Rattle.std.specs.Prelude.{ℕ, List, [], ◌≡◌, ◌∷◌, ◌++◌, ◌↔◌, IsTrue, IfOk, IfErr, IfSome, ◌≢◌, string_bytes, codes, Err};
 ghost use Rattle.std.specs.Io.KnownBytes.{Appends, Consumes};
 ghost use Rattle.numerals.specs.Lines.{NoEnd};
-ghost use Rattle.commands.specs.Talks.{TellsDecision, decision_reply, propose_line, ask_line, await_line, links_line, status_line, member_line, member_words, IsUp, IsGood, HasReadyStatus, HasStatus};
+ghost use Rattle.commands.specs.Talks.{TellsDecision, decision_reply, propose_line, ask_line, await_line, state_line, links_line, status_line, member_line, member_words, IsUp, IsGood, SaysStanding, HasReadyStatus, HasStatus};
 ghost use Rattle.commands.specs.Replies.{IsMemberObject, IsReply, SaysSame};
 ghost use Rattle.commands.specs.declared.fault.TalkFault.TheVariants.{NoAnswer};
 
 use crate::fault::TalkFault;
 use crate::replies::{counts, has_links, is_ready, is_reply, object_of};
+use crate::stages::is_stage;
 use numerals::is;
 use std::alloc::{AllocError, Global};
 use std::io::{Read, Write};
@@ -28,6 +29,13 @@ pub fn ask_line(alloc: Global, question: u16) -> Result<String, AllocError>
     ensures { IfOk result (λ text. string_bytes text ≡ ask_line question) }
 {
     format!(in alloc; "ASK {question}\n")
+}
+
+/// The line that asks how a question stands.
+pub fn state_line(alloc: Global, question: u16) -> Result<String, AllocError>
+    ensures { IfOk result (λ text. string_bytes text ≡ state_line question) }
+{
+    format!(in alloc; "STATE {question}\n")
 }
 
 /// The line that waits for the decision of a question.
@@ -58,6 +66,13 @@ fn is_up(reply: &[u8]) -> bool
     counts(reply).is_some()
 }
 
+/// Tells if the reply says how far the member is, how many of its links are up, or how a question stands there.
+fn says_standing(reply: &[u8]) -> bool
+    ensures { IsTrue result ↔ SaysStanding reply.now }
+{
+    is_up(reply) || has_links(reply) || is_stage(reply)
+}
+
 /// Whether the reply says that the member did as it was asked.
 fn is_good(reply: &[u8]) -> bool
     ensures { IsTrue result ↔ IsGood reply.now }
@@ -68,8 +83,7 @@ fn is_good(reply: &[u8]) -> bool
         || is(reply, "DECIDED 0")
         || is(reply, "DECIDED 1")
         || is(reply, "UNDECIDED")
-        || is_up(reply)
-        || has_links(reply)
+        || says_standing(reply)
 }
 
 /// The status for a reply.
@@ -152,7 +166,7 @@ pub fn exchange<R: Read, S: Write>(
     }
 }
 
-/// Writes a reply with its end. The status is 0 for `OK`, `HAVE b`, `DECIDED b`, `UNDECIDED`, `UP m d` and `LINKS i o n w`, and 1 for any other
+/// Writes a reply with its end. The status is 0 for `OK`, `HAVE b`, `DECIDED b`, `UNDECIDED`, `UP m d`, `LINKS i o n w`, `OPEN r s`, `SPENT` and `UNPROPOSED`, and 1 for any other
 /// reply.
 ///
 /// [`TalkFault::Stream`]: the write failed. [`TalkFault::Memory`]: memory was refused.
@@ -274,7 +288,7 @@ pub fn is_undecided(reply: &[u8]) -> bool
 }
 
 /// Sends the line over a connection to a member's desk, reads one reply, and writes it with its end. The status is 0 for
-/// `OK`, `HAVE b`, `DECIDED b`, `UNDECIDED`, `UP m d` and `LINKS i o n w`, and 1 for any other reply.
+/// `OK`, `HAVE b`, `DECIDED b`, `UNDECIDED`, `UP m d`, `LINKS i o n w`, `OPEN r s`, `SPENT` and `UNPROPOSED`, and 1 for any other reply.
 ///
 /// [`TalkFault::NoAnswer`]: the connection failed or ended before a whole line came, or the line is no reply of a desk, and
 /// nothing was written. [`TalkFault::Stream`]: the write failed. [`TalkFault::Memory`]: memory was refused.

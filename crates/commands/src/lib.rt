@@ -16,6 +16,7 @@ mod patience;
 mod replies;
 mod shown;
 mod simulate;
+mod stages;
 mod survey;
 mod text_lines;
 mod transcript;
@@ -24,7 +25,8 @@ pub use asked::{asked_words, key_words};
 pub use check::{check_journal, print_check, print_settings};
 pub use client::{
     ask_line, await_line, decision_of, decision_reply, exchange, is_undecided, links_line,
-    propose_line, ready_status, status_line, talk, tell, tell_object, tell_object_of, tell_of,
+    propose_line, ready_status, state_line, status_line, talk, tell, tell_object, tell_object_of,
+    tell_of,
 };
 pub use damage::{bytes_at, fault_place};
 pub use dump::{dump_count, dump_count_object, dump_lines, dump_objects};

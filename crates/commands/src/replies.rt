@@ -1,9 +1,10 @@
 //! The replies of a desk: which lines are some, and the objects of JSON that say the same.
 
 ghost use Rattle.std.specs.Prelude.{ℕ, List, ◌≡◌, ◌≤◌, ◌↔◌, IfOk, IfSome, IsNone, IsTrue, MatchOption, Some, string_bytes};
-ghost use Rattle.commands.specs.Replies.{AreCounts, AreFour, HasCounts, HasFirst, HasLinks, IsCount, IsLinks, IsPlainReply, IsReady, IsReply, SaysDone, SaysFixed, SaysPlain, SaysSame, SaysWhyNot, links_object, up_object};
+ghost use Rattle.commands.specs.Replies.{AreCounts, AreFour, HasCounts, HasFirst, HasLinks, IsCount, IsLinks, IsPlainReply, IsReady, IsReply, IsUnlinked, SaysDone, SaysFixed, SaysPlain, SaysSame, SaysUnlinked, SaysWhyNot, links_object, up_object};
 ghost use Rattle.commands.specs.declared.replies.Links.{Links};
 
+use crate::stages::{is_stage, stage_object_of};
 use numerals::{behind, is, number, split_at_space};
 use std::alloc::{AllocError, Global};
 
@@ -19,7 +20,7 @@ fn count(word: &[u8]) -> Option<u64>
 }
 
 /// The two numbers that the words write.
-fn two_counts(words: &[u8]) -> Option<(u64, u64)>
+pub(crate) fn two_counts(words: &[u8]) -> Option<(u64, u64)>
     ensures some { IfSome result (λ found. AreCounts words.now found.0 found.1) }
     ensures exact { (m d : ℕ) → AreCounts words.now m d → result ≡ Some (m, d) }
 {
@@ -182,7 +183,7 @@ fn up_object(alloc: Global, statements: u64, decided: u64) -> Result<String, All
     format!(in alloc; "{{\"up\":true,\"statements\":{statements},\"decided\":{decided}}}")
 }
 
-/// The object that says the same as a reply that isn't of links; none where the line is no such reply.
+/// The object that says the same as a reply that isn't of links and none to `STATE`; none where the line is no such reply.
 fn plain_object(alloc: Global, reply: &[u8]) -> Result<Option<String>, AllocError>
     ensures some { IfOk result (λ found. IfSome found (λ text. SaysPlain reply.now (string_bytes text))) }
     ensures none { IfOk result (λ found. IsNone found → IsPlainReply reply.now → ⊥) }
@@ -209,6 +210,17 @@ fn links_object(alloc: Global, links: &Links) -> Result<String, AllocError>
     )
 }
 
+/// The object that says the same as a reply that isn't of links; none where the line is no such reply.
+fn unlinked_object(alloc: Global, reply: &[u8]) -> Result<Option<String>, AllocError>
+    ensures some { IfOk result (λ found. IfSome found (λ text. SaysUnlinked reply.now (string_bytes text))) }
+    ensures none { IfOk result (λ found. IsNone found → IsUnlinked reply.now → ⊥) }
+{
+    match stage_object_of(alloc, reply)? {
+        Some(text) => Ok(Some(text)),
+        None => plain_object(alloc, reply),
+    }
+}
+
 /// The object that says the same as the reply; none where the line is no reply.
 pub fn object_of(alloc: Global, reply: &[u8]) -> Result<Option<String>, AllocError>
     ensures some { IfOk result (λ found. IfSome found (λ text. SaysSame reply.now (string_bytes text))) }
@@ -216,11 +228,11 @@ pub fn object_of(alloc: Global, reply: &[u8]) -> Result<Option<String>, AllocErr
 {
     match links_of(reply) {
         Some(links) => Ok(Some(links_object(alloc, &links)?)),
-        None => plain_object(alloc, reply),
+        None => unlinked_object(alloc, reply),
     }
 }
 
-/// Whether the line is a reply of a desk that isn't of links.
+/// Tells if the line is a reply of a desk that isn't of links and none to `STATE`.
 fn is_plain_reply(line: &[u8]) -> bool
     ensures { IsTrue result ↔ IsPlainReply line.now }
 {
@@ -229,9 +241,16 @@ fn is_plain_reply(line: &[u8]) -> bool
     fixed.is_some() | found.is_some()
 }
 
+/// Tells if the line is a reply of a desk that isn't of links.
+fn is_unlinked(line: &[u8]) -> bool
+    ensures { IsTrue result ↔ IsUnlinked line.now }
+{
+    is_plain_reply(line) || is_stage(line)
+}
+
 /// Whether the line is a reply of a desk.
 pub fn is_reply(line: &[u8]) -> bool
     ensures { IsTrue result ↔ IsReply line.now }
 {
-    is_plain_reply(line) || has_links(line)
+    is_unlinked(line) || has_links(line)
 }

@@ -9,7 +9,7 @@ use crate::fault::Fault;
 use crate::trouble::{Failure, Whereabouts};
 use commands::{
     TalkFault, ask_line, await_line, exchange, fetch_transcript, is_undecided, links_line,
-    propose_line, ready_status, status_line, tell, tell_object, transcript_line,
+    propose_line, ready_status, state_line, status_line, tell, tell_object, transcript_line,
 };
 use std::io::{self, BufReader};
 use std::thread;
@@ -284,6 +284,20 @@ pub fn status_at(
     ensures named { IfErr result (IsNamed address.now) }
 {
     ask_desk(rt, address, status_line(), json, timeout)
+}
+
+/// Asks the member whose desk is at the address how a question stands there, and prints its reply. The status is that of the reply.
+pub fn state_at(
+    rt: &HostRuntime,
+    address: &str,
+    question: u16,
+    json: bool,
+    timeout: Option<u32>,
+) -> Result<u8, Failure>
+    ensures named { IfErr result (IsNamed address.now) }
+{
+    let line = state_line(rt.alloc(), question).map_err(|_| Fault::Memory)?;
+    ask_desk(rt, address, line.as_str(), json, timeout)
 }
 
 /// Asks the member whose desk is at the address how many of its links come and go, and prints its reply. The status is that of

@@ -45,7 +45,7 @@ mod unsynced;
 mod words;
 
 pub use arguments::{own_words, wants_quiet};
-pub use asking::{ask_at, await_at, links_at, propose_at, status_at, transcript_at};
+pub use asking::{ask_at, await_at, links_at, propose_at, state_at, status_at, transcript_at};
 pub use asking_all::{Motion, Query, ask_all, decide};
 pub use callers::{Caller, Cluster};
 pub use chance::{Measuring, measure_rounds};

@@ -7,7 +7,8 @@ use crate::clients::read_client;
 use crate::fault::Fault;
 use crate::trouble::Failure;
 use commands::{
-    TalkFault, links_line, propose_line, ready_status, status_line, tell_object_of, tell_of,
+    TalkFault, links_line, propose_line, ready_status, state_line, status_line, tell_object_of,
+    tell_of,
 };
 use settings::ClientSettings;
 use std::alloc::{AllocError, Global};
@@ -20,6 +21,8 @@ pub struct StateForm {
     pub links: bool,
     /// They are, and have to be enough.
     pub ready: bool,
+    /// The state of this question is asked for, and not that of the member.
+    pub question: Option<u16>,
     /// Set if JSON is printed.
     pub json: bool,
 }
@@ -108,7 +111,7 @@ fn tell_all(host: &HostRuntime, all: &Replies, form: StateForm) -> Result<u8, Fa
     for reply in &all.replies {
         let told = tell_one(host, member, reply, form.json).map_err(|fault| Fault::Talk(fault))?;
         status = status.max(match reply {
-            Some(reply) if form.ready => ready_status(reply),
+            Some(reply) if form.ready && form.question.is_none() => ready_status(reply),
             _ => told,
         });
         member = member.saturating_add(1);
@@ -131,13 +134,17 @@ pub fn propose_to_all<R: Caller>(
     let form = StateForm {
         links: false,
         ready: false,
+        question: None,
         json: false,
     };
     tell_all(host, &all, form)
 }
 
 /// The line that asks for the state.
-fn state_line(alloc: Global, form: StateForm) -> Result<String, AllocError> {
+fn line_for(alloc: Global, form: StateForm) -> Result<String, AllocError> {
+    if let Some(question) = form.question {
+        return state_line(alloc, question);
+    }
     if form.links || form.ready {
         String::from_str(alloc, links_line())
     } else {
@@ -154,7 +161,7 @@ pub fn status_of_all<R: Caller>(
     form: StateForm,
 ) -> Result<u8, Failure> {
     let client = read_client(host, cluster.file)?;
-    let line = state_line(host.alloc(), form).map_err(|_| Fault::Memory)?;
+    let line = line_for(host.alloc(), form).map_err(|_| Fault::Memory)?;
     let all = Replies::gather(rt, host, cluster, &client, line)?;
     tell_all(host, &all, form)
 }

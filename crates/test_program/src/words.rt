@@ -83,10 +83,11 @@ fn standing(
     address: &str,
     (all, links, ready): (bool, bool, bool),
     json: bool,
-    timeout: Option<&str>,
+    (timeout, question): (Option<&str>, Option<u16>),
 ) -> Option<String> {
     let mut text = format!(in alloc; "status {address}").ok()?;
     add(&mut text, " all", all)?;
+    add_number(alloc, &mut text, " question ", question.map(u32::from))?;
     add(&mut text, " links", links)?;
     add(&mut text, " ready", ready)?;
     add(&mut text, " json", json)?;
@@ -125,7 +126,14 @@ fn client_text(alloc: Global, task: Task) -> Option<String> {
             ready,
             json,
             timeout,
-        } => standing(alloc, address, (all, links, ready), json, timeout),
+            question,
+        } => standing(
+            alloc,
+            address,
+            (all, links, ready),
+            json,
+            (timeout, question),
+        ),
         Task::Transcript {
             address,
             question,

@@ -14,10 +14,11 @@ returns c = record {
     search (rules, c.flag_of-3.ensures),
     search (rules, c.flag_of-4.ensures),
     search (rules, sym c.text_of-2.ensures),
+    search (rules, c.u16_of.ensures),
   );
   none = λ never. let bad : true ≡ false = never in cc;
 }
 
 pub returns-in_err-text_of-clause-none : goal.returns-in_err-text_of-clause-none
 returns-in_err-text_of-clause-none c = λ _ task named.
-    only_status (rows_in c.args.options.now) (λ address all links ready json timeout named. not_none _ (c.in_err-text_of.ensures ∙ named.1)) task named
+    only_status (rows_in c.args.options.now) (λ address all links ready json timeout question named. not_none _ (c.in_err-text_of.ensures ∙ named.1)) task named
