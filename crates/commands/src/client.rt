@@ -214,12 +214,24 @@ fn object_line(alloc: Global, member: u8, object: &str) -> Result<String, AllocE
     format!(in alloc; "{{\"member\":{member},\"reply\":{object}}}\n")
 }
 
+/// The same, of an object that is a string.
+fn text_line(alloc: Global, member: u8, object: &String) -> Result<String, AllocError>
+    ensures { IfOk result (λ text. string_bytes text ≡ member_object member (string_bytes object.now)) }
+{
+    format!(in alloc; "{{\"member\":{member},\"reply\":{object}}}\n")
+}
+
 /// The line of a member's number and of the object that says the same as its reply.
-fn same_line(alloc: Global, member: u8, _reply: &[u8], object: &str) -> Result<String, AllocError>
-    requires { SaysSame _reply.now object.now }
+fn same_line(
+    alloc: Global,
+    member: u8,
+    _reply: &[u8],
+    object: &String,
+) -> Result<String, AllocError>
+    requires { SaysSame _reply.now (string_bytes object.now) }
     ensures { IfOk result (λ text. IsMemberObject member _reply.now (string_bytes text)) }
 {
-    object_line(alloc, member, object)
+    text_line(alloc, member, object)
 }
 
 /// The line of a member's number and of no reply of a desk.
@@ -235,7 +247,7 @@ fn member_object(alloc: Global, member: u8, reply: &[u8]) -> Result<String, Allo
     ensures { IfOk result (λ text. IsMemberObject member reply.now (string_bytes text)) }
 {
     match object_of(alloc, reply)? {
-        Some(object) => same_line(alloc, member, reply, object.as_str()),
+        Some(object) => same_line(alloc, member, reply, &object),
         None => null_line(alloc, member, reply),
     }
 }
