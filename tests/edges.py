@@ -758,8 +758,17 @@ def decide_believes_more_than_t(folder, port):
             link.sendall(b"HAVE 0\n" if line.startswith(b"PROPOSE") else b"DECIDED 1\n")
 
     words = {fault: "bracha: member {} doesn't answer\n" for fault in FAULTY} | {"lies": "bracha: member {} says 0\n"}
-    with desks_with(port, takes_part) as ports:
-        return beside_faults(folder, ports, ["decide", ["5", "0"]], lambda fault, place: ("DECIDED 1\n" + words[fault].format(place), 0), 4)
+    def is_stopped(link):
+        for line in link.makefile("rb"):
+            link.sendall(b"STOPPED\n" if line.startswith(b"PROPOSE") else b"DECIDED 1\n")
+
+    with desks_with(port, takes_part) as ports, serving(port + 10, is_stopped), serving(port + 11, is_stopped):
+        found = beside_faults(folder, ports, ["decide", ["5", "0"]], lambda fault, place: ("DECIDED 1\n" + words[fault].format(place), 0), 4)
+        # A member that is stopped still tells what it decided.
+        path = cluster_file(folder, "stopped", [port + 10, port + 8, port + 11, port + 12])
+        silent = "".join(f"bracha: member {it} doesn't answer\n" for it in (1, 3))
+        said, status, took = timed(["decide", "--all", "--timeout", "5", path, "5", "0"], folder)
+        return found + differs("stopped members", (said, status, took < 3), ("DECIDED 1\n" + silent, 0, True))
 
 
 @check

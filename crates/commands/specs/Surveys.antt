@@ -26,12 +26,17 @@ later_word Silent word = word
 later_word Undecided word = word
 later_word Other word = word
 
--- the line that is sent after a word
-abbrev pub next_of : Word → Next
-next_of Undecided = Wait
-next_of (Decided bit) = End
-next_of Silent = Begin
-next_of Other = Begin
+-- the line that is sent after another reply: to the first line, or to the one that waits
+abbrev pub next_of_other : (first : Bool) → Next
+next_of_other true = Wait
+next_of_other false = Begin
+
+-- and after a word
+abbrev pub next_of : Word → (first : Bool) → Next
+next_of Undecided first = Wait
+next_of (Decided bit) first = End
+next_of Silent first = Begin
+next_of Other first = next_of_other first
 
 -- a bit that isn't the one that is printed
 abbrev pub zero_remark : ℕ → Option Bool → List ℕ

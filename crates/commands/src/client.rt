@@ -4,7 +4,7 @@ ghost use Rattle.std.specs.Prelude.{ℕ, List, [], ◌≡◌, ◌∷◌, ◌++�
 ghost use Rattle.std.specs.Io.KnownBytes.{Appends, Consumes};
 ghost use Rattle.numerals.specs.Lines.{NoEnd};
 ghost use Rattle.commands.specs.Talks.{TellsDecision, decision_reply, propose_line, ask_line, await_line, state_line, links_line, status_line, member_line, member_words, IsUp, IsGood, SaysStanding, HasReadyStatus, HasStatus};
-ghost use Rattle.commands.specs.Replies.{IsMemberObject, IsReply, SaysSame};
+ghost use Rattle.commands.specs.Replies.{IsMemberObject, IsReply, SaysSame, member_object};
 ghost use Rattle.commands.specs.declared.fault.TalkFault.TheVariants.{NoAnswer};
 
 use crate::fault::TalkFault;
@@ -221,13 +221,48 @@ pub fn tell_of<W: Write>(
     Ok(status_of(reply))
 }
 
-/// The object of a member of that number and of the object that says the same as its reply; `null` for no reply of a desk.
+/// The line of a member's number and of this object.
+fn object_line(alloc: Global, member: u8, object: &str) -> Result<String, AllocError>
+    ensures { IfOk result (λ text. string_bytes text ≡ member_object member object.now) }
+{
+    format!(in alloc; "{{\"member\":{member},\"reply\":{object}}}\n")
+}
+
+/// The same, of an object that is a string.
+fn text_line(alloc: Global, member: u8, object: &String) -> Result<String, AllocError>
+    ensures { IfOk result (λ text. string_bytes text ≡ member_object member (string_bytes object.now)) }
+{
+    format!(in alloc; "{{\"member\":{member},\"reply\":{object}}}\n")
+}
+
+/// The line of a member's number and of the object that says the same as its reply.
+fn same_line(
+    alloc: Global,
+    member: u8,
+    _reply: &[u8],
+    object: &String,
+) -> Result<String, AllocError>
+    requires { SaysSame _reply.now (string_bytes object.now) }
+    ensures { IfOk result (λ text. IsMemberObject member _reply.now (string_bytes text)) }
+{
+    text_line(alloc, member, object)
+}
+
+/// The line of a member's number and of no reply of a desk.
+fn null_line(alloc: Global, member: u8, _reply: &[u8]) -> Result<String, AllocError>
+    requires { IsReply _reply.now → ⊥ }
+    ensures { IfOk result (λ text. IsMemberObject member _reply.now (string_bytes text)) }
+{
+    object_line(alloc, member, "null")
+}
+
+/// The line of a member's number and of the object that says the same as its reply; `null` for no reply of a desk.
 fn member_object(alloc: Global, member: u8, reply: &[u8]) -> Result<String, AllocError>
     ensures { IfOk result (λ text. IsMemberObject member reply.now (string_bytes text)) }
 {
     match object_of(alloc, reply)? {
-        Some(object) => format!(in alloc; "{{\"member\":{member},\"reply\":{object}}}\n"),
-        None => format!(in alloc; "{{\"member\":{member},\"reply\":null}}\n"),
+        Some(object) => same_line(alloc, member, reply, &object),
+        None => null_line(alloc, member, reply),
     }
 }
 

@@ -3,7 +3,7 @@
 ghost use Rattle.std.specs.Prelude.{ℕ, List, [], ◌≡◌, ◌∷◌, ◌++◌, ◌↔◌, IfOk, IfSome, IsTrue, None, false, string_bytes, true};
 ghost use Rattle.std.specs.Io.KnownBytes.{Appends};
 ghost use Rattle.commands.specs.Replies.{SaysSame};
-ghost use Rattle.commands.specs.Surveys.{IsTranscriptOf, IsWord, TakesPart, bit_number, bit_remark, later_word, next_of, one_remark, remark, remarks_from, status_for, transcript_head, zero_remark};
+ghost use Rattle.commands.specs.Surveys.{IsTranscriptOf, IsWord, TakesPart, bit_number, bit_remark, later_word, next_of, next_of_other, one_remark, remark, remarks_from, status_for, transcript_head, zero_remark};
 ghost use Rattle.commands.specs.Talks.{TellsDecision, decision_reply};
 
 use crate::client::{decision_of, decision_reply, tell, tell_object};
@@ -74,14 +74,23 @@ pub fn later_word(word: Word, other: Word) -> Word
     }
 }
 
-/// Returns the line that a member is sent after its word.
-pub fn next_of(word: Word) -> Next
-    ensures { result ≡ next_of word }
+/// The line after another reply: the one that waits, if the first line got it, since a member that is stopped still tells what it
+/// decided.
+fn next_of_other(first: bool) -> Next
+    ensures { result ≡ next_of_other first }
+{
+    if first { Next::Wait } else { Next::Begin }
+}
+
+/// Returns the line that a member is sent after its word, which is its reply to the first line or to the one that waits.
+pub fn next_of(word: Word, first: bool) -> Next
+    ensures { result ≡ next_of word first }
 {
     match word {
         Word::Undecided => Next::Wait,
         Word::Decided(_) => Next::End,
-        Word::Silent | Word::Other => Next::Begin,
+        Word::Silent => Next::Begin,
+        Word::Other => next_of_other(first),
     }
 }
 

@@ -1,7 +1,7 @@
 //! A question that is asked of all members of a cluster, or proposed to them: begin at `ask_all` and `decide`, last.
 
 use crate::board::News;
-use crate::callers::{Caller, Calls, Cluster, Lines, deadline_within};
+use crate::callers::{Caller, Calls, Cluster, IN_ALL, Lines, deadline_within};
 use crate::calls::Manner;
 use crate::fault::Fault;
 use crate::trouble::{Failure, Whereabouts};
@@ -225,7 +225,7 @@ pub fn ask_all<R: Caller>(
     let (manner, limit) = if query.wait {
         (Manner::Until, cluster.timeout)
     } else {
-        (Manner::Once, Some(cluster.timeout.unwrap_or(10_000)))
+        (Manner::Once, Some(cluster.timeout.unwrap_or(IN_ALL)))
     };
     let lines = Lines {
         manner,

@@ -1,6 +1,6 @@
 //! Calls to all members of a cluster: each in a thread of its own, and all within one time.
 
-use crate::board::Board;
+use crate::board::{Board, News};
 use crate::calls::{Errand, Manner, call};
 use crate::clients::read_client;
 use crate::desks::Deadline;
@@ -28,7 +28,7 @@ pub struct Cluster<'a> {
 }
 
 /// The milliseconds that a command over a cluster takes at most, where no time is told.
-const IN_ALL: u32 = 10_000;
+pub const IN_ALL: u32 = 10_000;
 
 /// The seconds of a wait without an end, after which it begins anew.
 const LONG: u64 = 3600;
@@ -135,7 +135,8 @@ impl Calls {
 
     /// Ends the calls after so many milliseconds, if they don't end before.
     pub fn end_soon(&mut self, host: &HostRuntime, limit: u32) {
-        if self.sooner.is_some() {
+        let limit_of = Duration::from_millis(u64::from(limit));
+        if matches!(self.left(host), Some(left) if left <= limit_of) {
             return;
         }
         if let Ok(sooner) = Deadline::new(host, Some(limit)) {
@@ -158,7 +159,7 @@ impl Calls {
     }
 
     /// Returns what members said since the last call, once one said something; none where the time is over.
-    pub fn next<R: Caller>(&self, rt: &R, host: &HostRuntime) -> Option<Vec<crate::board::News>> {
+    pub fn next<R: Caller>(&self, rt: &R, host: &HostRuntime) -> Option<Vec<News>> {
         let limit = self.left(host)?;
         Some(self.errand.board.take(rt, limit))
     }

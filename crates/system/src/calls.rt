@@ -142,21 +142,23 @@ impl Errand {
     /// answered by true, or says something else.
     fn pursue<R: Caller>(&self, rt: &R, member: u8, socket: &TcpStream) -> bool {
         let mut line = self.first.as_str();
+        let mut first = true;
         for _ in 0..u64::MAX {
             let Some(reply) = self.reply_to(rt, socket, line) else {
                 self.board.leave(rt, member, None);
                 return false;
             };
-            let next = next_of(word_of(&reply));
+            let next = next_of(word_of(&reply), first);
             self.board.leave(rt, member, Some(reply));
             match next {
                 Next::End => return true,
                 Next::Begin => return false,
                 Next::Wait => {
                     // A member that comes to its end, and one that lies, answers the waiting line at once.
-                    if line == self.wait.as_str() {
+                    if !first {
                         self.rest(rt);
                     }
+                    first = false;
                     line = self.wait.as_str();
                 }
             }

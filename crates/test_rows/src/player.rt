@@ -3,7 +3,7 @@
 use std::alloc::Global;
 use std::sync::Wait;
 use test_network::{Desk, Logs, Sessions};
-use test_program::{Document, Job, Played, Texts, faults, processes, words};
+use test_program::{Document, Job, Played, Texts, faults, processes, surveys, words};
 use test_rules::{Audit, Ballots, Casts, Cores, Questions, Stream, numbers};
 use test_storage::{Disks, File, Life, Migration};
 
@@ -29,6 +29,7 @@ pub enum Player {
     Processes(Global),
     Questions(Questions),
     Sessions(Sessions),
+    Surveys(Global),
     Texts(Texts),
     Words(Global),
     /// There is no such player.
@@ -58,6 +59,7 @@ impl Player {
             "processes" => Player::Processes(alloc),
             "questions" => Player::Questions(Questions::new(alloc)),
             "sessions" => Player::Sessions(Sessions::new(alloc)),
+            "surveys" => Player::Surveys(alloc),
             "scripts" => Player::Texts(Texts::new(alloc)),
             "words" => Player::Words(alloc),
             _ => Player::Nobody,
@@ -86,6 +88,7 @@ impl Player {
             Player::Processes(alloc) => processes::told(*alloc, action),
             Player::Questions(questions) => questions.told(action),
             Player::Sessions(sessions) => sessions.told(rt, action),
+            Player::Surveys(alloc) => surveys::told(*alloc, action),
             Player::Texts(texts) => texts.told(action),
             Player::Words(alloc) => words::told(*alloc, action),
             Player::Nobody => None,
