@@ -3,12 +3,13 @@
 
 Looks at the edges of the built program for what a user would suffer from and no contract says: how long a client waits, which
 statuses commands end with, whose links a member takes, what it opens and says more often than it should, what a command leaves
-behind. PROGRAM is crates/bracha/out/bracha unless another is named. It takes the ports 27700 to 28019 and half a minute, with
+behind. PROGRAM is crates/bracha/out/bracha unless another is named. It takes the ports 27700 to 28059 and half a minute, with
 all checks side by side. Prints what is wrong, and in its last line `N passed, M failed`; the status is 1 where M isn't 0.
 """
 import concurrent.futures
 import contextlib
 import json
+import multiprocessing
 import os
 import resource
 import shutil
@@ -538,6 +539,71 @@ def who_follows_misses_nothing(folder, port):
         found += differs("all questions", sorted(int(it.split()[1]) for it in heard), sorted(order))
         found += differs("the follower from number 3 on", [it for it in later if it], heard[3:])
         return found + differs("an empty line", "" in lines, True)
+
+
+def unanswered(port, threads, times):
+    """How many of these connections were closed with no answer to their one line: so many times in each of so many threads."""
+    def ask():
+        missing = 0
+        for _ in range(times):
+            try:
+                with dial(port, timeout=30.0) as link:
+                    link.sendall(b"ASK 0\n")
+                    missing += link.recv(64) != b"UNDECIDED\n"
+            except OSError:
+                missing += 1
+        return missing
+
+    with concurrent.futures.ThreadPoolExecutor(threads) as pool:
+        return sum(it.result() for it in [pool.submit(ask) for _ in range(threads)])
+
+
+@check
+def twice_as_many_clients_as_places(folder, port):
+    """64 clients come again and again, with a line each: each waits for a place in turn, and none is closed unanswered."""
+    path = settings(folder, 0, [f"127.0.0.1:{port}"], f"127.0.0.1:{port + 1}", 1, 0)
+    with running(path), concurrent.futures.ProcessPoolExecutor(4, multiprocessing.get_context("spawn")) as pool:
+        waiting = [pool.submit(unanswered, port + 1, 16, 200) for _ in range(4)]
+        return differs("closed unanswered, of 12,800", sum(it.result() for it in waiting), 0)
+
+
+def is_open(link):
+    """Whether a client's line is answered yet."""
+    try:
+        link.sendall(b"STATUS\n")
+        return link.makefile("rb").readline().startswith(b"UP ")
+    except OSError:
+        return False
+
+
+@check
+def who_is_silent_for_long_gives_its_place(folder, port):
+    """Where 32 clients have the places a new one waits, until one leaves or the one that has been silent longest was so for ten
+    seconds. Which is closed then the log says. Who speaks or is told something keeps its place."""
+    path = settings(folder, 0, [f"127.0.0.1:{port}"], f"127.0.0.1:{port + 1}", 1, 0, more=f'desk-socket = "{folder}/desk"\n')
+    with running(path, "--log"), contextlib.ExitStack() as stack:
+        local = stack.enter_context(socket.socket(socket.AF_UNIX))
+        local.settimeout(5)
+        local.connect(f"{folder}/desk")
+        places = [local, *(stack.enter_context(dial(port + 1, timeout=20.0)) for _ in range(31))]
+        begun = time.monotonic()
+        found = differs("32 clients", [is_open(it) for it in places], [True] * 32)
+        leaves = stack.enter_context(dial(port + 1))
+        places[31].close()
+        found += differs("one leaves, and the next has its place", (is_open(leaves), time.monotonic() - begun < 3), (True, True))
+        waits = stack.enter_context(dial(port + 1, timeout=20.0))
+        waits.sendall(b"STATUS\n")
+        time.sleep(max(0.0, begun + 5 - time.monotonic()))
+        found += differs("those that speak", [is_open(it) for it in places[2:31]], [True] * 29)
+        found += differs("one more", waits.recv(64)[:3], b"UP ")
+        found += differs("after ten seconds", 9.5 < time.monotonic() - begun < 13.5, True)
+        found += differs("who was silent longest", local.recv(1), b"")
+        found += differs("all others", [is_open(it) for it in [*places[1:31], leaves]], [True] * 31)
+        def said():
+            with open(f"{path}.log", encoding="utf-8") as log:
+                return [line.split(" ", 1)[1].strip() for line in log if "closed for another" in line]
+
+        return found + differs("the log", soon(said), ["client at place 0 closed for another: silent for 11 s"])
 
 
 @check

@@ -119,6 +119,7 @@ fn share<D: Disk + Drop, J: Life>(opened: Opened<D>) -> Result<Shared<D, J>, Mem
         link_tossers: tossers.links,
         desk_tossers: tossers.desk,
         slots: Mutex::new(Slots::new(clients)),
+        left: Condvar::new(),
         greetings: Mutex::new(Quota::new()),
         sockets: Mutex::new(Sockets::new(alloc)),
         ahead: Mutex::new(Ahead::nobody()),
