@@ -8,7 +8,7 @@ use crate::machine::Machine;
 use crate::refusals::Refusal;
 use crate::shared::{Chair, Shared};
 use crate::sockets::client_stream;
-use desk::{DeskEnd, serve};
+use desk::{Desk, DeskEnd, serve};
 use disk::Disk;
 use links::{NetStream, Stream, StreamFault};
 use member::Sealed;
@@ -92,7 +92,11 @@ fn serve_chair<D: Disk, J: Life, R: Machine>(
     };
     // Where another client is being closed for this one, its session has the tosser until it ends.
     let mut tosser = tosser.lock(rt);
-    Some(serve(rt, &it.hub, &mut pass, &mut *tosser, &mut client))
+    let desk = Desk {
+        hub: &it.hub,
+        turns: &it.turns,
+    };
+    Some(serve(rt, desk, &mut pass, &mut *tosser, &mut client))
 }
 
 /// A session of the client in a chair.

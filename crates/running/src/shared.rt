@@ -19,6 +19,7 @@ use crate::slots::Slots;
 use crate::sockets::Sockets;
 use crate::tossers::LifeTosser;
 use crate::watch::Telling;
+use desk::Turns;
 use disk::Disk;
 use links::LinkEnd;
 use node::{Book, Hub};
@@ -44,6 +45,8 @@ pub(crate) struct Shared<D: Disk, J: Life> {
     pub(crate) link_tossers: Vec<Mutex<LifeTosser<J>>>,
     /// The tosser of each slot of the desk, for the whole life.
     pub(crate) desk_tossers: Vec<Mutex<LifeTosser<J>>>,
+    /// The turns in which clients have transcripts made.
+    pub(crate) turns: Turns,
     pub(crate) slots: Mutex<Slots>,
     /// A client has left its slot, or a second has passed: for those that wait for one.
     pub(crate) left: Condvar,
