@@ -3,7 +3,7 @@
 
 Looks at the edges of the built program for what a user would suffer from and no contract says: how long a client waits, which
 statuses commands end with, whose links a member takes, what it opens and says more often than it should, what a command leaves
-behind. PROGRAM is crates/bracha/out/bracha unless another is named. It takes the ports 27700 to 28059 and half a minute, with
+behind. PROGRAM is crates/bracha/out/bracha unless another is named. It takes the ports 27700 to 28079 and half a minute, with
 all checks side by side. Prints what is wrong, and in its last line `N passed, M failed`; the status is 1 where M isn't 0.
 """
 import concurrent.futures
@@ -604,6 +604,57 @@ def who_is_silent_for_long_gives_its_place(folder, port):
                 return [line.split(" ", 1)[1].strip() for line in log if "closed for another" in line]
 
         return found + differs("the log", soon(said), ["client at place 0 closed for another: silent for 11 s"])
+
+
+def takes_transcripts(port, clients, seconds):
+    """So many clients that ask for transcripts without a pause, for so long, and read them as they come."""
+    def take():
+        with dial(port, timeout=1.0) as link:
+            threading.Thread(target=asks, args=(link,), daemon=True).start()
+            end = time.monotonic() + seconds
+            while time.monotonic() < end:
+                with contextlib.suppress(TimeoutError):
+                    link.recv(1 << 16)
+
+    def asks(link):
+        with contextlib.suppress(OSError):
+            link.sendall(b"TRANSCRIPT 0\n" * 50_000)
+
+    with concurrent.futures.ThreadPoolExecutor(clients) as pool:
+        for it in [pool.submit(take) for _ in range(clients)]:
+            it.result()
+
+
+def processor_time(process):
+    """The seconds of a processor that a process has taken."""
+    with open(f"/proc/{process.pid}/stat", encoding="ascii") as stat:
+        user, system = stat.read().rsplit(")", 1)[1].split()[11:13]
+    return (int(user) + int(system)) / os.sysconf("SC_CLK_TCK")
+
+
+@check
+def transcripts_hold_nobody_up(folder, port):
+    """Eight clients that fetch transcripts without a pause take a quarter of a processor, and what it takes to write to them, and
+    decisions don't wait for them."""
+    with clusters(folder, port) as (desks, members, _), \
+            concurrent.futures.ProcessPoolExecutor(2, multiprocessing.get_context("spawn")) as pool:
+        for question in range(40):
+            propose(desks, question, question % 2)
+        told(desks[0], "AWAIT 39")
+        taking = [pool.submit(takes_transcripts, desks[0], 4, 5) for _ in range(2)]
+        time.sleep(1)
+        begun, taken, late = time.monotonic(), processor_time(members[0]), []
+        for question in range(40, 47):
+            propose(desks, question, 1)
+            asked = time.monotonic()
+            told(desks[0], f"AWAIT {question}")
+            late.append(time.monotonic() - asked)
+            time.sleep(0.3)
+        share = (processor_time(members[0]) - taken) / (time.monotonic() - begun)
+        for it in taking:
+            it.result()
+        found = differs(f"the member's share of a processor ({share:.2f})", share < 0.7, True)
+        return found + differs(f"half of the decisions at once ({sorted(late)[3]:.2f} s)", sorted(late)[3] < 0.3, True)
 
 
 @check

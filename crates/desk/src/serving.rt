@@ -81,7 +81,7 @@ fn refuse<S: Stream>(stream: &mut S, why: DeskEnd) -> DeskEnd
 }
 
 /// What the clients of a member share: its hub, and the turns in which transcripts are made.
-#[derive(Clone, Copy)]
+#[derive(Drop)]
 pub struct Desk<'a, D: Disk, J: Naming> {
     /// The hub of the member.
     pub hub: &'a Hub<D, J>,
