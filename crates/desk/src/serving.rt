@@ -80,7 +80,7 @@ fn refuse<S: Stream>(stream: &mut S, why: DeskEnd) -> DeskEnd
     }
 }
 
-/// What the clients of a member share: its hub, and the turns in which transcripts are made.
+/// The things that the clients of a member share: its hub, and the turns in which transcripts are made.
 #[derive(Drop)]
 pub struct Desk<'a, D: Disk, J: Naming> {
     /// The hub of the member.

@@ -9,10 +9,10 @@ use std::sync::{Mutex, MutexGuard, Wait};
 use std::thread;
 use std::time::{Clock, Duration, Instant};
 
-/// How many times as long as a transcript took the rest behind it is.
+/// The length of the rest behind a transcript, in times of what that took.
 const TIMES: u32 = 3;
 
-/// From when on the next transcript may be made, if not at any time.
+/// The rest behind a transcript: the time before which no other is made, if there is one.
 #[derive(Clone, Copy, Debug, PartialEq, Eq)]
 pub struct Rest {
     until: Option<Instant>,
