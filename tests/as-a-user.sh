@@ -390,11 +390,11 @@ end_of 1
 says 'a log of objects' 0 $'{"time":T,"event":"decided","question":40,"bit":1}\n{"time":T,"event":"end"}\n{"time":T,"event":"ready","member":0}' \
     bash -c 'sed -E "s/\"[0-9-]{10}T[0-9:.]{12}Z\"/T/" log-alone | grep -e ready -e :40, -e end | LC_ALL=C sort'
 
-# As many clients are served as it says, and one more in the place of the one that was silent longest.
+# As many clients are served as it says, and one more in the place of the one that was silent longest, after ten seconds.
 run alone '-n 23'
 says 'few files' 0 'bracha: 23 open files are enough for 3 of 32 clients: the links want 17, and each client 2' head -n 1 log-alone
 says 'few clients' 0 '3 served, one more, 2 left' bash -c '
-    talks() { echo STATUS >&"$1" && read -r -t 10 said <&"$1" && [[ $said == "UP "* ]]; } 2>/dev/null
+    talks() { echo STATUS >&"$1" && read -r -t 15 said <&"$1" && [[ $said == "UP "* ]]; } 2>/dev/null
     trap "" PIPE
     served=0 left=0
     for it in 0 1 2; do
@@ -407,7 +407,8 @@ says 'few clients' 0 '3 served, one more, 2 left' bash -c '
     for file in "${files[@]}"; do if talks "$file"; then left=$((left + 1)); fi; done
     echo "$served served, ${more-none more}, $left left"'
 end_of 2
-says 'a client that was closed' 0 'client from 127.0.0.1 closed for another' bash -c 'untimed log-alone | grep "for another"'
+says 'a client that was closed' 0 'client from 127.0.0.1 at place 0 closed for another: silent for 1X s' \
+    bash -c 'untimed log-alone | grep "for another" | sed -E "s/ 1[1-3] s$/ 1X s/"'
 
 # A member listens elsewhere than at its entry of the peers, and at a path for clients of its machine alone. What a member that
 # was killed left there is taken away.

@@ -3,12 +3,13 @@
 
 Looks at the edges of the built program for what a user would suffer from and no contract says: how long a client waits, which
 statuses commands end with, whose links a member takes, what it opens and says more often than it should, what a command leaves
-behind. PROGRAM is crates/bracha/out/bracha unless another is named. It takes the ports 27700 to 28199 and a minute, with
+behind. PROGRAM is crates/bracha/out/bracha unless another is named. It takes the ports 27700 to 28219 and a minute, with
 all checks side by side. Prints what is wrong, and in its last line `N passed, M failed`; the status is 1 where M isn't 0.
 """
 import concurrent.futures
 import contextlib
 import json
+import multiprocessing
 import os
 import resource
 import shutil
@@ -597,6 +598,122 @@ def beside_faults(folder, ports, words, should, within):
             said, status, took = it.result()
             found += differs(f"{words[0]}: member {place} {fault}", (said, status, took < within), (*should(fault, place), True))
     return found
+
+
+def unanswered(port, threads, times):
+    """How many of these connections were closed with no answer to their one line: so many times in each of so many threads."""
+    def ask():
+        missing = 0
+        for _ in range(times):
+            try:
+                with dial(port, timeout=30.0) as link:
+                    link.sendall(b"ASK 0\n")
+                    missing += link.recv(64) != b"UNDECIDED\n"
+            except OSError:
+                missing += 1
+        return missing
+
+    with concurrent.futures.ThreadPoolExecutor(threads) as pool:
+        return sum(it.result() for it in [pool.submit(ask) for _ in range(threads)])
+
+
+@check
+def twice_as_many_clients_as_places(folder, port):
+    """64 clients come again and again, with a line each: each waits for a place in turn, and none is closed unanswered."""
+    path = settings(folder, 0, [f"127.0.0.1:{port}"], f"127.0.0.1:{port + 1}", 1, 0)
+    with running(path), concurrent.futures.ProcessPoolExecutor(4, multiprocessing.get_context("spawn")) as pool:
+        waiting = [pool.submit(unanswered, port + 1, 16, 200) for _ in range(4)]
+        return differs("closed unanswered, of 12,800", sum(it.result() for it in waiting), 0)
+
+
+def is_open(link):
+    """Whether a client's line is answered yet."""
+    try:
+        link.sendall(b"STATUS\n")
+        return link.makefile("rb").readline().startswith(b"UP ")
+    except OSError:
+        return False
+
+
+@check
+def who_is_silent_for_long_gives_its_place(folder, port):
+    """Where 32 clients have the places a new one waits, until one leaves or the one that has been silent longest was so for ten
+    seconds. Which is closed then the log says. Who speaks or is told something keeps its place."""
+    path = settings(folder, 0, [f"127.0.0.1:{port}"], f"127.0.0.1:{port + 1}", 1, 0, more=f'desk-socket = "{folder}/desk"\n')
+    with running(path, "--log"), contextlib.ExitStack() as stack:
+        local = stack.enter_context(socket.socket(socket.AF_UNIX))
+        local.settimeout(5)
+        local.connect(f"{folder}/desk")
+        places = [local, *(stack.enter_context(dial(port + 1, timeout=20.0)) for _ in range(31))]
+        begun = time.monotonic()
+        found = differs("32 clients", [is_open(it) for it in places], [True] * 32)
+        leaves = stack.enter_context(dial(port + 1))
+        places[31].close()
+        found += differs("one leaves, and the next has its place", (is_open(leaves), time.monotonic() - begun < 3), (True, True))
+        waits = stack.enter_context(dial(port + 1, timeout=20.0))
+        waits.sendall(b"STATUS\n")
+        time.sleep(max(0.0, begun + 5 - time.monotonic()))
+        found += differs("those that speak", [is_open(it) for it in places[2:31]], [True] * 29)
+        found += differs("one more", waits.recv(64)[:3], b"UP ")
+        found += differs("after ten seconds", 9.5 < time.monotonic() - begun < 13.5, True)
+        found += differs("who was silent longest", local.recv(1), b"")
+        found += differs("all others", [is_open(it) for it in [*places[1:31], leaves]], [True] * 31)
+        def said():
+            with open(f"{path}.log", encoding="utf-8") as log:
+                return [line.split(" ", 1)[1].strip() for line in log if "closed for another" in line]
+
+        return found + differs("the log", soon(said), ["client at place 0 closed for another: silent for 11 s"])
+
+
+def takes_transcripts(port, clients, seconds):
+    """So many clients that ask for transcripts without a pause, for so long, and read them as they come."""
+    def take():
+        with dial(port, timeout=1.0) as link:
+            threading.Thread(target=asks, args=(link,), daemon=True).start()
+            end = time.monotonic() + seconds
+            while time.monotonic() < end:
+                with contextlib.suppress(TimeoutError):
+                    link.recv(1 << 16)
+
+    def asks(link):
+        with contextlib.suppress(OSError):
+            link.sendall(b"TRANSCRIPT 0\n" * 50_000)
+
+    with concurrent.futures.ThreadPoolExecutor(clients) as pool:
+        for it in [pool.submit(take) for _ in range(clients)]:
+            it.result()
+
+
+def processor_time(process):
+    """The seconds of a processor that a process has taken."""
+    with open(f"/proc/{process.pid}/stat", encoding="ascii") as stat:
+        user, system = stat.read().rsplit(")", 1)[1].split()[11:13]
+    return (int(user) + int(system)) / os.sysconf("SC_CLK_TCK")
+
+
+@check
+def transcripts_hold_nobody_up(folder, port):
+    """Eight clients that fetch transcripts without a pause take a quarter of a processor, and what it takes to write to them, and
+    decisions don't wait for them."""
+    with clusters(folder, port) as (desks, members, _), \
+            concurrent.futures.ProcessPoolExecutor(2, multiprocessing.get_context("spawn")) as pool:
+        for question in range(40):
+            propose(desks, question, question % 2)
+        told(desks[0], "AWAIT 39")
+        taking = [pool.submit(takes_transcripts, desks[0], 4, 5) for _ in range(2)]
+        time.sleep(1)
+        begun, taken, late = time.monotonic(), processor_time(members[0]), []
+        for question in range(40, 47):
+            propose(desks, question, 1)
+            asked = time.monotonic()
+            told(desks[0], f"AWAIT {question}")
+            late.append(time.monotonic() - asked)
+            time.sleep(0.3)
+        share = (processor_time(members[0]) - taken) / (time.monotonic() - begun)
+        for it in taking:
+            it.result()
+        found = differs(f"the member's share of a processor ({share:.2f})", share < 0.7, True)
+        return found + differs(f"half of the decisions at once ({sorted(late)[3]:.2f} s)", sorted(late)[3] < 0.3, True)
 
 
 @check

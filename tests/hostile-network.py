@@ -3,13 +3,14 @@
 
 Members of a cluster of four, as processes, on a network that means them no good, and one on a disk that stalls:
 
-- 64 connections that don't greet, and one more; 32 clients, and one more, which takes the place of the one that was silent
-  longest; a place that is given back is given again;
+- 64 connections that don't greet, and one more; 32 clients, and one more, which waits until they have been silent for ten
+  seconds, and takes the place of the one that was silent longest; a place that is given back is given again; 64 clients
+  that say nothing, who hold up the next for twice ten seconds and those after it for none;
 - greetings that aren't, of which each is closed with nothing said; a second link of a peer whose first one goes on; a peer
   that comes and goes 200 times, of which the log tells some lines and then how many there were; one Initial 10,000 times,
   which is one record;
 - a member that may open 24 files: its doors come back once others go; one that may open 31, which are enough for three
-  clients: the fourth takes the place of the one that was silent longest;
+  clients: the fourth waits, and takes the place of the one that was silent longest;
 - a client and a peer that read nothing, a peer that sends a byte a second, and a client that reads a transcript a byte a
   second: the others are served, and decide;
 - garbage at both doors of each member, as fast as it goes, for S seconds (60), while four members decide 256 questions:
@@ -158,16 +159,33 @@ def too_many_clients(program):
         for _ in range(32):
             clients.append(connect(member.desk))
             assert is_answered(clients[-1]), "a client has no reply"
+        time.sleep(2)
         assert is_answered(clients[0]), "a client has no second reply"
+        begun = time.monotonic()
         one_more = connect(member.desk)
+        one_more.settimeout(20)
         assert is_answered(one_more), "the 33rd has no reply"
+        assert 6 < time.monotonic() - begun < 12, "the 33rd didn't wait"
         assert is_closed(clients[1]), "the one that was silent longest wasn't closed"
         assert all(is_answered(it) for it in [clients[0], *clients[2:], one_more]), "another one was closed"
         clients[7].close()
-        time.sleep(1)  # until the member has noticed: else the place of another may be given
         one_more = connect(member.desk)
         assert is_answered(one_more), "a place that was given back isn't given again"
         assert all(is_answered(it) for it in [clients[0], *clients[2:7], *clients[8:]]), "it wasn't that place"
+
+
+def clients_that_say_nothing(program):
+    """64 connections of which none says anything hold a client up for some twenty seconds, and those after it for none."""
+    with cluster(program, PORTS + 20, [0]) as [member]:
+        silent = [connect(member.desk) for _ in range(64)]
+        begun = time.monotonic()
+        for _ in range(3):
+            with connect(member.desk) as client:
+                client.settimeout(40)
+                assert is_answered(client), "a client has no reply"
+        assert time.monotonic() - begun < 26, f"clients waited for {time.monotonic() - begun:.0f} seconds"
+        assert until(lambda: sum("closed for another" in it for it in member.told()) >= 32, 2), "it isn't told"
+        assert is_closed(silent[0]), "a silent one wasn't closed"
 
 
 def said(kind, origin, value):
@@ -270,6 +288,7 @@ def few_clients(program):
         clients = [connect(member.desk) for _ in range(3)]
         assert all(is_answered(it) for it in clients), "a client has no reply"
         fourth = connect(member.desk)
+        fourth.settimeout(20)
         assert is_answered(fourth), "the fourth has no reply"
         assert is_closed(clients[0]), "the one that was silent longest wasn't closed"
         assert all(is_answered(it) for it in [*clients[1:], fourth]), "another one was closed"
@@ -405,6 +424,7 @@ def main():
     tests = {
         "too many that do not greet": lambda: too_many_that_do_not_greet(program),
         "too many clients": lambda: too_many_clients(program),
+        "clients that say nothing": lambda: clients_that_say_nothing(program),
         "false greetings": lambda: false_greetings(program),
         "two links of a peer": lambda: two_links_of_a_peer(program),
         "a peer that comes and goes": lambda: a_peer_that_comes_and_goes(program),

@@ -1,5 +1,5 @@
 -- The reply by a dossier is that by its book.
-use Rattle.std.proofs.Common.{◌≡◌, ℕ, ◌∙◌}
+use Rattle.std.proofs.Common.{◌≡◌, ℕ, ◌∙◌, subst, sym, Result, Ok, Err, IfOk, IfErr}
 use Rattle.node.specs.declared.transcript.TranscriptFault.TheVariants as thin
 use Rattle.node.specs.Transcripts.{DossierView, IsDossier}
 use Rattle.node.specs.Views.{BookView}
@@ -23,3 +23,10 @@ replied b q d (Links count size) may is r = absurd r
 replied b q d (State state) may is r = absurd r
 replied b q d BadLine may is r = absurd r
 replied b q d BadBit may is r = absurd r
+
+-- whether there is one or not
+pub replied_of : {D : Type 0} (b : BookView D) (q : ℕ) (asked : Result DossierView Reply) (reply : Reply)
+    → IfOk asked (λ (d : DossierView). MayBeShown b q × IsDossier b q d) → IfErr asked (IsTranscriptReply b q)
+    → IfOk asked (λ (d : DossierView). IsDossierReply d reply) → IfErr asked (λ (r : Reply). reply ≡ r) → IsTranscriptReply b q reply
+replied_of b q (Ok d) reply ok err by_ok by_err = replied b q d reply ok.0 ok.1 by_ok
+replied_of b q (Err r) reply ok err by_ok by_err = subst (λ (x : Reply). IsTranscriptReply b q x) (sym by_err) err

@@ -6,3 +6,4 @@ pub mod Held
 pub mod Following
 pub mod Sessions
 pub mod Turns
+pub mod Rests

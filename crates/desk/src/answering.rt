@@ -179,6 +179,17 @@ pub(crate) fn transcript_reply(dossier: Dossier) -> Reply
     }
 }
 
+/// The reply that shows what a transcript is made of, if it is there.
+pub(crate) fn reply_of(asked: Result<Dossier, Reply>) -> Reply
+    ensures ok { IfOk asked (λ dossier. IsDossierReply dossier result) }
+    ensures err { IfErr asked (λ reply. result ≡ reply) }
+{
+    match asked {
+        Ok(dossier) => transcript_reply(dossier),
+        Err(reply) => reply,
+    }
+}
+
 /// What was heard of a question, if it shows the decision.
 fn transcribe<D: Disk, J: Naming>(book: &Book<D, J>, question: u16) -> Reply
     ensures { IsTranscriptReply book.now question result }

@@ -28,9 +28,11 @@ mod line;
 mod reply;
 mod request;
 mod serving;
+mod turns;
 mod writing;
 
 pub use answering::answer;
 pub use command::{Command, parse};
 pub use reply::Reply;
-pub use serving::{DeskEnd, serve};
+pub use serving::{Desk, DeskEnd, serve};
+pub use turns::{Rest, Turns};

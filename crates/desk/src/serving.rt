@@ -10,8 +10,7 @@ ghost use Rattle.desk.specs.Sessions.{Sitting, sitting, AnswersLine, IsAwaitRepl
 ghost use Rattle.desk.specs.Turns.{FailsToSay, Refuses, Says, Serving};
 
 use crate::answering::{
-    dossier_of, propose, standing_links, standing_reply, state_reply, transcript_reply,
-    verdict_reply,
+    dossier_of, propose, reply_of, standing_links, standing_reply, state_reply, verdict_reply,
 };
 use crate::command::{Command, parse};
 use crate::following::follow;
@@ -19,12 +18,14 @@ use crate::held::{HeldLine, LineStep};
 use crate::line::follows;
 use crate::reply::Reply;
 use crate::request::is_request;
+use crate::turns::{Turn, Turns};
 use crate::writing::write_reply;
 use disk::Disk;
 use links::Stream;
 use node::{Board, Hub, Naming, Pass};
 use rounds::Tosser;
 use std::sync::Wait;
+use std::time::Clock;
 
 /// The most bytes of a read.
 const PIECE: usize = 512;
@@ -79,26 +80,49 @@ fn refuse<S: Stream>(stream: &mut S, why: DeskEnd) -> DeskEnd
     }
 }
 
-/// What answers a client: the hub of the member, and by what it waits for the locks.
+/// The things that the clients of a member share: its hub, and the turns in which transcripts are made.
+#[derive(Drop)]
+pub struct Desk<'a, D: Disk, J: Naming> {
+    /// The hub of the member.
+    pub hub: &'a Hub<D, J>,
+    /// The turns of all its clients.
+    pub turns: &'a Turns,
+}
+
+/// What answers a client: the hub of the member, the turns, and by what it waits for the locks.
 #[derive(Drop)]
 struct Server<'a, D: Disk, J: Naming, R> {
     rt: &'a R,
     hub: &'a Hub<D, J>,
+    turns: &'a Turns,
 }
 
-impl<D: Disk, J: Naming, R: Wait> Server<'_, D, J, R> {
+impl<D: Disk, J: Naming, R: Wait + Clock> Server<'_, D, J, R> {
+    /// Waits for the turn to have a transcript made, and until the rest behind the one before is over. A hub that is shut makes
+    /// nobody rest.
+    fn turn_to_transcribe(&self) -> Turn<'_> {
+        let turn = self.turns.take(self.rt);
+        for _ in self.rt.forever() {
+            if self.hub.is_shut() || !turn.rests(self.rt) {
+                return turn;
+            }
+        }
+        unreachable!()
+    }
+
     /// What was heard of a question, if it shows the decision. The lock is held until it is known where it stands, and not while
-    /// it is gone through and written.
+    /// the turn is waited for, nor while it is gone through and written.
     fn transcript_of(&self, question: u16) -> Reply
         ensures { (book : BookView D) × IsTranscriptReply book question result }
     {
+        let mut turn = self.turn_to_transcribe();
         let book = self.hub.read(self.rt);
+        turn.begin(self.rt);
         let asked = dossier_of(&*book, question);
         drop(book);
-        match asked {
-            Ok(dossier) => transcript_reply(dossier),
-            Err(reply) => reply,
-        }
+        let reply = reply_of(asked);
+        turn.end(self.rt);
+        reply
     }
 
     /// Proposes a bit, once the member speaks. What comes of it is shown to others before the book is given back.
@@ -328,15 +352,18 @@ impl<D: Disk, J: Naming, R: Wait> Server<'_, D, J, R> {
 ///
 /// A line ends at the byte 10, and bytes behind the last one are a line too. `ASK` and `AWAIT` go by the board; `ASK` takes no
 /// lock, and `AWAIT` and `FOLLOW` only that of what the hub shows, and not while they wait;
-/// `PROPOSE`, which waits until the member speaks, `STATE` and `TRANSCRIPT` take the book's; `STATUS` and `LINKS` only that of what the
-/// hub shows, behind which nobody waits for a disk. `PROPOSE` and `STATUS` take a toss each. What comes of a proposal is shown
+/// `PROPOSE`, which waits until the member speaks, `STATE`, and `TRANSCRIPT`, which waits for its turn, take the book's; `STATUS`
+/// and `LINKS` only that of what the hub shows, behind which nobody waits for a disk. `PROPOSE` and `STATUS` take a toss each. What comes of a proposal is shown
 /// before its reply is written, so a `STATUS` behind it counts it. Replies are written without memory, and no lock is held while
 /// they are. The pass is of the hub's board, and knows each decision that was written, so a decision that was told is told again.
 ///
+/// Transcripts are made one at a time, and after each the desk rests three times as long as that took, so that all of them take a
+/// quarter of a processor at most.
+///
 /// It may wait for the stream and for the lock. The stream stays open.
-pub fn serve<D: Disk, J: Naming, S: Stream, T: Tosser, R: Wait>(
+pub fn serve<D: Disk, J: Naming, S: Stream, T: Tosser, R: Wait + Clock>(
     rt: &R,
-    hub: &Hub<D, J>,
+    desk: Desk<'_, D, J>,
     pass: &mut Pass,
     tosser: &mut T,
     stream: &mut S,
@@ -344,10 +371,11 @@ pub fn serve<D: Disk, J: Naming, S: Stream, T: Tosser, R: Wait>(
     requires { pass.old.cells ≡ J.names.cells }
     ensures cells { pass.new.cells ≡ J.names.cells }
     // Each decision that is followed is of a book of the hub, with its number. Each reply is that to its line, by what the pass knows then and with the tosses of the tosser, one a command.
-    ensures serves { Serves (AnswersLine D T.may_toss hub.now.size.questions) (IsDecisionOf D hub.now) (sitting pass.old.known tosser.old)
+    ensures serves { Serves (AnswersLine D T.may_toss desk.hub.now.size.questions) (IsDecisionOf D desk.hub.now) (sitting pass.old.known tosser.old)
         (sitting pass.new.known tosser.new) (S.told stream.old) (S.told stream.new) result }
 {
-    let server = Server { rt, hub };
+    let Desk { hub, turns } = desk;
+    let server = Server { rt, hub, turns };
     let mut held = HeldLine::new();
     for _ in rt.forever() {
         if let Err(end) = server.turn(pass, tosser, &mut held, stream) {

@@ -2,6 +2,7 @@
 use Rattle.std.specs.Prelude.{ℕ, Bool, false, true, List, [], ◌++◌, Option, Some, None, codes, nat_lt, if◌then◌else◌}
 use Rattle.std.specs.Fmt.{decimal}
 use Rattle.std.specs.Net.Text.{ip_text}
+use Rattle.std.specs.declared.net.ip_addr.IpAddr.{IpAddr}
 use Rattle.wire.specs.declared.message.Version.{Version}
 use Rattle.wire.specs.declared.message.Version.TheVariants as version
 use Rattle.wire.specs.declared.message.WireFault.{WireFault}
@@ -15,7 +16,7 @@ use Rattle.running.specs.declared.refusals.Refusal.{Refusal}
 use Rattle.running.specs.declared.refusals.Refusal.TheVariants as refusal
 use Rattle.running.specs.declared.refusals.RefusalCount.{RefusalCount}
 use Rattle.running.specs.declared.events.LogEvent.{LogEvent}
-use Rattle.running.specs.declared.events.LogEvent.TheVariants.{Ready, LinkUp, LinkDown, LinkUpTo, LinkUpAhead, LinkDownTo, Refused, Decided, Stopped, Missed, End}
+use Rattle.running.specs.declared.events.LogEvent.TheVariants.{Ready, LinkUp, LinkDown, LinkUpTo, LinkUpAhead, LinkDownTo, Refused, ClientClosed, Decided, Stopped, Missed, End}
 
 -- what is wrong with bytes that begin no frame
 abbrev pub fault_text : WireFault → List ℕ
@@ -64,13 +65,20 @@ refused_text (refusal.From host end) caller count =
 refused_text (refusal.By peer) caller count = codes "link-to " ++ (decimal peer ++ (codes " refused" ++ times_text count))
 refused_text (refusal.Unreachable peer fault) caller count =
     codes "link-to " ++ (decimal peer ++ (codes " unreachable: " ++ (dial_fault_text fault ++ times_text count)))
-refused_text (refusal.Displaced host) caller count =
-    codes "client from " ++ (ip_text host ++ (codes " closed for another" ++ times_text count))
 refused_text (refusal.Unsteady peer) caller count = codes "links of " ++ (decimal peer ++ (codes " come and go" ++ times_text count))
 refused_text refusal.Threadless caller count = codes "thread refused" ++ times_text count
 
 abbrev pub refusal_text : RefusalCount → List ℕ
 refusal_text refused = refused_text refused.refusal refused.caller refused.count
+
+-- where a client was that was closed for another, and for how many seconds it was silent
+abbrev pub place_text : ℕ → ℕ → List ℕ
+place_text slot silent =
+    codes " at place " ++ (decimal slot ++ (codes " closed for another: silent for " ++ (decimal silent ++ codes " s")))
+
+abbrev pub closed_text : Option IpAddr → ℕ → ℕ → List ℕ
+closed_text (Some host) slot silent = codes "client from " ++ (ip_text host ++ place_text slot silent)
+closed_text None slot silent = codes "client" ++ place_text slot silent
 
 -- an event's line, without its end
 abbrev pub log_text : LogEvent → List ℕ
@@ -81,6 +89,7 @@ log_text (LinkUpTo peer version) = codes "link-up to " ++ (decimal peer ++ versi
 log_text (LinkUpAhead peer count version) = codes "link-up to " ++ (decimal peer ++ (codes " ahead " ++ (decimal count ++ version_text version)))
 log_text (LinkDownTo peer end) = codes "link-down to " ++ (decimal peer ++ (codes " " ++ cause_text end))
 log_text (Refused refused) = refusal_text refused
+log_text (ClientClosed host slot silent) = closed_text host slot silent
 log_text (Decided question bit) = codes "decided " ++ (decimal question ++ (codes " " ++ decimal (bit_number bit)))
 log_text Stopped = codes "stopped"
 log_text (Missed count) = codes "missed " ++ decimal count

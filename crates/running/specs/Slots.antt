@@ -1,13 +1,9 @@
 -- The slots of the desk's clients.
-use Rattle.std.specs.Prelude.{ℕ, ◌≡◌, ◌+◌, ◌-◌, ◌^◌, ◌<◌, ◌≤◌, min, max, Bool, not, ◌&&◌, ◌||◌, ◌==◌, nat_lt, if◌then◌else◌, List, slice_index_or, slice_set}
+use Rattle.std.specs.Prelude.{ℕ, ◌≡◌, ◌+◌, ◌-◌, ◌<◌, ◌≤◌, min, max, Bool, not, ◌&&◌, ◌||◌, ◌==◌, nat_lt, if◌then◌else◌, Option, Some, None, List, slice_index_or, slice_set}
+use Rattle.std.specs.List.{position_from}
 use Rattle.running.specs.declared.slots.Slot.{Slot}
 use Rattle.running.specs.declared.slots.GivenSlot.{GivenSlot}
 use Rattle.running.specs.declared.slots.GivenSlot.TheVariants.{Free, InPlaceOf}
-
--- each slot, and how many times clients were heard
-pub record Desk : Type 0 where
-  pub slots : List Slot
-  pub hearings : ℕ
 
 -- free, and never taken
 abbrev pub unused : Slot
@@ -42,36 +38,48 @@ has_client slot = slot.sessions == 1
 abbrev pub is_longer_silent : Slot → Slot → Bool
 is_longer_silent one other = has_client one && (not (has_client other) || nat_lt one.heard other.heard)
 
--- the client of this slot was heard before those of all others that have one session
+-- the client of this slot was heard before those of all others that have one session, and is the first of those
 pub record IsSilentLongest (slots : List Slot) (at : ℕ) : Type 0 where
   pub one : sessions_at slots at ≡ 1
   pub longest : (other : ℕ) → other < 32 → sessions_at slots other ≡ 1 → heard_at slots at ≤ heard_at slots other
+  pub first : (other : ℕ) → other < at → sessions_at slots other ≡ 1 → heard_at slots at < heard_at slots other
 
--- the slot that was given
+-- its client is closed for another at that second: it has been silent longest, for so many seconds, which are more than ten
+pub record GivesWay (now : ℕ) (slots : List Slot) (at silent : ℕ) : Type 0 where
+  pub longest : IsSilentLongest slots at
+  pub seconds : silent ≡ now - heard_at slots at
+  pub long : 10 < silent
+
+-- each client was heard in the last ten seconds, or is being closed
+abbrev pub NoneGivesWay : ℕ → List Slot → Type 0
+NoneGivesWay now slots = (at : ℕ) → at < 32 → sessions_at slots at ≡ 1 → now - heard_at slots at ≤ 10
+
+-- no slot is free
+abbrev pub AreTaken : List Slot → Type 0
+AreTaken slots = position_from is_free 0 slots ≡ None
+
+-- the slot that a client is given which comes at that second
+abbrev pub Gives : ℕ → List Slot → Option GivenSlot → Type 0
+Gives now slots (Some (Free at)) = position_from is_free 0 slots ≡ Some at
+Gives now slots (Some (InPlaceOf at silent)) = AreTaken slots × GivesWay now slots at silent
+Gives now slots None = AreTaken slots × NoneGivesWay now slots
+
+-- the number of the slot that was given
 abbrev pub slot_of : GivenSlot → ℕ
 slot_of (Free at) = at
-slot_of (InPlaceOf at) = at
+slot_of (InPlaceOf at silent) = at
 
--- the number of the next hearing, but never past 2^64 - 1
-abbrev pub next_hearing : Desk → ℕ
-next_hearing desk = min (desk.hearings + 1) (2 ^ 64 - 1)
+-- a session of it begins, at that second
+abbrev pub has_come : List Slot → ℕ → ℕ → List Slot
+has_come slots at now = slice_set slots at (record { sessions = sessions_at slots at + 1; heard = now })
 
--- a session of it begins, with a hearing
-abbrev pub has_come : Desk → ℕ → Desk
-has_come desk at = record {
-  slots = slice_set desk.slots at (record { sessions = sessions_at desk.slots at + 1; heard = next_hearing desk });
-  hearings = next_hearing desk;
-}
-
--- its client is heard
-abbrev pub is_heard : Desk → ℕ → Desk
-is_heard desk at = if nat_lt at 32 then record {
-  slots = slice_set desk.slots at (record { sessions = sessions_at desk.slots at; heard = next_hearing desk });
-  hearings = next_hearing desk;
-} else desk
+-- its client is heard, at that second
+abbrev pub is_heard : List Slot → ℕ → ℕ → List Slot
+is_heard slots at now = if nat_lt at 32 then slice_set slots at (record { sessions = sessions_at slots at; heard = now }) else slots
 
 -- a session of it has ended
-abbrev pub has_left : Desk → ℕ → Desk
-has_left desk at = if nat_lt at 32 then record desk {
-  slots = slice_set desk.slots at (record { sessions = sessions_at desk.slots at - 1; heard = heard_at desk.slots at });
-} else desk
+abbrev pub has_left : List Slot → ℕ → List Slot
+has_left slots at = if nat_lt at 32 then slice_set slots at (record {
+  sessions = sessions_at slots at - 1;
+  heard = heard_at slots at;
+}) else slots

@@ -7,27 +7,35 @@ use crate::life::Life;
 use crate::machine::Machine;
 use crate::refusals::Refusal;
 use crate::shared::{Chair, Shared};
-use crate::slots::Slots;
 use crate::sockets::client_stream;
-use desk::{DeskEnd, serve};
+use desk::{Desk, DeskEnd, serve};
 use disk::Disk;
 use links::{NetStream, Stream, StreamFault};
 use member::Sealed;
 use node::Board;
-use std::sync::{Mutex, Wait};
+use std::sync::Wait;
 use std::thread;
 
 /// The stream of a client in a slot. Each read that gives bytes is a hearing of it, and so is each write that takes some: a client
 /// that follows decisions says nothing more.
 #[derive(Drop)]
-struct Client<'a, R> {
+struct Client<'a, D: Disk, J: Life, R> {
     rt: &'a R,
+    it: &'a Shared<D, J>,
     stream: NetStream,
-    slots: &'a Mutex<Slots>,
     slot: u8,
 }
 
-impl<R: Wait> Stream for Client<'_, R> {
+impl<D: Disk, J: Life, R: Wait> Client<'_, D, J, R> {
+    /// It is heard, if so many bytes came or went.
+    fn note(&self, count: usize) {
+        if count > 0 {
+            self.it.hear_client(self.rt, self.slot);
+        }
+    }
+}
+
+impl<D: Disk, J: Life, R: Wait> Stream for Client<'_, D, J, R> {
     ghost told = { λ client. told_net client.stream };
 
     ghost is_closed = { λ client. is_closed_net client.stream };
@@ -35,9 +43,7 @@ impl<R: Wait> Stream for Client<'_, R> {
     fn read(&mut self, buf: &mut [u8]) -> Result<usize, StreamFault> {
         match self.stream.read(buf) {
             Ok(count) => {
-                if count > 0 {
-                    self.slots.lock(self.rt).hear(self.slot);
-                }
+                self.note(count);
                 Ok(count)
             }
             Err(fault) => Err(fault),
@@ -47,9 +53,7 @@ impl<R: Wait> Stream for Client<'_, R> {
     fn write(&mut self, bytes: &[u8]) -> Result<usize, StreamFault> {
         match self.stream.write(bytes) {
             Ok(count) => {
-                if count > 0 {
-                    self.slots.lock(self.rt).hear(self.slot);
-                }
+                self.note(count);
                 Ok(count)
             }
             Err(fault) => Err(fault),
@@ -78,8 +82,8 @@ fn serve_chair<D: Disk, J: Life, R: Machine>(
     };
     let mut client = Client {
         rt,
+        it,
         stream,
-        slots: &it.slots,
         slot: chair.slot.slot(),
     };
     let board: &Board = it.hub.board();
@@ -88,7 +92,11 @@ fn serve_chair<D: Disk, J: Life, R: Machine>(
     };
     // Where another client is being closed for this one, its session has the tosser until it ends.
     let mut tosser = tosser.lock(rt);
-    Some(serve(rt, &it.hub, &mut pass, &mut *tosser, &mut client))
+    let desk = Desk {
+        hub: &it.hub,
+        turns: &it.turns,
+    };
+    Some(serve(rt, desk, &mut pass, &mut *tosser, &mut client))
 }
 
 /// A session of the client in a chair.
@@ -97,7 +105,8 @@ pub(crate) fn answer_client<D: Disk, J: Life, R: Machine>(rt: &R, it: &Shared<D,
     it.leave_chair(rt, chair);
 }
 
-/// Takes clients in, each in a thread of its own, until the end.
+/// Takes clients in, each in a thread of its own, until the end. If all places are taken, the next client waits for one, and those
+/// behind it in the listener's queue.
 pub(crate) fn accept_clients<D: Disk + Send, J: Life + Send + Sync, R: Machine>(
     rt: &R,
     it: &Shared<D, J>,

@@ -7,6 +7,7 @@ use crate::dialling::dial_fault_text;
 use crate::refusals::{Refusal, RefusalCount};
 use links::LinkEnd;
 use std::fmt;
+use std::net::IpAddr;
 use wire::{Version, WireFault};
 
 /// What happens to a member that runs. The text of each is its line in a log, without the line's end.
@@ -25,9 +26,17 @@ pub enum LogEvent {
     LinkUpAhead(u8, u64, Version),
     /// A link to this member isn't written any more, for this cause.
     LinkDownTo(u8, LinkEnd),
-    /// Connections to the links' address were closed before they became links, or links to a peer came to nothing, or clients
-    /// were closed for others.
+    /// Connections to the links' address were closed before they became links, or links to a peer came to nothing.
     Refused(RefusalCount),
+    /// A client was closed, because all places were taken, another waited for one, and it had been silent longest.
+    ClientClosed {
+        /// Its host, if the system knows it.
+        host: Option<IpAddr>,
+        /// Its place, 0 to 31.
+        slot: u8,
+        /// The seconds for which it was silent, more than ten.
+        silent: u64,
+    },
     /// A question was decided for this bit.
     Decided(u16, bool),
     /// The member is stopped from now on.
@@ -104,6 +113,26 @@ impl fmt::Display for LogEvent {
             }
             LogEvent::LinkDownTo(peer, end) => write!(f, "link-down to {peer} {}", cause_text(end)),
             LogEvent::Refused(refused) => write!(f, "{refused}"),
+            LogEvent::ClientClosed {
+                host: Some(host),
+                slot,
+                silent,
+            } => {
+                write!(
+                    f,
+                    "client from {host} at place {slot} closed for another: silent for {silent} s"
+                )
+            }
+            LogEvent::ClientClosed {
+                host: None,
+                slot,
+                silent,
+            } => {
+                write!(
+                    f,
+                    "client at place {slot} closed for another: silent for {silent} s"
+                )
+            }
             LogEvent::Decided(question, bit) => write!(f, "decided {question} {}", u8::from(bit)),
             LogEvent::Stopped => f.write_str("stopped"),
             LogEvent::Missed(count) => write!(f, "missed {count}"),
@@ -152,9 +181,6 @@ impl fmt::Display for RefusalCount {
                     "link-to {peer} unreachable: {}{times}",
                     dial_fault_text(fault)
                 )
-            }
-            (Refusal::Displaced(host), _) => {
-                write!(f, "client from {host} closed for another{times}")
             }
             (Refusal::Unsteady(peer), _) => write!(f, "links of {peer} come and go{times}"),
             (Refusal::Threadless, _) => write!(f, "thread refused{times}"),

@@ -1,8 +1,8 @@
 //! The places of those that are to greet, and of clients: who has one was let in by the count.
 
-ghost use Rattle.std.specs.Prelude.{ℕ, ◌≡◌, ◌<◌, Some, IfSome, IfNone, IsNone, ◌≤◌, ◌+◌};
-ghost use Rattle.running.specs.Slots.{has_come, sessions_at};
-ghost use Rattle.std.specs.Prelude.{◌≢◌};
+ghost use Rattle.std.specs.List.{position_from};
+ghost use Rattle.std.specs.Prelude.{ℕ, ◌≡◌, ◌<◌, ◌≤◌, ◌+◌, None, Some, IfSome, IfNone};
+ghost use Rattle.running.specs.Slots.{AreTaken, GivesWay, NoneGivesWay, has_come, is_free};
 
 use crate::quota::Quota;
 use crate::slots::{GivenSlot, Slots};
@@ -32,22 +32,25 @@ pub(crate) fn let_in(greetings: &mut Quota<GREETINGS>) -> Option<Entered>
 #[derive(Clone, Copy, Drop)]
 pub(crate) struct Given {
     slot: u8,
-    displaces: bool,
+    displaced: Option<u64>,
 }
 
-/// Gives a client a slot; none where each slot's client is being closed for another.
-pub(crate) fn give(slots: &mut Slots) -> Option<Given>
-    ensures some { IfSome result (λ given. slots.new ≡ has_come slots.old given.slot) }
-    ensures none { IfNone result ((slots.new ≡ slots.old) × ((at : ℕ) → at < 32 → sessions_at slots.old.slots at ≢ 1)) }
+/// Gives a client that comes at that second a slot; none if it is to wait for one.
+pub(crate) fn give(slots: &mut Slots, now: u64) -> Option<Given>
+    ensures some { IfSome result (λ given. slots.new ≡ has_come slots.old given.slot now) }
+    ensures free { IfSome result (λ given. given.displaced ≡ None → position_from is_free 0 slots.old ≡ Some given.slot) }
+    ensures instead { IfSome result (λ given. (silent : ℕ) → given.displaced ≡ Some silent →
+        AreTaken slots.old × GivesWay now slots.old given.slot silent) }
+    ensures none { IfNone result ((slots.new ≡ slots.old) × AreTaken slots.old × NoneGivesWay now slots.old) }
 {
-    match slots.take() {
+    match slots.take(now) {
         Some(GivenSlot::Free(slot)) => Some(Given {
             slot,
-            displaces: false,
+            displaced: None,
         }),
-        Some(GivenSlot::InPlaceOf(slot)) => Some(Given {
+        Some(GivenSlot::InPlaceOf(slot, silent)) => Some(Given {
             slot,
-            displaces: true,
+            displaced: Some(silent),
         }),
         None => None,
     }
@@ -61,10 +64,10 @@ impl Given {
         self.slot
     }
 
-    /// Returns `true` if the client that has it is to be closed for this one.
-    pub(crate) fn displaces(self) -> bool
-        ensures { result ≡ self.displaces }
+    /// Returns for how many seconds the client was silent that is to be closed for this one, if one is.
+    pub(crate) fn displaced(self) -> Option<u64>
+        ensures { result ≡ self.displaced }
     {
-        self.displaces
+        self.displaced
     }
 }

@@ -30,8 +30,6 @@ pub enum Refusal {
     By(u8),
     /// No connection to this member could be made, for this cause.
     Unreachable(u8, DialFault),
-    /// A client from this host was closed, since all places were taken and it had been silent longest: another has its place.
-    Displaced(IpAddr),
     /// A link from this member or to it came up or went down, as too many have in this minute for a line of its own.
     Unsteady(u8),
     /// The system refused a thread for a session.
@@ -125,7 +123,6 @@ fn is_from(refusal: Refusal, host: IpAddr, end: LinkEnd) -> bool
         Refusal::From(other, cause) => other == host && cause == end,
         Refusal::By(_) => false,
         Refusal::Unreachable(_, _) => false,
-        Refusal::Displaced(_) => false,
         Refusal::Unsteady(_) => false,
         Refusal::Threadless => false,
     }
@@ -139,7 +136,6 @@ fn is_by(refusal: Refusal, peer: u8) -> bool
         Refusal::From(_, _) => false,
         Refusal::By(other) => other == peer,
         Refusal::Unreachable(_, _) => false,
-        Refusal::Displaced(_) => false,
         Refusal::Unsteady(_) => false,
         Refusal::Threadless => false,
     }
@@ -153,21 +149,6 @@ fn is_unreachable(refusal: Refusal, peer: u8, fault: DialFault) -> bool
         Refusal::From(_, _) => false,
         Refusal::By(_) => false,
         Refusal::Unreachable(other, cause) => other == peer && cause == fault,
-        Refusal::Displaced(_) => false,
-        Refusal::Unsteady(_) => false,
-        Refusal::Threadless => false,
-    }
-}
-
-/// Whether it says that a client from that host was closed for another.
-fn is_displaced(refusal: Refusal, host: IpAddr) -> bool
-    ensures { IsTrue result ↔ (refusal ≡ kinds.Displaced host) }
-{
-    match refusal {
-        Refusal::From(_, _) => false,
-        Refusal::By(_) => false,
-        Refusal::Unreachable(_, _) => false,
-        Refusal::Displaced(other) => other == host,
         Refusal::Unsteady(_) => false,
         Refusal::Threadless => false,
     }
@@ -181,7 +162,6 @@ fn is_unsteady(refusal: Refusal, peer: u8) -> bool
         Refusal::From(_, _) => false,
         Refusal::By(_) => false,
         Refusal::Unreachable(_, _) => false,
-        Refusal::Displaced(_) => false,
         Refusal::Unsteady(other) => other == peer,
         Refusal::Threadless => false,
     }
@@ -195,7 +175,6 @@ fn is_threadless(refusal: Refusal) -> bool
         Refusal::From(_, _) => false,
         Refusal::By(_) => false,
         Refusal::Unreachable(_, _) => false,
-        Refusal::Displaced(_) => false,
         Refusal::Unsteady(_) => false,
         Refusal::Threadless => true,
     }
@@ -209,7 +188,6 @@ fn is_same(one: Refusal, other: Refusal) -> bool
         Refusal::From(host, end) => is_from(one, host, end),
         Refusal::By(peer) => is_by(one, peer),
         Refusal::Unreachable(peer, fault) => is_unreachable(one, peer, fault),
-        Refusal::Displaced(host) => is_displaced(one, host),
         Refusal::Unsteady(peer) => is_unsteady(one, peer),
         Refusal::Threadless => is_threadless(one),
     }

@@ -23,6 +23,7 @@ use crate::sockets::Sockets;
 use crate::threads::{can_start, least_threads};
 use crate::tossers::lock_tossers;
 use crate::watch::Telling;
+use desk::Turns;
 use disk::Disk;
 use member::Member;
 use node::{Hub, NewBoard};
@@ -118,7 +119,9 @@ fn share<D: Disk + Drop, J: Life>(opened: Opened<D>) -> Result<Shared<D, J>, Mem
         seats: Seats::new(seats),
         link_tossers: tossers.links,
         desk_tossers: tossers.desk,
+        turns: Turns::new(),
         slots: Mutex::new(Slots::new(clients)),
+        left: Condvar::new(),
         greetings: Mutex::new(Quota::new()),
         sockets: Mutex::new(Sockets::new(alloc)),
         ahead: Mutex::new(Ahead::nobody()),

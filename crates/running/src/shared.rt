@@ -19,6 +19,7 @@ use crate::slots::Slots;
 use crate::sockets::Sockets;
 use crate::tossers::LifeTosser;
 use crate::watch::Telling;
+use desk::Turns;
 use disk::Disk;
 use links::LinkEnd;
 use node::{Book, Hub};
@@ -44,7 +45,11 @@ pub(crate) struct Shared<D: Disk, J: Life> {
     pub(crate) link_tossers: Vec<Mutex<LifeTosser<J>>>,
     /// The tosser of each slot of the desk, for the whole life.
     pub(crate) desk_tossers: Vec<Mutex<LifeTosser<J>>>,
+    /// The turns in which clients have transcripts made.
+    pub(crate) turns: Turns,
     pub(crate) slots: Mutex<Slots>,
+    /// A client has left its slot, or a second has passed: for those that wait for one.
+    pub(crate) left: Condvar,
     pub(crate) greetings: Mutex<Quota<GREETINGS>>,
     pub(crate) sockets: Mutex<Sockets>,
     /// Which members have heard more of this one than its journal holds.
@@ -92,6 +97,7 @@ impl<D: Disk, J: Life> Shared<D, J> {
         self.end_unheard(rt);
         self.hub.shut(rt);
         self.sockets.lock(rt).close();
+        self.call_waiting(rt);
     }
 
     /// A member that listens still is stopped, so that who waits for it to speak says nothing.
@@ -327,6 +333,7 @@ impl<D: Disk, J: Life> Shared<D, J> {
             self.log_due(rt, self.second(rt));
             self.hub.ring(rt);
             self.hub.count_second(rt);
+            self.call_waiting(rt);
             self.stop_if_forgotten(rt);
             self.speak_if_due(rt);
             self.try_log_book(rt);
@@ -366,10 +373,39 @@ impl<D: Disk, J: Life> Shared<D, J> {
         let_in(&mut greetings)
     }
 
-    /// Gives a client a slot; none where each slot's client is being closed for another.
-    fn give_slot<R: Machine>(&self, rt: &R) -> Option<Given> {
+    /// Waits until a client has a slot: one that is free, or that of a client that has been silent for long. None at the end.
+    fn await_slot<R: Machine>(&self, rt: &R) -> Option<Given> {
         let mut slots = self.slots.lock(rt);
-        give(&mut slots)
+        for _ in rt.forever() {
+            if self.is_closing() {
+                return None;
+            }
+            let given = give(&mut slots, self.hub.seconds());
+            if given.is_some() {
+                return given;
+            }
+            slots = self.left.wait(rt, slots);
+        }
+        unreachable!()
+    }
+
+    /// Has those look again that wait for a slot.
+    fn call_waiting<R: Wait>(&self, rt: &R) {
+        let _slots = self.slots.lock(rt);
+        self.left.notify_all();
+    }
+
+    /// The client in that slot is heard.
+    pub(crate) fn hear_client<R: Wait>(&self, rt: &R, slot: u8) {
+        let now = self.hub.seconds();
+        self.slots.lock(rt).hear(slot, now);
+    }
+
+    /// Gives a slot back.
+    fn leave_slot<R: Wait>(&self, rt: &R, slot: u8) {
+        let mut slots = self.slots.lock(rt);
+        slots.put(slot);
+        self.left.notify_all();
     }
 
     /// Takes in the socket of a peer that is to greet. It is closed where it comes from a host that may speak for no member,
@@ -446,36 +482,34 @@ impl<D: Disk, J: Life> Shared<D, J> {
         self.sockets.lock(rt).leave(socket);
     }
 
-    /// Takes in the socket of a client, and gives it a chair. Where as many clients are in as may be, the one that has been silent
-    /// longest is closed for it, and the new one is answered once that one's session has ended. It is closed itself only where
-    /// each of them is being closed for another already.
+    /// Takes in the socket of a client, and gives it a chair. If as many clients are in as may be, it waits until one leaves, or
+    /// one has been silent for more than ten seconds, which is closed for it then. Who was silent longest goes first, and the new one
+    /// is answered once that one's session has ended.
     pub(crate) fn admit_client<R: Machine>(&self, rt: &R, socket: TcpStream) -> Option<Chair> {
-        let slot = self.give_slot(rt)?;
-        if slot.displaces() {
-            self.displace(rt, slot.slot());
+        let slot = self.await_slot(rt)?;
+        if let Some(silent) = slot.displaced() {
+            self.displace(rt, slot.slot(), silent);
         }
         let entered = self.sockets.lock(rt).enter_client(socket, slot.slot());
         match entered {
             Some(socket) => Some(Chair { slot, socket }),
             None => {
-                self.slots.lock(rt).put(slot.slot());
+                self.leave_slot(rt, slot.slot());
                 None
             }
         }
     }
 
-    /// Closes the client in that slot for another, which is to be told.
-    fn displace<R: Machine>(&self, rt: &R, slot: u8) {
-        let displaced = self.sockets.lock(rt).shut_client(slot);
-        if let Some(host) = displaced {
-            self.log_refusal(rt, Refusal::Displaced(host), None);
-        }
+    /// Closes the client in that slot for another, since it was silent for so many seconds, which is to be told.
+    fn displace<R: Machine>(&self, rt: &R, slot: u8, silent: u64) {
+        let host = self.sockets.lock(rt).shut_client(slot);
+        self.log(rt, LogEvent::ClientClosed { host, slot, silent });
     }
 
     /// Ends a client's session: its slot is given back, and its socket closed.
     pub(crate) fn leave_chair<R: Machine>(&self, rt: &R, chair: Chair) {
-        self.slots.lock(rt).put(chair.slot.slot());
         self.sockets.lock(rt).leave(chair.socket);
+        self.leave_slot(rt, chair.slot.slot());
     }
 }
 

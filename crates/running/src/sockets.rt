@@ -72,8 +72,9 @@ impl Sockets {
         let mut host = None;
         for open in &self.open {
             if let Some(open) = open {
+                let from = host_of(&open.socket);
                 if open.shut_if_of(slot) {
-                    host = host_of(&open.socket);
+                    host = from;
                 }
             }
         }

@@ -2,6 +2,7 @@
 use Rattle.std.specs.Prelude.{ℕ, ◌≡◌, List, [], ◌∷◌, ◌++◌, Option, Some, None, OnOk, Result, codes}
 use Rattle.std.specs.Fmt.{decimal}
 use Rattle.std.specs.Net.Text.{ip_text}
+use Rattle.std.specs.declared.net.ip_addr.IpAddr.{IpAddr}
 use Rattle.json.specs.Token.{Token, begin_object, end_object, key, string, number, null}
 use Rattle.json.specs.Print.{print}
 use Rattle.json.specs.Written.{Written}
@@ -18,7 +19,7 @@ use Rattle.running.specs.declared.refusals.Refusal.{Refusal}
 use Rattle.running.specs.declared.refusals.Refusal.TheVariants as refusal
 use Rattle.running.specs.declared.refusals.RefusalCount.{RefusalCount}
 use Rattle.running.specs.declared.events.LogEvent.{LogEvent}
-use Rattle.running.specs.declared.events.LogEvent.TheVariants.{Ready, LinkUp, LinkDown, LinkUpTo, LinkUpAhead, LinkDownTo, Refused, Decided, Stopped, Missed, End}
+use Rattle.running.specs.declared.events.LogEvent.TheVariants.{Ready, LinkUp, LinkDown, LinkUpTo, LinkUpAhead, LinkDownTo, Refused, ClientClosed, Decided, Stopped, Missed, End}
 
 -- a text behind ` device: `, if there is one
 abbrev pub device_text : Option (List ℕ) → List ℕ
@@ -103,19 +104,30 @@ refusal_fields (refusal.From host end) caller =
     text_field (codes "host") (ip_text host) ++ (text_field (codes "cause") (cause_text end) ++ caller_fields caller)
 refusal_fields (refusal.By peer) caller = number_field (codes "by") peer
 refusal_fields (refusal.Unreachable peer fault) caller = unreachable_fields peer fault
-refusal_fields (refusal.Displaced host) caller = text_field (codes "host") (ip_text host)
 refusal_fields (refusal.Unsteady peer) caller = number_field (codes "member") peer
 refusal_fields refusal.Threadless caller = []
 
 abbrev pub refused_fields : RefusalCount → List Token
 refused_fields refused = refusal_fields refused.refusal refused.caller ++ number_field (codes "count") refused.count
 
+-- a host, if it is known
+abbrev pub host_field : Option IpAddr → List Token
+host_field None = []
+host_field (Some host) = text_field (codes "host") (ip_text host)
+
+-- the place of a client, and for how many seconds it was silent
+abbrev pub place_fields : ℕ → ℕ → List Token
+place_fields slot silent = number_field (codes "place") slot ++ number_field (codes "silent") silent
+
+-- a client that was closed for another
+abbrev pub closed_fields : Option IpAddr → ℕ → ℕ → List Token
+closed_fields host slot silent = host_field host ++ place_fields slot silent
+
 -- the name of a refusal
 abbrev pub refusal_name : Refusal → List ℕ
 refusal_name (refusal.From host end) = codes "refused"
 refusal_name (refusal.By peer) = codes "refused"
 refusal_name (refusal.Unreachable peer fault) = codes "unreachable"
-refusal_name (refusal.Displaced host) = codes "client-closed"
 refusal_name (refusal.Unsteady peer) = codes "unsteady"
 refusal_name refusal.Threadless = codes "thread-refused"
 
@@ -128,6 +140,7 @@ event_name (LinkUpTo peer version) = codes "link-up"
 event_name (LinkUpAhead peer count version) = codes "link-up"
 event_name (LinkDownTo peer end) = codes "link-down"
 event_name (Refused refused) = refusal_name refused.refusal
+event_name (ClientClosed host slot silent) = codes "client-closed"
 event_name (Decided question bit) = codes "decided"
 event_name Stopped = codes "stopped"
 event_name (Missed count) = codes "missed"
@@ -142,6 +155,7 @@ event_fields (LinkUpTo peer version) = up_fields (codes "to") peer version
 event_fields (LinkUpAhead peer count version) = up_fields (codes "to") peer version ++ number_field (codes "ahead") count
 event_fields (LinkDownTo peer end) = down_fields (codes "to") peer end
 event_fields (Refused refused) = refused_fields refused
+event_fields (ClientClosed host slot silent) = closed_fields host slot silent
 event_fields (Decided question bit) = number_field (codes "question") question ++ number_field (codes "bit") (bit_number bit)
 event_fields Stopped = []
 event_fields (Missed count) = number_field (codes "count") count

@@ -3,10 +3,9 @@
 ghost use Rattle.std.specs.Prelude.{◌≡◌, ◌++◌, IfOk, Some, codes, option_map};
 ghost use Rattle.running.specs.Dialling.{dial_fault_text};
 ghost use Rattle.running.specs.Events.{bit_number, cause_text};
-ghost use Rattle.std.specs.Net.Text.{ip_text};
 ghost use Rattle.running.specs.declared.callers.Difference.TheVariants.{Size};
 ghost use Rattle.running.specs.declared.refusals.Refusal.TheVariants.{From};
-ghost use Rattle.system.specs.Logs.{Adds, caller_fields, device_field, difference_fields, down_fields, event_fields, event_name, event_object, event_tokens, members_fields, number_field, refusal_fields, refusal_name, refused_fields, size_fields, text_field, time_field, unreachable_fields, up_fields, version_field};
+ghost use Rattle.system.specs.Logs.{Adds, caller_fields, closed_fields, device_field, difference_fields, down_fields, event_fields, event_name, event_object, event_tokens, host_field, members_fields, number_field, place_fields, refusal_fields, refusal_name, refused_fields, size_fields, text_field, time_field, unreachable_fields, up_fields, version_field};
 
 use json::Writer;
 use links::LinkEnd;
@@ -208,10 +207,46 @@ fn put_unreachable(object: &mut Writer, peer: u8, fault: DialFault) -> Result<()
 
 /// Appends a host.
 fn put_address(object: &mut Writer, alloc: Global, host: IpAddr) -> Result<(), AllocError>
-    ensures { Adds result object.old object.new (text_field (codes "host") (ip_text host)) }
+    ensures { Adds result object.old object.new (host_field (Some host)) }
 {
     let host = format!(in alloc; "{host}")?;
     put_text(object, "host", host.as_str())
+}
+
+/// Appends a host, if it is known.
+fn put_known_host(
+    object: &mut Writer,
+    alloc: Global,
+    host: Option<IpAddr>,
+) -> Result<(), AllocError>
+    ensures { Adds result object.old object.new (host_field host) }
+{
+    match host {
+        Some(host) => put_address(object, alloc, host),
+        None => Ok(()),
+    }
+}
+
+/// Appends the place of a client, and for how many seconds it was silent.
+fn put_place(object: &mut Writer, slot: u8, silent: u64) -> Result<(), AllocError>
+    ensures { Adds result object.old object.new (place_fields slot silent) }
+{
+    put_number(object, "place", u64::from(slot))?;
+    put_number(object, "silent", silent)
+}
+
+/// Appends what is said of a client that was closed for another.
+fn put_closed(
+    object: &mut Writer,
+    alloc: Global,
+    host: Option<IpAddr>,
+    slot: u8,
+    silent: u64,
+) -> Result<(), AllocError>
+    ensures { Adds result object.old object.new (closed_fields host slot silent) }
+{
+    put_known_host(object, alloc, host)?;
+    put_place(object, slot, silent)
 }
 
 /// Appends what is said of a refusal.
@@ -222,7 +257,6 @@ fn put_refusal(object: &mut Writer, alloc: Global, refused: &RefusalCount) -> Re
         Refusal::From(host, end) => put_host(object, alloc, host, end, refused.caller),
         Refusal::By(peer) => put_number(object, "by", u64::from(peer)),
         Refusal::Unreachable(peer, fault) => put_unreachable(object, peer, fault),
-        Refusal::Displaced(host) => put_address(object, alloc, host),
         Refusal::Unsteady(peer) => put_number(object, "member", u64::from(peer)),
         Refusal::Threadless => Ok(()),
     }
@@ -266,6 +300,9 @@ fn put_fields(object: &mut Writer, alloc: Global, event: &LogEvent) -> Result<()
         LogEvent::LinkUpAhead(peer, count, version) => put_ahead(object, peer, count, version),
         LogEvent::LinkDownTo(peer, end) => put_down(object, "to", peer, end),
         LogEvent::Refused(refused) => put_refused(object, alloc, &refused),
+        LogEvent::ClientClosed { host, slot, silent } => {
+            put_closed(object, alloc, host, slot, silent)
+        }
         LogEvent::Decided(question, bit) => put_decision(object, question, bit),
         LogEvent::Stopped => Ok(()),
         LogEvent::Missed(count) => put_number(object, "count", count),
@@ -281,7 +318,6 @@ fn refusal_name(refusal: Refusal) -> &'static str
         Refusal::From(_, _) => "refused",
         Refusal::By(_) => "refused",
         Refusal::Unreachable(_, _) => "unreachable",
-        Refusal::Displaced(_) => "client-closed",
         Refusal::Unsteady(_) => "unsteady",
         Refusal::Threadless => "thread-refused",
     }
@@ -299,6 +335,7 @@ fn event_name(event: &LogEvent) -> &'static str
         LogEvent::LinkUpAhead(_, _, _) => "link-up",
         LogEvent::LinkDownTo(_, _) => "link-down",
         LogEvent::Refused(refused) => refusal_name(refused.refusal),
+        LogEvent::ClientClosed { .. } => "client-closed",
         LogEvent::Decided(_, _) => "decided",
         LogEvent::Stopped => "stopped",
         LogEvent::Missed(_) => "missed",

@@ -1,8 +1,9 @@
 //! What a member that runs tells its log, and the places that its peers and clients get.
 //!
 //! `event NAME ..` answers an event's line, and `refused CAUSE HOST COUNT CALLER ..` that of refusals of a host `10.0.0.HOST`, or `refused
-//! by MEMBER COUNT`; `unheard`, `unanswered`, `unknown` and `failed` are the causes for which a member can't be reached, and `displaced` a
-//! client that was closed for another. A caller is `none`, `member` of itself, or that and in what it differs.
+//! by MEMBER COUNT`; `unheard`, `unanswered`, `unknown` and `failed` are the causes for which a member can't be reached. A caller is
+//! `none`, `member` of itself, or that and in what it differs. `closed HOST SLOT SILENT` is the line of a client that was closed for
+//! another, `HOST` a dash where it isn't known.
 //!
 //! `refusals` begins with none. `count SECOND CAUSE HOST MEMBER`, or `count SECOND by PEER MEMBER`, answers what is told then: of
 //! another refusal that gave its place, and of this one; each is a dash, or the refusal, the member and the count. `due SECOND` answers
@@ -10,7 +11,7 @@
 //! are, how many are missed, and the first and the last.
 //!
 //! `quota` begins one of two: `enter` answers whether one more may enter, and at `leave` one leaves. `slots COUNT` are those of a
-//! member that lets so many clients in: `slot` takes one, `heard SLOT` and `left SLOT` are what comes of a client. `standing` is
+//! member that lets so many clients in: `slot SECOND` takes one, `heard SECOND SLOT` and `left SLOT` are what comes of a client. `standing` is
 //! that of a link that is written, from which nothing was read; `reads` and `writes` answer how far it has come then, and whether
 //! the next write brings it up.
 //! `tosser BYTE RECORDS PLACE` is the first toss of a life that begins with so many records, at a place, of a seed of that byte 32 times.
@@ -110,7 +111,6 @@ fn refusal_of(cause: &str, number: &str) -> Option<Refusal> {
         "busy" => Some(Refusal::From(host, LinkEnd::Busy)),
         "broken" => Some(Refusal::From(host, LinkEnd::Broken(WireFault::BadHello))),
         "by" => Some(Refusal::By(number)),
-        "displaced" => Some(Refusal::Displaced(host)),
         "unsteady" => Some(Refusal::Unsteady(number)),
         "threadless" => Some(Refusal::Threadless),
         cause => Some(Refusal::Unreachable(number, dial_fault_of(cause)?)),
@@ -226,10 +226,12 @@ impl Logs {
     }
 
     /// Takes a slot.
-    fn slot(&mut self) -> Option<String> {
-        match self.slots.take() {
+    fn slot(&mut self, now: u64) -> Option<String> {
+        match self.slots.take(now) {
             Some(GivenSlot::Free(slot)) => format!(in self.alloc; "free {slot}").ok(),
-            Some(GivenSlot::InPlaceOf(slot)) => format!(in self.alloc; "instead {slot}").ok(),
+            Some(GivenSlot::InPlaceOf(slot, silent)) => {
+                format!(in self.alloc; "instead {slot} silent {silent}").ok()
+            }
             None => format!(in self.alloc; "none").ok(),
         }
     }
@@ -254,13 +256,13 @@ impl Logs {
             ["quota"] => self.quota = Quota::new(),
             ["leave"] => self.quota.leave(),
             ["slots", clients] => self.slots = Slots::new(clients.parse().ok()?),
-            ["heard", slot] => self.slots.hear(slot.parse().ok()?),
+            ["heard", now, slot] => self.slots.hear(slot.parse().ok()?, now.parse().ok()?),
             ["left", slot] => self.slots.put(slot.parse().ok()?),
             ["enter"] => {
                 let enters = self.quota.enter();
                 return format!(in self.alloc; "{enters}").ok();
             }
-            ["slot"] => return self.slot(),
+            ["slot", now] => return self.slot(now.parse().ok()?),
             ["standing"] => self.standing = Standing::Greeting,
             ["reads"] => return self.stands(self.standing.read()),
             ["writes"] => return self.stands(self.standing.written()),
@@ -283,6 +285,11 @@ impl Logs {
                     count,
                 });
                 line_of(self.alloc, event)
+            }
+            ["closed", host, slot, silent] => {
+                let (slot, silent) = (slot.parse().ok()?, silent.parse().ok()?);
+                let host = host.parse().ok();
+                line_of(self.alloc, LogEvent::ClientClosed { host, slot, silent })
             }
             ["refusals"] => {
                 self.refusals = Refusals::new();

@@ -28,7 +28,7 @@ ghost use Rattle.member.specs.Readers.{member_header, member_saved, MemberStands
 
 use crate::books;
 use crate::streams::{Scant, prepare};
-use desk::serve;
+use desk::{Desk, Turns, serve};
 use disk::{Disk, MemDisk};
 use links::{Open, greet, read_link, write_link};
 use member::Member;
@@ -39,6 +39,7 @@ use std::alloc::Global;
 use std::marker::Brand;
 use std::mem::replace;
 use std::sync::Wait;
+use std::time::Clock;
 use terms::{Header, Record};
 use test_words::{bytes_of, header_of, records_text, words_of};
 use wire::Version;
@@ -207,7 +208,7 @@ fn writes<J: Naming, R: Wait>(
 }
 
 /// A client's session.
-fn serves<J: Naming, R: Wait>(
+fn serves<J: Naming, R: Wait + Clock>(
     rt: &R,
     alloc: Global,
     hub: &Hub<MemDisk, J>,
@@ -216,7 +217,9 @@ fn serves<J: Naming, R: Wait>(
     let board: &Board = hub.board();
     let mut pass = board.pass().ok()?;
     let mut tosser = Counting { last: 9000 };
-    let end = serve(rt, hub, &mut pass, &mut tosser, &mut stream);
+    let turns = Turns::new();
+    let desk = Desk { hub, turns: &turns };
+    let end = serve(rt, desk, &mut pass, &mut tosser, &mut stream);
     let mut text = Vec::new(alloc);
     for byte in stream.inner.output() {
         text.push(if *byte == b'\n' { b'|' } else { *byte }).ok()?;
@@ -307,7 +310,7 @@ fn looks<J: Naming, R: Wait>(
 }
 
 /// What a row answers that isn't of the next stream, which it takes where it is a session.
-fn answers<J: Naming, R: Wait>(
+fn answers<J: Naming, R: Wait + Clock>(
     rt: &R,
     alloc: Global,
     (hub, rack): (&Hub<MemDisk, J>, &Rack<J>),
@@ -353,7 +356,7 @@ fn answers<J: Naming, R: Wait>(
 }
 
 /// Plays a row.
-fn play<J: Naming, R: Wait>(
+fn play<J: Naming, R: Wait + Clock>(
     rt: &R,
     alloc: Global,
     at: (&Hub<MemDisk, J>, &Rack<J>),
@@ -368,7 +371,7 @@ fn play<J: Naming, R: Wait>(
 }
 
 /// Plays all rows, and gives what the last one answers.
-fn play_all<J: Naming, R: Wait>(
+fn play_all<J: Naming, R: Wait + Clock>(
     rt: &R,
     alloc: Global,
     at: (&Hub<MemDisk, J>, &Rack<J>),
@@ -421,7 +424,7 @@ fn ending_of(action: &str) -> Ending {
 }
 
 /// Plays all rows at a member that was just opened: what the last one answers, or whether its seats fit then.
-fn play_at<J: Naming, R: Wait>(
+fn play_at<J: Naming, R: Wait + Clock>(
     rt: &R,
     alloc: Global,
     member: Member<MemDisk>,
@@ -451,7 +454,7 @@ fn play_at<J: Naming, R: Wait>(
 }
 
 /// Plays all rows at a member on a new disk.
-fn play_new<R: Wait>(
+fn play_new<R: Wait + Clock>(
     rt: &R,
     alloc: Global,
     (beginning, file): (&Beginning, &[u8]),
@@ -483,7 +486,7 @@ impl Sessions {
     }
 
     /// Plays a row that isn't the first.
-    fn go_on<R: Wait>(&mut self, rt: &R, action: &str) -> Option<String> {
+    fn go_on<R: Wait + Clock>(&mut self, rt: &R, action: &str) -> Option<String> {
         let alloc = self.alloc;
         let ending = ending_of(action);
         if matches!(ending, Ending::Told) {
@@ -497,7 +500,7 @@ impl Sessions {
     }
 
     /// Plays a row.
-    pub fn told<R: Wait>(&mut self, rt: &R, action: &str) -> Option<String> {
+    pub fn told<R: Wait + Clock>(&mut self, rt: &R, action: &str) -> Option<String> {
         match words_of(self.alloc, action)?.as_slice() {
             ["size", n, t, questions, "me", me] => {
                 self.begin(header_of(n, t, questions, me)?, None)

@@ -9,6 +9,7 @@ mod player;
 
 use player::Player;
 use std::sync::Wait;
+use std::time::Clock;
 use std::{fs, io};
 
 /// What a row says is done, and what it says is answered: nothing where it has no arrow.
@@ -23,7 +24,7 @@ fn parts(line: &str) -> (&str, &str) {
 }
 
 /// Plays a row. Tells whether it is as it says, and prints it where it isn't.
-fn is_so<R: Wait>(
+fn is_so<R: Wait + Clock>(
     rt: &R,
     host: &HostRuntime,
     player: &mut Player,
@@ -46,7 +47,12 @@ fn is_so<R: Wait>(
 }
 
 /// Plays a file.
-fn play<R: Wait>(rt: &R, host: &HostRuntime, player: &mut Player, name: &str) -> io::Result<()> {
+fn play<R: Wait + Clock>(
+    rt: &R,
+    host: &HostRuntime,
+    player: &mut Player,
+    name: &str,
+) -> io::Result<()> {
     let Ok(text) = fs::read_to_string(host, name) else {
         return println!(host; "{name}: can't be read");
     };

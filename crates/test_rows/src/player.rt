@@ -2,6 +2,7 @@
 
 use std::alloc::Global;
 use std::sync::Wait;
+use std::time::Clock;
 use test_network::{Desk, Logs, Sessions};
 use test_program::{Document, Job, Played, Texts, faults, processes, surveys, words};
 use test_rules::{Audit, Ballots, Casts, Cores, Questions, Stream, numbers};
@@ -67,7 +68,7 @@ impl Player {
     }
 
     /// Does what a row says, and gives what is answered: none where it says nothing that can be done.
-    pub fn told<R: Wait>(&mut self, rt: &R, action: &str) -> Option<String> {
+    pub fn told<R: Wait + Clock>(&mut self, rt: &R, action: &str) -> Option<String> {
         match self {
             Player::Audits(audit) => audit.told(action),
             Player::Ballots(ballots) => ballots.told(action),

@@ -35,25 +35,41 @@ fn is_answered(silent: &mut [TcpStream], at: usize) -> Result<bool, Fail> {
     Ok(answers(client, b"STATUS\n", b"UP 18 1\n"))
 }
 
-/// 32 clients, of whom the first one speaks last: the 33rd is answered, in the place of the second. Then come so many that each
-/// of the first ones has gone, but for those that spoke meanwhile.
+/// Whether the client that came as this one is answered within 15 seconds, but not in the first two.
+fn is_answered_late(silent: &mut [TcpStream], at: usize) -> Result<bool, Fail> {
+    let client = silent.get_mut(at).ok_or("a client")?;
+    client.set_read_timeout(Some(Duration::from_secs(2)))?;
+    let at_once = answers(client, b"STATUS\n", b"UP 18 1\n");
+    client.set_read_timeout(Some(Duration::from_secs(15)))?;
+    Ok(!at_once && answers(client, b"", b"UP 18 1\n"))
+}
+
+/// 32 clients, of whom the first one speaks last: the 33rd waits until they have been silent for ten seconds, and is answered in the
+/// place of the second. Then come so many that each of the first ones has gone, but for those that spoke meanwhile; and one that
+/// waits when the member ends.
 fn one_more<R: Machine + Abort>(
     rt: &R,
     desk: SocketAddr,
     silent: &mut Vec<TcpStream>,
 ) -> Result<(), Fail> {
-    seat_silent(rt, desk, silent, 32)?;
+    seat_silent(rt, desk, silent, 2)?;
+    thread::sleep(rt, Duration::from_millis(1500));
+    seat_silent(rt, desk, silent, 30)?;
+    thread::sleep(rt, Duration::from_secs(3));
     assert!(rt; is_answered(silent, 0)?);
     seat_silent(rt, desk, silent, 1)?;
-    assert!(rt; is_answered(silent, 32)?, "the 33rd client");
+    assert!(rt; is_answered_late(silent, 32)?, "the 33rd client");
     assert!(rt; is_closed_at(silent, 1)?, "who was silent longest");
     assert!(rt;
         is_answered(silent, 0)? && is_answered(silent, 2)?,
         "who spoke lately"
     );
     seat_silent(rt, desk, silent, 29)?;
+    thread::sleep(rt, Duration::from_secs(3));
     assert!(rt; is_closed_at(silent, 3)? && is_closed_at(silent, 31)?);
     assert!(rt; is_answered(silent, 0)? && is_answered(silent, 2)? && is_answered(silent, 61)?);
+    seat_silent(rt, desk, silent, 1)?;
+    assert!(rt; !is_closed_at(silent, 62)?, "who waits");
     Ok(())
 }
 

@@ -1,9 +1,9 @@
-use Rattle.desk.proofs.Dossiers.{replied}
+use Rattle.desk.proofs.Dossiers.{replied_of}
 use Rattle.desk.proofs.serving.Server.transcript_of.Goals as goal
 
-pub returns-in-Ok : goal.returns-in-Ok
-returns-in-Ok g c =
-    (c.deref.result.now, replied c.deref.result.now c.args.question c.in-Ok.dossier c.transcript_reply.result c.in-Ok.ensures.ok.0 c.in-Ok.ensures.ok.1 c.transcript_reply.ensures)
-
-pub returns-in-Err : goal.returns-in-Err
-returns-in-Err g c = (c.deref.result.now, c.in-Err.ensures.err)
+pub returns : goal.returns
+returns g c = (
+  c.deref.result.now,
+  replied_of c.deref.result.now c.args.question c.dossier_of.result c.reply_of.result
+      c.dossier_of.ensures.ok c.dossier_of.ensures.err c.reply_of.ensures.ok c.reply_of.ensures.err,
+)
