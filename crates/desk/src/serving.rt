@@ -371,7 +371,7 @@ pub fn serve<D: Disk, J: Naming, S: Stream, T: Tosser, R: Wait + Clock>(
     requires { pass.old.cells ≡ J.names.cells }
     ensures cells { pass.new.cells ≡ J.names.cells }
     // Each decision that is followed is of a book of the hub, with its number. Each reply is that to its line, by what the pass knows then and with the tosses of the tosser, one a command.
-    ensures serves { Serves (AnswersLine D T.may_toss desk.hub.now.size.questions) (IsDecisionOf D desk.hub.now) (sitting pass.old.known tosser.old)
+    ensures serves { Serves (AnswersLine D T.may_toss desk.entry.hub.now.size.questions) (IsDecisionOf D desk.entry.hub.now) (sitting pass.old.known tosser.old)
         (sitting pass.new.known tosser.new) (S.told stream.old) (S.told stream.new) result }
 {
     let Desk { hub, turns } = desk;
