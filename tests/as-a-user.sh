@@ -253,7 +253,7 @@ says "a client's settings without desks" 1 $'bracha: settings desks\ndeskless.to
 says 'nobody there' 1 'bracha: no answer' "$program" --quiet propose --timeout 1 127.0.0.1:7109 7 1
 for member in 0 1 2 3; do
     end_of "$member"
-    says "the end of member $member" 0 $'0\ndecided 5 0\ndecided 6 1\nend' bash -c 'echo "$0"; untimed "$1" | grep -e ^decided -e ^end | sort' "$ended" "log-member-$member"
+    says "the end of member $member" 0 $'0\ndecided 11 1\ndecided 5 0\ndecided 6 1\nend' bash -c 'echo "$0"; untimed "$1" | grep -e ^decided -e ^end | sort' "$ended" "log-member-$member"
 done
 started=()
 now=$(date -u +%Y-%m-%dT)
