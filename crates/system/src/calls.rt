@@ -3,6 +3,8 @@
 //! The thread sends its lines, and leaves each reply at the board. Nobody waits for its end: a member that says nothing, or
 //! byte after byte, holds up its own thread alone, which the end of the program ends.
 
+ghost use Rattle.std.specs.Io.{ReadsAtMost, WritesAtMost};
+
 use crate::addresses::socket_address;
 use crate::board::Board;
 use crate::callers::Caller;
@@ -44,6 +46,22 @@ pub struct Errand {
     pub board: Board,
 }
 
+/// Reads what there is.
+fn read_from(socket: &TcpStream, piece: &mut [u8]) -> io::Result<usize>
+    ensures bound { ReadsAtMost result piece.new }
+{
+    let mut socket = socket;
+    socket.read(piece)
+}
+
+/// Writes what is taken.
+fn write_to(socket: &TcpStream, piece: &[u8]) -> io::Result<usize>
+    ensures bound { WritesAtMost result piece.now }
+{
+    let mut socket = socket;
+    socket.write(piece)
+}
+
 /// A connection of a thread: each read and each write waits for what is left of the time.
 #[derive(Drop)]
 struct CallStream<'a, R> {
@@ -61,10 +79,13 @@ impl<'a, R: Caller> Read for CallStream<'a, R> {
         if self.room == 0 {
             return Err(io::Error::from(io::ErrorKind::InvalidData));
         }
-        let mut socket = self.socket;
-        let read = socket.read(piece)?;
-        self.room = self.room.saturating_sub(read);
-        Ok(read)
+        match read_from(self.socket, piece) {
+            Ok(read) => {
+                self.room = self.room.saturating_sub(read);
+                Ok(read)
+            }
+            Err(error) => Err(error),
+        }
     }
 }
 
@@ -72,8 +93,7 @@ impl<'a, R: Caller> Write for CallStream<'a, R> {
     fn write(&mut self, piece: &[u8]) -> io::Result<usize> {
         let limit = self.deadline.left(self.rt, TALK)?;
         self.socket.set_write_timeout(Some(limit))?;
-        let mut socket = self.socket;
-        socket.write(piece)
+        write_to(self.socket, piece)
     }
 
     fn flush(&mut self) -> io::Result<()> {
