@@ -34,18 +34,21 @@ last_round (end ∷ ends) = max (round_of end) (last_round ends)
 -- the line of a round
 abbrev pub round_line : List End → ℕ → List ℕ
 round_line ends round =
-    codes "round " ++ decimal round ++ codes ": " ++ decimal (count_of (Decided round) ends) ++ codes "\n"
+    codes "round " ++ (decimal round ++ (codes ": " ++ (decimal (count_of (Decided round) ends) ++ codes "\n")))
 
 -- the lines of the first rounds, so many
 abbrev pub round_lines : List End → ℕ → List ℕ
 round_lines ends zero = []
 round_lines ends (suc rounds) = round_lines ends rounds ++ round_line ends (suc rounds)
 
+-- the lines of the open ones and of all
+abbrev pub sum_lines : List End → List ℕ
+sum_lines ends =
+    codes "open: " ++ (decimal (count_of Open ends) ++ (codes "\nquestions: " ++ (decimal (length ends) ++ codes "\n")))
+
 -- the table
 abbrev pub table_text : List End → List ℕ
-table_text ends =
-    round_lines ends (last_round ends) ++ codes "open: " ++ decimal (count_of Open ends) ++ codes "\nquestions: "
-    ++ decimal (length ends) ++ codes "\n"
+table_text ends = round_lines ends (last_round ends) ++ sum_lines ends
 
 -- one that ended so was open behind the round: not decided in it or before
 abbrev pub is_open_behind : ℕ → End → Bool

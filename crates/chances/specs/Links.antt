@@ -1,17 +1,14 @@
 -- What was said and isn't delivered yet.
-use Rattle.std.specs.Prelude.{ℕ, ◌≡◌, ◌++◌, Option, Some, None, List, [], ◌∷◌, length, slice_get}
+use Rattle.std.specs.Prelude.{ℕ, ◌≡◌, ◌+◌, ◌++◌, Option, Some, None, List, [], slice_get, take, drop}
 use Rattle.std.specs.declared.alloc.Global.{Global}
 use Rattle.std.specs.declared.vec.Vec.{Vec}
 use Rattle.terms_prelude.specs.Terms.{Statement}
 use Rattle.chances.specs.declared.links.Links.{Links}
 
--- this statement stands at that place of the queue before, and is the one that the queue after lacks
+-- this statement stands at that place of the queue before, and the queue after is that without it
 pub record TakesOut (place : ℕ) (before after : List Statement) (statement : Statement) : Type 0 where
-  pub front : List Statement
-  pub back : List Statement
-  pub stood : before ≡ front ++ statement ∷ back
-  pub at : length front ≡ place
-  pub left : after ≡ front ++ back
+  pub stood : slice_get before place ≡ Some statement
+  pub left : after ≡ take place before ++ drop (place + 1) before
 
 -- what is in a queue, if there is one
 abbrev pub items_of : Option (Vec Statement Global) → List Statement

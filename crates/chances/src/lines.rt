@@ -1,7 +1,7 @@
 //! What `bracha rounds` prints.
 
 ghost use Rattle.std.specs.Prelude.{◌≡◌, IfOk, string_bytes};
-ghost use Rattle.chances.specs.Lines.{count_of, last_round, round_of, round_line, round_lines, is_open_behind, open_behind, table_text};
+ghost use Rattle.chances.specs.Lines.{count_of, last_round, round_of, round_line, round_lines, is_open_behind, open_behind, sum_lines, table_text};
 
 use crate::ends::End;
 use std::alloc::{AllocError, Global};
@@ -53,15 +53,22 @@ fn round_lines(alloc: Global, ends: &[End], rounds: u8) -> Result<String, AllocE
     Ok(text)
 }
 
+/// Returns the lines of the open ones and of all.
+fn sum_lines(alloc: Global, ends: &[End]) -> Result<String, AllocError>
+    ensures { IfOk result (λ text. string_bytes text ≡ sum_lines ends.now) }
+{
+    let open = count_of(ends, End::Open);
+    let questions = ends.len();
+    format!(in alloc; "open: {open}\nquestions: {questions}\n")
+}
+
 /// Returns the table of these ends: for each round up to the last in which one was decided, `round R: K`; then `open: K` and
 /// `questions: K`.
 pub fn table_text(alloc: Global, ends: &[End]) -> Result<String, AllocError>
     ensures { IfOk result (λ text. string_bytes text ≡ table_text ends.now) }
 {
     let mut text = round_lines(alloc, ends, last_round(ends))?;
-    let open = count_of(ends, End::Open);
-    let questions = ends.len();
-    text.push_str(format!(in alloc; "open: {open}\nquestions: {questions}\n")?.as_str())?;
+    text.push_str(sum_lines(alloc, ends)?.as_str())?;
     Ok(text)
 }
 

@@ -56,6 +56,7 @@ fn take_in(row: &mut Vec<Vec<Statement>>, to: u8, place: usize) -> Option<Statem
     }
 }
 
+#[tactic(auto, unfolding(crate::specs::Links::queue_of))]
 impl Links {
     /// Creates empty links from so many senders to so many receivers.
     pub fn new(alloc: Global, senders: u8, receivers: u8) -> Result<Links, AllocError> {

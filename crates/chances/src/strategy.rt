@@ -3,11 +3,21 @@
 //! `values` are the values of the step's Initials by origin, those of correct members as they were said, `None` where none was.
 
 ghost use Rattle.std.specs.Prelude.{◌≡◌, ◌≤◌, IfOk, length};
-ghost use Rattle.terms_prelude.specs.Terms.{FitsStep};
+ghost use Rattle.terms_prelude.specs.Terms.{FitsStep, value_is};
 ghost use Rattle.chances.specs.Strategy as rule;
 
 use std::alloc::{AllocError, Global};
 use terms::{Size, Value};
+
+/// Returns `true` if this value was said.
+fn is_value(said: Option<Value>, value: Value) -> bool
+    ensures { result ≡ value_is said value }
+{
+    match said {
+        Some(said) => said == value,
+        None => false,
+    }
+}
 
 /// Returns the origins of this value, ascending.
 fn origins_of(
@@ -20,7 +30,7 @@ fn origins_of(
 {
     let mut origins = Vec::new(alloc);
     for (origin, said) in values.iter().enumerate() {
-        if *said == Some(value) {
+        if is_value(*said, value) {
             origins.push(origin as u8)?;
         }
     }
@@ -31,7 +41,10 @@ fn origins_of(
 fn count_of(values: &[Option<Value>], value: Value) -> usize
     ensures { result ≡ rule.count_of value values.now }
 {
-    values.iter().filter(|said| **said == Some(value)).count()
+    values
+        .iter()
+        .filter(|said| is_value(**said, value))
+        .count()
 }
 
 /// Returns the value of a liar's Initial: Unsure in step 3; else the one that fewer said, and Zero if as many did.
