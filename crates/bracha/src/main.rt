@@ -8,20 +8,136 @@ ghost use Rattle.std.specs.Prelude.{◌≡◌, ◌≢◌, ◌⊎◌, IfOk};
 
 use clap::error::ErrorKind;
 use command_line::{Task, command};
-use running::Machine;
 use std::convert::AsStr;
 use std::io;
 use std::net::{TcpListener, TcpStream};
 use std::process::ExitCode;
 use system::{
-    Choice, Failure, Fault, HeldStreams, NewCluster, Query, ask_all, ask_at, audit_file, await_at,
-    check_file, dump_file, hear_end, hear_input, hold_streams, init_file, links_at, log_form,
-    migrate_file, new_cluster, number_words, own_words, patience_of, propose_at, propose_to_all,
-    run_file, simulate_file, size_of, status_at, transcript_at, wants_quiet,
+    AuditWords, Audited, Caller, Choice, Cluster, Failure, Fault, HeldStreams, Measuring, Motion,
+    NewCluster, Query, SimulateWords, StateForm, ask_all, ask_at, audit_all, audit_file,
+    audited_of, await_at, check_file, decide, dump_file, hear_end, hear_input, hold_streams,
+    init_file, links_at, log_form, measure_rounds, migrate_file, new_cluster, number_words,
+    own_words, patience_of, propose_at, propose_to_all, run_file, simulate, size_of, status_at,
+    status_of_all, transcript_at, transcript_of_all, wants_quiet,
 };
 
+/// The member or the cluster that a client speaks to, and for how long.
+#[derive(Clone, Copy)]
+struct Whom<'a> {
+    /// The address of a desk, or the path of a client's settings.
+    place: &'a str,
+    /// All members of the cluster of these settings are meant.
+    all: bool,
+    /// The milliseconds in all, if they are limited.
+    timeout: Option<u32>,
+}
+
+impl<'a> Whom<'a> {
+    /// Reads the time of these words. [`Fault::Timeout`]: it isn't one.
+    fn new(
+        host: &HostRuntime,
+        place: &'a str,
+        all: bool,
+        timeout: Option<&str>,
+    ) -> Result<Whom<'a>, Failure> {
+        let timeout = patience_of(host.alloc(), timeout)?;
+        Ok(Whom {
+            place,
+            all,
+            timeout,
+        })
+    }
+
+    /// The cluster of the settings.
+    fn cluster(&self) -> Cluster<'a> {
+        Cluster {
+            file: self.place,
+            timeout: self.timeout,
+        }
+    }
+}
+
+/// Proposes a bit to a member, or to all.
+fn propose<R: Caller>(
+    rt: &R,
+    host: &HostRuntime,
+    whom: Whom<'_>,
+    question: u16,
+    bit: u8,
+) -> Result<u8, Failure> {
+    if whom.all {
+        return propose_to_all(rt, host, &whom.cluster(), question, bit);
+    }
+    propose_at(host, whom.place, question, bit, whom.timeout)
+}
+
+/// Asks a member for its decision, once or until there is one; or all.
+fn ask<R: Caller>(rt: &R, host: &HostRuntime, whom: Whom<'_>, query: Query) -> Result<u8, Failure> {
+    let Query {
+        question,
+        wait,
+        json,
+    } = query;
+    if whom.all {
+        return ask_all(rt, host, &whom.cluster(), query);
+    }
+    if wait {
+        return await_at(host, whom.place, question, json, whom.timeout);
+    }
+    ask_at(host, whom.place, question, json, whom.timeout)
+}
+
+/// Asks a member for its state, or all.
+fn ask_state<R: Caller>(
+    rt: &R,
+    host: &HostRuntime,
+    whom: Whom<'_>,
+    form: StateForm,
+) -> Result<u8, Failure> {
+    if whom.all {
+        return status_of_all(rt, host, &whom.cluster(), form);
+    }
+    if form.links || form.ready {
+        return links_at(host, whom.place, form.ready, form.json, whom.timeout);
+    }
+    status_at(host, whom.place, form.json, whom.timeout)
+}
+
+/// Asks a member for what it heard, or all until one tells it.
+fn transcript<R: Caller>(
+    rt: &R,
+    host: &HostRuntime,
+    whom: Whom<'_>,
+    question: u16,
+) -> Result<u8, Failure> {
+    if whom.all {
+        return transcript_of_all(rt, host, &whom.cluster(), question);
+    }
+    transcript_at(host, whom.place, question, whom.timeout)
+}
+
+/// Audits the transcript in a file, or those of all members.
+fn audit<R: Caller>(
+    rt: &R,
+    host: &HostRuntime,
+    file: &str,
+    words: AuditWords,
+    timeout: Option<&str>,
+) -> Result<u8, Failure> {
+    match audited_of(host.alloc(), &words)? {
+        Audited::File { n, t, questions } => {
+            let size = size_of(host.alloc(), n, t, questions)?;
+            audit_file(host, file, size)
+        }
+        Audited::Cluster { question } => {
+            let whom = Whom::new(host, file, true, timeout)?;
+            audit_all(rt, host, &whom.cluster(), question)
+        }
+    }
+}
+
 /// Does the task, and gives the status to end with.
-fn work<R: Machine>(rt: &R, host: &HostRuntime, task: Task) -> Result<u8, Failure> {
+fn work<R: Caller>(rt: &R, host: &HostRuntime, task: Task) -> Result<u8, Failure> {
     match task {
         Task::Hear {
             n,
@@ -70,106 +186,98 @@ fn work<R: Machine>(rt: &R, host: &HostRuntime, task: Task) -> Result<u8, Failur
             address,
             question,
             bit,
-            all: false,
+            all,
             timeout,
-        } => propose_at(
+        } => propose(
+            rt,
             host,
-            address,
+            Whom::new(host, address, all, timeout)?,
             question,
             bit,
-            patience_of(host.alloc(), timeout)?,
-        ),
-        Task::Propose {
-            address,
-            question,
-            bit,
-            all: true,
-            timeout,
-        } => propose_to_all(
-            host,
-            address,
-            question,
-            bit,
-            patience_of(host.alloc(), timeout)?,
         ),
         Task::Ask {
             address,
             question,
-            all: true,
+            all,
             wait,
             json,
             timeout,
-        } => ask_all(
-            host,
-            address,
-            Query {
+        } => {
+            let whom = Whom::new(host, address, all, timeout)?;
+            let query = Query {
                 question,
                 wait,
                 json,
-                timeout: patience_of(host.alloc(), timeout)?,
-            },
-        ),
-        Task::Ask {
-            address,
+            };
+            ask(rt, host, whom, query)
+        }
+        Task::Decide {
+            file,
             question,
-            all: false,
-            wait: false,
+            bit,
             json,
             timeout,
-        } => ask_at(
-            host,
-            address,
-            question,
-            json,
-            patience_of(host.alloc(), timeout)?,
-        ),
-        Task::Ask {
-            address,
-            question,
-            all: false,
-            wait: true,
-            json,
-            timeout,
-        } => await_at(
-            host,
-            address,
-            question,
-            json,
-            patience_of(host.alloc(), timeout)?,
-        ),
+        } => {
+            let whom = Whom::new(host, file, true, timeout)?;
+            let motion = Motion {
+                question,
+                bit,
+                json,
+            };
+            decide(rt, host, &whom.cluster(), motion)
+        }
         Task::Status {
             address,
-            links: false,
-            ready: false,
-            json,
-            timeout,
-        } => status_at(host, address, json, patience_of(host.alloc(), timeout)?),
-        Task::Status {
-            address,
-            links: _,
+            all,
+            links,
             ready,
             json,
             timeout,
-        } => links_at(
-            host,
-            address,
-            ready,
-            json,
-            patience_of(host.alloc(), timeout)?,
-        ),
+        } => {
+            let whom = Whom::new(host, address, all, timeout)?;
+            let form = StateForm { links, ready, json };
+            ask_state(rt, host, whom, form)
+        }
         Task::Transcript {
             address,
             question,
+            all,
             timeout,
-        } => transcript_at(host, address, question, patience_of(host.alloc(), timeout)?),
+        } => transcript(rt, host, Whom::new(host, address, all, timeout)?, question),
         Task::Audit {
             file,
+            question,
+            all,
             n,
             t,
             questions,
+            timeout,
         } => {
-            let size = size_of(host.alloc(), n, t, questions)?;
-            audit_file(host, file, size)
+            let words = AuditWords {
+                all,
+                question,
+                n,
+                t,
+                questions,
+            };
+            audit(rt, host, file, words, timeout)
+        }
+        Task::Rounds {
+            n,
+            t,
+            liars,
+            order,
+            seeds,
+            chart,
+        } => {
+            let asked = Measuring {
+                size: size_of(host.alloc(), n, t, 1)?,
+                liars,
+                order,
+                seeds,
+                chart,
+            };
+            measure_rounds(host, &asked)
         }
         Task::Dump {
             journal,
@@ -185,6 +293,9 @@ fn work<R: Machine>(rt: &R, host: &HostRuntime, task: Task) -> Result<u8, Failur
             member,
             from,
             to,
+            forever,
+            seed,
+            seconds,
         } => {
             let choice = Choice {
                 question,
@@ -192,7 +303,16 @@ fn work<R: Machine>(rt: &R, host: &HostRuntime, task: Task) -> Result<u8, Failur
                 from,
                 to,
             };
-            simulate_file(host, script, trace, chart, choice)
+            let words = SimulateWords {
+                script,
+                trace,
+                chart,
+                choice,
+                forever,
+                seed,
+                seconds,
+            };
+            simulate(host, &words)
         }
     }
 }
@@ -223,7 +343,7 @@ fn print_number(host: &HostRuntime, error: &clap::Error) -> io::Result<()> {
 /// Does what the words ask for, the program's name first among them, while no file can get the number of a standard stream.
 /// Help, the version and faults of the words are printed here. What can be told of a failure is told, but where the words or
 /// the environment ask for its first line alone.
-fn run<R: Machine, S: AsStr>(
+fn run<R: Caller, S: AsStr>(
     rt: &R,
     host: &HostRuntime,
     _held: &HeldStreams,
@@ -244,7 +364,7 @@ fn run<R: Machine, S: AsStr>(
 }
 
 /// Does what the words ask for with which the program was started.
-fn run_own<R: Machine>(rt: &R, host: &HostRuntime, held: &HeldStreams) -> Result<u8, Failure> {
+fn run_own<R: Caller>(rt: &R, host: &HostRuntime, held: &HeldStreams) -> Result<u8, Failure> {
     let words = own_words(host, host.alloc())?;
     run(rt, host, held, words.as_slice())
 }

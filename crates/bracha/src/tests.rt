@@ -6,6 +6,7 @@ use super::*;
 use std::alloc::Global;
 use std::fs;
 use std::test::Fail;
+use system::simulate_file;
 
 /// Files of the tests. Nothing makes the folder of the last one.
 const PAGE: &str = "bracha_tests_page";

@@ -19,10 +19,10 @@ use Rattle.clap.specs.Kinds.{or_else}
 use Rattle.clap.proofs.ValueTestLemmas.{accepts-Accepts}
 use Rattle.clap.specs.declared.error.kind.ErrorKind.TheVariants.{DisplayHelp, InvalidSubcommand}
 use Rattle.clap.specs.declared.builder.value_parser.ValueParser.TheVariants as parser
-use Rattle.command_line.specs.Usage.{program_app, new_cluster_app, init_app, check_app, run_app, propose_app, ask_app, status_app, transcript_app, audit_app, dump_app, migrate_app, simulate_app, hear_app}
+use Rattle.command_line.specs.Usage.{program_app, new_cluster_app, init_app, check_app, run_app, propose_app, ask_app, decide_app, status_app, transcript_app, audit_app, dump_app, migrate_app, simulate_app, rounds_app, hear_app}
 use Rattle.command_line.specs.Tasks.{AreFaultless, AskFor, HasFlag, HasNumberOption, IsAskedFor, MayHaveNumber, MayHaveText, Names as NamesTask, WritesNumber}
 use Rattle.command_line.specs.declared.tasks.Task.{Task}
-use Rattle.command_line.specs.declared.tasks.Task.TheVariants.{Hear, NewCluster, Init, Check, Run, Propose, Ask, Status, Transcript, Audit, Simulate, Dump, Migrate}
+use Rattle.command_line.specs.declared.tasks.Task.TheVariants.{Hear, NewCluster, Init, Check, Run, Propose, Ask, Decide, Status, Transcript, Audit, Simulate, Rounds, Dump, Migrate}
 use Rattle.command_line.proofs.Walking.{StopOk, left_of, not_some, right_of, same_under, walk_ok}
 use Rattle.command_line.proofs.Given.{IsSolid, given_in, perhaps_in, second_none}
 
@@ -174,11 +174,14 @@ status_demands words e =
     let solid : IsSolid (built_at status_app) = record { each = refl; apart = refl; demands = refl } in
     let rows = rows_after (built_at status_app).rules [] words in
     let address = given_in (built_at status_app) words solid e _ (inl refl) refl in
+    let all = flag_in (codes "all") rows in
     let links = flag_in (codes "links") rows in
     let ready = flag_in (codes "ready") rows in
     let json = flag_in (codes "json") rows in
-    let timeout = text_in (codes "timeout") rows in
-    (Status (at_some_place address.0) links.0 ready.0 json.0 timeout.0, (refl, address.1, links.1, ready.1, json.1, timeout.1))
+    let timeout = text_in (codes "timeout") rows in (
+      Status (at_some_place address.0) all.0 links.0 ready.0 json.0 timeout.0,
+      (refl, address.1, all.1, links.1, ready.1, json.1, timeout.1),
+    )
 
 ask_demands : Demanding ask_app
 ask_demands words e =
@@ -192,24 +195,52 @@ ask_demands words e =
     let timeout = text_in (codes "timeout") rows in
     (Ask (at_some_place address.0) question.0 all.0 wait.0 json.0 timeout.0, (refl, address.1, question.1, all.1, wait.1, json.1, timeout.1))
 
+decide_demands : Demanding decide_app
+decide_demands words e =
+    let solid : IsSolid (built_at decide_app) = record { each = refl; apart = refl; demands = refl } in
+    let rows = rows_after (built_at decide_app).rules [] words in
+    let file = given_in (built_at decide_app) words solid e _ (inl refl) refl in
+    let question = has_number 16 65535 (codes "question") rows (omega arith)
+    (given_in (built_at decide_app) words solid e _ (inr (inl refl)) refl) in
+    let bit = has_number 8 255 (codes "bit") rows (omega arith)
+    (given_in (built_at decide_app) words solid e _ (inr (inr (inl refl))) refl) in
+    let json = flag_in (codes "json") rows in
+    let timeout = text_in (codes "timeout") rows in (
+      Decide (at_some_place file.0) question.0 bit.0 json.0 timeout.0,
+      (refl, file.1, question.1, bit.1, json.1, timeout.1),
+    )
+
 transcript_demands : Demanding transcript_app
 transcript_demands words e =
     let solid : IsSolid (built_at transcript_app) = record { each = refl; apart = refl; demands = refl } in
     let rows = rows_after (built_at transcript_app).rules [] words in
     let address = given_in (built_at transcript_app) words solid e _ (inl refl) refl in
-    let question = has_number 16 65535 (codes "question") rows (omega arith) (given_in (built_at transcript_app) words solid e _ (inr (inl refl)) refl) in
-    let timeout = text_in (codes "timeout") rows in
-    (Transcript (at_some_place address.0) question.0 timeout.0, (refl, address.1, question.1, timeout.1))
+    let question = has_number 16 65535 (codes "question") rows (omega arith)
+    (given_in (built_at transcript_app) words solid e _ (inr (inl refl)) refl) in
+    let all = flag_in (codes "all") rows in
+    let timeout = text_in (codes "timeout") rows in (
+      Transcript (at_some_place address.0) question.0 all.0 timeout.0,
+      (refl, address.1, question.1, all.1, timeout.1),
+    )
 
 audit_demands : Demanding audit_app
 audit_demands words e =
     let solid : IsSolid (built_at audit_app) = record { each = refl; apart = refl; demands = refl } in
     let rows = rows_after (built_at audit_app).rules [] words in
     let file = given_in (built_at audit_app) words solid e _ (inl refl) refl in
-    let n = has_number 16 65535 (codes "n") rows (omega arith) (given_in (built_at audit_app) words solid e _ (inr (inl refl)) refl) in
-    let t = has_number 16 65535 (codes "t") rows (omega arith) (given_in (built_at audit_app) words solid e _ (inr (inr (inl refl))) refl) in
-    let questions = has_number 16 65535 (codes "questions") rows (omega arith) (given_in (built_at audit_app) words solid e _ (inr (inr (inr (inl refl)))) refl) in
-    (Audit (at_some_place file.0) n.0 t.0 questions.0, (refl, file.1, n.1, t.1, questions.1))
+    let question = may_have 16 65535 (codes "question") rows (omega arith)
+    (perhaps_in (built_at audit_app) words solid e _ (inr (inl refl))) in
+    let all = flag_in (codes "all") rows in
+    let n = may_have 16 65535 (codes "n") rows (omega arith)
+    (perhaps_in (built_at audit_app) words solid e _ (inr (inr (inr (inl refl))))) in
+    let t = may_have 16 65535 (codes "t") rows (omega arith)
+    (perhaps_in (built_at audit_app) words solid e _ (inr (inr (inr (inr (inl refl)))))) in
+    let questions = may_have 16 65535 (codes "questions") rows (omega arith)
+    (perhaps_in (built_at audit_app) words solid e _ (inr (inr (inr (inr (inr (inl refl))))))) in
+    let timeout = text_in (codes "timeout") rows in (
+      Audit (at_some_place file.0) question.0 all.0 n.0 t.0 questions.0 timeout.0,
+      (refl, file.1, question.1, all.1, n.1, t.1, questions.1, timeout.1),
+    )
 
 propose_demands : Demanding propose_app
 propose_demands words e =
@@ -226,15 +257,42 @@ simulate_demands : Demanding simulate_app
 simulate_demands words e =
     let solid : IsSolid (built_at simulate_app) = record { each = refl; apart = refl; demands = refl } in
     let rows = rows_after (built_at simulate_app).rules [] words in
-    let script = given_in (built_at simulate_app) words solid e _ (inl refl) refl in
+    let script = text_in (codes "script") rows in
     let trace = text_in (codes "trace") rows in
     let chart = text_in (codes "chart") rows in
-    let question = may_have 16 65535 (codes "question") rows (omega arith) (perhaps_in (built_at simulate_app) words solid e _ (inr (inr (inr (inl refl))))) in
-    let member = may_have 8 255 (codes "member") rows (omega arith) (perhaps_in (built_at simulate_app) words solid e _ (inr (inr (inr (inr (inl refl)))))) in
-    let from = may_have 32 4294967295 (codes "from") rows (omega arith) (perhaps_in (built_at simulate_app) words solid e _ (inr (inr (inr (inr (inr (inl refl))))))) in
-    let to = may_have 32 4294967295 (codes "to") rows (omega arith) (perhaps_in (built_at simulate_app) words solid e _ (inr (inr (inr (inr (inr (inr (inl refl)))))))) in (
-      Simulate (at_some_place script.0) trace.0 chart.0 question.0 member.0 from.0 to.0,
-      (refl, script.1, trace.1, chart.1, question.1, member.1, from.1, to.1),
+    let question = may_have 16 65535 (codes "question") rows (omega arith)
+    (perhaps_in (built_at simulate_app) words solid e _ (inr (inr (inr (inl refl))))) in
+    let member = may_have 8 255 (codes "member") rows (omega arith)
+    (perhaps_in (built_at simulate_app) words solid e _ (inr (inr (inr (inr (inl refl)))))) in
+    let from = may_have 32 4294967295 (codes "from") rows (omega arith)
+    (perhaps_in (built_at simulate_app) words solid e _ (inr (inr (inr (inr (inr (inl refl))))))) in
+    let to = may_have 32 4294967295 (codes "to") rows (omega arith)
+    (perhaps_in (built_at simulate_app) words solid e _ (inr (inr (inr (inr (inr (inr (inl refl)))))))) in
+    let forever = flag_in (codes "forever") rows in
+    let seed = may_have 32 4294967295 (codes "seed") rows (omega arith)
+    (perhaps_in (built_at simulate_app) words solid e _ (inr (inr (inr (inr (inr (inr (inr (inr (inl refl)))))))))) in
+    let seconds = may_have 32 4294967295 (codes "seconds") rows (omega arith)
+    (perhaps_in (built_at simulate_app) words solid e _ (inr (inr (inr (inr (inr (inr (inr (inr (inr (inl refl))))))))))) in (
+      Simulate script.0 trace.0 chart.0 question.0 member.0 from.0 to.0 forever.0 seed.0 seconds.0,
+      (refl, script.1, trace.1, chart.1, question.1, member.1, from.1, to.1, forever.1, seed.1, seconds.1),
+    )
+
+rounds_demands : Demanding rounds_app
+rounds_demands words e =
+    let solid : IsSolid (built_at rounds_app) = record { each = refl; apart = refl; demands = refl } in
+    let rows = rows_after (built_at rounds_app).rules [] words in
+    let n = has_number 16 65535 (codes "n") rows (omega arith)
+    (given_in (built_at rounds_app) words solid e _ (inl refl) refl) in
+    let t = has_number 16 65535 (codes "t") rows (omega arith)
+    (given_in (built_at rounds_app) words solid e _ (inr (inl refl)) refl) in
+    let liars = may_have 16 65535 (codes "liars") rows (omega arith)
+    (perhaps_in (built_at rounds_app) words solid e _ (inr (inr (inl refl)))) in
+    let order = text_in (codes "order") rows in
+    let seeds = may_have 32 4294967295 (codes "seeds") rows (omega arith)
+    (perhaps_in (built_at rounds_app) words solid e _ (inr (inr (inr (inr (inl refl)))))) in
+    let chart = text_in (codes "chart") rows in (
+      Rounds n.0 t.0 liars.0 order.0 seeds.0 chart.0,
+      (refl, n.1, t.1, liars.1, order.1, seeds.1, chart.1),
     )
 
 hear_demands : Demanding hear_app
@@ -292,7 +350,7 @@ no_help s is q answers other e =
     plain false f = f
 
 all_items : Items (built program_app).subs
-all_items = ((λ q answers other e. new_cluster_demands q.1 e), ((λ q answers other e. init_demands q.1 e), ((λ q answers other e. check_demands q.1 e), ((λ q answers other e. run_demands q.1 e), ((λ q answers other e. propose_demands q.1 e), ((λ q answers other e. ask_demands q.1 e), ((λ q answers other e. status_demands q.1 e), ((λ q answers other e. transcript_demands q.1 e), ((λ q answers other e. audit_demands q.1 e), ((λ q answers other e. dump_demands q.1 e), ((λ q answers other e. migrate_demands q.1 e), ((λ q answers other e. simulate_demands q.1 e), ((λ q answers other e. hear_demands q.1 e), (no_help _ refl, tt))))))))))))))
+all_items = ((λ q answers other e. new_cluster_demands q.1 e), ((λ q answers other e. init_demands q.1 e), ((λ q answers other e. check_demands q.1 e), ((λ q answers other e. run_demands q.1 e), ((λ q answers other e. propose_demands q.1 e), ((λ q answers other e. ask_demands q.1 e), ((λ q answers other e. decide_demands q.1 e), ((λ q answers other e. status_demands q.1 e), ((λ q answers other e. transcript_demands q.1 e), ((λ q answers other e. audit_demands q.1 e), ((λ q answers other e. dump_demands q.1 e), ((λ q answers other e. migrate_demands q.1 e), ((λ q answers other e. simulate_demands q.1 e), ((λ q answers other e. rounds_demands q.1 e), ((λ q answers other e. hear_demands q.1 e), (no_help _ refl, tt))))))))))))))))
 
 entered_asks : (subs : List Shape) (q : Text × List Text) (found : Option Shape) → find (λ (s : Shape). answers_to q.0 (label_of s)) subs ≡ found
     → Items subs → bytes_eq q.0 (codes "help") ≡ false

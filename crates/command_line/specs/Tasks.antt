@@ -8,7 +8,7 @@ use Rattle.clap.specs.Simple.{matches_of, subcommand_of}
 use Rattle.clap.specs.Faults.{fault_of}
 use Rattle.command_line.specs.Usage.{program_app}
 use Rattle.command_line.specs.declared.tasks.Task.{Task}
-use Rattle.command_line.specs.declared.tasks.Task.TheVariants.{Hear, NewCluster, Init, Check, Run, Propose, Ask, Status, Transcript, Audit, Simulate, Dump, Migrate}
+use Rattle.command_line.specs.declared.tasks.Task.TheVariants.{Hear, NewCluster, Init, Check, Run, Propose, Ask, Decide, Status, Transcript, Audit, Simulate, Rounds, Dump, Migrate}
 
 -- the text writes the number in decimal digits, behind a plus or none, and it has at most that many bits
 abbrev pub WritesNumber : ℕ → Text → ℕ → Type 0
@@ -56,18 +56,38 @@ Names name rows (Propose address question bit all timeout) = (name ≡ codes "pr
 Names name rows (Ask address question all wait json timeout) = (name ≡ codes "ask") × HasText (codes "address") rows address.now
     × HasNumberOption 16 (codes "question") rows question × HasFlag (codes "all") rows all × HasFlag (codes "wait") rows wait
     × HasFlag (codes "json") rows json × MayHaveText (codes "timeout") rows (option_map (λ text. text.now) timeout)
-Names name rows (Status address links ready json timeout) = (name ≡ codes "status") × HasText (codes "address") rows address.now
-    × HasFlag (codes "links") rows links × HasFlag (codes "ready") rows ready × HasFlag (codes "json") rows json × MayHaveText (codes "timeout") rows (option_map (λ text. text.now) timeout)
-Names name rows (Transcript address question timeout) = (name ≡ codes "transcript") × HasText (codes "address") rows address.now
-    × HasNumberOption 16 (codes "question") rows question × MayHaveText (codes "timeout") rows (option_map (λ text. text.now) timeout)
-Names name rows (Audit file n t questions) = (name ≡ codes "audit") × HasText (codes "file") rows file.now
-    × HasNumberOption 16 (codes "n") rows n × HasNumberOption 16 (codes "t") rows t
-    × HasNumberOption 16 (codes "questions") rows questions
-Names name rows (Simulate script trace chart question member from to) = (name ≡ codes "simulate") × HasText (codes "script") rows script.now
+Names name rows (Decide file question bit json timeout) = (name ≡ codes "decide")
+    × HasText (codes "file") rows file.now × HasNumberOption 16 (codes "question") rows question
+    × HasNumberOption 8 (codes "bit") rows bit × HasFlag (codes "json") rows json
+    × MayHaveText (codes "timeout") rows (option_map (λ text. text.now) timeout)
+Names name rows (Status address all links ready json timeout) = (name ≡ codes "status")
+    × HasText (codes "address") rows address.now × HasFlag (codes "all") rows all
+    × HasFlag (codes "links") rows links × HasFlag (codes "ready") rows ready
+    × HasFlag (codes "json") rows json
+    × MayHaveText (codes "timeout") rows (option_map (λ text. text.now) timeout)
+Names name rows (Transcript address question all timeout) = (name ≡ codes "transcript")
+    × HasText (codes "address") rows address.now
+    × HasNumberOption 16 (codes "question") rows question × HasFlag (codes "all") rows all
+    × MayHaveText (codes "timeout") rows (option_map (λ text. text.now) timeout)
+Names name rows (Audit file question all n t questions timeout) = (name ≡ codes "audit")
+    × HasText (codes "file") rows file.now × MayHaveNumber 16 (codes "question") rows question
+    × HasFlag (codes "all") rows all × MayHaveNumber 16 (codes "n") rows n
+    × MayHaveNumber 16 (codes "t") rows t × MayHaveNumber 16 (codes "questions") rows questions
+    × MayHaveText (codes "timeout") rows (option_map (λ text. text.now) timeout)
+Names name rows (Simulate script trace chart question member from to forever seed seconds) =
+    (name ≡ codes "simulate") × MayHaveText (codes "script") rows (option_map (λ path. path.now) script)
     × MayHaveText (codes "trace") rows (option_map (λ path. path.now) trace)
     × MayHaveText (codes "chart") rows (option_map (λ path. path.now) chart)
     × MayHaveNumber 16 (codes "question") rows question × MayHaveNumber 8 (codes "member") rows member
     × MayHaveNumber 32 (codes "from") rows from × MayHaveNumber 32 (codes "to") rows to
+    × HasFlag (codes "forever") rows forever × MayHaveNumber 32 (codes "seed") rows seed
+    × MayHaveNumber 32 (codes "seconds") rows seconds
+Names name rows (Rounds n t liars order seeds chart) = (name ≡ codes "rounds")
+    × HasNumberOption 16 (codes "n") rows n × HasNumberOption 16 (codes "t") rows t
+    × MayHaveNumber 16 (codes "liars") rows liars
+    × MayHaveText (codes "order") rows (option_map (λ text. text.now) order)
+    × MayHaveNumber 32 (codes "seeds") rows seeds
+    × MayHaveText (codes "chart") rows (option_map (λ path. path.now) chart)
 Names name rows (Dump journal count json) = (name ≡ codes "dump") × HasText (codes "journal") rows journal.now
     × HasFlag (codes "count") rows count × HasFlag (codes "json") rows json
 Names name rows (Migrate old new) = (name ≡ codes "migrate") × HasText (codes "old") rows old.now

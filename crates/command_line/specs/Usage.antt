@@ -73,6 +73,14 @@ address_rule = word_rule (codes "address")
 abbrev pub desk_rules : List Rule
 desk_rules = address_rule ∷ as_u16 (word_rule (codes "question")) ∷ []
 
+-- `--all`
+abbrev pub all_rule : Rule
+all_rule = flag_rule (codes "all")
+
+-- and where it must be given
+abbrev pub needed_all_rule : Rule
+needed_all_rule = record all_rule { required = true }
+
 -- `--json`
 abbrev pub json_rule : Rule
 json_rule = flag_rule (codes "json")
@@ -104,23 +112,37 @@ run_app = taking (codes "run")
 -- `bracha propose [--all] [--timeout S] ADDRESS Q V`
 abbrev pub propose_app : App
 propose_app = taking (codes "propose")
-    (desk_rules ++ as_u8 (word_rule (codes "bit")) ∷ flag_rule (codes "all") ∷ timeout_rule ∷ [])
+    (desk_rules ++ as_u8 (word_rule (codes "bit")) ∷ all_rule ∷ timeout_rule ∷ [])
 
--- `bracha ask [--wait] [--json] [--timeout S] ADDRESS Q`
+-- `bracha ask [--all] [--wait] [--json] [--timeout S] ADDRESS Q`
 abbrev pub ask_app : App
-ask_app = taking (codes "ask") (desk_rules ++ flag_rule (codes "all") ∷ flag_rule (codes "wait") ∷ json_rule ∷ timeout_rule ∷ [])
+ask_app = taking (codes "ask") (desk_rules ++ all_rule ∷ flag_rule (codes "wait") ∷ json_rule ∷ timeout_rule ∷ [])
 
--- `bracha status [--links] [--ready] [--json] [--timeout S] ADDRESS`
+-- `bracha decide --all [--json] [--timeout S] FILE Q V`
+abbrev pub decide_app : App
+decide_app = taking (codes "decide")
+    (word_rule (codes "file") ∷ as_u16 (word_rule (codes "question")) ∷ as_u8 (word_rule (codes "bit"))
+    ∷ needed_all_rule ∷ json_rule ∷ timeout_rule ∷ [])
+
+-- `bracha status [--all] [--links] [--ready] [--json] [--timeout S] ADDRESS`
 abbrev pub status_app : App
-status_app = taking (codes "status") (address_rule ∷ flag_rule (codes "links") ∷ flag_rule (codes "ready") ∷ json_rule ∷ timeout_rule ∷ [])
+status_app = taking (codes "status")
+    (address_rule ∷ all_rule ∷ flag_rule (codes "links") ∷ flag_rule (codes "ready") ∷ json_rule ∷ timeout_rule ∷ [])
 
--- `bracha transcript [--timeout S] ADDRESS Q`
+-- `bracha transcript [--all] [--timeout S] ADDRESS Q`
 abbrev pub transcript_app : App
-transcript_app = taking (codes "transcript") (desk_rules ++ timeout_rule ∷ [])
+transcript_app = taking (codes "transcript") (desk_rules ++ all_rule ∷ timeout_rule ∷ [])
 
--- `bracha audit FILE --n N --t T --questions Q`
+-- `[--n N] [--t T] [--questions Q]`
+abbrev pub audited_rules : List Rule
+audited_rules = as_u16 (option_rule (codes "n")) ∷ as_u16 (option_rule (codes "t"))
+    ∷ as_u16 (option_rule (codes "questions")) ∷ []
+
+-- `bracha audit [--all] [--n N] [--t T] [--questions Q] [--timeout S] FILE [Q]`
 abbrev pub audit_app : App
-audit_app = taking (codes "audit") (word_rule (codes "file") ∷ size_rules)
+audit_app = taking (codes "audit")
+    (word_rule (codes "file") ∷ as_u16 (last_rule (codes "question")) ∷ all_rule
+    ∷ audited_rules ++ timeout_rule ∷ [])
 
 -- `bracha dump [--count] [--json] JOURNAL`
 abbrev pub dump_app : App
@@ -135,10 +157,24 @@ abbrev pub choice_rules : List Rule
 choice_rules = as_u16 (option_rule (codes "question")) ∷ as_u8 (option_rule (codes "member")) ∷ as_u32 (option_rule (codes "from"))
     ∷ as_u32 (option_rule (codes "to")) ∷ []
 
--- `bracha simulate [--trace FILE] [--chart FILE] [--question Q] [--member M] [--from FIRST] [--to LAST] SCRIPT`
+-- `[--forever] [--seed S] [--seconds N]`
+abbrev pub forever_rules : List Rule
+forever_rules = flag_rule (codes "forever") ∷ as_u32 (option_rule (codes "seed"))
+    ∷ as_u32 (option_rule (codes "seconds")) ∷ []
+
+-- `bracha simulate [--trace FILE] [--chart FILE] [--question Q] [--member M] [--from FIRST] [--to LAST] [--forever]
+--  [--seed S] [--seconds N] [SCRIPT]`
 abbrev pub simulate_app : App
 simulate_app = taking (codes "simulate")
-    (word_rule (codes "script") ∷ option_rule (codes "trace") ∷ option_rule (codes "chart") ∷ choice_rules)
+    (last_rule (codes "script") ∷ option_rule (codes "trace") ∷ option_rule (codes "chart")
+    ∷ choice_rules ++ forever_rules)
+
+-- `bracha rounds --n N --t T [--liars L] [--order ORDER] [--seeds K] [--chart FILE]`
+abbrev pub rounds_app : App
+rounds_app = taking (codes "rounds")
+    (as_u16 (number_rule (codes "n")) ∷ as_u16 (number_rule (codes "t"))
+    ∷ as_u16 (option_rule (codes "liars")) ∷ option_rule (codes "order")
+    ∷ as_u32 (option_rule (codes "seeds")) ∷ option_rule (codes "chart") ∷ [])
 
 -- `bracha hear --n N --t T --questions Q --me M`
 abbrev pub hear_app : App
@@ -161,7 +197,9 @@ with_telling app = with_rule (with_rule app quiet_rule) verbose_rule
 
 -- the commands, in the order of the help
 abbrev pub commands : List App
-commands = new_cluster_app ∷ init_app ∷ check_app ∷ run_app ∷ propose_app ∷ ask_app ∷ status_app ∷ transcript_app ∷ audit_app ∷ dump_app ∷ migrate_app ∷ simulate_app ∷ hear_app ∷ []
+commands = new_cluster_app ∷ init_app ∷ check_app ∷ run_app ∷ propose_app ∷ ask_app ∷ decide_app
+    ∷ status_app ∷ transcript_app ∷ audit_app ∷ dump_app ∷ migrate_app ∷ simulate_app ∷ rounds_app
+    ∷ hear_app ∷ []
 
 -- `bracha [--quiet] [--verbose] COMMAND [--quiet] [--verbose] ..`
 abbrev pub program_app : App

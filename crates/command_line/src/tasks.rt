@@ -1,8 +1,8 @@
 //! The words of the command line.
 
 ghost use Rattle.command_line.specs.Tasks.{AreQuiet, AskFor, HasFlag, HasNumberOption, IsAskedFor, IsQuiet, Names, SaysQuiet, rows_in};
-ghost use Rattle.command_line.specs.Usage.{Builds, address_rule, as_u16, as_u32, as_u8, ask_app, json_rule, audit_app, bare_app, check_app, choice_rules, dump_app, option_rule, flag_rule, last_rule, timeout_rule, hear_app, init_app, migrate_app, new_cluster_app, number_rule, program_app};
-ghost use Rattle.command_line.specs.Usage.{propose_app, run_app, simulate_app, size_rules, status_app, transcript_app, desk_rules, quiet_rule, verbose_rule, word_rule, with_rules, with_telling};
+ghost use Rattle.command_line.specs.Usage.{Builds, address_rule, all_rule, needed_all_rule, as_u16, as_u32, as_u8, ask_app, json_rule, audit_app, audited_rules, decide_app, bare_app, check_app, choice_rules, dump_app, option_rule, flag_rule, last_rule, timeout_rule, hear_app, init_app, migrate_app, new_cluster_app, number_rule, program_app};
+ghost use Rattle.command_line.specs.Usage.{forever_rules, propose_app, rounds_app, run_app, simulate_app, size_rules, status_app, transcript_app, desk_rules, quiet_rule, verbose_rule, word_rule, with_rules, with_telling};
 ghost use Rattle.clap.specs.Words.{App, FailsBy, Rule, app_of, fault_of, first_of, new_app, rule_of, subcommand_rows_of, with_rule, with_subcommand};
 ghost use Rattle.std.specs.Prelude.{◌≡◌, ◌↔◌, IfOk, IfSome, IsNone, IsTrue, Some, codes, map, option_map, ℕ};
 ghost use Rattle.command_line.specs.declared.tasks.Task.{Task};
@@ -71,39 +71,70 @@ pub enum Task<'a> {
         json: bool,
         timeout: Option<&'a str>,
     },
+    /// Proposes a bit on a question to all members of the cluster of the client's settings in this file, and waits for the
+    /// decision as long as this text says.
+    Decide {
+        file: &'a str,
+        question: u16,
+        bit: u8,
+        json: bool,
+        timeout: Option<&'a str>,
+    },
     /// Asks the member whose desk is at this address whether it is up; or how many links come and go, or also whether these are
-    /// as many as are needed. It is waited for as long as this text says.
+    /// as many as are needed; or all members of the cluster of the client's settings in this file. Waits as long as this text
+    /// says.
     Status {
         address: &'a str,
+        all: bool,
         links: bool,
         ready: bool,
         json: bool,
         timeout: Option<&'a str>,
     },
-    /// Asks the member whose desk is at this address for what it heard of a question that is decided, and waits for it as
-    /// long as this text says.
+    /// Asks the member whose desk is at this address for what it heard of a question that is decided; or the members of the
+    /// cluster of the client's settings in this file, until one tells it. Waits as long as this text says.
     Transcript {
         address: &'a str,
         question: u16,
+        all: bool,
         timeout: Option<&'a str>,
     },
-    /// Says whether the transcript in this file is proof of its decision, for a cluster of that size.
+    /// Says whether the transcript in this file is proof of its decision, for a cluster of that size; or, of all members of the
+    /// cluster of the client's settings in this file, whether the transcripts of this question that they tell are. Each form
+    /// wants values that the other one doesn't take: any of them may be missing here.
     Audit {
         file: &'a str,
-        n: u16,
-        t: u16,
-        questions: u16,
+        question: Option<u16>,
+        all: bool,
+        n: Option<u16>,
+        t: Option<u16>,
+        questions: Option<u16>,
+        timeout: Option<&'a str>,
     },
     /// Runs the script in this file, and writes a trace and a chart of the run into those files. The chart has the events of
-    /// this question and this member alone, from that number to that one.
+    /// this question and this member alone, from that number to that one. Or runs random scripts from this seed on, for so many
+    /// seconds or for good. Each form wants values that the other one doesn't take: any of them may be missing here.
     Simulate {
-        script: &'a str,
+        script: Option<&'a str>,
         trace: Option<&'a str>,
         chart: Option<&'a str>,
         question: Option<u16>,
         member: Option<u8>,
         from: Option<u32>,
         to: Option<u32>,
+        forever: bool,
+        seed: Option<u32>,
+        seconds: Option<u32>,
+    },
+    /// Measures how many rounds a decision takes in a cluster of `n` members that tolerates `t` liars, while so many lie: once
+    /// for each of so many seeds, with messages delivered in this order. Draws a chart of it into that file.
+    Rounds {
+        n: u16,
+        t: u16,
+        liars: Option<u16>,
+        order: Option<&'a str>,
+        seeds: Option<u32>,
+        chart: Option<&'a str>,
     },
     /// Prints the journal in this file, or only how many records it has.
     Dump {
@@ -172,6 +203,20 @@ fn flag<'a>(alloc: Global, name: &'a str, help: &'a str) -> Arg<'a>
         .long(name)
         .action(ArgAction::SetTrue)
         .help(help)
+}
+
+/// The option `--all`, by which a command is for every member.
+fn all<'a>(alloc: Global, help: &'a str) -> Arg<'a>
+    ensures { rule_of result ≡ all_rule }
+{
+    flag(alloc, "all", help)
+}
+
+/// The same, of a command that is for nothing else.
+fn needed_all<'a>(alloc: Global, help: &'a str) -> Arg<'a>
+    ensures { rule_of result ≡ needed_all_rule }
+{
+    all(alloc, help).required(true)
 }
 
 /// The option `--json`, by which a command prints objects.
@@ -391,10 +436,10 @@ fn propose<'a>(alloc: Global) -> Built<'a>
     let examples =
         "Prints OK, or HAVE B if the member has an earlier proposal B, which stands. With --all, ADDRESS is the file client.toml of `new-cluster`, and a line `member M REPLY` is printed for each member.\n\nExamples:\n  bracha propose 127.0.0.1:7111 0 1\n  bracha propose --all client.toml 0 1";
     let bit = word(alloc, "bit", "V", "Bit to propose, 0 or 1");
-    let all = "Propose to every member; ADDRESS is the file client.toml";
+    let every = "Propose to every member; ADDRESS is the file client.toml";
     let command = with_desk(alloc, named(alloc, "propose", about, examples));
     let command = with_arg(command, of_u8(bit));
-    let command = with_arg(command, flag(alloc, "all", all));
+    let command = with_arg(command, all(alloc, every));
     with_timeout(alloc, command)
 }
 
@@ -404,14 +449,34 @@ fn ask<'a>(alloc: Global) -> Built<'a>
     let about = "Print a question's decision, or UNDECIDED";
     let examples =
         "Prints DECIDED B or UNDECIDED. A decision is final, and the same at every correct member. UNDECIDED has status 0, and 1 with --wait or --all.\n\nThe member may be one that lies. With --all, ADDRESS is the file client.toml of `new-cluster`, and a decision is printed only if more than T members report it, of whom one is correct. Standard error names each member that reports something else or doesn't answer.\n\nExamples:\n  bracha ask 127.0.0.1:7111 0\n  bracha ask --wait --timeout 60 127.0.0.1:7111 0\n  bracha ask --all --wait client.toml 0";
-    let all =
+    let every =
         "Ask every member, and believe only what more than T of them report; ADDRESS is the file client.toml";
     let wait = "Ask until decided, even if the member isn't up yet; --timeout limits it";
     let command = with_desk(alloc, named(alloc, "ask", about, examples));
-    let command = with_arg(command, flag(alloc, "all", all));
+    let command = with_arg(command, all(alloc, every));
     let command = with_arg(command, flag(alloc, "wait", wait));
     let command = with_arg(command, json(alloc));
     with_timeout(alloc, command)
+}
+
+fn decide<'a>(alloc: Global) -> Built<'a>
+    ensures { Builds decide_app result }
+{
+    let about = "Propose a bit to every member and wait for the decision";
+    let examples =
+        "Prints DECIDED B once more than T members report B, or UNDECIDED with status 1 when the time is over. A decision may differ from your bit V. Proposes again to members that come back, and so also finishes a question that another client proposed to some of the members. Standard error names each member that reports something else or doesn't answer.\n\nExample:\n  bracha decide --all client.toml 0 1";
+    let file = "The file client.toml of `new-cluster`";
+    let file = word(alloc, "file", "FILE", file);
+    let question = word(alloc, "question", "Q", "Question number, from 0");
+    let bit = word(alloc, "bit", "V", "Bit to propose, 0 or 1");
+    let every = "Required: a question is decided by every member, not by one";
+    let command = with_arg(named(alloc, "decide", about, examples), file);
+    let command = with_arg(command, of_u16(question));
+    let command = with_arg(command, of_u8(bit));
+    let command = with_arg(command, needed_all(alloc, every));
+    let command = with_arg(command, json(alloc));
+    let limit = "Give up after S seconds in all (5, 0.5 or 5s) [default: 60]";
+    with_arg(command, option(alloc, "timeout", "S", limit))
 }
 
 fn status<'a>(alloc: Global) -> Built<'a>
@@ -419,10 +484,12 @@ fn status<'a>(alloc: Global) -> Built<'a>
 {
     let about = "Print whether a member is up";
     let examples =
-        "Prints UP M D if the member is up: it has made M statements and decided D questions. Prints STOPPED, with status 1, if it is stopped. With --links or --ready, prints LINKS I O N W: of N links, I come in and O go out, and W of both are needed to decide.\n\nExamples (is it up; can it decide):\n  bracha status 127.0.0.1:7111\n  bracha status --ready 127.0.0.1:7111";
+        "Prints UP M D if the member is up: it has made M statements and decided D questions. Prints STOPPED, with status 1, if it is stopped. With --links or --ready, prints LINKS I O N W: of N links, I come in and O go out, and W of both are needed to decide. With --all, ADDRESS is the file client.toml of `new-cluster`, and a line `member M REPLY` is printed for each member; the status is the highest of any.\n\nExamples (is it up; can it decide; are all):\n  bracha status 127.0.0.1:7111\n  bracha status --ready 127.0.0.1:7111\n  bracha status --all client.toml";
+    let every = "Ask every member; ADDRESS is the file client.toml";
     let links = "Print how many links come in and go out";
     let ready = "The same, with status 0 only if the links are enough to decide";
     let command = with_arg(named(alloc, "status", about, examples), address(alloc));
+    let command = with_arg(command, all(alloc, every));
     let command = with_arg(command, flag(alloc, "links", links));
     let command = with_arg(command, flag(alloc, "ready", ready));
     let command = with_arg(command, json(alloc));
@@ -434,9 +501,25 @@ fn transcript<'a>(alloc: Global) -> Built<'a>
 {
     let about = "Print the statements that prove a decision";
     let examples =
-        "Prints `transcript Q bit B count C` and C lines `FROM HEX`, for `bracha audit`. Prints THIN if the member decided before its last start and has not heard a proof since: ask another member. Any reply but a transcript has status 1.\n\nExample:\n  bracha transcript 127.0.0.1:7111 0 > decision.txt";
+        "Prints `transcript Q bit B count C` and C lines `FROM HEX`, for `bracha audit`. Prints THIN if the member decided before its last start and has not heard a proof since: ask another member. Any reply but a transcript has status 1. With --all, ADDRESS is the file client.toml of `new-cluster`, and the first transcript that a member sends is printed; standard error says whose it is.\n\nExamples:\n  bracha transcript 127.0.0.1:7111 0 > decision.txt\n  bracha transcript --all client.toml 0 > decision.txt";
+    let every = "Ask every member until one sends a transcript; ADDRESS is the file client.toml";
     let command = with_desk(alloc, named(alloc, "transcript", about, examples));
+    let command = with_arg(command, all(alloc, every));
     with_timeout(alloc, command)
+}
+
+/// The options that name the size that a transcript in a file is for.
+fn with_audited<'a>(alloc: Global, command: Built<'a>) -> Built<'a>
+    ensures { (app : App) → Builds app command.entry → Builds (with_rules app audited_rules) result }
+{
+    let n = option(alloc, "n", "N", "Number of members (1 to 64)");
+    let liars = "Number of lying members to tolerate (N > 3T)";
+    let t = option(alloc, "t", "T", liars);
+    let count = "Number of questions (1 to 4096)";
+    let questions = option(alloc, "questions", "Q", count);
+    let command = with_arg(command, of_u16(n));
+    let command = with_arg(command, of_u16(t));
+    with_arg(command, of_u16(questions))
 }
 
 fn audit<'a>(alloc: Global) -> Built<'a>
@@ -444,11 +527,17 @@ fn audit<'a>(alloc: Global) -> Built<'a>
 {
     let about = "Check whether a transcript proves its decision";
     let examples =
-        "Prints yes with status 0, or no with status 1, for a cluster of this size. Transcripts are not signed: `yes` says what follows from the statements, not that they were sent.\n\nExample:\n  bracha audit decision.txt --n 4 --t 1 --questions 64";
-    let command = named(alloc, "audit", about, examples);
-    let help = "Transcript to check";
-    let command = with_arg(command, word(alloc, "file", "FILE", help));
-    with_size(alloc, command)
+        "Prints yes with status 0, or no with status 1, for a cluster of this size: --n, --t and --questions are required without --all. Transcripts are not signed: `yes` says what follows from the statements, not that they were sent.\n\nWith --all, FILE is the file client.toml of `new-cluster`, which has the size, and Q is a question. Prints yes only if more than T members send a transcript that proves one and the same bit. Standard error says what each member sent.\n\nExamples:\n  bracha audit decision.txt --n 4 --t 1 --questions 64\n  bracha audit --all client.toml 0";
+    let help = "Transcript to check; with --all, the file client.toml";
+    let file = word(alloc, "file", "FILE", help);
+    let question = "With --all: question number, from 0";
+    let question = last_word(alloc, "question", "Q", question);
+    let every = "Fetch and check the transcripts of every member";
+    let command = with_arg(named(alloc, "audit", about, examples), file);
+    let command = with_arg(command, of_u16(question));
+    let command = with_arg(command, all(alloc, every));
+    let command = with_audited(alloc, command);
+    with_timeout(alloc, command)
 }
 
 fn dump<'a>(alloc: Global) -> Built<'a>
@@ -496,27 +585,68 @@ fn with_choice<'a>(alloc: Global, command: Built<'a>) -> Built<'a>
     with_arg(command, of_u32(to))
 }
 
+/// The options of a simulation without a script.
+fn with_forever<'a>(alloc: Global, command: Built<'a>) -> Built<'a>
+    ensures { (app : App) → Builds app command.entry → Builds (with_rules app forever_rules) result }
+{
+    let forever = "Play random scripts, one after another, in place of SCRIPT";
+    let seed = "With --forever: number of the first script [default: a random one]";
+    let seconds = "With --forever: stop after N seconds";
+    let seed = option(alloc, "seed", "S", seed);
+    let seconds = option(alloc, "seconds", "N", seconds);
+    let command = with_arg(command, flag(alloc, "forever", forever));
+    let command = with_arg(command, of_u32(seed));
+    with_arg(command, of_u32(seconds))
+}
+
 fn simulate<'a>(alloc: Global) -> Built<'a>
     ensures { Builds simulate_app result }
 {
-    let about = "Simulate a cluster from a script";
+    let about = "Simulate a cluster from a script, or from random ones";
     let examples =
-        "Prints every decision, then how many events there were and how many were skipped. If a trace or chart goes to standard output, this goes to standard error.\n\nExamples (in the repository):\n  bracha simulate crates/bracha/examples/small.script\n  bracha simulate --chart small.svg crates/bracha/examples/small.script\n  bracha simulate --chart small.svg --member 1 --from 8 --to 20 crates/bracha/examples/small.script\n  bracha simulate --trace - crates/bracha/examples/small.script";
+        "Prints every decision, then how many events there were and how many were skipped. If a trace or chart goes to standard output, this goes to standard error. With --forever and no script, plays random scripts one after another until stopped, and stops at a run that breaks a promise.\n\nExamples (in the repository):\n  bracha simulate crates/bracha/examples/small.script\n  bracha simulate --chart small.svg crates/bracha/examples/small.script\n  bracha simulate --chart small.svg --member 1 --from 8 --to 20 crates/bracha/examples/small.script\n  bracha simulate --trace - crates/bracha/examples/small.script\n  bracha simulate --forever --seed 1 --seconds 60";
     let trace = "Write a line per event to FILE; - is standard output";
     let chart = "Draw the run as an SVG sequence chart to FILE; - is standard output";
     let command = named(alloc, "simulate", about, examples);
-    let command = with_arg(
-        command,
-        word(
-            alloc,
-            "script",
-            "SCRIPT",
-            "Script to run; - is standard input",
-        ),
-    );
+    let script = "Script to run; - is standard input";
+    let script = last_word(alloc, "script", "SCRIPT", script);
+    let command = with_arg(command, script);
     let command = with_arg(command, file(alloc, "trace", trace));
     let command = with_arg(command, file(alloc, "chart", chart));
-    with_choice(alloc, command)
+    let command = with_choice(alloc, command);
+    with_forever(alloc, command)
+}
+
+fn rounds<'a>(alloc: Global) -> Built<'a>
+    ensures { Builds rounds_app result }
+{
+    let about = "Measure how many rounds decisions take";
+    let examples =
+        "Simulates one question once per seed, with half of the members proposing 0 and half 1, and prints how many runs took how many rounds.\n\nExamples:\n  bracha rounds --n 4 --t 1\n  bracha rounds --n 16 --t 5 --liars 5 --order adversary --seeds 1000 --chart rounds.svg";
+    let n = number(alloc, "n", "N", "Number of members (1 to 64)");
+    let tolerated = "Number of lying members to tolerate (N > 3T)";
+    let t = number(alloc, "t", "T", tolerated);
+    let liars = option(
+        alloc,
+        "liars",
+        "L",
+        "Number of members that lie [default: T]",
+    );
+    let order = "Who chooses the next message: `random` or `adversary` [default: random]";
+    let order = option(alloc, "order", "ORDER", order);
+    let seeds = option(
+        alloc,
+        "seeds",
+        "K",
+        "Number of runs, one per seed [default: 100]",
+    );
+    let chart = "Draw the counts as an SVG chart to FILE; - is standard output";
+    let command = with_arg(named(alloc, "rounds", about, examples), of_u16(n));
+    let command = with_arg(command, of_u16(t));
+    let command = with_arg(command, of_u16(liars));
+    let command = with_arg(command, order);
+    let command = with_arg(command, of_u32(seeds));
+    with_arg(command, file(alloc, "chart", chart))
 }
 
 /// The program without its commands and options.
@@ -550,12 +680,14 @@ fn program<'a>(alloc: Global) -> Built<'a>
     let program = with_command(alloc, program, run(alloc));
     let program = with_command(alloc, program, propose(alloc));
     let program = with_command(alloc, program, ask(alloc));
+    let program = with_command(alloc, program, decide(alloc));
     let program = with_command(alloc, program, status(alloc));
     let program = with_command(alloc, program, transcript(alloc));
     let program = with_command(alloc, program, audit(alloc));
     let program = with_command(alloc, program, dump(alloc));
     let program = with_command(alloc, program, migrate(alloc));
     let program = with_command(alloc, program, simulate(alloc));
+    let program = with_command(alloc, program, rounds(alloc));
     with_command(alloc, program, hear(alloc))
 }
 
@@ -672,11 +804,12 @@ fn propose_of<'a>(options: &ArgMatches<'a>) -> Option<Task<'a>>
     ensures some { IfSome result (Names (codes "propose") (rows_in options.now)) }
     ensures none { IsNone result → (task : Task) → Names (codes "propose") (rows_in options.now) task → ⊥ }
 {
+    let to_all = flag_of(options, "all");
     Some(Task::Propose {
         address: text_of(options, "address")?,
         question: u16_of(options, "question")?,
         bit: u8_of(options, "bit")?,
-        all: flag_of(options, "all"),
+        all: to_all,
         timeout: text_of(options, "timeout"),
     })
 }
@@ -697,6 +830,20 @@ fn ask_of<'a>(options: &ArgMatches<'a>) -> Option<Task<'a>>
     })
 }
 
+/// The values of `decide`'s words.
+fn decide_of<'a>(options: &ArgMatches<'a>) -> Option<Task<'a>>
+    ensures some { IfSome result (Names (codes "decide") (rows_in options.now)) }
+    ensures none { IsNone result → (task : Task) → Names (codes "decide") (rows_in options.now) task → ⊥ }
+{
+    Some(Task::Decide {
+        file: text_of(options, "file")?,
+        question: u16_of(options, "question")?,
+        bit: u8_of(options, "bit")?,
+        json: flag_of(options, "json"),
+        timeout: text_of(options, "timeout"),
+    })
+}
+
 /// The values of `status`'s words.
 fn status_of<'a>(options: &ArgMatches<'a>) -> Option<Task<'a>>
     ensures some { IfSome result (Names (codes "status") (rows_in options.now)) }
@@ -704,6 +851,7 @@ fn status_of<'a>(options: &ArgMatches<'a>) -> Option<Task<'a>>
 {
     Some(Task::Status {
         address: text_of(options, "address")?,
+        all: flag_of(options, "all"),
         links: flag_of(options, "links"),
         ready: flag_of(options, "ready"),
         json: flag_of(options, "json"),
@@ -719,6 +867,7 @@ fn transcript_of<'a>(options: &ArgMatches<'a>) -> Option<Task<'a>>
     Some(Task::Transcript {
         address: text_of(options, "address")?,
         question: u16_of(options, "question")?,
+        all: flag_of(options, "all"),
         timeout: text_of(options, "timeout"),
     })
 }
@@ -728,15 +877,14 @@ fn audit_of<'a>(options: &ArgMatches<'a>) -> Option<Task<'a>>
     ensures some { IfSome result (Names (codes "audit") (rows_in options.now)) }
     ensures none { IsNone result → (task : Task) → Names (codes "audit") (rows_in options.now) task → ⊥ }
 {
-    let file = text_of(options, "file")?;
-    let n = u16_of(options, "n")?;
-    let t = u16_of(options, "t")?;
-    let questions = u16_of(options, "questions")?;
     Some(Task::Audit {
-        file,
-        n,
-        t,
-        questions,
+        file: text_of(options, "file")?,
+        question: u16_of(options, "question"),
+        all: flag_of(options, "all"),
+        n: u16_of(options, "n"),
+        t: u16_of(options, "t"),
+        questions: u16_of(options, "questions"),
+        timeout: text_of(options, "timeout"),
     })
 }
 
@@ -769,13 +917,31 @@ fn simulate_of<'a>(options: &ArgMatches<'a>) -> Option<Task<'a>>
     ensures none { IsNone result → (task : Task) → Names (codes "simulate") (rows_in options.now) task → ⊥ }
 {
     Some(Task::Simulate {
-        script: text_of(options, "script")?,
+        script: text_of(options, "script"),
         trace: text_of(options, "trace"),
         chart: text_of(options, "chart"),
         question: u16_of(options, "question"),
         member: u8_of(options, "member"),
         from: u32_of(options, "from"),
         to: u32_of(options, "to"),
+        forever: flag_of(options, "forever"),
+        seed: u32_of(options, "seed"),
+        seconds: u32_of(options, "seconds"),
+    })
+}
+
+/// The values of `rounds`'s options.
+fn rounds_of<'a>(options: &ArgMatches<'a>) -> Option<Task<'a>>
+    ensures some { IfSome result (Names (codes "rounds") (rows_in options.now)) }
+    ensures none { IsNone result → (task : Task) → Names (codes "rounds") (rows_in options.now) task → ⊥ }
+{
+    Some(Task::Rounds {
+        n: u16_of(options, "n")?,
+        t: u16_of(options, "t")?,
+        liars: u16_of(options, "liars"),
+        order: text_of(options, "order"),
+        seeds: u32_of(options, "seeds"),
+        chart: text_of(options, "chart"),
     })
 }
 
@@ -792,12 +958,14 @@ fn named_task<'a>(name: &str, options: &ArgMatches<'a>) -> Option<Task<'a>>
         "run" => run_of(options),
         "propose" => propose_of(options),
         "ask" => ask_of(options),
+        "decide" => decide_of(options),
         "status" => status_of(options),
         "transcript" => transcript_of(options),
         "audit" => audit_of(options),
         "dump" => dump_of(options),
         "migrate" => migrate_of(options),
         "simulate" => simulate_of(options),
+        "rounds" => rounds_of(options),
         _ => None,
     }
 }

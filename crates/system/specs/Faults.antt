@@ -35,6 +35,7 @@ abbrev pub fault_status : Fault → ℕ
 fault_status (ends.Argument place) = 2
 fault_status (ends.SameFile path) = 2
 fault_status ends.Timeout = 2
+fault_status ends.Words = 2
 fault_status ends.Question = 2
 fault_status ends.Member = 2
 fault_status ends.First = 2

@@ -14,3 +14,4 @@ pub mod Moments
 pub mod Logs
 pub mod Words
 pub mod Rows
+pub mod Shapes

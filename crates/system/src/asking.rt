@@ -4,6 +4,7 @@ ghost use Rattle.system.specs.Troubles.{IsNamed};
 ghost use Rattle.system.specs.declared.fault.Fault.TheVariants as ends;
 ghost use Rattle.std.specs.Prelude.{◌≡◌, IfErr};
 
+use crate::callers::{Caller, Cluster};
 use crate::clients::read_client;
 use crate::desks::{Deadline, DeskPlace, DeskSocket, REST, Talk, connect, desk_place};
 use crate::fault::Fault;
@@ -339,19 +340,19 @@ pub(crate) fn words_of(rt: &HostRuntime, words: &str) -> Result<Vec<u8>, Failure
 /// Proposes a bit to each member of the cluster of the client's settings in the file, and prints a line `member M REPLY` for each,
 /// where REPLY is `no answer` for one that doesn't answer. Each is waited for so long. The status is 0 where each reply is a good
 /// one, and 1 else.
-pub fn propose_to_all(
+pub fn propose_to_all<R: Caller>(
+    _threads: &R,
     rt: &HostRuntime,
-    path: &str,
+    cluster: &Cluster<'_>,
     question: u16,
     bit: u8,
-    timeout: Option<u32>,
 ) -> Result<u8, Failure> {
-    let client = read_client(rt, path)?;
+    let client = read_client(rt, cluster.file)?;
     let line = propose_line(rt.alloc(), question, bit).map_err(|_| Fault::Memory)?;
     let mut status = 0;
     for member in 0..client.size.n() {
         if let Some(desk) = client.desks.get(usize::from(member)) {
-            let reply = reply_of_member(rt, desk, line.as_str(), timeout)?;
+            let reply = reply_of_member(rt, desk, line.as_str(), cluster.timeout)?;
             let one = tell_of(rt.alloc(), member, &reply, &mut io::writer(rt)).map_err(
                 |fault| Fault::Talk(fault),
             )?;

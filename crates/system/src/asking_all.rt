@@ -1,6 +1,7 @@
 //! A question that is asked of all members of a cluster: begin at `ask_all`, last.
 
 use crate::asking::{deadline_of, print_reply, reply_of_member, words_of};
+use crate::callers::{Caller, Cluster};
 use crate::clients::read_client;
 use crate::desks::{Deadline, REST};
 use crate::fault::Fault;
@@ -31,8 +32,6 @@ pub struct Query {
     pub wait: bool,
     /// Set if JSON is printed.
     pub json: bool,
-    /// The most milliseconds that it may take in all, if that is told.
-    pub timeout: Option<u32>,
 }
 
 /// A member's word on the question.
@@ -184,14 +183,19 @@ impl Survey {
 /// Asks each member of the cluster of the client's settings in the file for its decision, and prints that which more than t of
 /// them told, or `UNDECIDED`. The status is 0 for a decision, and 1 else. Standard error names who told another one, or nothing.
 /// A member that answers late is asked twice, and holds nobody up for longer.
-pub fn ask_all(rt: &HostRuntime, path: &str, query: Query) -> Result<u8, Failure> {
-    let client = read_client(rt, path)?;
+pub fn ask_all<R: Caller>(
+    _threads: &R,
+    rt: &HostRuntime,
+    cluster: &Cluster<'_>,
+    query: Query,
+) -> Result<u8, Failure> {
+    let client = read_client(rt, cluster.file)?;
     let ask = ask_line(rt.alloc(), query.question).map_err(|_| Fault::Memory)?;
     let wait = await_line(rt.alloc(), query.question).map_err(|_| Fault::Memory)?;
     let in_all = if query.wait {
-        query.timeout
+        cluster.timeout
     } else {
-        Some(query.timeout.unwrap_or(IN_ALL))
+        Some(cluster.timeout.unwrap_or(IN_ALL))
     };
     let deadline = deadline_of(rt, in_all)?;
     let mut survey = Survey::new(rt.alloc(), client)?;

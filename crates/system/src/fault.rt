@@ -16,8 +16,8 @@ use thiserror::Error;
 use transcripts::AuditFault;
 
 /// Why a command ended before its work was done. The program prints the text after `bracha: ` and ends with
-/// status 2 for the faults of the words, [`Fault::Argument`], [`Fault::SameFile`], [`Fault::Timeout`], [`Fault::Question`],
-/// [`Fault::Member`], [`Fault::First`] and [`Fault::Last`], and with status 1 for the others.
+/// status 2 for the faults of the words, [`Fault::Argument`], [`Fault::SameFile`], [`Fault::Timeout`], [`Fault::Words`],
+/// [`Fault::Question`], [`Fault::Member`], [`Fault::First`] and [`Fault::Last`], and with status 1 for the others.
 /// What was printed before stays printed.
 #[derive(Debug, Drop, Error)]
 pub enum Fault {
@@ -30,6 +30,9 @@ pub enum Fault {
     /// The time that a client is to wait isn't one.
     #[error("timeout")]
     Timeout,
+    /// The words of a command name neither of its forms.
+    #[error("words")]
+    Words,
     /// The question of a chart's rows: the script hasn't got it, or no chart is wanted.
     #[error("question")]
     Question,
@@ -104,7 +107,7 @@ impl Fault {
         ensures { result ≡ fault_status self.now }
     {
         match self {
-            Fault::Argument(_) | Fault::SameFile(_) | Fault::Timeout => 2,
+            Fault::Argument(_) | Fault::SameFile(_) | Fault::Timeout | Fault::Words => 2,
             Fault::Question | Fault::Member | Fault::First | Fault::Last => 2,
             _ => 1,
         }

@@ -7,8 +7,11 @@ mod apart;
 mod arguments;
 mod asking;
 mod asking_all;
+mod callers;
+mod chance;
 mod clients;
 mod cluster;
+mod deciding;
 mod desks;
 mod doors;
 mod fault;
@@ -29,6 +32,7 @@ mod process;
 mod reading;
 mod replaced;
 mod rows;
+mod shapes;
 mod signals;
 mod status;
 mod streams;
@@ -42,8 +46,11 @@ pub use asking::{
     ask_at, await_at, links_at, propose_at, propose_to_all, status_at, transcript_at,
 };
 pub use asking_all::{Query, ask_all};
+pub use callers::{Caller, Cluster};
+pub use chance::{Measuring, measure_rounds};
 pub use cluster::{NewCluster, new_cluster};
 pub use commands::Choice;
+pub use deciding::{Motion, StateForm, audit_all, decide, status_of_all, transcript_of_all};
 pub use fault::Fault;
 pub use files::{
     audit_file, check_file, dump_file, hear_input, init_file, migrate_file, simulate_file,
@@ -53,6 +60,7 @@ pub use live::run_file;
 pub use log::{LogForm, log_form};
 pub use pages::{Page, write_page};
 pub use patience::patience_of;
+pub use shapes::{AuditWords, Audited, SimulateWords, audited_of, simulate};
 pub use signals::{is_blocked, is_called};
 pub use streams::{HeldStreams, hold_streams};
 pub use trouble::{Failure, Trouble, Whereabouts};

@@ -177,6 +177,7 @@ fn program(alloc: Global, words: &[&str]) -> Option<Fault> {
         ["File"] => Some(Fault::File),
         ["Hosts"] => Some(Fault::Hosts),
         ["Timeout"] => Some(Fault::Timeout),
+        ["Words"] => Some(Fault::Words),
         ["Question"] => Some(Fault::Question),
         ["Member"] => Some(Fault::Member),
         ["First"] => Some(Fault::First),

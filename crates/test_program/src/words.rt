@@ -63,15 +63,30 @@ fn asking(
     Some(text)
 }
 
+/// The text of a question that is to be decided.
+fn deciding(
+    alloc: Global,
+    file: &str,
+    (question, bit): (u16, u8),
+    json: bool,
+    timeout: Option<&str>,
+) -> Option<String> {
+    let mut text = format!(in alloc; "decide {file} {question} {bit}").ok()?;
+    add(&mut text, " json", json)?;
+    add_text(&mut text, " timeout ", timeout)?;
+    Some(text)
+}
+
 /// The text of a question to a member for its state.
 fn standing(
     alloc: Global,
     address: &str,
-    (links, ready): (bool, bool),
+    (all, links, ready): (bool, bool, bool),
     json: bool,
     timeout: Option<&str>,
 ) -> Option<String> {
     let mut text = format!(in alloc; "status {address}").ok()?;
+    add(&mut text, " all", all)?;
     add(&mut text, " links", links)?;
     add(&mut text, " ready", ready)?;
     add(&mut text, " json", json)?;
@@ -80,8 +95,15 @@ fn standing(
 }
 
 /// The text of a question to a member for what it heard.
-fn hearsay(alloc: Global, address: &str, question: u16, timeout: Option<&str>) -> Option<String> {
+fn hearsay(
+    alloc: Global,
+    address: &str,
+    question: u16,
+    all: bool,
+    timeout: Option<&str>,
+) -> Option<String> {
     let mut text = format!(in alloc; "transcript {address} {question}").ok()?;
+    add(&mut text, " all", all)?;
     add_text(&mut text, " timeout ", timeout)?;
     Some(text)
 }
@@ -89,18 +111,27 @@ fn hearsay(alloc: Global, address: &str, question: u16, timeout: Option<&str>) -
 /// The text of a client's other tasks: none of any that isn't one.
 fn client_text(alloc: Global, task: Task) -> Option<String> {
     match task {
+        Task::Decide {
+            file,
+            question,
+            bit,
+            json,
+            timeout,
+        } => deciding(alloc, file, (question, bit), json, timeout),
         Task::Status {
             address,
+            all,
             links,
             ready,
             json,
             timeout,
-        } => standing(alloc, address, (links, ready), json, timeout),
+        } => standing(alloc, address, (all, links, ready), json, timeout),
         Task::Transcript {
             address,
             question,
+            all,
             timeout,
-        } => hearsay(alloc, address, question, timeout),
+        } => hearsay(alloc, address, question, all, timeout),
         _ => None,
     }
 }
@@ -124,9 +155,60 @@ fn running(alloc: Global, settings: &str, stay: bool, log: &str, any_host: bool)
     Some(text)
 }
 
-/// The text of a script that is to run, with its pages.
-fn pages(alloc: Global, script: &str, trace: Option<&str>, chart: Option<&str>) -> Option<String> {
-    let mut text = format!(in alloc; "simulate {script}").ok()?;
+/// The text of an audit: none of another task.
+fn audit_text(alloc: Global, task: Task) -> Option<String> {
+    let Task::Audit {
+        file,
+        question,
+        all,
+        n,
+        t,
+        questions,
+        timeout,
+    } = task
+    else {
+        return None;
+    };
+    let mut text = format!(in alloc; "audit {file}").ok()?;
+    add_number(alloc, &mut text, " question ", question.map(u32::from))?;
+    add(&mut text, " all", all)?;
+    add_number(alloc, &mut text, " n ", n.map(u32::from))?;
+    add_number(alloc, &mut text, " t ", t.map(u32::from))?;
+    add_number(alloc, &mut text, " questions ", questions.map(u32::from))?;
+    add_text(&mut text, " timeout ", timeout)?;
+    Some(text)
+}
+
+/// The text of a measurement of rounds: none of another task.
+fn rounds_text(alloc: Global, task: Task) -> Option<String> {
+    let Task::Rounds {
+        n,
+        t,
+        liars,
+        order,
+        seeds,
+        chart,
+    } = task
+    else {
+        return None;
+    };
+    let mut text = format!(in alloc; "rounds {n} {t}").ok()?;
+    add_number(alloc, &mut text, " liars ", liars.map(u32::from))?;
+    add_text(&mut text, " order ", order)?;
+    add_number(alloc, &mut text, " seeds ", seeds)?;
+    add_text(&mut text, " chart ", chart)?;
+    Some(text)
+}
+
+/// The text of a simulation, with its script, if it has one, and its pages.
+fn pages(
+    alloc: Global,
+    script: Option<&str>,
+    trace: Option<&str>,
+    chart: Option<&str>,
+) -> Option<String> {
+    let mut text = String::from_str(alloc, "simulate").ok()?;
+    add_text(&mut text, " ", script)?;
     add_text(&mut text, " trace ", trace)?;
     add_text(&mut text, " chart ", chart)?;
     Some(text)
@@ -141,7 +223,7 @@ fn add_number(alloc: Global, text: &mut String, word: &str, number: Option<u32>)
     Some(())
 }
 
-/// The text of a script that is to run.
+/// The text of a simulation: none of another task.
 fn simulation(alloc: Global, task: Task) -> Option<String> {
     let Task::Simulate {
         script,
@@ -151,6 +233,9 @@ fn simulation(alloc: Global, task: Task) -> Option<String> {
         member,
         from,
         to,
+        forever,
+        seed,
+        seconds,
     } = task
     else {
         return None;
@@ -160,6 +245,9 @@ fn simulation(alloc: Global, task: Task) -> Option<String> {
     add_number(alloc, &mut text, " member ", member.map(u32::from))?;
     add_number(alloc, &mut text, " from ", from)?;
     add_number(alloc, &mut text, " to ", to)?;
+    add(&mut text, " forever", forever)?;
+    add_number(alloc, &mut text, " seed ", seed)?;
+    add_number(alloc, &mut text, " seconds ", seconds)?;
     Some(text)
 }
 
@@ -214,12 +302,8 @@ fn plain_text(alloc: Global, task: Task) -> Option<String> {
         } => format!(in alloc; "hear {n} {t} {questions} {me}").ok(),
         Task::Init { settings } => format!(in alloc; "init {settings}").ok(),
         Task::Check { settings, json } => checking(alloc, settings, json),
-        Task::Audit {
-            file,
-            n,
-            t,
-            questions,
-        } => format!(in alloc; "audit {file} {n} {t} {questions}").ok(),
+        Task::Audit { .. } => audit_text(alloc, task),
+        Task::Rounds { .. } => rounds_text(alloc, task),
         Task::Migrate { old, new } => format!(in alloc; "migrate {old} {new}").ok(),
         _ => None,
     }
@@ -250,7 +334,9 @@ fn task_text(alloc: Global, task: Task) -> Option<String> {
             json,
             timeout,
         } => asking(alloc, address, question, (all, wait, json), timeout),
-        Task::Status { .. } | Task::Transcript { .. } => client_text(alloc, task),
+        Task::Decide { .. } | Task::Status { .. } | Task::Transcript { .. } => {
+            client_text(alloc, task)
+        }
         Task::Simulate { .. } => simulation(alloc, task),
         Task::Dump {
             journal,

@@ -39,6 +39,18 @@ returns-in-ask-clause-some c = subst (λ (name : Text). IfSome c.ask_of.result (
 pub returns-in-ask-clause-none : goal.returns-in-ask-clause-none
 returns-in-ask-clause-none c = λ none task named. c.ask_of.ensures.none none task (subst (λ (name : Text). Names name (rows_in c.args.options.now) task) c.in-ask.is named)
 
+pub returns-in-decide-clause-some : goal.returns-in-decide-clause-some
+returns-in-decide-clause-some c = subst (λ (name : Text). IfSome c.decide_of.result (Names name (rows_in c.args.options.now))) (sym c.in-decide.is) c.decide_of.ensures.some
+
+pub returns-in-decide-clause-none : goal.returns-in-decide-clause-none
+returns-in-decide-clause-none c = λ none task named. c.decide_of.ensures.none none task (subst (λ (name : Text). Names name (rows_in c.args.options.now) task) c.in-decide.is named)
+
+pub returns-in-rounds-clause-some : goal.returns-in-rounds-clause-some
+returns-in-rounds-clause-some c = subst (λ (name : Text). IfSome c.rounds_of.result (Names name (rows_in c.args.options.now))) (sym c.in-rounds.is) c.rounds_of.ensures.some
+
+pub returns-in-rounds-clause-none : goal.returns-in-rounds-clause-none
+returns-in-rounds-clause-none c = λ none task named. c.rounds_of.ensures.none none task (subst (λ (name : Text). Names name (rows_in c.args.options.now) task) c.in-rounds.is named)
+
 pub returns-in-status-clause-some : goal.returns-in-status-clause-some
 returns-in-status-clause-some c = subst (λ (name : Text). IfSome c.status_of.result (Names name (rows_in c.args.options.now))) (sym c.in-status.is) c.status_of.ensures.some
 

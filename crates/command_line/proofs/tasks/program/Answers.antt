@@ -10,10 +10,12 @@ returns c =
     let run = c.with_command-program-4.ensures _ _ check c.run.ensures refl in
     let propose = c.with_command-program-5.ensures _ _ run c.propose.ensures refl in
     let ask = c.with_command-program-6.ensures _ _ propose c.ask.ensures refl in
-    let status = c.with_command-program-7.ensures _ _ ask c.status.ensures refl in
-    let transcript = c.with_command-program-8.ensures _ _ status c.transcript.ensures refl in
-    let audit = c.with_command-program-9.ensures _ _ transcript c.audit.ensures refl in
-    let dump = c.with_command-program-10.ensures _ _ audit c.dump.ensures refl in
-    let migrate = c.with_command-program-11.ensures _ _ dump c.migrate.ensures refl in
-    let simulate = c.with_command-program-12.ensures _ _ migrate c.simulate.ensures refl in
-    c.with_command.ensures _ _ simulate c.hear.ensures refl
+    let decide = c.with_command-program-7.ensures _ _ ask c.decide.ensures refl in
+    let status = c.with_command-program-8.ensures _ _ decide c.status.ensures refl in
+    let transcript = c.with_command-program-9.ensures _ _ status c.transcript.ensures refl in
+    let audit = c.with_command-program-10.ensures _ _ transcript c.audit.ensures refl in
+    let dump = c.with_command-program-11.ensures _ _ audit c.dump.ensures refl in
+    let migrate = c.with_command-program-12.ensures _ _ dump c.migrate.ensures refl in
+    let simulate = c.with_command-program-13.ensures _ _ migrate c.simulate.ensures refl in
+    let rounds = c.with_command-program-14.ensures _ _ simulate c.rounds.ensures refl in
+    c.with_command.ensures _ _ rounds c.hear.ensures refl

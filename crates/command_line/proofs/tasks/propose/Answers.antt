@@ -6,5 +6,5 @@ pub returns : goal.returns
 returns c =
     let desk = c.with_desk-command.ensures _ c.named.ensures in
     let bit = c.with_arg-command.ensures _ _ desk (c.of_u8.ensures ∙ ap as_u8 c.word-bit.ensures) refl in
-    let all = c.with_arg-command-2.ensures _ _ bit c.flag.ensures refl in
+    let all = c.with_arg-command-2.ensures _ _ bit c.all.ensures refl in
     c.with_timeout.ensures _ all

@@ -6,7 +6,7 @@ use Rattle.command_line.proofs.tasks.propose_of.Goals as goal
 
 pub returns : goal.returns
 returns c = record {
-  some = (search rules, search (rules, sym c.in_ok-text_of.ensures), search (rules, (c.in_ok-u16_of.ensures c.in_ok-u16_of.field-0).0 refl), search (rules, (c.in_ok-u8_of.ensures c.in_ok-u8_of.field-0).0 refl), search (rules, c.flag_of.ensures), search (rules, sym c.text_of-2.ensures));
+  some = (search rules, search (rules, sym c.in_ok-text_of.ensures), search (rules, (c.in_ok-u16_of.ensures c.in_ok-u16_of.field-0).0 refl), search (rules, (c.in_ok-u8_of.ensures c.in_ok-u8_of.field-0).0 refl), search (rules, c.flag_of-to_all.ensures), search (rules, sym c.text_of-2.ensures));
   none = λ never. let bad : true ≡ false = never in cc;
 }
 

@@ -6,9 +6,18 @@ use Rattle.command_line.proofs.tasks.status_of.Goals as goal
 
 pub returns : goal.returns
 returns c = record {
-  some = (search rules, search (rules, sym c.in_ok-text_of.ensures), search (rules, c.flag_of.ensures), search (rules, c.flag_of-2.ensures), search (rules, c.flag_of-3.ensures), search (rules, sym c.text_of-2.ensures));
+  some = (
+    search rules,
+    search (rules, sym c.in_ok-text_of.ensures),
+    search (rules, c.flag_of.ensures),
+    search (rules, c.flag_of-2.ensures),
+    search (rules, c.flag_of-3.ensures),
+    search (rules, c.flag_of-4.ensures),
+    search (rules, sym c.text_of-2.ensures),
+  );
   none = λ never. let bad : true ≡ false = never in cc;
 }
 
 pub returns-in_err-text_of-clause-none : goal.returns-in_err-text_of-clause-none
-returns-in_err-text_of-clause-none c = λ _ task named. only_status (rows_in c.args.options.now) (λ address links ready json timeout named. not_none _ (c.in_err-text_of.ensures ∙ named.1)) task named
+returns-in_err-text_of-clause-none c = λ _ task named.
+    only_status (rows_in c.args.options.now) (λ address all links ready json timeout named. not_none _ (c.in_err-text_of.ensures ∙ named.1)) task named
