@@ -16,3 +16,4 @@ pub mod Migrations
 pub mod Replies
 pub mod Objects
 pub mod Patience
+pub mod Trials
