@@ -118,7 +118,7 @@ fn bring(
             return Ok(());
         }
         deliver_to(table, *way, to, stage.in_order)?;
-        came += 1;
+        came = came.saturating_add(1);
     }
     Ok(())
 }

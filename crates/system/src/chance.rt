@@ -9,6 +9,7 @@ use std::fs::File;
 use std::io::{self, Write};
 use std::time::{Instant, SystemTime, UNIX_EPOCH};
 use terms::Size;
+use trials::Finding;
 
 /// The number of runs where the words tell none.
 const RUNS: u32 = 100;
@@ -147,7 +148,7 @@ fn write_chart(rt: &HostRuntime, path: Option<&str>, ends: &[End]) -> Result<(),
     let Some(path) = path else {
         return Ok(());
     };
-    let chart = chart_text(rt.alloc(), ends)?;
+    let chart = chart_text(rt.alloc(), ends).map_err(|error| Fault::from(error))?;
     match write_at(rt, path, chart.as_str()) {
         Ok(()) => Ok(()),
         Err(error) => Err(Failure::of_system(
@@ -162,7 +163,7 @@ fn write_chart(rt: &HostRuntime, path: Option<&str>, ends: &[End]) -> Result<(),
 
 /// Prints the table, to the standard error where the chart takes the standard output.
 fn print_table(rt: &HostRuntime, chart: Option<&str>, ends: &[End]) -> Result<u8, Failure> {
-    let table = table_text(rt.alloc(), ends)?;
+    let table = table_text(rt.alloc(), ends).map_err(|error| Fault::from(error))?;
     let printed = if takes_output(chart, None) {
         print(table.as_str(), &mut rt.stderr())
     } else {
@@ -256,13 +257,22 @@ fn say(rt: &HostRuntime, text: &str, status: u8) -> Result<u8, Failure> {
     }
 }
 
+/// Returns the script behind a comment with its number and what its run shows.
+fn report_text(
+    alloc: Global,
+    number: u64,
+    finding: Finding,
+    script: &str,
+) -> Result<String, Fault> {
+    Ok(format!(in alloc; "# script {number}: {finding}\n{script}")?)
+}
+
 /// Prints the script that shows what no run may show, behind a comment that names it. The status is 1.
 fn report(rt: &HostRuntime, tried: &Tried, number: u64) -> Result<Option<u8>, Failure> {
     let Some(finding) = tried.judgement.finding else {
         return Ok(None);
     };
-    let script = tried.script.as_str();
-    let text = format!(in rt.alloc(); "# script {number}: {finding}\n{script}")?;
+    let text = report_text(rt.alloc(), number, finding, tried.script.as_str())?;
     Ok(Some(say(rt, text.as_str(), 1)?))
 }
 

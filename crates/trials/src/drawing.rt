@@ -1,5 +1,7 @@
 //! Scripts that are drawn.
 
+ghost use Rattle.std.specs.Prelude.{◌≡◌, ◌<◌, ◌≤◌, ◌*◌};
+
 use rounds::{ChaChaTosser, Tosser};
 use std::alloc::{AllocError, Global};
 
@@ -31,16 +33,19 @@ fn draw_of(seed: u64, number: u64) -> ChaChaTosser {
     ChaChaTosser::from_seed(key, number)
 }
 
-/// Returns a number below `bound`, or 0 if that is 0.
-fn below(draw: &mut ChaChaTosser, bound: u32) -> u32 {
-    if bound == 0 {
-        return 0;
-    }
+/// Returns a number below `bound`.
+fn below(draw: &mut ChaChaTosser, bound: u32) -> u32
+    requires { 0 < bound }
+    ensures { result < bound }
+{
     (draw.toss().0 % u64::from(bound)) as u32
 }
 
 /// Returns the number of members: 1 to 10, and 11 to 22 in one script of 16.
-fn members(draw: &mut ChaChaTosser) -> u32 {
+fn members(draw: &mut ChaChaTosser) -> u32
+    ensures least { 1 ≤ result }
+    ensures most { result ≤ 22 }
+{
     if below(draw, 16) == 0 {
         11 + below(draw, 12)
     } else {
@@ -49,9 +54,14 @@ fn members(draw: &mut ChaChaTosser) -> u32 {
 }
 
 /// Returns the numbers of a cluster.
-fn drawn_cast(draw: &mut ChaChaTosser) -> Cast {
+fn drawn_cast(draw: &mut ChaChaTosser) -> Cast
+    ensures size { 3 * result.t < result.n }
+    ensures few { result.n ≤ 22 }
+    ensures liars { result.liars ≤ result.t }
+    ensures questions { (1 ≤ result.questions) × (result.questions ≤ 3) }
+{
     let n = members(draw);
-    let most = n.saturating_sub(1) / 3;
+    let most = (n - 1) / 3;
     let t = most - below(draw, most + 1) / 2;
     let liars = below(draw, t + 1);
     let questions = 1 + below(draw, 3);
@@ -79,9 +89,9 @@ fn head_text(alloc: Global, cast: Cast, seed: u64) -> Result<String, AllocError>
     Ok(text)
 }
 
-/// Adds one to four lines of drawn events, each `random` or `fair`.
+/// Adds at most three lines of drawn events, each `random` or `fair`. Without any, all members may propose one bit.
 fn add_troubles(text: &mut String, alloc: Global, draw: &mut ChaChaTosser) -> Result<(), AllocError> {
-    let lines = 1 + below(draw, 4);
+    let lines = below(draw, 4);
     for _ in 0..lines {
         let word = if below(draw, 2) == 0 { "random" } else { "fair" };
         let events = 1 + below(draw, 3_000);
@@ -130,8 +140,10 @@ fn add_settling(
     alloc: Global,
     cast: Cast,
     draw: &mut ChaChaTosser,
-) -> Result<(), AllocError> {
-    let correct = cast.n.saturating_sub(cast.liars).min(64);
+) -> Result<(), AllocError>
+    requires { cast.n ≤ 22 }
+{
+    let correct = cast.n.saturating_sub(cast.liars);
     add_repairs(text, alloc, correct)?;
     for question in 0..cast.questions {
         let bits = drawn_bits(draw);
@@ -141,7 +153,7 @@ fn add_settling(
     text.push_str(format!(in alloc; "fair {events}\n")?.as_str())
 }
 
-/// Returns the script of this number that is drawn by the seed: one to four lines of `random` and `fair` events; in three of
+/// Returns the script of this number that is drawn by the seed: up to three lines of `random` and `fair` events; in three of
 /// four scripts the lines that settle each question follow.
 pub fn drawn(alloc: Global, seed: u64, number: u64) -> Result<Trial, AllocError> {
     let mut draw = draw_of(seed, number);
