@@ -17,11 +17,14 @@ origins_of value values = origins_from 0 value values
 abbrev pub count_of : Value → List (Option Value) → ℕ
 count_of value values = count_by (λ said. value_is said value) values
 
+-- the value that lacks more to a majority among n - t values, of which Zero needs half, and One more than half
+abbrev pub rarer : Size → ℕ → ℕ → Value
+rarer size zeros ones =
+    if ltb (ones + (size.n - size.t + 1) / 2) (zeros + (size.n - size.t) / 2 + 1) then One else Zero
+
 -- the value of a liar's Initial
-abbrev pub lie : ℕ → List (Option Value) → Value
-lie step values =
-    if eqb step 3 then Unsure
-    else (if ltb (count_of One values) (count_of Zero values) then One else Zero)
+abbrev pub lie : Size → ℕ → List (Option Value) → Value
+lie size step values = if eqb step 3 then Unsure else rarer size (count_of Zero values) (count_of One values)
 
 -- in a first step: a member of an even number gets the Zeros first, any other the Ones
 abbrev pub split_order : List (Option Value) → ℕ → List ℕ

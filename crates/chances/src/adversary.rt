@@ -1,12 +1,14 @@
 //! Deliveries that an adversary chooses. It brings a step to its end before it begins the next; what it brings to whom and in
 //! which order is the rule of [`crate::strategy`].
 
+ghost use Rattle.std.specs.Prelude.{◌≤◌, length};
+
 use crate::fault::PlayFault;
 use crate::steps::{STEPS, Step};
 use crate::strategy;
 use crate::table::Table;
 use std::alloc::{AllocError, Global};
-use terms::{Kind, Size, Statement, Value};
+use terms::{Kind, MOST_MEMBERS, Size, Statement, Value};
 
 /// A step in the adversary's hands.
 #[derive(Drop)]
@@ -16,6 +18,7 @@ struct Stage<'a> {
     values: &'a [Option<Value>],
     /// Whether each link keeps its order.
     in_order: bool,
+    ghost few: { length values.now ≤ 64 },
 }
 
 /// The part of a link's queue up to a statement.
@@ -191,7 +194,8 @@ fn play_step(
     step: Step,
     in_order: bool,
 ) -> Result<(), PlayFault> {
-    let values = table.values(alloc, step)?;
+    let mut values = table.values(alloc, step)?;
+    values.truncate(usize::from(MOST_MEMBERS));
     let stage = Stage {
         step,
         values: &values,

@@ -2,8 +2,8 @@
 //!
 //! `values` are the values of the step's Initials by origin, those of correct members as they were said, `None` where none was.
 
-ghost use Rattle.std.specs.Prelude.{◌≡◌, ◌≤◌, IfOk, length};
-ghost use Rattle.terms_prelude.specs.Terms.{FitsStep, value_is};
+ghost use Rattle.std.specs.Prelude.{◌≡◌, ◌≤◌, ◌<◌, ◌^◌, IfOk, length};
+ghost use Rattle.terms_prelude.specs.Terms.{FitsStep, IsPlain, value_is};
 ghost use Rattle.chances.specs.Strategy as rule;
 
 use std::alloc::{AllocError, Global};
@@ -39,7 +39,8 @@ fn origins_of(
 
 /// Returns the number of origins of this value.
 fn count_of(values: &[Option<Value>], value: Value) -> usize
-    ensures { result ≡ rule.count_of value values.now }
+    ensures value { result ≡ rule.count_of value values.now }
+    ensures few { result ≤ length values.now }
 {
     values
         .iter()
@@ -47,20 +48,37 @@ fn count_of(values: &[Option<Value>], value: Value) -> usize
         .count()
 }
 
-/// Returns the value of a liar's Initial: Unsure in step 3; else the one that fewer said, and Zero if as many did.
-pub fn lie(step: u8, values: &[Option<Value>]) -> Value
+/// Returns the value that lacks more to a majority among n - t values, of which Zero needs half, and One more than half.
+fn rarer(size: Size, zeros: usize, ones: usize) -> Value
+    requires zeros { zeros < 2 ^ 63 }
+    requires ones { ones < 2 ^ 63 }
+    ensures value { result ≡ rule.rarer size zeros ones }
+    ensures fits { IsPlain result }
+{
+    let wait = usize::from(size.wait());
+    if ones + wait.div_ceil(2) < zeros + wait / 2 + 1 {
+        Value::One
+    } else {
+        Value::Zero
+    }
+}
+
+/// Returns the value of a liar's Initial: Unsure in step 3; else the one that lacks more to a majority, and Zero if both lack as
+/// much.
+pub fn lie(size: Size, step: u8, values: &[Option<Value>]) -> Value
     requires { (1 ≤ step) × (step ≤ 3) }
-    ensures value { result ≡ rule.lie step values.now }
+    ensures value { result ≡ rule.lie size step values.now }
     ensures fits { FitsStep step result }
 {
     if step == 3 {
         return Value::Unsure;
     }
-    if count_of(values, Value::One) < count_of(values, Value::Zero) {
-        Value::One
-    } else {
-        Value::Zero
-    }
+    let _few = values.len();
+    rarer(
+        size,
+        count_of(values, Value::Zero),
+        count_of(values, Value::One),
+    )
 }
 
 /// Returns the order for a first step: a member of an even number gets all Zeros before all Ones, the others the reverse. So

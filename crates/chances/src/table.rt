@@ -118,7 +118,7 @@ impl Table {
     pub fn values(&self, alloc: Global, step: Step) -> Result<Vec<Option<Value>>, AllocError> {
         let mut values = self.said(alloc, step)?;
         for _ in self.correct()..self.size.n() {
-            let lie = strategy::lie(step.step(), &values);
+            let lie = strategy::lie(self.size, step.step(), &values);
             values.push(Some(lie))?;
         }
         Ok(values)
