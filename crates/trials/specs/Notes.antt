@@ -1,6 +1,6 @@
 -- What the judge reads of a trace.
-use Rattle.std.specs.Prelude.{ℕ, zero, suc, ◌==◌, ◌||◌, ◌&&◌, Bool, true, false, if◌then◌else◌, Option, Some, None, List, [], ◌∷◌, slice_get, unwrap_or, codes}
-use Rattle.std.specs.List.{slice_split, flat_map, filter, cons_option}
+use Rattle.std.specs.Prelude.{ℕ, ◌==◌, ◌||◌, ◌&&◌, Bool, true, false, if◌then◌else◌, Option, Some, None, List, [], ◌∷◌, ◌++◌, slice_get, unwrap_or, codes}
+use Rattle.std.specs.List.{slice_split, flat_map, filter}
 use Rattle.std.specs.Str.{bytes_eq}
 
 -- a proposal or a decision, as the words of the trace
@@ -53,10 +53,15 @@ note_at member words =
     then Some (record { is_decision = false; member = word_at words 2; question = word_at words 1; bit = word_at words 5 })
     else None)
 
+-- the note, if there is one
+abbrev pub one_of : Option NoteFields → List NoteFields
+one_of (Some note) = note ∷ []
+one_of None = []
+
 -- the notes in these words of a line about this member
 abbrev pub notes_in : List ℕ → List (List ℕ) → List NoteFields
 notes_in member [] = []
-notes_in member (word ∷ words) = cons_option (note_at member (word ∷ words)) (notes_in member words)
+notes_in member (word ∷ words) = one_of (note_at member (word ∷ words)) ++ notes_in member words
 
 -- the notes of a line
 abbrev pub line_notes : List ℕ → List NoteFields

@@ -1,6 +1,7 @@
 //! The judge.
 
-ghost use Rattle.std.specs.Prelude.{◌≡◌, ◌&&◌, IfOk};
+ghost use Rattle.std.specs.Prelude.{◌≡◌, ◌&&◌, ltb, IfOk};
+ghost use Rattle.std.specs.List.{list_any, count_by};
 ghost use Rattle.std.specs.Str.{bytes_eq};
 ghost use Rattle.trials.specs.Notes.{notes_of};
 ghost use Rattle.trials.specs.Judging as spec;
@@ -76,17 +77,38 @@ fn is_behind(decision: &Note<'_>, other: &Note<'_>) -> bool
         && is_bit(decision.bit(), other.bit())
 }
 
+/// Returns `true` if one of these notes is against the decision.
+fn is_contradicted(notes: &[Note<'_>], note: &Note<'_>) -> bool
+    ensures { result ≡ list_any (spec.is_against note.now) notes.now }
+{
+    notes.iter().any(|other| is_against(note, other))
+}
+
+/// Returns `true` if the decision is there more than once.
+fn is_repeated(notes: &[Note<'_>], note: &Note<'_>) -> bool
+    ensures { result ≡ ltb 1 (count_by (spec.is_again note.now) notes.now) }
+{
+    notes.iter().filter(|other| is_again(note, *other)).count() > 1
+}
+
+/// Returns `true` if the bit of the decision was proposed.
+fn is_proposed(notes: &[Note<'_>], note: &Note<'_>) -> bool
+    ensures { result ≡ list_any (spec.is_behind note.now) notes.now }
+{
+    notes.iter().any(|other| is_behind(note, other))
+}
+
 /// Returns what is wrong with a decision among these notes.
 fn decision_fault(notes: &[Note<'_>], note: &Note<'_>) -> Option<Finding>
     ensures { result ≡ spec.decision_fault notes.now note.now }
 {
-    if notes.iter().any(|other| is_against(note, other)) {
+    if is_contradicted(notes, note) {
         return Some(Finding::TwoBits);
     }
-    if notes.iter().filter(|other| is_again(note, *other)).count() > 1 {
+    if is_repeated(notes, note) {
         return Some(Finding::SecondDecision);
     }
-    if notes.iter().any(|other| is_behind(note, other)) {
+    if is_proposed(notes, note) {
         return None;
     }
     Some(Finding::Unproposed)

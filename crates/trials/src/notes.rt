@@ -1,7 +1,7 @@
 //! What the judge reads of a trace: proposals and decisions, as the texts that stand there.
 
-ghost use Rattle.std.specs.Prelude.{◌≡◌, ◌==◌, ◌++◌, ◌∷◌, [], option_map, IfOk, OnOk};
-ghost use Rattle.std.specs.List.{slice_split};
+ghost use Rattle.std.specs.Prelude.{◌≡◌, ◌≤◌, ◌==◌, ◌++◌, drop, length, IfOk, OnOk};
+ghost use Rattle.std.specs.List.{filter, flat_map, slice_split};
 ghost use Rattle.std.specs.Str.{bytes_eq};
 ghost use Rattle.numerals.specs.Sentences.{texts};
 ghost use Rattle.trials.specs.Notes as spec;
@@ -79,17 +79,31 @@ fn pieces(alloc: Global, line: &[u8]) -> Result<Vec<&[u8]>, AllocError>
     line.split(|byte| is_mark(*byte)).collect(alloc)
 }
 
-/// Returns the words of a line.
-fn words(alloc: Global, line: &[u8]) -> Result<Vec<&[u8]>, AllocError>
-    ensures { IfOk result (λ words. texts words.items ≡ spec.words_of line.now) }
+/// Returns `true` if the word is no empty text.
+fn is_some(word: &[u8]) -> bool
+    ensures { result ≡ spec.is_some word.now }
+{
+    !word.is_empty()
+}
+
+/// Returns those of the pieces that aren't empty.
+fn words_among<'a>(alloc: Global, pieces: &[&'a [u8]]) -> Result<Vec<&'a [u8]>, AllocError>
+    ensures { IfOk result (λ words. texts words.items ≡ filter spec.is_some (texts pieces.now)) }
 {
     let mut words = Vec::new(alloc);
-    for piece in &pieces(alloc, line)? {
-        if !piece.is_empty() {
+    for piece in pieces {
+        if is_some(piece) {
             words.push(*piece)?;
         }
     }
     Ok(words)
+}
+
+/// Returns the words of a line.
+fn words(alloc: Global, line: &[u8]) -> Result<Vec<&[u8]>, AllocError>
+    ensures { IfOk result (λ words. texts words.items ≡ spec.words_of line.now) }
+{
+    words_among(alloc, &pieces(alloc, line)?)
 }
 
 /// Returns the word of that place, or an empty one.
@@ -159,6 +173,24 @@ fn note_at<'a>(member: &'a [u8], words: &[&'a [u8]]) -> Option<Note<'a>>
     None
 }
 
+/// Returns the words from this place on.
+fn behind<'a, 'b>(words: &'b [&'a [u8]], place: usize) -> &'b [&'a [u8]]
+    requires { place ≤ length words.now }
+    ensures { result.now ≡ drop place words.now }
+{
+    &words[place..]
+}
+
+/// Adds the note, if there is one.
+fn add_note<'a>(notes: &mut Vec<Note<'a>>, note: Option<Note<'a>>) -> Result<(), AllocError>
+    ensures { OnOk result (notes.new.items ≡ notes.old.items ++ spec.one_of note) }
+{
+    if let Some(note) = note {
+        notes.push(note)?;
+    }
+    Ok(())
+}
+
 /// Adds the notes of these words of a line about this member.
 fn add_notes_in<'a>(
     notes: &mut Vec<Note<'a>>,
@@ -168,9 +200,7 @@ fn add_notes_in<'a>(
     ensures { OnOk result (notes.new.items ≡ notes.old.items ++ spec.notes_in member.now (texts words.now)) }
 {
     for place in 0..words.len() {
-        if let Some(note) = note_at(member, &words[place..]) {
-            notes.push(note)?;
-        }
+        add_note(notes, note_at(member, behind(words, place)))?;
     }
     Ok(())
 }
@@ -190,13 +220,20 @@ fn lines(alloc: Global, text: &[u8]) -> Result<Vec<&[u8]>, AllocError>
     text.split(|byte| *byte == b'\n').collect(alloc)
 }
 
+/// Returns the notes of these lines, in order.
+fn notes_among<'a>(alloc: Global, lines: &[&'a [u8]]) -> Result<Vec<Note<'a>>, AllocError>
+    ensures { IfOk result (λ notes. notes.items ≡ flat_map spec.line_notes (texts lines.now)) }
+{
+    let mut notes = Vec::new(alloc);
+    for line in lines {
+        add_notes(alloc, &mut notes, line)?;
+    }
+    Ok(notes)
+}
+
 /// Returns the notes of a trace, in order.
 pub fn notes(alloc: Global, trace: &[u8]) -> Result<Vec<Note<'_>>, AllocError>
     ensures { IfOk result (λ notes. notes.items ≡ spec.notes_of trace.now) }
 {
-    let mut notes = Vec::new(alloc);
-    for line in &lines(alloc, trace)? {
-        add_notes(alloc, &mut notes, line)?;
-    }
-    Ok(notes)
+    notes_among(alloc, &lines(alloc, trace)?)
 }
