@@ -137,12 +137,7 @@ fn audit<R: Caller>(
 }
 
 /// Does the task, and gives the status to end with.
-fn work<R: Caller>(
-    rt: &R,
-    host: &HostRuntime,
-    task: Task,
-    quiet: bool,
-) -> Result<u8, Failure> {
+fn work<R: Caller>(rt: &R, host: &HostRuntime, task: Task, quiet: bool) -> Result<u8, Failure> {
     match task {
         Task::Hear {
             n,

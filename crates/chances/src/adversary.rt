@@ -62,7 +62,12 @@ fn deliver_to(table: &mut Table, way: Way, to: u8, in_order: bool) -> Result<(),
 }
 
 /// Returns the ways of the statement to the receiver, the shortest first.
-fn ways(table: &Table, alloc: Global, statement: &Statement, to: u8) -> Result<Vec<Way>, AllocError> {
+fn ways(
+    table: &Table,
+    alloc: Global,
+    statement: &Statement,
+    to: u8,
+) -> Result<Vec<Way>, AllocError> {
     let mut ways = Vec::new(alloc);
     for from in 0..table.correct() {
         let queue = table.links().queue(from, to);

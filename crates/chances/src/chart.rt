@@ -8,7 +8,8 @@ use std::alloc::{AllocError, Global};
 use terms::LAST_ROUND;
 
 /// The head of the picture: its size, its axes and their words.
-const HEAD: &str = "<svg xmlns=\"http://www.w3.org/2000/svg\" viewBox=\"0 0 720 280\" font-family=\"sans-serif\" font-size=\"12\">\n<rect width=\"720\" height=\"280\" fill=\"white\"/>\n<text x=\"40\" y=\"18\">Share of questions that are open after each round</text>\n<path d=\"M40 30V230H700\" fill=\"none\" stroke=\"black\"/>\n<text x=\"34\" y=\"36\" text-anchor=\"end\">1</text>\n<text x=\"34\" y=\"234\" text-anchor=\"end\">0</text>\n<text x=\"370\" y=\"268\" text-anchor=\"middle\">round</text>\n";
+const HEAD: &str =
+    "<svg xmlns=\"http://www.w3.org/2000/svg\" viewBox=\"0 0 720 280\" font-family=\"sans-serif\" font-size=\"12\">\n<rect width=\"720\" height=\"280\" fill=\"white\"/>\n<text x=\"40\" y=\"18\">Share of questions that are open after each round</text>\n<path d=\"M40 30V230H700\" fill=\"none\" stroke=\"black\"/>\n<text x=\"34\" y=\"36\" text-anchor=\"end\">1</text>\n<text x=\"34\" y=\"234\" text-anchor=\"end\">0</text>\n<text x=\"370\" y=\"268\" text-anchor=\"middle\">round</text>\n";
 
 /// The end of the picture.
 const FOOT: &str = "</svg>\n";

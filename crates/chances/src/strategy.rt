@@ -20,11 +20,7 @@ fn is_value(said: Option<Value>, value: Value) -> bool
 }
 
 /// Returns the origins of this value, ascending.
-fn origins_of(
-    alloc: Global,
-    values: &[Option<Value>],
-    value: Value,
-) -> Result<Vec<u8>, AllocError>
+fn origins_of(alloc: Global, values: &[Option<Value>], value: Value) -> Result<Vec<u8>, AllocError>
     requires { length values.now ≤ 64 }
     ensures { IfOk result (λ origins. origins.items ≡ rule.origins_of value values.now) }
 {
@@ -42,10 +38,7 @@ fn count_of(values: &[Option<Value>], value: Value) -> usize
     ensures value { result ≡ rule.count_of value values.now }
     ensures few { result ≤ length values.now }
 {
-    values
-        .iter()
-        .filter(|said| is_value(**said, value))
-        .count()
+    values.iter().filter(|said| is_value(**said, value)).count()
 }
 
 /// Returns the value that lacks more to a majority among n - t values, of which Zero needs half, and One more than half.
@@ -83,11 +76,7 @@ pub fn lie(size: Size, step: u8, values: &[Option<Value>]) -> Value
 
 /// Returns the order for a first step: a member of an even number gets all Zeros before all Ones, the others the reverse. So
 /// half of the members count more Zeros, and half more Ones.
-fn split_order(
-    alloc: Global,
-    values: &[Option<Value>],
-    receiver: u8,
-) -> Result<Vec<u8>, AllocError>
+fn split_order(alloc: Global, values: &[Option<Value>], receiver: u8) -> Result<Vec<u8>, AllocError>
     requires { length values.now ≤ 64 }
     ensures { IfOk result (λ order. order.items ≡ rule.split_order values.now receiver) }
 {
@@ -124,11 +113,7 @@ fn balanced(size: Size, zeros: usize, ones: usize) -> Balance
 
 /// Returns the order for a second step, the same for all: as many Zeros and Ones first as leave neither more than half of all
 /// members, then the rest.
-fn even_order(
-    alloc: Global,
-    size: Size,
-    values: &[Option<Value>],
-) -> Result<Vec<u8>, AllocError>
+fn even_order(alloc: Global, size: Size, values: &[Option<Value>]) -> Result<Vec<u8>, AllocError>
     requires { length values.now ≤ 64 }
     ensures { IfOk result (λ order. order.items ≡ rule.even_order size values.now) }
 {

@@ -16,6 +16,7 @@ const RUNS: u32 = 100;
 
 /// The seconds before the first line of progress, and those between two of them.
 const FIRST: u64 = 1;
+
 const BETWEEN: u64 = 10;
 
 /// The forms of `rounds`.
@@ -184,11 +185,7 @@ fn print_table(rt: &HostRuntime, chart: Option<&str>, ends: &[End]) -> Result<u8
 /// - [`Fault::Chart`] if the chart can't be written: nothing is printed;
 /// - [`Fault::Simulate`] if the table can't be printed;
 /// - [`Fault::Memory`] if an allocation failed.
-pub fn measure_rounds(
-    rt: &HostRuntime,
-    asked: &Measuring<'_>,
-    quiet: bool,
-) -> Result<u8, Failure> {
+pub fn measure_rounds(rt: &HostRuntime, asked: &Measuring<'_>, quiet: bool) -> Result<u8, Failure> {
     let Some((setting, runs)) = setting_of(asked) else {
         let words = Whereabouts::Whole;
         return Err(Failure::at(rt.alloc(), Fault::Words, "rounds", words, &ROUNDS));
@@ -212,7 +209,9 @@ impl Totals {
         Totals {
             scripts: self.scripts.saturating_add(1),
             events: self.events.saturating_add(tried.events as u64),
-            decisions: self.decisions.saturating_add(tried.judgement.decisions as u64),
+            decisions: self
+                .decisions
+                .saturating_add(tried.judgement.decisions as u64),
         }
     }
 
@@ -223,7 +222,9 @@ impl Totals {
             events,
             decisions,
         } = self;
-        Ok(format!(in alloc; "seed {seed} scripts {scripts} events {events} decisions {decisions}\n")?)
+        Ok(format!(in alloc;
+            "seed {seed} scripts {scripts} events {events} decisions {decisions}\n"
+        )?)
     }
 }
 

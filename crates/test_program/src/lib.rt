@@ -7,6 +7,7 @@ pub mod faults;
 mod jobs;
 pub mod processes;
 mod texts;
+pub mod trials;
 pub mod words;
 mod works;
 

@@ -3,7 +3,7 @@
 use std::alloc::Global;
 use std::sync::Wait;
 use test_network::{Desk, Logs, Sessions};
-use test_program::{Document, Job, Played, Texts, faults, processes, words};
+use test_program::{Document, Job, Played, Texts, faults, processes, trials, words};
 use test_rules::{Audit, Ballots, Casts, Cores, Questions, Stream, numbers};
 use test_storage::{Disks, File, Life, Migration};
 
@@ -30,6 +30,7 @@ pub enum Player {
     Questions(Questions),
     Sessions(Sessions),
     Texts(Texts),
+    Trials(Global),
     Words(Global),
     /// There is no such player.
     Nobody,
@@ -59,6 +60,7 @@ impl Player {
             "questions" => Player::Questions(Questions::new(alloc)),
             "sessions" => Player::Sessions(Sessions::new(alloc)),
             "scripts" => Player::Texts(Texts::new(alloc)),
+            "trials" => Player::Trials(alloc),
             "words" => Player::Words(alloc),
             _ => Player::Nobody,
         }
@@ -87,6 +89,7 @@ impl Player {
             Player::Questions(questions) => questions.told(action),
             Player::Sessions(sessions) => sessions.told(rt, action),
             Player::Texts(texts) => texts.told(action),
+            Player::Trials(alloc) => trials::told(*alloc, action),
             Player::Words(alloc) => words::told(*alloc, action),
             Player::Nobody => None,
         }

@@ -27,8 +27,8 @@ struct Cast {
 fn draw_of(seed: u64, number: u64) -> ChaChaTosser {
     let s = seed.to_be_bytes();
     let key = [
-        s[0], s[1], s[2], s[3], s[4], s[5], s[6], s[7], 0, 0, 0, 0, 0, 0, 0, 0, 0, 0, 0, 0, 0, 0, 0,
-        0, 0, 0, 0, 0, 0, 0, 0, 0,
+        s[0], s[1], s[2], s[3], s[4], s[5], s[6], s[7], 0, 0, 0, 0, 0, 0, 0, 0, 0, 0, 0, 0, 0, 0,
+        0, 0, 0, 0, 0, 0, 0, 0, 0, 0,
     ];
     ChaChaTosser::from_seed(key, number)
 }
@@ -90,10 +90,18 @@ fn head_text(alloc: Global, cast: Cast, seed: u64) -> Result<String, AllocError>
 }
 
 /// Adds at most three lines of drawn events, each `random` or `fair`. Without any, all members may propose one bit.
-fn add_troubles(text: &mut String, alloc: Global, draw: &mut ChaChaTosser) -> Result<(), AllocError> {
+fn add_troubles(
+    text: &mut String,
+    alloc: Global,
+    draw: &mut ChaChaTosser,
+) -> Result<(), AllocError> {
     let lines = below(draw, 4);
     for _ in 0..lines {
-        let word = if below(draw, 2) == 0 { "random" } else { "fair" };
+        let word = if below(draw, 2) == 0 {
+            "random"
+        } else {
+            "fair"
+        };
         let events = 1 + below(draw, 3_000);
         text.push_str(format!(in alloc; "{word} {events}\n")?.as_str())?;
     }

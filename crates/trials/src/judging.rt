@@ -54,9 +54,7 @@ fn is_bit(decided: &[u8], proposed: &[u8]) -> bool
 fn is_against(decision: &Note<'_>, other: &Note<'_>) -> bool
     ensures { result ≡ spec.is_against decision.now other.now }
 {
-    other.is_decision()
-        && other.question() == decision.question()
-        && other.bit() != decision.bit()
+    other.is_decision() && other.question() == decision.question() && other.bit() != decision.bit()
 }
 
 /// Returns `true` if the other is a decision of the same member on the same question.
@@ -130,8 +128,9 @@ fn first_fault(notes: &[Note<'_>]) -> Option<Finding>
     ensures { result ≡ spec.first_fault notes.now notes.now }
 {
     for note in notes {
-        if let Some(finding) = fault_of(notes, note) {
-            return Some(finding);
+        match fault_of(notes, note) {
+            Some(finding) => return Some(finding),
+            None => {}
         }
     }
     None

@@ -183,7 +183,7 @@ fn behind<'a, 'b>(words: &'b [&'a [u8]], place: usize) -> &'b [&'a [u8]]
 
 /// Adds the note, if there is one.
 fn add_note<'a>(notes: &mut Vec<Note<'a>>, note: Option<Note<'a>>) -> Result<(), AllocError>
-    ensures { OnOk result (notes.new.items ≡ notes.old.items ++ spec.one_of note) }
+    ensures { OnOk result (notes.new.items ≡ notes.old.items ++ spec.one_of note.entry) }
 {
     if let Some(note) = note {
         notes.push(note)?;
