@@ -16,7 +16,7 @@ struct Stage<'a> {
     step: Step,
     /// The values of its Initials, by member.
     values: &'a [Option<Value>],
-    /// Whether each link keeps its order.
+    /// `true` if each link keeps its order.
     in_order: bool,
     ghost few: { length values.now ≤ 64 },
 }

@@ -1,4 +1,4 @@
-//! How questions end.
+//! The ends of questions.
 
 ghost use Rattle.std.specs.Prelude.{◌≡◌};
 ghost use Rattle.std.specs.List.{list_any};

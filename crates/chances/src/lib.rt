@@ -1,4 +1,4 @@
-//! How many rounds a question takes: plays one question among members in memory, in an order of deliveries that is drawn or
+//! The rounds that a question takes: plays one question among members in memory, in an order of deliveries that is drawn or
 //! that an adversary chooses, and counts the rounds in which questions were decided.
 //!
 //! Each correct member is a [`questions::Core`]; there is no disk and no frame. What a member says stands in a queue for each

@@ -1,4 +1,4 @@
-//! What `bracha rounds` prints.
+//! The table that `bracha rounds` prints.
 
 ghost use Rattle.std.specs.Prelude.{◌≡◌, IfOk, string_bytes};
 ghost use Rattle.chances.specs.Lines.{count_of, last_round, round_of, round_line, round_lines, is_open_behind, open_behind, sum_lines, table_text};

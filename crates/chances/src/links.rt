@@ -1,4 +1,4 @@
-//! What was said and isn't delivered yet.
+//! Statements that were said and aren't delivered yet.
 
 ghost use Rattle.std.specs.Prelude.{ℕ, ◌≡◌, ◌≢◌, ◌≤◌, ◌⊎◌, ◌↔◌, IfSome, IsNone, length};
 ghost use Rattle.chances.specs.Links.{queue_of, queue_to, TakesOut};

@@ -195,7 +195,7 @@ pub fn measure_rounds(rt: &HostRuntime, asked: &Measuring<'_>, quiet: bool) -> R
     print_table(rt, asked.chart, &ends)
 }
 
-/// What was played so far.
+/// The counts of what was played so far.
 #[derive(Clone, Copy)]
 struct Totals {
     scripts: u64,

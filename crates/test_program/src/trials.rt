@@ -136,7 +136,7 @@ fn verdict_of(word: &str) -> Option<Option<(u8, bool)>> {
     Some(Some((round.parse().ok()?, bit == "1")))
 }
 
-/// How a question ends.
+/// The end of a question.
 fn ended(alloc: Global, words: &[&str]) -> Option<String> {
     let mut verdicts = Vec::new(alloc);
     for word in words {

@@ -10,7 +10,7 @@ use crate::notes::{Note, is_word, notes};
 use std::alloc::{AllocError, Global};
 use thiserror::Error;
 
-/// What no run may show.
+/// A thing that no run may show.
 #[derive(Clone, Copy, Debug, PartialEq, Eq, Error)]
 pub enum Finding {
     /// Members decided both bits on one question.
@@ -27,7 +27,7 @@ pub enum Finding {
     Undecided,
 }
 
-/// What the judge says of a run.
+/// The judgement of a run.
 #[derive(Clone, Copy, Debug, PartialEq, Eq)]
 pub struct Judgement {
     /// The number of decisions.

@@ -1,4 +1,4 @@
-//! What the judge reads of a trace: proposals and decisions, as the texts that stand there.
+//! Notes that the judge reads off a trace: proposals and decisions, as the texts that stand there.
 
 ghost use Rattle.std.specs.Prelude.{◌≡◌, ◌≤◌, ◌==◌, ◌++◌, drop, length, IfOk, OnOk};
 ghost use Rattle.std.specs.List.{filter, flat_map, slice_split};
@@ -12,7 +12,7 @@ use std::marker::Model;
 /// A proposal or a decision, with the words of the trace.
 #[derive(Drop)]
 pub struct Note<'a> {
-    /// Whether it is a decision.
+    /// `true` for a decision, `false` for a proposal.
     is_decision: bool,
     member: &'a [u8],
     question: &'a [u8],

@@ -1,4 +1,5 @@
-use Rattle.std.proofs.Common.{rules, ◌≡◌, ◌+◌, ◌++◌, ◌∙◌, sym, ap, drop, List, append_assoc}
+use Rattle.std.proofs.Common.{rules, ◌≡◌, ◌+◌, ◌++◌, ◌∙◌, sym, ap, drop, List}
+use Rattle.std.proofs.lemmas.List.{append_assoc}
 use Rattle.numerals.specs.Sentences.{texts}
 use Rattle.trials.specs.Notes.{NoteFields, one_of, note_at, notes_in}
 use Rattle.trials.proofs.Noting.{one_more}
