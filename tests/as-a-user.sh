@@ -145,6 +145,12 @@ for bit in 1 0; do
     says "not $bit" 0 "${all//OK/HAVE $bit}" "$program" propose --all ./client.toml "$question" $((1 - bit))
 done
 says 'no bit' 1 'ERR 3 bit' "$program" propose 127.0.0.1:7110 7 2
+says 'a decision of all' 0 'DECIDED 1' "$program" decide --all client.toml 11 1
+says 'the same decision' 0 '{"decided":1}' "$program" decide --all --json client.toml 11 0
+says 'no bit to decide' 2 $'bracha: words\nV: must be 0 or 1' "$program" decide --all client.toml 11 2
+says 'proof of all' 0 yes bash -c '"$0" audit --all client.toml 11 2>/dev/null' "$program"
+says 'proof of one' 0 yes bash -c '"$0" transcript --all client.toml 11 2>/dev/null >decision.txt; "$0" audit decision.txt --n 4 --t 1 --questions 64' "$program"
+says 'all are ready' 0 4 bash -c '"$0" status --all --ready client.toml >all.txt && grep -c "^member [0-3] LINKS 4 4 4 3" all.txt' "$program"
 says "a member's settings" 1 $'bracha: settings desks\nmember-1.toml: is a member\'s settings; --all wants the client.toml that new-cluster wrote' \
     "$program" propose --all member-1.toml 7 1
 says 'no time' 2 $'bracha: timeout\n5x: --timeout wants seconds from 0 to 65535, as 5, 0.5 or 5s' "$program" status --timeout 5x 127.0.0.1:7110

@@ -3,7 +3,7 @@
 
 Looks at the edges of the built program for what a user would suffer from and no contract says: how long a client waits, which
 statuses commands end with, whose links a member takes, what it opens and says more often than it should, what a command leaves
-behind. PROGRAM is crates/bracha/out/bracha unless another is named. It takes the ports 27700 to 28019 and half a minute, with
+behind. PROGRAM is crates/bracha/out/bracha unless another is named. It takes the ports 27700 to 28199 and a minute, with
 all checks side by side. Prints what is wrong, and in its last line `N passed, M failed`; the status is 1 where M isn't 0.
 """
 import concurrent.futures
@@ -163,10 +163,10 @@ def clients_give_up(folder, port):
                 ["status", "--ready", "--timeout", "1", desk], ["transcript", "--timeout", "1", desk, "0"])]
         result = [wrong for it in found for wrong in it.result()]
         begun = time.monotonic()
-        path = client_file(folder, [port, port, port])
+        path = client_file(folder, [port, port + 1, port + 2])
         said, status = say(["--quiet", "propose", "--all", "--timeout", "1", path, "0", "1"], folder)
         took = time.monotonic() - begun
-        result += differs("propose --all", (status, took < 5, said.count("no answer")), (1, True, 3))
+        result += differs("propose --all", (status, took < 3, said.count("no answer")), (1, True, 3))
     for it in (full, *fillers):
         it.close()
     return result
@@ -540,56 +540,270 @@ def who_follows_misses_nothing(folder, port):
         return found + differs("an empty line", "" in lines, True)
 
 
+def answer(reply):
+    """A desk that answers each line with this reply."""
+    return lambda link: [link.sendall(reply) for _ in link.makefile("rb")]
+
+
+# Desks that a client must not wait for, or believe; the port of the one that is down has no listener.
+FAULTY = {"lies": answer(b"DECIDED 0\n"),
+          "is silent": lambda link: time.sleep(20),
+          "drips": lambda link: [(link.sendall(b"D"), time.sleep(0.1)) for _ in range(200)],
+          "talks": answer(b"HELLO\n"),
+          "hangs up": lambda link: link.close(),
+          "is down": None}
+
+
+@contextlib.contextmanager
+def desks_with(port, good):
+    """Three desks that do so, at the first three ports, and one of each fault: the ports of all four, for a fault and its place."""
+    with contextlib.ExitStack() as stack:
+        for number in range(3):
+            stack.enter_context(serving(port + number, good))
+        for number, does in enumerate(FAULTY.values()):
+            if does:
+                stack.enter_context(serving(port + 3 + number, does))
+
+        def ports(fault, place):
+            found = [port, port + 1, port + 2]
+            found.insert(place, port + 3 + list(FAULTY).index(fault))
+            return found
+
+        yield ports
+
+
+def cluster_file(folder, name, ports, t=1):
+    path = f"{folder}/{name.replace(' ', '-')}.toml"
+    desks = ", ".join(f'"127.0.0.1:{it}"' for it in ports)
+    with open(path, "w", encoding="ascii") as file:
+        file.write(f"cluster = 7\nn = {len(ports)}\nt = {t}\nquestions = 64\ndesks = [{desks}]\n")
+    return path
+
+
+def timed(words, folder):
+    begun = time.monotonic()
+    said, status = say(words, folder)
+    return said, status, time.monotonic() - begun
+
+
+def beside_faults(folder, ports, words, should, within):
+    """What is wrong with a command over four members of which one has each fault at each place. `should` gives what it prints."""
+    found = []
+    with concurrent.futures.ThreadPoolExecutor(24) as pool:
+        asked = {(fault, place): pool.submit(timed, [words[0], "--all", *words[1:-1], cluster_file(folder, f"{words[0]}-{fault}-{place}", ports(fault, place)),
+                                                     *words[-1]], folder)
+                 for fault in FAULTY for place in range(4)}
+        for (fault, place), it in asked.items():
+            said, status, took = it.result()
+            found += differs(f"{words[0]}: member {place} {fault}", (said, status, took < within), (*should(fault, place), True))
+    return found
+
+
 @check
 def a_client_believes_more_than_t(folder, port):
-    """`ask --all` prints what more than t members tell, whichever of them lies, is silent, is slow or is down; and says who does."""
-    lies = {"lies": lambda link: [link.sendall(b"DECIDED 0\n") for _ in link.makefile("rb")],
-            "is silent": lambda link: time.sleep(20),
-            "drips": lambda link: [(link.sendall(b"D"), time.sleep(0.1)) for _ in range(200)],
-            "talks": lambda link: [link.sendall(b"HELLO\n") for _ in link.makefile("rb")]}
-    words = {"lies": "bracha: member {} says 0\n", "is silent": "bracha: member {} doesn't answer\n",
-             "drips": "bracha: member {} doesn't answer\n", "talks": "bracha: member {} doesn't answer\n",
-             "is down": "bracha: member {} doesn't answer\n"}
-
-    def answer(reply):
-        return lambda link: [link.sendall(reply) for _ in link.makefile("rb")]
-
-    def ask(ports, name, *options):
-        path = f"{folder}/{name}.toml"
-        with open(path, "w", encoding="ascii") as file:
-            desks = ", ".join(f'"127.0.0.1:{it}"' for it in ports)
-            file.write(f"cluster = 7\nn = 4\nt = 1\nquestions = 64\ndesks = [{desks}]\n")
-        begun = time.monotonic()
-        said, status = say(["ask", "--all", *options, path, "5"], folder)
-        return said, status, time.monotonic() - begun
-
+    """`ask --all` prints what more than t members tell, whichever of them lies, is silent, is slow or is down, before it says who
+    does; and waits neither for them nor for its time."""
+    words = {fault: "bracha: member {} doesn't answer\n" for fault in FAULTY} | {"lies": "bracha: member {} says 0\n"}
     found = []
-    with contextlib.ExitStack() as stack:
-        stack.enter_context(serving(port, answer(b"DECIDED 1\n")))
-        stack.enter_context(serving(port + 1, answer(b"UNDECIDED\n")))
-        for number, does in enumerate(lies):
-            stack.enter_context(serving(port + 2 + number, lies[does]))
-        faults = {does: port + 2 + number for number, does in enumerate(lies)} | {"is down": port + 9}
+    with desks_with(port, answer(b"DECIDED 1\n")) as ports, serving(port + 10, answer(b"UNDECIDED\n")), serving(port + 11, answer(b"UNDECIDED\n")), \
+            serving(port + 12, answer(b"STOPPED\n")), serving(port + 13, answer(b"UNDECIDED\n")), concurrent.futures.ThreadPoolExecutor(8) as pool:
+        should = lambda fault, place: ("DECIDED 1\n" + words[fault].format(place), 0)
+        found += beside_faults(folder, ports, ["ask", ["5"]], should, 3)
+        # One tells another decision than two who tell one, or is the only one to tell any.
+        liar = port + 3
+        alone = pool.submit(timed, ["ask", "--all", cluster_file(folder, "alone", [port + 10, port, port + 11, port + 13]), "5"], folder)
+        split = pool.submit(timed, ["ask", "--all", cluster_file(folder, "split", [port, liar, port + 10, port + 11]), "5"], folder)
+        stopped = pool.submit(timed, ["ask", "--all", cluster_file(folder, "stopped", [port + 12, port, port + 1, port + 2]), "5"], folder)
+        silent = pool.submit(timed, ["ask", "--all", cluster_file(folder, "silent", [port + 4, port + 10, port + 11, port + 13]), "5"], folder)
+        waits = pool.submit(timed, ["ask", "--all", "--wait", "--timeout", "3", cluster_file(folder, "waits", [port + 10, port, port + 11, port + 13]), "5"], folder)
+        json_one = pool.submit(timed, ["ask", "--all", "--json", cluster_file(folder, "json", [port, port + 1, liar, port + 2]), "5"], folder)
+        past = pool.submit(timed, ["--quiet", "ask", "--all", cluster_file(folder, "past", [port, port + 1, port + 2, liar]), "64"], folder)
+        found += differs("one alone", alone.result()[:2], ("UNDECIDED\nbracha: member 1 says 1\n", 1))
+        found += differs("one of each", split.result()[:2], ("UNDECIDED\nbracha: member 0 says 1\nbracha: member 1 says 0\n", 1))
+        found += differs("one is stopped", stopped.result()[:2], ("DECIDED 1\nbracha: member 0 has another reply\n", 0))
+        said, status, took = silent.result()
+        found += differs("no decision, and one is silent", (said, status, 0.9 < took < 4), ("UNDECIDED\nbracha: member 0 doesn't answer\n", 1, True))
+        said, status, took = waits.result()
+        found += differs("a wait", (said, status, 2.5 < took < 5), ("UNDECIDED\nbracha: member 1 says 1\n", 1, True))
+        found += differs("JSON", json_one.result()[:2], ('{"decided":1}\nbracha: member 2 says 0\n', 0))
+        found += differs("past the last question", past.result()[:2], ("bracha: question\n", 2))
+    return found
+
+
+@check
+def all_are_spoken_to_at_once(folder, port):
+    """`propose --all` and `status --all` print a line a member, in order, and take their time once, whatever one of them does."""
+    reply = {"lies": "DECIDED 0"}
+
+    def lines(good, bad, fault, place):
+        said = [good] * 3
+        said.insert(place, reply.get(fault, bad))
+        return "".join(f"member {number} {it}\n" for number, it in enumerate(said))
+
+    with desks_with(port, answer(b"OK\n")) as ports:
+        should = lambda fault, place: (lines("OK", "no answer", fault, place), 0 if fault == "lies" else 1)
+        found = beside_faults(folder, ports, ["propose", "--timeout", "2", ["5", "1"]], should, 5)
+        path = cluster_file(folder, "two-are-silent", [port, port + 4, port + 1, port + 5])
+        said, status, took = timed(["propose", "--all", "--timeout", "2", path, "5", "1"], folder)
+        found += differs("two are silent", (said, status, 1.5 < took < 4), ("member 0 OK\nmember 1 no answer\nmember 2 OK\nmember 3 no answer\n", 1, True))
+    with desks_with(port + 10, answer(b"UP 5 1\n")) as ports:
+        found += beside_faults(folder, ports, ["status", "--timeout", "2", []], lambda fault, place: (lines("UP 5 1", "no answer", fault, place), 0 if fault == "lies" else 1), 5)
+        path = cluster_file(folder, "json", [port + 10, port + 11, port + 12, port + 18])
+        should = "".join(f'{{"member":{it},"reply":{{"up":true,"statements":5,"decided":1}}}}\n' for it in range(3)) + '{"member":3,"reply":null}\n'
+        found += differs("JSON", say(["status", "--all", "--json", path], folder), (should, 1))
+    return found
+
+
+@check
+def all_links_are_ready(folder, port):
+    """`status --all --ready` has status 0 if the links of each member are enough."""
+    with serving(port, answer(b"LINKS 3 3 4 3\n")), serving(port + 1, answer(b"LINKS 4 3 4 3\n")), serving(port + 2, answer(b"LINKS 2 4 4 3\n")):
+        good = "member 0 LINKS 3 3 4 3\nmember 1 LINKS 4 3 4 3\n"
+        found = differs("enough", say(["status", "--all", "--ready", cluster_file(folder, "enough", [port, port + 1], 0)], folder), (good, 0))
+        three = cluster_file(folder, "three", [port, port + 1, port + 2], 0)
+        found += differs("not enough", say(["status", "--all", "--ready", three], folder), (good + "member 2 LINKS 2 4 4 3\n", 1))
+        return found + differs("only told", say(["status", "--all", "--links", three], folder), (good + "member 2 LINKS 2 4 4 3\n", 0))
+
+
+@check
+def proofs_of_more_than_t_are_wanted(folder, port):
+    """`transcript --all` prints the transcript of one member that has one, and `audit --all` says yes to proofs of one bit that more
+    than t members send, whichever member lies, is silent or is down; never to those of t."""
+    texts = {}
+    with clusters(folder, port) as (desks, _, _):
+        for question, bit in ((5, 1), (6, 0)):
+            propose(desks, question, bit)
+            for desk in desks:
+                told(desk, f"AWAIT {question}")
+            for number in range(40):
+                with dial(desks[0], timeout=15.0) as link:
+                    link.sendall(f"TRANSCRIPT {question}\n".encode())
+                    link.shutdown(socket.SHUT_WR)
+                    texts[question] = link.makefile("rb").read()
+                if texts[question].startswith(b"transcript"):
+                    break
+                time.sleep(0.25)
+    good, other = texts[5], texts[6]
+    found = differs("transcripts", (good[:18], other[:18]), (b"transcript 5 bit 1", b"transcript 6 bit 0"))
+    lie = good.replace(b"bit 1", b"bit 0", 1)
+    with desks_with(port + 8, answer(good)) as ports, serving(port + 17, answer(lie)), serving(port + 18, answer(other)), serving(port + 19, answer(b"THIN\n")):
+        def no_proof(fault):
+            return {"lies": "sends no transcript: DECIDED 0"}.get(fault, "doesn't answer")
+
+        def is_yes(said, fault, place):
+            lines = said.splitlines()
+            rest = sorted(it for it in lines if it != "yes")
+            proves = [f"bracha: member {it} proves 1" for it in range(4) if it != place]
+            return "yes" in lines and rest == sorted([*proves, f"bracha: member {place} {no_proof(fault)}"])
+
         with concurrent.futures.ThreadPoolExecutor(24) as pool:
-            asked = {}
-            for does, at in faults.items():
-                for place in range(4):
-                    ports = [port] * 3
-                    ports.insert(place, at)
-                    asked[does, place] = pool.submit(ask, ports, f"{does.replace(' ', '-')}-{place}")
-            # One tells another decision than two who tell one, or is the only one to tell any.
-            alone = pool.submit(ask, [port + 1, port, port + 1, port + 1], "alone")
-            split = pool.submit(ask, [port, port + 2, port + 1, port + 1], "split")
-            waits = pool.submit(ask, [port + 1, port, port + 1, port + 1], "waits", "--wait", "--timeout", "3")
-            json_one = pool.submit(ask, [port, port, port + 2, port + 1], "json", "--json")
-            for (does, place), it in asked.items():
+            asked = {(fault, place): pool.submit(timed, ["audit", "--all", cluster_file(folder, f"audit-{fault}-{place}", ports(fault, place)), "5"], folder)
+                     for fault in FAULTY for place in range(4)}
+            for (fault, place), it in asked.items():
                 said, status, took = it.result()
-                found += differs(f"member {place} {does}", (said, status, took < 4), (words[does].format(place) + "DECIDED 1\n", 0, True))
-            found += differs("one alone", alone.result()[:2], ("bracha: member 1 says 1\nUNDECIDED\n", 1))
-            found += differs("one of each", split.result()[:2], ("bracha: member 0 says 1\nbracha: member 1 says 0\nUNDECIDED\n", 1))
-            said, status, took = waits.result()
-            found += differs("a wait", (said, status, 2.5 < took < 5), ("bracha: member 1 says 1\nUNDECIDED\n", 1, True))
-            found += differs("JSON", json_one.result()[:2], ('bracha: member 2 says 0\n{"decided":1}\n', 0))
+                found += differs(f"audit: member {place} {fault} ({said})", (is_yes(said, fault, place), status, took < 5), (True, 0, True))
+            fetched = {(fault, place): pool.submit(timed, ["transcript", "--all", cluster_file(folder, f"transcript-{fault}-{place}", ports(fault, place)), "5"], folder)
+                       for fault in FAULTY for place in range(4)}
+            for (fault, place), it in fetched.items():
+                said, status, took = it.result()
+                lines = [it for it in said.splitlines(True) if not it.startswith("bracha: ")]
+                found += differs(f"transcript: member {place} {fault}", ("".join(lines), status, took < 5), (good.decode(), 0, True))
+        # A liar's transcript of the other bit, of another question, and none: t of four prove nothing.
+        for name, at, says in (("lie", port + 17, "sends a transcript that proves nothing"), ("other", port + 18, "sends no transcript: transcript 6 bit 0 count"),
+                               ("thin", port + 19, "sends no transcript: THIN")):
+            path = cluster_file(folder, f"one-{name}", [port + 8, at, port + 14, port + 14 + 1])
+            said, status, took = timed(["audit", "--all", "--timeout", "2", path, "5"], folder)
+            found += differs(f"one proves, one {name} ({said})", ("no\n" in said, says in said, status, took < 4), (True, True, 1, True))
+        path = cluster_file(folder, "nobody", [port + 19, port + 14, port + 15, port + 16])
+        said, status, took = timed(["transcript", "--all", "--timeout", "2", path, "5"], folder)
+        found += differs(f"nobody has one ({said})", ("member 0 sends no transcript: THIN" in said, status, took < 4), (True, 1, True))
+    return found
+
+
+@check
+def decide_brings_a_decision_about(folder, port):
+    """`decide --all` proposes to all, also what another client left half proposed and to a member that comes back; it prints what
+    more than t members tell, and ends with its time, one minute if none is told, where they don't."""
+    found = []
+    with clusters(folder, port) as (desks, members, again), concurrent.futures.ThreadPoolExecutor(4) as pool:
+        path = cluster_file(folder, "all", desks)
+        found += differs("a question", timed(["decide", "--all", path, "3", "1"], folder)[:2], ("DECIDED 1\n", 0))
+        found += differs("once more", timed(["decide", "--all", "--json", path, "3", "0"], folder)[:2], ('{"decided":1}\n', 0))
+        told(desks[1], "PROPOSE 4 0")
+        told(desks[2], "PROPOSE 4 0")
+        found += differs("half proposed", told(desks[0], "ASK 4")[0], "UNDECIDED")
+        found += differs("repaired", timed(["decide", "--all", path, "4", "0"], folder)[:2], ("DECIDED 0\n", 0))
+        for member in (2, 3):
+            members[member].send_signal(signal.SIGKILL)
+            members[member].wait()
+        said, status, took = timed(["decide", "--all", "--timeout", "2", path, "5", "1"], folder)
+        silent = "".join(f"bracha: member {it} doesn't answer\n" for it in (2, 3))
+        found += differs("two are down", (said, status, 1.5 < took < 4), ("UNDECIDED\n" + silent, 1, True))
+        waits = pool.submit(timed, ["decide", "--all", "--timeout", "10", path, "6", "0"], folder)
+        time.sleep(1)
+        again(2)
+        said, status, took = waits.result()
+        found += differs("one comes back", (said.splitlines()[0], status, took < 8), ("DECIDED 0", 0, True))
+    words = {"two": ["decide", "--all", path, "5", "2"], "past": ["decide", "--all", path, "64", "1"]}
+    found += differs("no bit", say(["--quiet", *words["two"]], folder), ("bracha: words\n", 2))
+    found += differs("no question", say(["--quiet", *words["past"]], folder), ("bracha: question\n", 2))
+    return found
+
+
+@check
+def decide_believes_more_than_t(folder, port):
+    """`decide --all` beside each faulty desk at each place."""
+    def takes_part(link):
+        for line in link.makefile("rb"):
+            link.sendall(b"HAVE 0\n" if line.startswith(b"PROPOSE") else b"DECIDED 1\n")
+
+    words = {fault: "bracha: member {} doesn't answer\n" for fault in FAULTY} | {"lies": "bracha: member {} says 0\n"}
+    def is_stopped(link):
+        for line in link.makefile("rb"):
+            link.sendall(b"STOPPED\n" if line.startswith(b"PROPOSE") else b"DECIDED 1\n")
+
+    with desks_with(port, takes_part) as ports, serving(port + 10, is_stopped), serving(port + 11, is_stopped):
+        found = beside_faults(folder, ports, ["decide", ["5", "0"]], lambda fault, place: ("DECIDED 1\n" + words[fault].format(place), 0), 4)
+        # A member that is stopped still tells what it decided.
+        path = cluster_file(folder, "stopped", [port + 10, port + 8, port + 11, port + 12])
+        silent = "".join(f"bracha: member {it} doesn't answer\n" for it in (1, 3))
+        said, status, took = timed(["decide", "--all", "--timeout", "5", path, "5", "0"], folder)
+        return found + differs("stopped members", (said, status, took < 3), ("DECIDED 1\n" + silent, 0, True))
+
+
+@check
+def commands_over_a_cluster_have_an_end(folder, port):
+    """Without --timeout `ask --all` ends after ten seconds and `decide --all` after a minute, where nobody says anything."""
+    with serving(port, FAULTY["is silent"]), serving(port + 1, lambda link: time.sleep(90)), serving(port + 2, FAULTY["drips"]), \
+            serving(port + 3, lambda link: time.sleep(90)):
+        path = cluster_file(folder, "silent", [port, port + 1, port + 2, port + 3])
+        silent = "".join(f"bracha: member {it} doesn't answer\n" for it in range(4))
+
+        def ends(words, least):
+            begun = time.monotonic()
+            ran = subprocess.run([PROGRAM, *words], cwd=folder, stdin=subprocess.DEVNULL, stdout=subprocess.PIPE, stderr=subprocess.STDOUT, text=True,
+                                 timeout=80, check=False)
+            took = time.monotonic() - begun
+            return differs(f"{words[0]} ({took:.1f} s)", (ran.stdout, ran.returncode, least - 1 < took < least + 4), ("UNDECIDED\n" + silent, 1, True))
+
+        with concurrent.futures.ThreadPoolExecutor(2) as pool:
+            asks = pool.submit(ends, ["ask", "--all", path, "5"], 10)
+            decides = pool.submit(ends, ["decide", "--all", path, "5", "1"], 60)
+            return asks.result() + decides.result()
+
+
+@check
+def a_desk_stands_once(folder, port):
+    """A client's settings that name one desk twice are refused, so that no member is counted as two."""
+    found = []
+    with serving(port, answer(b"DECIDED 0\n")):
+        for twice in ([f"127.0.0.1:{port}", f"127.0.0.1:{port}"], [f"127.0.0.1:{port}", f"localhost:{port}"], [f"localhost:{port}", f"127.0.0.1:0{port}"]):
+            path = f"{folder}/twice.toml"
+            with open(path, "w", encoding="ascii") as file:
+                desks = ", ".join(f'"{it}"' for it in [*twice, f"127.0.0.1:{port + 1}", f"127.0.0.1:{port + 2}"])
+                file.write(f"cluster = 7\nn = 4\nt = 1\nquestions = 64\ndesks = [{desks}]\n")
+            said, status = say(["ask", "--all", path, "5"], folder)
+            found += differs(f"{twice}", (said.startswith("bracha: settings desks\n"), f"127.0.0.1:{port} stands twice" in said, status), (True, True, 1))
     return found
 
 
@@ -605,7 +819,7 @@ def all_are_asked_while_they_decide(folder, port):
         waiting = pool.submit(say, ["ask", "--all", "--wait", "--timeout", "10", path, "3"], folder)
         time.sleep(1)
         propose([desks[it] for it in (0, 1, 3)], 3, 0)
-        return found + differs("behind the proposals", waiting.result(), ("bracha: member 2 doesn't answer\nDECIDED 0\n", 0))
+        return found + differs("behind the proposals", waiting.result(), ("DECIDED 0\nbracha: member 2 doesn't answer\n", 0))
 
 
 def main():

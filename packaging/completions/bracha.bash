@@ -4,7 +4,7 @@ _bracha() {
     COMPREPLY=()
     [ "${COMP_WORDS[1]}" != --quiet ] || at=2
     if [ "$COMP_CWORD" -le "$at" ]; then
-        mapfile -t COMPREPLY < <(compgen -W "new-cluster init check run propose ask status transcript audit dump migrate simulate hear help --quiet --help --version" -- "$word")
+        mapfile -t COMPREPLY < <(compgen -W "new-cluster init check run propose ask decide status transcript audit dump migrate simulate rounds hear help --quiet --help --version" -- "$word")
         return
     fi
     case $before in
@@ -19,15 +19,17 @@ _bracha() {
     run) mapfile -t COMPREPLY < <(compgen -W "--stay --log --log-json --any-host --quiet --help" -f -- "$word") ;;
     migrate) mapfile -t COMPREPLY < <(compgen -W "--quiet --help" -f -- "$word") ;;
     dump) mapfile -t COMPREPLY < <(compgen -W "--count --json --quiet --help" -f -- "$word") ;;
-    simulate) mapfile -t COMPREPLY < <(compgen -W "--trace --chart --question --member --from --to --quiet --help" -f -- "$word") ;;
+    simulate) mapfile -t COMPREPLY < <(compgen -W "--trace --chart --question --member --from --to --forever --seed --seconds --quiet --help" -f -- "$word") ;;
+    rounds) mapfile -t COMPREPLY < <(compgen -W "--n --t --liars --order --seeds --chart --quiet --help" -- "$word") ;;
     hear) mapfile -t COMPREPLY < <(compgen -W "--n --t --questions --me --quiet --help" -- "$word") ;;
-    audit) mapfile -t COMPREPLY < <(compgen -W "--n --t --questions --quiet --help" -f -- "$word") ;;
+    audit) mapfile -t COMPREPLY < <(compgen -W "--n --t --questions --all --timeout --quiet --help" -f -- "$word") ;;
     new-cluster) mapfile -t COMPREPLY < <(compgen -W "--n --t --questions --cluster --port --desk --quiet --help" -d -- "$word") ;;
     propose) mapfile -t COMPREPLY < <(compgen -W "--all --timeout --quiet --help" -f -- "$word") ;;
     ask) mapfile -t COMPREPLY < <(compgen -W "--all --wait --json --timeout --quiet --help" -f -- "$word") ;;
-    status) mapfile -t COMPREPLY < <(compgen -W "--links --ready --json --timeout --quiet --help" -- "$word") ;;
-    transcript) mapfile -t COMPREPLY < <(compgen -W "--timeout --quiet --help" -- "$word") ;;
-    help) mapfile -t COMPREPLY < <(compgen -W "new-cluster init check run propose ask status transcript audit dump migrate simulate hear" -- "$word") ;;
+    decide) mapfile -t COMPREPLY < <(compgen -W "--all --json --timeout --quiet --help" -f -- "$word") ;;
+    status) mapfile -t COMPREPLY < <(compgen -W "--all --links --ready --json --timeout --quiet --help" -f -- "$word") ;;
+    transcript) mapfile -t COMPREPLY < <(compgen -W "--all --timeout --quiet --help" -f -- "$word") ;;
+    help) mapfile -t COMPREPLY < <(compgen -W "new-cluster init check run propose ask decide status transcript audit dump migrate simulate rounds hear" -- "$word") ;;
     esac
 }
 complete -o filenames -F _bracha bracha

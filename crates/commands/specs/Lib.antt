@@ -4,6 +4,7 @@ pub mod Simulations
 pub mod Counts
 pub mod Pages
 pub mod Talks
+pub mod Surveys
 pub mod Transcripts
 pub mod Checks
 pub mod TextLines

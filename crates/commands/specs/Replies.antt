@@ -87,3 +87,12 @@ IsPlainReply line = ((object : List ℕ) × SaysFixed line object) ⊎ ((m d : �
 -- the line is a reply
 abbrev pub IsReply : List ℕ → Type 0
 IsReply line = IsPlainReply line ⊎ IsLinks line
+
+-- the line of a member's number and of the object that says the same as its reply, or of no reply of a desk
+abbrev pub member_object : ℕ → List ℕ → List ℕ
+member_object member object = codes "{\"member\":" ++ (decimal member ++ (codes ",\"reply\":" ++ (object ++ codes "}\n")))
+
+abbrev pub IsMemberObject : ℕ → List ℕ → List ℕ → Type 0
+IsMemberObject member reply text =
+    ((object : List ℕ) × SaysSame reply object × (text ≡ member_object member object))
+    ⊎ ((IsReply reply → ⊥) × (text ≡ member_object member (codes "null")))

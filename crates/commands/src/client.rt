@@ -4,7 +4,7 @@ ghost use Rattle.std.specs.Prelude.{ℕ, List, [], ◌≡◌, ◌∷◌, ◌++�
 ghost use Rattle.std.specs.Io.KnownBytes.{Appends, Consumes};
 ghost use Rattle.numerals.specs.Lines.{NoEnd};
 ghost use Rattle.commands.specs.Talks.{TellsDecision, decision_reply, propose_line, ask_line, await_line, links_line, status_line, member_line, member_words, IsUp, IsGood, HasReadyStatus, HasStatus};
-ghost use Rattle.commands.specs.Replies.{IsReply, SaysSame};
+ghost use Rattle.commands.specs.Replies.{IsMemberObject, IsReply, SaysSame, member_object};
 ghost use Rattle.commands.specs.declared.fault.TalkFault.TheVariants.{NoAnswer};
 
 use crate::fault::TalkFault;
@@ -204,6 +204,69 @@ pub fn tell_of<W: Write>(
     text.extend_from_slice(reply)?;
     text.push(b'\n')?;
     print_reply(&text, output)?;
+    Ok(status_of(reply))
+}
+
+/// The line of a member's number and of this object.
+fn object_line(alloc: Global, member: u8, object: &str) -> Result<String, AllocError>
+    ensures { IfOk result (λ text. string_bytes text ≡ member_object member object.now) }
+{
+    format!(in alloc; "{{\"member\":{member},\"reply\":{object}}}\n")
+}
+
+/// The same, of an object that is a string.
+fn text_line(alloc: Global, member: u8, object: &String) -> Result<String, AllocError>
+    ensures { IfOk result (λ text. string_bytes text ≡ member_object member (string_bytes object.now)) }
+{
+    format!(in alloc; "{{\"member\":{member},\"reply\":{object}}}\n")
+}
+
+/// The line of a member's number and of the object that says the same as its reply.
+fn same_line(
+    alloc: Global,
+    member: u8,
+    _reply: &[u8],
+    object: &String,
+) -> Result<String, AllocError>
+    requires { SaysSame _reply.now (string_bytes object.now) }
+    ensures { IfOk result (λ text. IsMemberObject member _reply.now (string_bytes text)) }
+{
+    text_line(alloc, member, object)
+}
+
+/// The line of a member's number and of no reply of a desk.
+fn null_line(alloc: Global, member: u8, _reply: &[u8]) -> Result<String, AllocError>
+    requires { IsReply _reply.now → ⊥ }
+    ensures { IfOk result (λ text. IsMemberObject member _reply.now (string_bytes text)) }
+{
+    object_line(alloc, member, "null")
+}
+
+/// The line of a member's number and of the object that says the same as its reply; `null` for no reply of a desk.
+fn member_object(alloc: Global, member: u8, reply: &[u8]) -> Result<String, AllocError>
+    ensures { IfOk result (λ text. IsMemberObject member reply.now (string_bytes text)) }
+{
+    match object_of(alloc, reply)? {
+        Some(object) => same_line(alloc, member, reply, &object),
+        None => null_line(alloc, member, reply),
+    }
+}
+
+/// Writes the object of JSON that says the same as a member's reply, in a line. The status is that of the reply.
+///
+/// [`TalkFault::Stream`]: the write failed. [`TalkFault::Memory`]: memory was refused.
+pub fn tell_object_of<W: Write>(
+    alloc: Global,
+    member: u8,
+    reply: &[u8],
+    output: &mut W,
+) -> Result<u8, TalkFault>
+    ensures all { IfOk result (λ status. (text : List ℕ) × IsMemberObject member reply.now text
+        × Appends (W.contents output.old) (W.contents output.new) text × HasStatus reply.now status) }
+    ensures only { result ≢ Err NoAnswer }
+{
+    let text = member_object(alloc, member, reply)?;
+    print_reply(text.as_bytes(), output)?;
     Ok(status_of(reply))
 }
 

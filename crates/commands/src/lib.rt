@@ -17,6 +17,7 @@ mod patience;
 mod replies;
 mod shown;
 mod simulate;
+mod survey;
 mod text_lines;
 mod transcript;
 
@@ -24,7 +25,7 @@ pub use asked::{asked_words, key_words};
 pub use check::{check_journal, print_check, print_settings};
 pub use client::{
     ask_line, await_line, decision_of, decision_reply, exchange, is_undecided, links_line,
-    propose_line, ready_status, status_line, talk, tell, tell_object, tell_of,
+    propose_line, ready_status, status_line, talk, tell, tell_object, tell_object_of, tell_of,
 };
 pub use damage::{bytes_at, fault_place};
 pub use dump::{dump_count, dump_count_object, dump_lines, dump_objects};
@@ -38,6 +39,9 @@ pub use patience::milliseconds;
 pub use report::Choice;
 pub use shown::{Shelf, SimulationEnd, show_simulation};
 pub use simulate::{Simulation, print, print_verdicts, simulate_text, takes_output};
+pub use survey::{
+    Next, Word, later_word, next_of, remarks, tell_decision, transcript_bit, word_of,
+};
 pub use text_lines::{
     line_at, line_in_table, line_of_byte, line_of_key, line_of_name, lines_in, text_fault,
 };

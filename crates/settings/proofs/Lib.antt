@@ -1,4 +1,5 @@
 pub mod Marks
+mod Addressing
 pub mod Members
 pub mod First
 pub mod Fitting

@@ -1,6 +1,7 @@
 -- What the members of a TOML table say of a client's settings, and the first thing that is wrong with them.
-use Rattle.std.specs.Prelude.{ℕ, ◌≡◌, ◌≢◌, ◌==◌, Option, Some, None, List, [], ◌∷◌, ◌++◌, codes, length, if◌then◌else◌}
-use Rattle.std.specs.List.{flat_map}
+use Rattle.std.specs.Prelude.{ℕ, ◌≡◌, ◌<◌, ◌==◌, ◌&&◌, eqb, filter, nat_lt, not, Bool, false, Option, Some, None, List, [], ◌∷◌, ◌++◌, codes, length, if◌then◌else◌}
+use Rattle.std.specs.Cmp.Lexicographic.{pointwise}
+use Rattle.std.specs.List.{flat_map, list_any}
 use Rattle.toml.specs.Data.{Members}
 use Rattle.terms_prelude.specs.Terms.{new_size, size_fault}
 use Rattle.settings.specs.declared.address.Address.{Address}
@@ -26,13 +27,32 @@ pub record SaysClientEntries (ms : Members) (e : ClientEntries) : Type 0 where
   pub questions : HasSmall ms Questions e.questions
   pub desks : HasAddresses ms Desks e.desks.items
 
+-- two addresses have one host and one port
+abbrev pub is_same : Address → Address → Bool
+is_same a b = pointwise eqb a.octets b.octets && (a.port == b.port)
+
+-- at how many places of the list the address stands
+abbrev pub count_of : List Address → Address → ℕ
+count_of desks desk = length (filter (is_same desk) desks)
+
+-- an address stands at two places of the list, or more
+abbrev pub stands_twice : List Address → Bool
+stands_twice desks = list_any (λ desk. nat_lt 1 (count_of desks desk)) desks
+
+-- there are n desks, and each is another one
+abbrev pub are_desks_of : ℕ → List Address → Bool
+are_desks_of n desks = (length desks == n) && not (stands_twice desks)
+
+abbrev pub AreDesksOf : ℕ → List Address → Type 0
+AreDesksOf n desks = (length desks ≡ n) × (stands_twice desks ≡ false)
+
 -- what is wrong with desks of n members
-abbrev pub desks_misfit : ℕ → ℕ → Option SettingsFault
-desks_misfit n desks = if desks == n then None else Some (fault.Key Desks)
+abbrev pub desks_misfit : ℕ → List Address → Option SettingsFault
+desks_misfit n desks = if are_desks_of n desks then None else Some (fault.Key Desks)
 
 -- the first thing in which the entries don't fit one another
 abbrev pub unfit_client : ClientEntries → Option SettingsFault
-unfit_client e = size_or (size_fault e.n e.t e.questions) (desks_misfit e.n (length e.desks.items))
+unfit_client e = size_or (size_fault e.n e.t e.questions) (desks_misfit e.n e.desks.items)
 
 -- the settings have what the entries say
 pub record FitsClientEntries (e : ClientEntries) (s : ClientSettings) : Type 0 where
@@ -40,10 +60,11 @@ pub record FitsClientEntries (e : ClientEntries) (s : ClientSettings) : Type 0 w
   pub size : s.size ≡ new_size e.n e.t e.questions
   pub desks : s.desks ≡ e.desks
 
--- the numbers make a size, and there aren't as many desks as members
+-- the numbers make a size, and there aren't as many desks as members, or a desk stands twice
 abbrev pub IsClientMisfit : Members → Key → Type 0
 IsClientMisfit ms key =
-    (key ≡ Desks) × (n : ℕ) × (desks : List Address) × IsOfMany client_keys ms n × HasAddresses ms Desks desks × (length desks ≢ n)
+    (key ≡ Desks) × (n : ℕ) × (desks : List Address) × IsOfMany client_keys ms n × HasAddresses ms Desks desks
+    × (AreDesksOf n desks → ⊥)
 
 -- what is wrong with a text that is this document, or no TOML at all. One of these is true at most
 abbrev pub IsClientFault : Option Members → SettingsFault → Type 0
@@ -58,11 +79,17 @@ pub record GivesClients (ms : Members) (s : ClientSettings) : Type 0 where
   pub lawful : size_fault s.size.n s.size.t s.size.questions ≡ None
   pub desks : HasAddresses ms Desks s.desks.items
   pub count : length s.desks.items ≡ s.size.n
+  pub apart : stands_twice s.desks.items ≡ false
 
 -- the document gives the settings
 abbrev pub IsClientSettings : Option Members → ClientSettings → Type 0
 IsClientSettings None s = ⊥
 IsClientSettings (Some ms) s = GivesClients ms s
+
+-- the desk stands at two places of the document's list, or more
+abbrev pub HasDeskTwice : Option Members → Address → Type 0
+HasDeskTwice None desk = ⊥
+HasDeskTwice (Some ms) desk = (desks : List Address) × HasAddresses ms Desks desks × (1 < count_of desks desk)
 
 -- the text of a client's settings
 abbrev pub client_text : ClientSettings → List ℕ

@@ -1,6 +1,6 @@
 //! The settings of a client of a cluster.
 
-ghost use Rattle.std.specs.Prelude.{◌≡◌, ◌⊎◌, IfOk, IfErr, IsTrue, string_bytes};
+ghost use Rattle.std.specs.Prelude.{◌≡◌, ◌⊎◌, IfOk, IfErr, IfSome, IsTrue, string_bytes};
 ghost use Rattle.toml.specs.Parse.{parse_document};
 ghost use Rattle.settings.specs.Clients.{IsLikeClient, client_text};
 
@@ -24,7 +24,7 @@ pub struct ClientSettings {
 }
 
 impl ClientSettings {
-    ghost use Rattle.settings.specs.Clients.{IsClientFault, IsClientSettings};
+    ghost use Rattle.settings.specs.Clients.{HasDeskTwice, IsClientFault, IsClientSettings};
     ghost use Rattle.settings.specs.declared.fault.SettingsFault.{SettingsFault};
 
     /// The settings that the TOML text gives, or the first thing that is wrong with it. Keys of other names are left alone.
@@ -37,7 +37,8 @@ impl ClientSettings {
     /// - [`SettingsFault::Key`] with the first key of `cluster`, `n`, `t`, `questions` and `desks` that has no value of its own type
     ///   and range;
     /// - [`SettingsFault::Size`] if the numbers make no size;
-    /// - [`SettingsFault::Key`] with `desks` if there aren't as many desks as members;
+    /// - [`SettingsFault::Key`] with `desks` if there aren't as many desks as members, or one stands twice: a member that is counted
+    ///   as two would be believed where t + 1 have to agree;
     /// - [`SettingsFault::Memory`], at any time, if an allocation failed.
     pub fn parse(alloc: Global, text: &str) -> Result<ClientSettings, SettingsFault>
         ensures ok { IfOk result (IsClientSettings (parse_document text.now)) }
@@ -47,6 +48,20 @@ impl ClientSettings {
     {
         let table = table(alloc, text)?;
         ClientEntries::read(alloc, &table)?.fit()
+    }
+
+    /// Returns the first desk of the TOML text that stands at two places, or more: then [`ClientSettings::parse`] refuses it.
+    /// None too if another key has no value of its own type and range, or an allocation failed.
+    pub fn desk_twice(alloc: Global, text: &str) -> Option<Address>
+        ensures { IfSome result (HasDeskTwice (parse_document text.now)) }
+    {
+        let Ok(table) = table(alloc, text) else {
+            return None;
+        };
+        let Ok(entries) = ClientEntries::read(alloc, &table) else {
+            return None;
+        };
+        entries.desk_twice()
     }
 
     /// Returns the settings as a text of TOML, a line for each key, which [`ClientSettings::parse`] reads as these settings.

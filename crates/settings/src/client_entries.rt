@@ -1,7 +1,8 @@
 //! What the keys of a client's settings say, each by itself.
 
-ghost use Rattle.std.specs.Prelude.{◌≡◌, None, Some, IfOk, IfErr};
+ghost use Rattle.std.specs.Prelude.{◌≡◌, ◌<◌, None, Some, IfOk, IfErr, IfSome};
 ghost use Rattle.toml.specs.View.{table_view};
+ghost use Rattle.settings.specs.Clients.{are_desks_of, count_of, is_same, stands_twice};
 
 use crate::address::Address;
 use crate::client::ClientSettings;
@@ -12,7 +13,35 @@ use numerals::size_from;
 use std::alloc::Global;
 use toml::Table;
 
-/// What the keys say, each in its own range.
+/// Returns `true` if the two have one host and one port.
+fn is_same(one: &Address, other: &Address) -> bool
+    ensures { result ≡ is_same one.now other.now }
+{
+    one == other
+}
+
+/// Returns at how many places of the list the address stands.
+fn count_of(desks: &[Address], desk: &Address) -> usize
+    ensures { result ≡ count_of desks.now desk.now }
+{
+    desks.iter().filter(|other| is_same(desk, other)).count()
+}
+
+/// Returns `true` if an address stands at two places of the list, or more.
+fn stands_twice(desks: &[Address]) -> bool
+    ensures { result ≡ stands_twice desks.now }
+{
+    desks.iter().any(|desk| count_of(desks, desk) > 1)
+}
+
+/// Returns `true` if there are n desks, and each is another one.
+fn are_desks_of(n: u8, desks: &[Address]) -> bool
+    ensures { result ≡ are_desks_of n desks.now }
+{
+    desks.len() == usize::from(n) && !stands_twice(desks)
+}
+
+/// The settings' entries, each in its own range.
 #[derive(Drop)]
 pub struct ClientEntries {
     cluster: u64,
@@ -40,13 +69,25 @@ impl ClientEntries {
         })
     }
 
+    /// Returns the first desk that stands at two places of the list, or more, if there is one.
+    pub fn desk_twice(&self) -> Option<Address>
+        ensures { IfSome result (λ desk. 1 < count_of self.now.desks.items desk) }
+    {
+        for desk in &self.desks {
+            if count_of(&self.desks, desk) > 1 {
+                return Some(*desk);
+            }
+        }
+        None
+    }
+
     /// The settings of the entries, or the first thing in which they don't fit one another.
     pub fn fit(self) -> Result<ClientSettings, SettingsFault>
         ensures ok { IfOk result (λ settings. FitsClientEntries self settings × (unfit_client self ≡ None)) }
         ensures fault { IfErr result (λ fault. unfit_client self ≡ Some fault) }
     {
         let size = size_from(self.n, self.t, self.questions)?;
-        if self.desks.len() != usize::from(size.n()) {
+        if !are_desks_of(size.n(), &self.desks) {
             return Err(SettingsFault::Key(Key::Desks));
         }
         Ok(ClientSettings {

@@ -4,16 +4,13 @@ ghost use Rattle.system.specs.Troubles.{IsNamed};
 ghost use Rattle.system.specs.declared.fault.Fault.TheVariants as ends;
 ghost use Rattle.std.specs.Prelude.{◌≡◌, IfErr};
 
-use crate::callers::{Caller, Cluster};
-use crate::clients::read_client;
 use crate::desks::{Deadline, DeskPlace, DeskSocket, REST, Talk, connect, desk_place};
 use crate::fault::Fault;
 use crate::trouble::{Failure, Whereabouts};
 use commands::{
     TalkFault, ask_line, await_line, exchange, fetch_transcript, is_undecided, links_line,
-    propose_line, ready_status, status_line, tell, tell_object, tell_of, transcript_line,
+    propose_line, ready_status, status_line, tell, tell_object, transcript_line,
 };
-use settings::{Address, address_text};
 use std::io::{self, BufReader};
 use std::thread;
 use std::time::Duration;
@@ -73,7 +70,7 @@ fn desk_at(rt: &HostRuntime, text: &str, deadline: Deadline) -> Result<DeskSocke
 }
 
 /// The end of a client that begins now and waits so many milliseconds in all, where that is limited.
-pub(crate) fn deadline_of(rt: &HostRuntime, timeout: Option<u32>) -> Result<Deadline, Fault> {
+fn deadline_of(rt: &HostRuntime, timeout: Option<u32>) -> Result<Deadline, Fault> {
     match Deadline::new(rt, timeout) {
         Ok(deadline) => Ok(deadline),
         Err(_) => Err(Fault::Memory),
@@ -107,7 +104,7 @@ fn reply_at(
 }
 
 /// Prints a reply as it stands, or as an object of JSON.
-pub(crate) fn print_reply(rt: &HostRuntime, reply: Vec<u8>, json: bool) -> Result<u8, TalkFault> {
+fn print_reply(rt: &HostRuntime, reply: Vec<u8>, json: bool) -> Result<u8, TalkFault> {
     let mut output = io::writer(rt);
     if json {
         tell_object(rt.alloc(), &reply, &mut output)
@@ -305,59 +302,4 @@ pub fn links_at(
     let status = ready_status(&reply);
     let told = tell_reply(rt, address, reply, json)?;
     if ready { Ok(status) } else { Ok(told) }
-}
-
-/// The reply of the member with this desk to the line, in words where there is none.
-pub(crate) fn reply_of_member(
-    rt: &HostRuntime,
-    desk: &Address,
-    line: &str,
-    timeout: Option<u32>,
-) -> Result<Vec<u8>, Failure> {
-    let text = address_text(rt.alloc(), desk).map_err(|_| Fault::Memory)?;
-    let deadline = deadline_of(rt, timeout)?;
-    match reply_at(rt, text.as_str(), line, deadline) {
-        Ok(reply) => Ok(reply),
-        Err(failure) => {
-            if is_no_answer(&failure) {
-                words_of(rt, "no answer")
-            } else {
-                Err(failure)
-            }
-        }
-    }
-}
-
-/// The bytes of the words.
-pub(crate) fn words_of(rt: &HostRuntime, words: &str) -> Result<Vec<u8>, Failure> {
-    let mut bytes = Vec::new(rt.alloc());
-    bytes
-        .extend_from_slice(words.as_bytes())
-        .map_err(|_| Fault::Memory)?;
-    Ok(bytes)
-}
-
-/// Proposes a bit to each member of the cluster of the client's settings in the file, and prints a line `member M REPLY` for each,
-/// where REPLY is `no answer` for one that doesn't answer. Each is waited for so long. The status is 0 where each reply is a good
-/// one, and 1 else.
-pub fn propose_to_all<R: Caller>(
-    _threads: &R,
-    rt: &HostRuntime,
-    cluster: &Cluster<'_>,
-    question: u16,
-    bit: u8,
-) -> Result<u8, Failure> {
-    let client = read_client(rt, cluster.file)?;
-    let line = propose_line(rt.alloc(), question, bit).map_err(|_| Fault::Memory)?;
-    let mut status = 0;
-    for member in 0..client.size.n() {
-        if let Some(desk) = client.desks.get(usize::from(member)) {
-            let reply = reply_of_member(rt, desk, line.as_str(), cluster.timeout)?;
-            let one = tell_of(rt.alloc(), member, &reply, &mut io::writer(rt)).map_err(
-                |fault| Fault::Talk(fault),
-            )?;
-            status = status.max(one);
-        }
-    }
-    Ok(status)
 }

@@ -1,27 +1,27 @@
-//! A question that is asked of all members of a cluster: begin at `ask_all`, last.
+//! A question that is asked of all members of a cluster, or proposed to them: begin at `ask_all` and `decide`, last.
 
-use crate::asking::{deadline_of, print_reply, reply_of_member, words_of};
-use crate::callers::{Caller, Cluster};
-use crate::clients::read_client;
-use crate::desks::{Deadline, REST};
+use crate::board::News;
+use crate::callers::{Caller, Calls, Cluster, IN_ALL, Lines, deadline_within};
+use crate::calls::Manner;
 use crate::fault::Fault;
-use crate::trouble::Failure;
+use crate::trouble::{Failure, Whereabouts};
 use client::Reading;
-use commands::{ask_line, await_line, decision_of, decision_reply, is_undecided};
+use commands::{
+    Word, ask_line, await_line, later_word, propose_line, remarks, tell_decision, word_of,
+};
 use settings::ClientSettings;
 use std::alloc::Global;
-use std::io::Write;
-use std::thread;
-use std::time::Duration;
+use std::io::{self, Write};
+use terms::Size;
 
-/// The most milliseconds for which a member is waited for at first.
-const SOON: u32 = 250;
+/// The milliseconds for which the other members are waited for once there is a decision, so that people learn of them.
+const GRACE: u32 = 250;
 
-/// The same for one that hasn't answered so soon, and for one that is to wait for the decision.
-const LATER: u32 = 1000;
+/// The milliseconds for which the last t members are waited for once the others answered and told no decision.
+const PATIENCE: u32 = 1000;
 
-/// The milliseconds that asking takes at most, where no time is told.
-const IN_ALL: u32 = 10_000;
+/// The milliseconds that a decision takes at most, where no time is told.
+const TO_DECIDE: u32 = 60_000;
 
 /// A question, and how it is asked.
 #[derive(Clone, Copy, Debug, PartialEq, Eq)]
@@ -34,177 +34,236 @@ pub struct Query {
     pub json: bool,
 }
 
-/// A member's word on the question.
+/// A bit that is proposed on a question, for its decision.
 #[derive(Clone, Copy, Debug, PartialEq, Eq)]
-enum Word {
-    Silent,
-    Undecided,
-    Decided(bool),
-    Other,
+pub struct Motion {
+    /// The question, counted from 0.
+    pub question: u16,
+    pub bit: u8,
+    /// Set if JSON is printed.
+    pub json: bool,
 }
 
 /// The words of all members, by their numbers, and what may be believed of them.
 #[derive(Drop)]
 struct Survey {
-    client: ClientSettings,
+    size: Size,
     reading: Reading,
     words: Vec<Word>,
-}
-
-/// The word that a reply is.
-fn word_of(reply: &[u8]) -> Word {
-    match decision_of(reply) {
-        Some(bit) => Word::Decided(bit),
-        None => {
-            if is_undecided(reply) {
-                Word::Undecided
-            } else if reply == b"no answer".as_slice() {
-                Word::Silent
-            } else {
-                Word::Other
-            }
-        }
-    }
+    /// The members of which something is known, a bit each.
+    known: u64,
 }
 
 impl Survey {
-    /// A survey of the members of this cluster, before any of them was asked.
-    fn new(alloc: Global, client: ClientSettings) -> Result<Survey, Fault> {
+    /// A survey of a cluster of that size, before any member said something.
+    fn new(alloc: Global, size: Size) -> Result<Survey, Fault> {
         let mut words = Vec::new(alloc);
-        for _ in 0..client.size.n() {
+        for _ in 0..size.n() {
             words.push(Word::Silent).map_err(|_| Fault::Memory)?;
         }
         Ok(Survey {
-            reading: Reading::new(client.size),
-            client,
+            size,
+            reading: Reading::new(size),
             words,
+            known: 0,
         })
     }
 
-    /// True if the member told a decision.
-    fn has_decision_of(&self, member: u8) -> bool {
-        matches!(self.words.get(usize::from(member)), Some(Word::Decided(_)))
-    }
-
-    /// Takes a member's word. One that told a decision is not asked again.
-    fn take(&mut self, member: u8, word: Word) {
-        if let Word::Decided(bit) = word {
-            self.reading.take(member, bit);
-        }
-        if let Some(place) = self.words.get_mut(usize::from(member)) {
-            *place = word;
-        }
-    }
-
-    /// Sends a member the line, and takes its word; false where there is no time left.
-    fn ask(
-        &mut self,
-        rt: &HostRuntime,
-        member: u8,
-        line: &str,
-        deadline: Deadline,
-        most: u32,
-    ) -> Result<bool, Failure> {
-        let Some(part) = deadline.part(rt, most) else {
-            return Ok(false);
+    /// Takes what a member said. Of each member its first decision counts.
+    fn take(&mut self, news: &News) {
+        let word = match &news.reply {
+            Some(reply) => word_of(reply),
+            None => Word::Silent,
         };
-        if let Some(desk) = self.client.desks.get(usize::from(member)) {
-            let reply = reply_of_member(rt, desk, line, Some(part))?;
-            self.take(member, word_of(&reply));
+        if let Word::Decided(bit) = word {
+            self.reading.take(news.member, bit);
         }
-        Ok(true)
-    }
-
-    /// Sends each member the line that has told no decision yet.
-    fn ask_each(
-        &mut self,
-        rt: &HostRuntime,
-        line: &str,
-        deadline: Deadline,
-        most: u32,
-    ) -> Result<(), Failure> {
-        for member in 0..self.client.size.n() {
-            if !self.has_decision_of(member) && !self.ask(rt, member, line, deadline, most)? {
-                return Ok(());
-            }
-        }
-        Ok(())
-    }
-
-    /// Asks until there is a decision, or no time is left: one member after the other waits for it, and then all are asked.
-    fn wait(
-        &mut self,
-        rt: &HostRuntime,
-        (ask, wait): (&str, &str),
-        deadline: Deadline,
-    ) -> Result<(), Failure> {
-        let n = u64::from(self.client.size.n());
-        for turn in 0..u64::MAX {
-            if self.reading.decision().is_some() || deadline.is_over(rt) {
-                return Ok(());
-            }
-            let member = (turn % n) as u8;
-            if !self.has_decision_of(member) {
-                self.ask(rt, member, wait, deadline, LATER)?;
-            }
-            self.ask_each(rt, ask, deadline, SOON)?;
-            thread::sleep(rt, Duration::from_millis(REST));
-        }
-        Ok(())
-    }
-
-    /// Says on standard error which members told something else than the decision, or nothing.
-    fn tell_others(&self, rt: &HostRuntime) {
-        let decision = self.reading.decision();
-        let mut member = 0u8;
-        let mut errors = rt.stderr();
-        for word in &self.words {
-            let _unsaid = match *word {
-                Word::Silent => writeln!(errors, "bracha: member {member} doesn't answer"),
-                Word::Other => writeln!(errors, "bracha: member {member} has another reply"),
-                Word::Decided(bit) if decision != Some(bit) => {
-                    writeln!(errors, "bracha: member {member} says {}", u8::from(bit))
-                }
-                _ => Ok(()),
-            };
-            member = member.saturating_add(1);
+        if let Some(place) = self.words.get_mut(usize::from(news.member)) {
+            *place = later_word(*place, word);
+            self.known |= 1 << (news.member & 63);
         }
     }
 
-    /// Prints the decision that may be believed, or that there is none. The status is 0 for a decision, and 1 else.
-    fn tell(&self, rt: &HostRuntime, json: bool) -> Result<u8, Failure> {
-        let decision = self.reading.decision();
-        let reply = words_of(rt, decision_reply(decision))?;
-        print_reply(rt, reply, json).map_err(|fault| Fault::Talk(fault))?;
-        Ok(u8::from(decision.is_none()))
+    /// Returns `true` if each member told a decision.
+    fn is_full(&self) -> bool {
+        self.words
+            .iter()
+            .all(|word| matches!(word, Word::Decided(_)))
+    }
+
+    /// Returns `true` if something is known of each member.
+    fn is_known(&self) -> bool {
+        self.known.count_ones() == u32::from(self.size.n())
+    }
+
+    /// Returns `true` if as many members replied as are correct at least.
+    fn is_heard(&self) -> bool {
+        let silent = self
+            .words
+            .iter()
+            .filter(|word| matches!(word, Word::Silent))
+            .count();
+        silent <= usize::from(self.size.t())
     }
 }
 
-/// Asks each member of the cluster of the client's settings in the file for its decision, and prints that which more than t of
-/// them told, or `UNDECIDED`. The status is 0 for a decision, and 1 else. Standard error names who told another one, or nothing.
-/// A member that answers late is asked twice, and holds nobody up for longer.
+/// A survey that is being made.
+#[derive(Drop)]
+struct Poll {
+    survey: Survey,
+    calls: Calls,
+    json: bool,
+    /// Set once the decision is printed.
+    told: bool,
+}
+
+impl Poll {
+    /// Prints the decision, if there is one that isn't printed.
+    fn tell_once(&mut self, host: &HostRuntime) -> Result<(), Failure> {
+        if self.told || self.survey.reading.decision().is_none() {
+            return Ok(());
+        }
+        self.told = true;
+        self.tell(host)?;
+        self.calls.end_soon(host, GRACE);
+        Ok(())
+    }
+
+    /// Prints the decision that may be believed, or that there is none. The status is 0 for a decision, and 1 else.
+    fn tell(&self, host: &HostRuntime) -> Result<u8, Failure> {
+        let decision = self.survey.reading.decision();
+        match tell_decision(host.alloc(), decision, self.json, &mut io::writer(host)) {
+            Ok(status) => Ok(status),
+            Err(fault) => Err(Failure::from(Fault::Talk(fault))),
+        }
+    }
+
+    /// Says on standard error which members told something else than the decision, or nothing.
+    fn tell_others(&self, host: &HostRuntime) {
+        let decision = self.survey.reading.decision();
+        let Ok(text) = remarks(host.alloc(), &self.survey.words, decision) else {
+            return;
+        };
+        let mut errors = host.stderr();
+        let _unsaid = errors.write_all(text.as_bytes());
+    }
+
+    /// Takes what members say until all is said, or the time is over; then prints what isn't printed. Members that are asked
+    /// once have all said it when each is known, and then there is a short time for the last t.
+    fn run<R: Caller>(
+        &mut self,
+        rt: &R,
+        host: &HostRuntime,
+        manner: Manner,
+    ) -> Result<u8, Failure> {
+        for _ in 0..u64::MAX {
+            let Some(news) = self.calls.next(rt, host) else {
+                break;
+            };
+            for one in &news {
+                self.survey.take(one);
+            }
+            self.tell_once(host)?;
+            if self.survey.is_full() {
+                break;
+            }
+            if manner == Manner::Once {
+                if self.survey.is_known() {
+                    break;
+                }
+                if self.survey.is_heard() {
+                    self.calls.end_soon(host, PATIENCE);
+                }
+            }
+        }
+        let status = if self.told { 0 } else { self.tell(host)? };
+        self.tell_others(host);
+        Ok(status)
+    }
+}
+
+/// The lines of a poll, and the milliseconds that it takes at most, if it has an end.
+#[derive(Drop)]
+struct Plan {
+    lines: Lines,
+    limit: Option<u32>,
+    json: bool,
+}
+
+/// Speaks to each member, and prints the decision that more than t of them told, or that there is none.
+fn hold_poll<R: Caller>(
+    rt: &R,
+    host: &HostRuntime,
+    client: &ClientSettings,
+    plan: Plan,
+) -> Result<u8, Failure> {
+    let Plan { lines, limit, json } = plan;
+    let manner = lines.manner;
+    let deadline = deadline_within(host, limit)?;
+    let survey = Survey::new(host.alloc(), client.size)?;
+    let calls = Calls::start(rt, host.alloc(), client, lines, deadline)?;
+    let mut poll = Poll {
+        survey,
+        calls,
+        json,
+        told: false,
+    };
+    poll.run(rt, host, manner)
+}
+
+/// Asks each member of the cluster for its decision, all at once, and prints that which more than t of them told, as soon as they
+/// have, or `UNDECIDED`. The status is 0 for a decision, and 1 else. Standard error names who told another one, or nothing.
 pub fn ask_all<R: Caller>(
-    _threads: &R,
-    rt: &HostRuntime,
+    rt: &R,
+    host: &HostRuntime,
     cluster: &Cluster<'_>,
     query: Query,
 ) -> Result<u8, Failure> {
-    let client = read_client(rt, cluster.file)?;
-    let ask = ask_line(rt.alloc(), query.question).map_err(|_| Fault::Memory)?;
-    let wait = await_line(rt.alloc(), query.question).map_err(|_| Fault::Memory)?;
-    let in_all = if query.wait {
-        cluster.timeout
+    let client = cluster.read(host, query.question)?;
+    let first = ask_line(host.alloc(), query.question).map_err(|_| Fault::Memory)?;
+    let wait = await_line(host.alloc(), query.question).map_err(|_| Fault::Memory)?;
+    let (manner, limit) = if query.wait {
+        (Manner::Until, cluster.timeout)
     } else {
-        Some(cluster.timeout.unwrap_or(IN_ALL))
+        (Manner::Once, Some(cluster.timeout.unwrap_or(IN_ALL)))
     };
-    let deadline = deadline_of(rt, in_all)?;
-    let mut survey = Survey::new(rt.alloc(), client)?;
-    survey.ask_each(rt, ask.as_str(), deadline, SOON)?;
-    if query.wait {
-        survey.wait(rt, (ask.as_str(), wait.as_str()), deadline)?;
-    } else if survey.reading.decision().is_none() {
-        survey.ask_each(rt, ask.as_str(), deadline, LATER)?;
+    let lines = Lines {
+        manner,
+        first,
+        wait,
+    };
+    let json = query.json;
+    hold_poll(rt, host, &client, Plan { lines, limit, json })
+}
+
+/// Refuses what is no bit.
+fn refuse_bit(alloc: Global, bit: u8) -> Result<(), Failure> {
+    if bit <= 1 {
+        return Ok(());
     }
-    survey.tell_others(rt);
-    survey.tell(rt, query.json)
+    let fault = Fault::Words;
+    Err(Failure::at(alloc, fault, "V", Whereabouts::Whole, &"must be 0 or 1"))
+}
+
+/// Proposes the bit to each member of the cluster, again to those that come back, and waits for the decision: prints that which
+/// more than t of them told, as soon as they have, or `UNDECIDED` once the time is over, a minute where none is told. The status
+/// is 0 for a decision, and 1 else. Standard error names who told another one, or nothing.
+pub fn decide<R: Caller>(
+    rt: &R,
+    host: &HostRuntime,
+    cluster: &Cluster<'_>,
+    motion: Motion,
+) -> Result<u8, Failure> {
+    refuse_bit(host.alloc(), motion.bit)?;
+    let client = cluster.read(host, motion.question)?;
+    let first = propose_line(host.alloc(), motion.question, motion.bit).map_err(|_| Fault::Memory)?;
+    let wait = await_line(host.alloc(), motion.question).map_err(|_| Fault::Memory)?;
+    let lines = Lines {
+        manner: Manner::Until,
+        first,
+        wait,
+    };
+    let limit = Some(cluster.timeout.unwrap_or(TO_DECIDE));
+    let json = motion.json;
+    hold_poll(rt, host, &client, Plan { lines, limit, json })
 }

@@ -6,10 +6,10 @@ ghost use Rattle.std.specs.Prelude.{IfErr};
 use crate::desks::desk_place;
 use crate::fault::Fault;
 use crate::reading::{Text, read_file};
-use crate::telling::{not_text, settings_failure};
+use crate::telling::{not_text, place_of, settings_failure};
 use crate::trouble::{Failure, Whereabouts};
 use commands::line_of_key;
-use settings::{ClientSettings, Key, SettingsFault};
+use settings::{Address, ClientSettings, Key, SettingsFault, address_text};
 use std::alloc::Global;
 
 /// What is told of a member's settings where a client's are wanted.
@@ -24,6 +24,23 @@ fn has_peers(alloc: Global, text: &str) -> bool {
     matches!(line_of_key(alloc, text.as_bytes(), Key::Peers), Ok(Some(_)))
 }
 
+/// The failure of a text in which one desk stands twice: a member must not be counted as two.
+fn twice_failure(alloc: Global, path: &str, text: &str, desk: &Address) -> Failure
+    ensures named { IsNamed path.now result }
+{
+    let fault = Fault::Settings(SettingsFault::Key(Key::Desks));
+    let place = place_of(alloc, text, Key::Desks);
+    let Ok(address) = address_text(alloc, desk) else {
+        return Failure::from(fault);
+    };
+    match format!(in alloc;
+        "desks: {address} stands twice: each member must have a desk of its own"
+    ) {
+        Ok(words) => Failure::at(alloc, fault, path, place, &words),
+        Err(_) => Failure::from(fault),
+    }
+}
+
 /// The failure of a text that gives no client's settings.
 fn client_failure(alloc: Global, path: &str, text: &str, fault: SettingsFault) -> Failure
     ensures named { IsNamed path.now result }
@@ -32,7 +49,12 @@ fn client_failure(alloc: Global, path: &str, text: &str, fault: SettingsFault) -
         let fault = Fault::Settings(fault);
         return Failure::at(alloc, fault, path, Whereabouts::Whole, &OF_A_MEMBER);
     }
-    settings_failure(alloc, path, text, fault)
+    match ClientSettings::desk_twice(alloc, text) {
+        Some(desk) if fault == SettingsFault::Key(Key::Desks) => {
+            twice_failure(alloc, path, text, &desk)
+        }
+        _ => settings_failure(alloc, path, text, fault),
+    }
 }
 
 /// The bytes of the file, or that its path is an address.

@@ -9,7 +9,7 @@ use settings::Address;
 use std::io::{self, Read, Write};
 use std::net::TcpStream;
 use std::os::unix::net::UnixStream;
-use std::time::{Duration, Instant};
+use std::time::{Clock, Duration, Instant};
 
 /// Where a member listens to its clients.
 #[derive(Clone, Copy, Debug, PartialEq, Eq)]
@@ -42,10 +42,10 @@ pub fn desk_place(text: &str) -> Option<DeskPlace<'_>>
 }
 
 /// How many seconds a client waits for its connection, where it isn't told.
-const CONNECT: u64 = 10;
+pub const CONNECT: u64 = 10;
 
 /// How many seconds a client waits until more of its line is taken, or for more of the reply, where it isn't told.
-const TALK: u64 = 30;
+pub const TALK: u64 = 30;
 
 /// How long a client that waits for a decision rests before it asks again, in milliseconds.
 pub const REST: u64 = 250;
@@ -93,7 +93,7 @@ fn left_of(total: Option<Duration>, passed: Duration, step: u64) -> Option<Durat
 
 impl Deadline {
     /// A client that begins now waits so many milliseconds at most, one at least; without an end in all where it isn't told.
-    pub fn new(rt: &HostRuntime, timeout: Option<u32>) -> io::Result<Deadline> {
+    pub fn new<R: Clock>(rt: &R, timeout: Option<u32>) -> io::Result<Deadline> {
         Ok(Deadline {
             start: Instant::now(rt)?,
             total: total_of(timeout),
@@ -101,7 +101,7 @@ impl Deadline {
     }
 
     /// How long a step of so many seconds may take. An error: there is no time left.
-    fn left(&self, rt: &HostRuntime, step: u64) -> io::Result<Duration> {
+    pub fn left<R: Clock>(&self, rt: &R, step: u64) -> io::Result<Duration> {
         let passed = self.start.elapsed(rt)?;
         match left_of(self.total, passed, step) {
             Some(left) => Ok(left),
@@ -109,22 +109,8 @@ impl Deadline {
         }
     }
 
-    /// The milliseconds for a part of the whole that is to take so many at most. None: there is no time left.
-    pub fn part(&self, rt: &HostRuntime, most: u32) -> Option<u32> {
-        let Some(total) = self.total else {
-            return Some(most);
-        };
-        let Ok(passed) = self.start.elapsed(rt) else {
-            return None;
-        };
-        match rest_of(total, passed) {
-            Some(left) => Some(left.as_millis().min(u128::from(most)).max(1) as u32),
-            None => None,
-        }
-    }
-
     /// Whether nothing is left after a rest. Where the clock fails nothing is.
-    pub fn is_over(&self, rt: &HostRuntime) -> bool {
+    pub fn is_over<R: Clock>(&self, rt: &R) -> bool {
         let Some(total) = self.total else {
             return false;
         };

@@ -88,7 +88,7 @@ pub enum Fault {
     /// What ended `simulate`.
     #[error(transparent)]
     Simulate(#[from] SimulateFault),
-    /// What ended `rounds`.
+    /// The end of `rounds`.
     #[error(transparent)]
     Play(#[from] PlayFault),
     /// The file of a trace couldn't be written.

@@ -53,7 +53,7 @@ fn key_of(fault: SizeFault) -> Key
 }
 
 /// The line that gives the key a value, or the whole text where none does.
-fn place_of(alloc: Global, text: &str, key: Key) -> Whereabouts
+pub(crate) fn place_of(alloc: Global, text: &str, key: Key) -> Whereabouts
     ensures { IsPlaceOfKey key text.now result }
 {
     match line_of_key(alloc, text.as_bytes(), key) {

@@ -6,6 +6,7 @@ mod documents;
 pub mod faults;
 mod jobs;
 pub mod processes;
+pub mod surveys;
 mod texts;
 pub mod trials;
 pub mod words;

@@ -3,7 +3,7 @@
 use std::alloc::Global;
 use std::sync::Wait;
 use test_network::{Desk, Logs, Sessions};
-use test_program::{Document, Job, Played, Texts, faults, processes, trials, words};
+use test_program::{Document, Job, Played, Texts, faults, processes, surveys, trials, words};
 use test_rules::{Audit, Ballots, Casts, Cores, Questions, Stream, numbers};
 use test_storage::{Disks, File, Life, Migration};
 
@@ -29,6 +29,7 @@ pub enum Player {
     Processes(Global),
     Questions(Questions),
     Sessions(Sessions),
+    Surveys(Global),
     Texts(Texts),
     Trials(Global),
     Words(Global),
@@ -59,6 +60,7 @@ impl Player {
             "processes" => Player::Processes(alloc),
             "questions" => Player::Questions(Questions::new(alloc)),
             "sessions" => Player::Sessions(Sessions::new(alloc)),
+            "surveys" => Player::Surveys(alloc),
             "scripts" => Player::Texts(Texts::new(alloc)),
             "trials" => Player::Trials(alloc),
             "words" => Player::Words(alloc),
@@ -88,6 +90,7 @@ impl Player {
             Player::Processes(alloc) => processes::told(*alloc, action),
             Player::Questions(questions) => questions.told(action),
             Player::Sessions(sessions) => sessions.told(rt, action),
+            Player::Surveys(alloc) => surveys::told(*alloc, action),
             Player::Texts(texts) => texts.told(action),
             Player::Trials(alloc) => trials::told(*alloc, action),
             Player::Words(alloc) => words::told(*alloc, action),

@@ -1444,6 +1444,14 @@ const PROOF: &str =
 const NO_PROOF: &str =
     "transcript 0 bit 1 count 2\n0 00080303000000010101\n0 00080303000000010303\n";
 
+/// The fault of words that have neither form of `audit`.
+const AUDIT_FORMS: &str =
+    "bracha: words\naudit: wants FILE --n N --t T --questions Q, or --all with the file client.toml and a question\n";
+
+/// The same of `simulate`.
+const SIMULATE_FORMS: &str =
+    "bracha: words\nsimulate: wants a script, or --forever without one, which --seed and --seconds go with, but no chart or trace\n";
+
 #[test]
 fn an_audit_ends_by_its_answer(rt: HostRuntime) -> Result<(), Fail> {
     let path = "bracha_tests_audit.txt";
@@ -1455,6 +1463,13 @@ fn an_audit_ends_by_its_answer(rt: HostRuntime) -> Result<(), Fail> {
         Prints(words, "no\nstatus 1\n"),
         Put(path, b"transcript 0 bit 1 count 1\n0 0\n"),
         Names(words, "bracha: line 2\nbracha_tests_audit.txt:2: 0 0\n"),
+        Names("audit bracha_tests_audit.txt --n 1 --t 0", AUDIT_FORMS),
+        Names("audit --all bracha_tests_audit.txt", AUDIT_FORMS),
+        Names("audit --all --n 1 bracha_tests_audit.txt 0", AUDIT_FORMS),
+        Names("simulate", SIMULATE_FORMS),
+        Names("simulate --seed 1 bracha_tests_audit.txt", SIMULATE_FORMS),
+        Names("simulate --forever bracha_tests_audit.txt", SIMULATE_FORMS),
+        Names("simulate --forever --chart -", SIMULATE_FORMS),
     ];
     play(&rt, &steps)?;
     remove(&rt, &[path])
@@ -1662,9 +1677,14 @@ fn help_shows_what_is_taken(rt: HostRuntime) -> Result<(), Fail> {
         "run",
         "propose",
         "ask",
+        "decide",
         "status",
+        "transcript",
+        "audit",
         "dump",
+        "migrate",
         "simulate",
+        "rounds",
         "hear",
     ] {
         assert!(rt; shows_its_use(&rt, name)?, "the help of {name}");

@@ -1,0 +1,203 @@
+//! One member's thread of a command over a whole cluster: begin at `call`, last.
+//!
+//! The thread sends its lines, and leaves each reply at the board. Nobody waits for its end: a member that says nothing, or
+//! byte after byte, holds up its own thread alone, which the end of the program ends.
+
+use crate::addresses::socket_address;
+use crate::board::Board;
+use crate::callers::Caller;
+use crate::desks::{CONNECT, Deadline, REST, TALK};
+use commands::{Next, exchange, fetch_transcript, next_of, word_of};
+use settings::Address;
+use std::alloc::Global;
+use std::io::{self, BufReader, Read, Write};
+use std::net::TcpStream;
+use std::sync::Arc;
+use std::thread;
+use std::time::Duration;
+
+/// The most bytes that are read over a connection, as many as a file of a transcript may have.
+const MOST_READ: usize = 33_554_432;
+
+/// The way in which a member is spoken to.
+#[derive(Clone, Copy, Debug, PartialEq, Eq)]
+pub enum Manner {
+    /// The first line is sent, once.
+    Once,
+    /// The first line is sent, once, and a transcript is read.
+    Transcript,
+    /// The first line is sent, then the one that waits, until the member tells a decision; from the beginning if it doesn't
+    /// answer.
+    Until,
+}
+
+/// The lines and the board that all threads of a command share.
+#[derive(Drop)]
+pub struct Errand {
+    pub alloc: Global,
+    pub manner: Manner,
+    /// The line that each member is sent first.
+    pub first: String,
+    /// The line that waits for the decision.
+    pub wait: String,
+    pub deadline: Deadline,
+    pub board: Board,
+}
+
+/// A connection of a thread: each read and each write waits for what is left of the time.
+#[derive(Drop)]
+struct CallStream<'a, R> {
+    rt: &'a R,
+    socket: &'a TcpStream,
+    deadline: Deadline,
+    /// The number of bytes that may still be read.
+    room: usize,
+}
+
+impl<'a, R: Caller> Read for CallStream<'a, R> {
+    fn read(&mut self, piece: &mut [u8]) -> io::Result<usize> {
+        let limit = self.deadline.left(self.rt, TALK)?;
+        self.socket.set_read_timeout(Some(limit))?;
+        if self.room == 0 {
+            return Err(io::Error::from(io::ErrorKind::InvalidData));
+        }
+        let mut socket = self.socket;
+        let read = socket.read(piece)?;
+        self.room = self.room.saturating_sub(read);
+        Ok(read)
+    }
+}
+
+impl<'a, R: Caller> Write for CallStream<'a, R> {
+    fn write(&mut self, piece: &[u8]) -> io::Result<usize> {
+        let limit = self.deadline.left(self.rt, TALK)?;
+        self.socket.set_write_timeout(Some(limit))?;
+        let mut socket = self.socket;
+        socket.write(piece)
+    }
+
+    fn flush(&mut self) -> io::Result<()> {
+        Ok(())
+    }
+}
+
+impl Errand {
+    /// A connection to the desk, within the time.
+    fn connect<R: Caller>(&self, rt: &R, desk: &Address) -> io::Result<TcpStream> {
+        let limit = self.deadline.left(rt, CONNECT)?;
+        TcpStream::connect_timeout(rt, &socket_address(desk), limit)
+    }
+
+    /// The connection as a reader or a writer.
+    fn talk<'a, R: Caller>(&self, rt: &'a R, socket: &'a TcpStream) -> CallStream<'a, R> {
+        CallStream {
+            rt,
+            socket,
+            deadline: self.deadline,
+            room: MOST_READ,
+        }
+    }
+
+    /// The reply to a line over the connection; none where none comes.
+    fn reply_to<R: Caller>(&self, rt: &R, socket: &TcpStream, line: &str) -> Option<Vec<u8>> {
+        let mut to = self.talk(rt, socket);
+        let mut from = self.talk(rt, socket);
+        match exchange(self.alloc, line, &mut to, &mut from) {
+            Ok(reply) => Some(reply),
+            Err(_) => None,
+        }
+    }
+
+    /// The transcript that the member sends, or another reply with its end; none where none comes.
+    fn transcript_from<R: Caller>(&self, rt: &R, socket: &TcpStream) -> Option<Vec<u8>> {
+        let mut to = self.talk(rt, socket);
+        let Ok(mut from) = BufReader::new(self.alloc, self.talk(rt, socket)) else {
+            return None;
+        };
+        let mut reply = Vec::new(self.alloc);
+        match fetch_transcript(
+            self.alloc,
+            self.first.as_str(),
+            &mut to,
+            &mut from,
+            &mut reply,
+        ) {
+            Ok(_) => Some(reply),
+            Err(_) => None,
+        }
+    }
+
+    /// The one reply of a member that is spoken to once.
+    fn only_reply<R: Caller>(&self, rt: &R, desk: &Address) -> Option<Vec<u8>> {
+        let Ok(socket) = self.connect(rt, desk) else {
+            return None;
+        };
+        match self.manner {
+            Manner::Transcript => self.transcript_from(rt, &socket),
+            Manner::Once | Manner::Until => self.reply_to(rt, &socket, self.first.as_str()),
+        }
+    }
+
+    /// Sends the lines over a connection and leaves the replies at the board, until the member tells a decision, which is
+    /// answered by true, or says something else.
+    fn pursue<R: Caller>(&self, rt: &R, member: u8, socket: &TcpStream) -> bool {
+        let mut line = self.first.as_str();
+        let mut first = true;
+        for _ in 0..u64::MAX {
+            let Some(reply) = self.reply_to(rt, socket, line) else {
+                self.board.leave(rt, member, None);
+                return false;
+            };
+            let next = next_of(word_of(&reply), first);
+            self.board.leave(rt, member, Some(reply));
+            match next {
+                Next::End => return true,
+                Next::Begin => return false,
+                Next::Wait => {
+                    // A member that comes to its end, and one that lies, answers the waiting line at once.
+                    if !first {
+                        self.rest(rt);
+                    }
+                    first = false;
+                    line = self.wait.as_str();
+                }
+            }
+        }
+        false
+    }
+
+    /// Rests between two tries.
+    fn rest<R: Caller>(&self, rt: &R) {
+        thread::sleep(rt, Duration::from_millis(REST));
+    }
+
+    /// Speaks to a member until it tells a decision, or the time is over.
+    fn insist<R: Caller>(&self, rt: &R, member: u8, desk: &Address) {
+        for _ in 0..u64::MAX {
+            match self.connect(rt, desk) {
+                Ok(socket) => {
+                    if self.pursue(rt, member, &socket) {
+                        return;
+                    }
+                }
+                Err(_) => self.board.leave(rt, member, None),
+            }
+            if self.deadline.is_over(rt) {
+                return;
+            }
+            self.rest(rt);
+        }
+    }
+}
+
+/// Speaks to the member with this desk, and leaves what it says at the board.
+pub fn call<R: Caller>(rt: R, errand: Arc<Errand>, member: u8, desk: Address) {
+    let errand: &Errand = &errand;
+    match errand.manner {
+        Manner::Until => errand.insist(&rt, member, &desk),
+        Manner::Once | Manner::Transcript => {
+            let reply = errand.only_reply(&rt, &desk);
+            errand.board.leave(&rt, member, reply);
+        }
+    }
+}

@@ -1,0 +1,113 @@
+//! Members' words, and what the commands over a whole cluster print of them.
+//!
+//! `reply LINE` answers the word that a desk's reply is, and what the member is sent after it, as a reply to the first line and to
+//! the one that waits: `begin`, `wait` or `end`. `then WORD WORD` answers the word that counts after both. `tell BIT WORD ..` answers
+//! what is printed of a decision, which may be `none`, and of members' words: the status, the line, and the lines on the standard
+//! error, with `|` before each. A WORD is `silent`, `undecided`, `other`, or the bit that was told. `head Q TEXT` answers the bit of
+//! a text that begins as a transcript of question Q, or `none`.
+
+use commands::{Next, Word, later_word, next_of, remarks, tell_decision, transcript_bit, word_of};
+use std::alloc::Global;
+use test_words::{Output, words_of};
+
+/// The word of that name.
+fn word_named(name: &str) -> Option<Word> {
+    match name {
+        "silent" => Some(Word::Silent),
+        "undecided" => Some(Word::Undecided),
+        "other" => Some(Word::Other),
+        "0" => Some(Word::Decided(false)),
+        "1" => Some(Word::Decided(true)),
+        _ => None,
+    }
+}
+
+/// The name of a word.
+fn name_of(word: Word) -> &'static str {
+    match word {
+        Word::Silent => "silent",
+        Word::Undecided => "undecided",
+        Word::Other => "other",
+        Word::Decided(bit) => { if bit { "1" } else { "0" } }
+    }
+}
+
+/// The name of what a member is sent.
+fn next_name(next: Next) -> &'static str {
+    match next {
+        Next::Begin => "begin",
+        Next::Wait => "wait",
+        Next::End => "end",
+    }
+}
+
+/// The decision of that name.
+fn decision_named(name: &str) -> Option<Option<bool>> {
+    match name {
+        "none" => Some(None),
+        "0" => Some(Some(false)),
+        "1" => Some(Some(true)),
+        _ => None,
+    }
+}
+
+/// The answer to a reply.
+fn replied(alloc: Global, reply: &str) -> Option<String> {
+    let word = word_of(reply.as_bytes());
+    let (first, later) = (
+        next_name(next_of(word, true)),
+        next_name(next_of(word, false)),
+    );
+    format!(in alloc; "{} {first} {later}", name_of(word)).ok()
+}
+
+/// The answer to a decision and words.
+fn printed(alloc: Global, decision: Option<bool>, names: &[&str]) -> Option<String> {
+    let mut said = Vec::new(alloc);
+    for name in names {
+        said.push(word_named(name)?).ok()?;
+    }
+    let mut output = Output::new(alloc);
+    let status = tell_decision(alloc, decision, false, &mut output).ok()?;
+    let line = output.line(alloc)?;
+    let errors = remarks(alloc, &said, decision).ok()?;
+    let mut text = format!(in alloc; "{status} {line}").ok()?;
+    for error in errors.as_str().lines() {
+        text.push_str(" | ").ok()?;
+        text.push_str(error).ok()?;
+    }
+    Some(text)
+}
+
+/// The answer to a text.
+fn headed(alloc: Global, question: &str, text: &str) -> Option<String> {
+    let question: u16 = question.parse().ok()?;
+    let name = match transcript_bit(alloc, text.as_bytes(), question).ok()? {
+        None => "none",
+        Some(bit) => name_of(Word::Decided(bit)),
+    };
+    String::from_str(alloc, name).ok()
+}
+
+/// Plays a row.
+pub fn told(alloc: Global, action: &str) -> Option<String> {
+    let (name, rest) = action.split_once(' ')?;
+    match name {
+        "reply" => replied(alloc, rest),
+        "head" => {
+            let (question, text) = rest.split_once(' ')?;
+            headed(alloc, question, text)
+        }
+        "then" => {
+            let (first, second) = rest.split_once(' ')?;
+            let word = later_word(word_named(first)?, word_named(second)?);
+            String::from_str(alloc, name_of(word)).ok()
+        }
+        "tell" => {
+            let (decision, names) = rest.split_once(' ')?;
+            let names = words_of(alloc, names)?;
+            printed(alloc, decision_named(decision)?, &names)
+        }
+        _ => None,
+    }
+}
