@@ -34,3 +34,9 @@ abbrev pub end_of : List (Option (ℕ × Bool)) → End
 end_of verdicts =
     if has_two_answers verdicts then TwoAnswers
     else (if list_any is_open verdicts then Open else Decided (last_round verdicts))
+
+-- an end that is counted: two answers never are
+abbrev pub IsCounted : End → Type 0
+IsCounted (Decided round) = Unit {0}
+IsCounted Open = Unit {0}
+IsCounted TwoAnswers = ⊥

@@ -1,5 +1,8 @@
 //! One question, played.
 
+ghost use Rattle.std.specs.Prelude.{IfOk};
+ghost use Rattle.chances.specs.Ends.{IsCounted};
+
 use crate::adversary::deliver_chosen;
 use crate::ends::{End, end_of};
 use crate::fault::PlayFault;
@@ -37,7 +40,9 @@ pub struct Setting {
 /// - [`PlayFault::Liars`] if more members lie than may;
 /// - [`PlayFault::TwoAnswers`] if two correct members decided differently;
 /// - [`PlayFault::Memory`] if an allocation failed.
-pub fn play(alloc: Global, setting: &Setting, seed: u64) -> Result<End, PlayFault> {
+pub fn play(alloc: Global, setting: &Setting, seed: u64) -> Result<End, PlayFault>
+    ensures { IfOk result IsCounted }
+{
     let mut table = Table::open(alloc, setting.size, setting.liars, seed)?;
     for member in 0..table.correct() {
         table.propose(member, member % 2 == 1)?;
@@ -49,6 +54,7 @@ pub fn play(alloc: Global, setting: &Setting, seed: u64) -> Result<End, PlayFaul
     }
     match end_of(&table.verdicts(alloc)?) {
         End::TwoAnswers => Err(PlayFault::TwoAnswers(seed)),
-        end => Ok(end),
+        End::Open => Ok(End::Open),
+        End::Decided(round) => Ok(End::Decided(round)),
     }
 }
