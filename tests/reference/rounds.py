@@ -208,13 +208,12 @@ def played(n: int, t: int, liars: int, order_name: str, seed: int) -> str:
 
 def rows() -> Iterator[str]:
     yield HEAD
-    sizes = [(1, 0, 5), (3, 0, 5), (4, 1, 20), (5, 1, 10), (6, 1, 10), (7, 1, 10), (7, 2, 20), (8, 2, 5), (10, 3, 4), (13, 2, 2)]
+    sizes = [(1, 0, 5), (3, 0, 5), (4, 1, 20), (5, 1, 10), (6, 1, 10), (7, 1, 10), (7, 2, 20), (8, 2, 5), (10, 3, 4)]
     for n, t, seeds in sizes:
         for liars in sorted({0, t}):
             for name in ("random", "adversary", "links"):
                 for seed in range(1, seeds + 1):
                     yield f"play {n} {t} {liars} {name} {seed} -> {played(n, t, liars, name, seed)}"
-    yield "play 16 5 5 adversary 1 -> " + played(16, 5, 5, "adversary", 1)
 
 
 def main(args: list[str]) -> int:
