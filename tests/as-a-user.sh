@@ -266,6 +266,27 @@ says 'a chart that is too long' 0 $'bracha: long.svg: a chart of 100000 events i
     { printf "n 4\nt 1\nquestions 1\nliars 3\nseed 1\n"; yes "fuse 0 off" | head -n 100000; } >long.script
     "$0" simulate --chart long.svg long.script 2>&1' "$program"
 says 'a part of it' 0 'events 100000 skipped 0' "$program" simulate --chart part.svg --from 5 --to 30 long.script
+
+# How many rounds decisions take. What is decided when is by tests/reference/rounds.py.
+table=$'round 1: 0\nround 2: 2\nround 3: 2\nround 4: 0\nround 5: 3\nround 6: 1\nopen: 0\nquestions: 8'
+says 'rounds' 0 "$table" "$program" rounds --n 4 --t 1 --order links --seeds 8
+says 'rounds of so many liars' 0 "$table" "$program" rounds --n 4 --t 1 --liars 1 --order links --seeds 8
+says 'rounds by default' 0 'questions: 100' bash -c '"$0" rounds --n 4 --t 1 | tail -n 1' "$program"
+says 'a chart of rounds' 0 "$table"$'\n32' bash -c '"$0" rounds --n 4 --t 1 --order links --seeds 8 --chart rounds.svg && grep -c "open</title>" rounds.svg' "$program"
+says 'a chart of rounds on the output' 0 "$table"$'\n32' bash -c '"$0" rounds --n 4 --t 1 --order links --seeds 8 --chart - 2>said | grep -c "open</title>" >count; cat said count' "$program"
+says 'a chart of rounds that cannot be written' 1 $'bracha: chart\nnowhere/x.svg: write: No such file or directory (os error 2)' "$program" rounds --n 4 --t 1 --seeds 1 --chart nowhere/x.svg
+for words in '--liars 2' '--order first' '--seeds 0'; do
+    # shellcheck disable=SC2086
+    says "rounds $words" 2 $'bracha: words\nrounds: wants at most T liars, the order random, adversary or links, and at least one run' "$program" rounds --n 4 --t 1 $words
+done
+says 'rounds of no size' 1 'bracha: size TooManyLiars' "$program" --quiet rounds --n 3 --t 1
+says 'progress of rounds' 0 'bracha: some' bash -c 'timeout 4 "$0" rounds --n 7 --t 2 --order adversary --seeds 1000000 2>&1 | sed -n "s/ [0-9]* of 1000000 questions/ some/p"' "$program"
+says 'no progress of rounds' 124 '' timeout 3 "$program" rounds --quiet --n 7 --t 2 --order adversary --seeds 1000000
+
+# Drawn scripts, for ten seconds. A finding would be printed with its script.
+says 'random scripts' 0 'seed 1 scripts N events N decisions N' bash -c '"$0" simulate --forever --seed 1 --seconds 10 --quiet | sed -E "s/(scripts|events|decisions) [1-9][0-9]*/\1 N/g"' "$program"
+says 'progress of random scripts' 0 $'seed 7 scripts\nseed 7 scripts' bash -c '"$0" simulate --forever --seed 7 --seconds 3 2>&1 | cut -d " " -f 1-3' "$program"
+says 'random scripts by the time' 0 'seed N scripts' bash -c '"$0" simulate --forever --seconds 0 2>&1 | cut -d " " -f 1-3 | sed -E "s/ [1-9][0-9]{9} / N /"' "$program"
 truncate -s 1G sparse
 says 'a large file' 1 "bracha: journal BadHeader
 sparse: no journal of bracha: bytes 00 00 00 00 00 00 00 00 00 00 00 00 00 00 00 00 .." \

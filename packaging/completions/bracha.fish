@@ -51,7 +51,7 @@ complete -c bracha -n "__fish_seen_subcommand_from simulate" -l seconds -x -d "H
 complete -c bracha -n "__fish_seen_subcommand_from rounds" -l n -x -d "Members"
 complete -c bracha -n "__fish_seen_subcommand_from rounds" -l t -x -d "Liars that are tolerated"
 complete -c bracha -n "__fish_seen_subcommand_from rounds" -l liars -x -d "Liars"
-complete -c bracha -n "__fish_seen_subcommand_from rounds" -l order -x -a "random adversary" -d "Who chooses the next message"
+complete -c bracha -n "__fish_seen_subcommand_from rounds" -l order -x -a "random adversary links" -d "Who chooses the next message"
 complete -c bracha -n "__fish_seen_subcommand_from rounds" -l seeds -x -d "Runs"
 complete -c bracha -n "__fish_seen_subcommand_from rounds" -l chart -r -F -d "A chart in SVG"
 complete -c bracha -n "__fish_seen_subcommand_from hear" -l n -x -d "Members"

@@ -140,7 +140,7 @@ fn audit<R: Caller>(
 }
 
 /// Does the task, and gives the status to end with.
-fn work<R: Caller>(rt: &R, host: &HostRuntime, task: Task) -> Result<u8, Failure> {
+fn work<R: Caller>(rt: &R, host: &HostRuntime, task: Task, quiet: bool) -> Result<u8, Failure> {
     match task {
         Task::Hear {
             n,
@@ -286,7 +286,7 @@ fn work<R: Caller>(rt: &R, host: &HostRuntime, task: Task) -> Result<u8, Failure
                 seeds,
                 chart,
             };
-            measure_rounds(host, &asked)
+            measure_rounds(host, &asked, quiet)
         }
         Task::Dump {
             journal,
@@ -320,6 +320,7 @@ fn work<R: Caller>(rt: &R, host: &HostRuntime, task: Task) -> Result<u8, Failure
                 forever,
                 seed,
                 seconds,
+                quiet,
             };
             simulate(host, &words)
         }
@@ -359,10 +360,13 @@ fn run<R: Caller, S: AsStr>(
     words: &[S],
 ) -> Result<u8, Failure> {
     match command(host.alloc(), words) {
-        Ok(order) => match work(rt, host, order.task) {
-            Ok(status) => Ok(status),
-            Err(failure) => Err(failure.told(order.quiet || wants_quiet(host))),
-        },
+        Ok(order) => {
+            let quiet = order.quiet || wants_quiet(host);
+            match work(rt, host, order.task, quiet) {
+                Ok(status) => Ok(status),
+                Err(failure) => Err(failure.told(quiet)),
+            }
+        }
         Err(error) if error.kind() == ErrorKind::OutOfMemory => Err(Failure::from(Fault::Memory)),
         Err(error) => {
             error.print(host).map_err(|error| Fault::from(error))?;

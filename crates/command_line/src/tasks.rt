@@ -594,7 +594,7 @@ fn with_forever<'a>(alloc: Global, command: Built<'a>) -> Built<'a>
     ensures { (app : App) → Builds app command.entry → Builds (with_rules app forever_rules) result }
 {
     let forever = "Play random scripts, one after another, in place of SCRIPT";
-    let seed = "With --forever: number of the first script [default: a random one]";
+    let seed = "With --forever: seed of the scripts [default: the time]";
     let seconds = "With --forever: stop after N seconds";
     let seed = option(alloc, "seed", "S", seed);
     let seconds = option(alloc, "seconds", "N", seconds);
@@ -636,7 +636,7 @@ fn rounds<'a>(alloc: Global) -> Built<'a>
         "L",
         "Number of members that lie [default: T]",
     );
-    let order = "Who chooses the next message: `random` or `adversary` [default: random]";
+    let order = "Who chooses the next message: `random`, `adversary` or `links` [default: random]";
     let order = option(alloc, "order", "ORDER", order);
     let seeds = option(
         alloc,

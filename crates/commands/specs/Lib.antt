@@ -17,3 +17,4 @@ pub mod Migrations
 pub mod Replies
 pub mod Objects
 pub mod Patience
+pub mod Trials

@@ -7,6 +7,7 @@ mod client;
 mod damage;
 mod dump;
 mod fault;
+mod forever;
 mod init;
 mod migrate;
 mod objects;
@@ -31,6 +32,7 @@ pub use client::{
 pub use damage::{bytes_at, fault_place};
 pub use dump::{dump_count, dump_count_object, dump_lines, dump_objects};
 pub use fault::{DumpFault, InitFault, MigrationFault, SimulateFault, TalkFault};
+pub use forever::{Tried, try_script};
 pub use init::init_disk;
 pub use migrate::migrate_disks;
 pub use old_damage::old_fault_place;

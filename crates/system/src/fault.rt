@@ -4,6 +4,7 @@ ghost use Rattle.system.specs.declared.fault.Fault.TheVariants as ends;
 ghost use Rattle.system.specs.Faults.{IsMeant, IsFileFault, fault_status, of_journal};
 ghost use Rattle.std.specs.Prelude.{◌≡◌};
 
+use chances::PlayFault;
 use commands::{DumpFault, InitFault, MigrationFault, SimulateFault, TalkFault};
 use hearing::HearFault;
 use journal::JournalFault;
@@ -87,6 +88,9 @@ pub enum Fault {
     /// What ended `simulate`.
     #[error(transparent)]
     Simulate(#[from] SimulateFault),
+    /// The end of `rounds`.
+    #[error(transparent)]
+    Play(#[from] PlayFault),
     /// The file of a trace couldn't be written.
     #[error("trace")]
     Trace,

@@ -54,6 +54,8 @@ pub struct SimulateWords<'a> {
     pub forever: bool,
     pub seed: Option<u32>,
     pub seconds: Option<u32>,
+    /// No progress is told.
+    pub quiet: bool,
 }
 
 /// The forms of `audit`.
@@ -120,7 +122,7 @@ pub fn simulate(rt: &HostRuntime, words: &SimulateWords<'_>) -> Result<u8, Failu
         }
         Some(Simulated::Forever { seed, seconds }) => {
             check_rows(rt.alloc(), None, words.choice)?;
-            play_forever(rt, seed, seconds)
+            play_forever(rt, seed, seconds, words.quiet)
         }
         None => Err(Failure::at(
             rt.alloc(),

@@ -8,6 +8,7 @@ mod jobs;
 pub mod processes;
 pub mod surveys;
 mod texts;
+pub mod trials;
 pub mod words;
 mod works;
 

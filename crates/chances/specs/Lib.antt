@@ -1,0 +1,6 @@
+pub mod Faults
+pub mod Steps
+pub mod Links
+pub mod Strategy
+pub mod Ends
+pub mod Lines
