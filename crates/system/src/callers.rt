@@ -135,8 +135,11 @@ impl Calls {
 
     /// Ends the calls after so many milliseconds, if they don't end before.
     pub fn end_soon(&mut self, host: &HostRuntime, limit: u32) {
-        let limit_of = Duration::from_millis(u64::from(limit));
-        if matches!(self.left(host), Some(left) if left <= limit_of) {
+        // Once the time is over it isn't made longer.
+        let Some(left) = self.left(host) else {
+            return;
+        };
+        if left <= Duration::from_millis(u64::from(limit)) {
             return;
         }
         if let Ok(sooner) = Deadline::new(host, Some(limit)) {

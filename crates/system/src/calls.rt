@@ -64,7 +64,7 @@ fn write_to(socket: &TcpStream, piece: &[u8]) -> io::Result<usize>
 
 /// A connection of a thread: each read and each write waits for what is left of the time.
 #[derive(Drop)]
-struct CallStream<'a, R> {
+struct CallStream<'a, R: 'static> {
     rt: &'a R,
     socket: &'a TcpStream,
     deadline: Deadline,
@@ -72,7 +72,7 @@ struct CallStream<'a, R> {
     room: usize,
 }
 
-impl<'a, R: Caller> Read for CallStream<'a, R> {
+impl<'a, R: Caller + 'static> Read for CallStream<'a, R> {
     fn read(&mut self, piece: &mut [u8]) -> io::Result<usize> {
         let limit = self.deadline.left(self.rt, TALK)?;
         self.socket.set_read_timeout(Some(limit))?;
@@ -89,7 +89,7 @@ impl<'a, R: Caller> Read for CallStream<'a, R> {
     }
 }
 
-impl<'a, R: Caller> Write for CallStream<'a, R> {
+impl<'a, R: Caller + 'static> Write for CallStream<'a, R> {
     fn write(&mut self, piece: &[u8]) -> io::Result<usize> {
         let limit = self.deadline.left(self.rt, TALK)?;
         self.socket.set_write_timeout(Some(limit))?;
