@@ -9,6 +9,8 @@
 //! `judge LEAST LINES` judges a trace of these lines, with `|` between them, and answers the count of decisions and what was found,
 //! or `fine`.
 
+ghost use Rattle.std.specs.Prelude.{◌≤◌, IfSome};
+
 use chances::{End, Order, Setting, end_of, play, strategy, table_text};
 use std::alloc::Global;
 use terms::{Size, Value};
@@ -88,12 +90,14 @@ fn played(alloc: Global, words: &[&str]) -> Option<String> {
 }
 
 /// The step of a word, 1 to 3.
-fn step_of(word: &str) -> Option<u8> {
-    let step: u8 = word.parse().ok()?;
-    if (1..4).contains(&step) {
-        Some(step)
-    } else {
-        None
+fn step_of(word: &str) -> Option<u8>
+    ensures { IfSome result (λ step. (1 ≤ step) × (step ≤ 3)) }
+{
+    match word {
+        "1" => Some(1),
+        "2" => Some(2),
+        "3" => Some(3),
+        _ => None,
     }
 }
 
@@ -123,7 +127,9 @@ fn lied(alloc: Global, words: &[&str]) -> Option<String> {
         return None;
     };
     let values = values_of(alloc, signs)?;
-    let value = strategy::lie(size_of(n, t)?, step_of(step)?, &values);
+    let size = size_of(n, t)?;
+    let step = step_of(step)?;
+    let value = strategy::lie(size, step, &values);
     format!(in alloc; "{}", sign_of(value)).ok()
 }
 
