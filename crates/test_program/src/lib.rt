@@ -5,10 +5,10 @@ mod clusters;
 mod documents;
 pub mod faults;
 mod jobs;
+pub mod judgements;
 pub mod processes;
 pub mod surveys;
 mod texts;
-pub mod trials;
 pub mod words;
 mod works;
 

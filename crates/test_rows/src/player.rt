@@ -4,7 +4,7 @@ use std::alloc::Global;
 use std::sync::Wait;
 use std::time::Clock;
 use test_network::{Desk, Logs, Sessions};
-use test_program::{Document, Job, Played, Texts, faults, processes, surveys, trials, words};
+use test_program::{Document, Job, Played, Texts, faults, judgements, processes, surveys, words};
 use test_rules::{Audit, Ballots, Casts, Cores, Questions, Stream, numbers};
 use test_storage::{Disks, File, Life, Migration};
 
@@ -93,7 +93,7 @@ impl Player {
             Player::Sessions(sessions) => sessions.told(rt, action),
             Player::Surveys(alloc) => surveys::told(*alloc, action),
             Player::Texts(texts) => texts.told(action),
-            Player::Trials(alloc) => trials::told(*alloc, action),
+            Player::Trials(alloc) => judgements::told(*alloc, action),
             Player::Words(alloc) => words::told(*alloc, action),
             Player::Nobody => None,
         }

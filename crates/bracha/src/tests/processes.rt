@@ -1642,9 +1642,13 @@ fn a_chart_has_the_rows_that_are_asked_for(rt: HostRuntime) -> Result<(), Fail> 
     remove(&rt, &[script])
 }
 
-/// Whether the words behind the program's name are taken.
+/// Tells if the words behind the program's name are taken, without the file that the output goes to.
 fn is_taken(rt: &HostRuntime, rest: &str) -> Result<bool, Fail> {
-    let text = format!(in rt.alloc(); "bracha {rest}")?;
+    let own = match rest.split_once(" > ") {
+        Some((own, _file)) => own,
+        None => rest,
+    };
+    let text = format!(in rt.alloc(); "bracha {own}")?;
     let words: Vec<&str> = text.as_str().split(' ').collect(rt.alloc())?;
     Ok(command(rt.alloc(), words.as_slice()).ok().is_some())
 }
