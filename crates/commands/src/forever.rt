@@ -1,6 +1,7 @@
 //! Drawn scripts, each played and judged by the trace that is printed of it.
 
 ghost use Rattle.std.specs.Prelude.{◌≡◌, IfOk, string_bytes};
+ghost use Rattle.commands.specs.Pages.{trace_of};
 ghost use Rattle.commands.specs.Trials.{IsJudged};
 
 use crate::fault::SimulateFault;
@@ -19,13 +20,21 @@ pub struct Tried {
     pub judgement: Judgement,
 }
 
+/// Returns the trace that `simulate` prints of a run.
+fn trace(alloc: Global, simulation: &Simulation) -> Result<Vec<u8>, SimulateFault>
+    ensures { IfOk result (λ bytes. bytes.items ≡ trace_of simulation.now) }
+{
+    let mut trace = Vec::new(alloc);
+    simulation.write_trace(alloc, &mut trace)?;
+    Ok(trace)
+}
+
 /// Plays the script, and judges the trace that `simulate` prints of it.
 fn try_trial(alloc: Global, trial: Trial) -> Result<Tried, SimulateFault>
     ensures { IfOk result (λ tried. IsJudged (string_bytes trial.text) trial.least tried.judgement) }
 {
     let simulation = Simulation::run(alloc, trial.text.as_bytes())?;
-    let mut trace = Vec::new(alloc);
-    simulation.write_trace(alloc, &mut trace)?;
+    let trace = trace(alloc, &simulation)?;
     let judgement = judge(alloc, &trace, trial.least)?;
     Ok(Tried {
         script: trial.text,
