@@ -101,6 +101,20 @@ fn step_of(word: &str) -> Option<u8>
     }
 }
 
+/// The adversary's order for this receiver, of values of at most 64 members.
+fn receiver_order(
+    alloc: Global,
+    size: Size,
+    step: u8,
+    values: &[Option<Value>],
+    receiver: u8,
+) -> Option<Vec<u8>> {
+    if values.len() > 64 {
+        return None;
+    }
+    strategy::order(alloc, size, step, values, receiver).ok()
+}
+
 /// The adversary's order.
 fn ordered(alloc: Global, words: &[&str]) -> Option<String> {
     let [n, t, step, receiver, signs] = words else {
@@ -109,7 +123,7 @@ fn ordered(alloc: Global, words: &[&str]) -> Option<String> {
     let values = values_of(alloc, signs)?;
     let size = size_of(n, t)?;
     let receiver = receiver.parse().ok()?;
-    let order = strategy::order(alloc, size, step_of(step)?, &values, receiver).ok()?;
+    let order = receiver_order(alloc, size, step_of(step)?, &values, receiver)?;
     let mut text = String::new(alloc);
     for origin in &order {
         if !text.is_empty() {
