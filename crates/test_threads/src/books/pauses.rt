@@ -167,13 +167,13 @@ fn said_in(scene: Scene) -> u64 {
     }
 }
 
-/// The bytes of the journal where both links were heard together: a header of 24 bytes; three bytes in front of a batch, six for
-/// each of its records, and a gate.
+/// The bytes of the journal where both links were heard together: a header of 24 bytes; three bytes in front of each batch, and
+/// six for each of its records; a gate behind the last.
 fn length_of(scene: Scene) -> u64 {
     match scene {
-        Scene::Lent => 24 + 16,
-        Scene::Client => 24 + 10 * u64::from(PROPOSALS) + 16,
-        Scene::Full => 24 + 10,
+        Scene::Lent => 24 + 15 + 1,
+        Scene::Client => 24 + 9 * u64::from(PROPOSALS) + 15 + 1,
+        Scene::Full => 24 + 9 + 1,
     }
 }
 
