@@ -1,0 +1,38 @@
+#!/usr/bin/env bash
+# bench/price.sh [LIBRARY]
+#
+# What an event costs a C program over the library, in instructions (callgrind), next to what it costs the core alone: the same
+# events, of four members and 256 questions, by the difference of two lengths, so that opening and closing aren't counted.
+# LIBRARY is the folder that packaging/library.sh made; left out, it is made anew. It proves the crates below `questions` in a
+# copy, which takes some minutes. Prints both numbers and their ratio.
+set -euo pipefail
+here=$(realpath "$(dirname "$0")")
+cd "$here/.."
+copy=$(mktemp -d)
+trap 'rm -rf "$copy"' EXIT
+library=${1-}
+if [ -z "$library" ]; then
+    packaging/library.sh "$copy/library" > /dev/null
+    library=$copy/library
+fi
+cc -O2 -I "$library/include" bench/price.c "$library/lib/libbracha.a" -o "$copy/price"
+
+grep -E '^(terms|terms_prelude|votes|rbc|validate|rounds|questions):' crates.txt > "$copy/crates.txt"
+cp HANDLES "$copy"
+mkdir "$copy/crates"
+cp -a crates/{terms,terms_prelude,votes,rbc,validate,rounds,questions} "$copy/crates"
+cd "$copy/crates/questions"
+printf '\n#[cfg(test)]\nmod tests;\n' >> src/lib.rt
+# The test of many members is not needed; that of few is, of both lengths.
+sed -e '/^fn many_members/,/^}/s/32, 10, 256)?, 256, 3906/4, 1, 256)?, 256, 1728/' "$here/core-tests.txt" > src/tests.rt
+rt test > "$copy/log" 2>&1 || { cat "$copy/log"; exit 1; }
+
+# The instructions of a program.
+count() {
+    valgrind --tool=callgrind --callgrind-out-file=/dev/null "$@" 2>&1 >/dev/null | sed -n 's/.*Collected : //p'
+}
+# The instructions of an event, of so many more of them.
+events=$((256 * 1728))
+core=$((($(count ./out/questions_tests tests::few_members) - $(count ./out/questions_tests tests::many_members)) / events))
+c=$((($(count "$copy/price" 3456) - $(count "$copy/price" 1728)) / events))
+echo "the core alone $core, from C $c instructions an event: $(awk "BEGIN { printf \"%.2f\", $c / $core }") times"
