@@ -1,19 +1,15 @@
-use Rattle.std.proofs.Common.{◌≡◌, Some, None, sym}
+use Rattle.std.proofs.Common.{◌≡◌, Some, ap, ◌∙◌, slice_get}
 use Rattle.terms_prelude.specs.Terms.{past_of}
-use Rattle.questions.specs.Words.{core_size, core_me}
-use Rattle.questions.proofs.Knowing.{found, inside_of, not_past, stood}
+use Rattle.questions.specs.Words.{CoreFields, core_size, core_me, AreStanding}
+use Rattle.questions.proofs.Slots.{read_at}
 use Rattle.questions.proofs.Core.progress.Goals as goal
 
 pub returns-clause-known : goal.returns-clause-known
+unfolding AreStanding
 returns-clause-known c records heard knows below =
-    let i = c.self.inside in
-    let core = c.args.self.now in
-    let inside = inside_of core i.size i.me i.places.items i.made.items i.failed c.args.question c.in_ok-at.at c.self.view_is c.self.invariant (sym c.in_ok-at.ensures) in
-    let there = found core i.size i.me i.places.items i.made.items i.failed c.args.question c.in_ok-at.at c.index.result.now c.self.view_is inside c.index.ensures in
-    c.progress.ensures (past_of (core_size core) (core_me core) c.args.question records heard)
-    (stood core c.args.question c.in_ok-at.at c.index.result.now records heard (sym c.in_ok-at.ensures) there knows)
-
-pub returns-clause-unknown : goal.returns-clause-unknown
-returns-clause-unknown c past =
-    let i = c.self.inside in
-    absurd (not_past c.args.self.now i.size i.me i.places.items i.made.items i.failed c.args.question c.in_ok-at.at c.self.view_is c.self.invariant (sym c.in_ok-at.ensures) past)
+    let one = c.in_ok-get.field-0.now in
+    let l = c.in_ok-get.ensures.lookup in
+    let found : slice_get c.args.self.now.instances c.args.question ≡ Some one =
+    read_at c.deref.result.now c.args.self.now.instances c.from.result c.args.question one
+    (c.deref.ensures.value ∙ ap (λ (core : CoreFields). core.instances) c.self.view_is) c.from.ensures l.3.0 l.1 in
+    c.progress.ensures (past_of (core_size c.args.self.now) (core_me c.args.self.now) c.args.question records heard) (knows.standing c.args.question one found)
