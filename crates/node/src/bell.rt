@@ -33,7 +33,11 @@ impl Bell {
     }
 
     /// Waits until it rings. What is locked is given back meanwhile.
-    pub(crate) fn wait<'a, R: Wait, T>(&self, rt: &R, locked: MutexGuard<'a, T>) -> MutexGuard<'a, T> {
+    pub(crate) fn wait<'a, R: Wait, T>(
+        &self,
+        rt: &R,
+        locked: MutexGuard<'a, T>,
+    ) -> MutexGuard<'a, T> {
         self.condition.wait(rt, locked)
     }
 }

@@ -190,7 +190,16 @@ fn are_played<D: Disk + Send, J: Naming + Send + Sync, R: Threads + Wait + Clock
     };
     let mut other = Link {
         seat: take(rt, rack, 2)?,
-        said: at(0, 2, if matches!(play.scene, Scene::Full) { Echo } else { Initial }, One)?,
+        said: at(
+            0,
+            2,
+            if matches!(play.scene, Scene::Full) {
+                Echo
+            } else {
+                Initial
+            },
+            One,
+        )?,
     };
     let (used, (written, handed)) = join(
         rt,
