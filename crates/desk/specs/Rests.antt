@@ -9,9 +9,9 @@ abbrev pub left_until : Option Instant → ℕ → ℕ
 left_until None now = 0
 left_until (Some until) now = instant_nanos until - now
 
--- the end of the rest behind a transcript that was made between these times: three times as long as that took
+-- the end of the rest behind a transcript that was made between these times: fifteen times as long as that took
 abbrev pub rest_end : ℕ → ℕ → ℕ
-rest_end began ended = ended + 3 * (ended - began)
+rest_end began ended = ended + 15 * (ended - began)
 
 -- that is the rest behind such a transcript, and there is none where the clock wasn't read, or can't show its end
 pub record IsRestBehind (began ended : Instant) (rest : Rest) : Type 0 where

@@ -356,8 +356,8 @@ impl<D: Disk, J: Naming, R: Wait + Clock> Server<'_, D, J, R> {
 /// before its reply is written, so a `STATUS` behind it counts it. Replies are written without memory, and no lock is held while
 /// they are. The pass is of the hub's board, and knows each decision that was written, so a decision that was told is told again.
 ///
-/// Transcripts are made one at a time, and after each the desk rests three times as long as that took, so that all of them take a
-/// quarter of a processor at most.
+/// Transcripts are made one at a time, and after each the desk rests 15 times as long as that took, so that all of them take a
+/// sixteenth of a processor at most.
 ///
 /// It may wait for the stream and for the lock. The stream stays open.
 pub fn serve<D: Disk, J: Naming, S: Stream, T: Tosser, R: Wait + Clock>(

@@ -10,7 +10,7 @@ use std::thread;
 use std::time::{Clock, Duration, Instant};
 
 /// The length of the rest behind a transcript, in times of what that took.
-const TIMES: u32 = 3;
+const TIMES: u32 = 15;
 
 /// The rest behind a transcript: the time before which no other is made, if there is one.
 #[derive(Clone, Copy, Debug, PartialEq, Eq)]
@@ -36,7 +36,7 @@ impl Rest {
         }
     }
 
-    /// Returns the rest behind a transcript that was made between these times: three times as long as that took. There is none if the
+    /// Returns the rest behind a transcript that was made between these times: 15 times as long as that took. There is none if the
     /// clock can't show its end.
     pub fn behind(began: Instant, ended: Instant) -> Rest
         ensures { IsRestBehind began ended result }

@@ -18,6 +18,7 @@ use node::{Hub, Naming, Seat};
 use rounds::{Toss, Tosser};
 use std::alloc::Global;
 use std::sync::Wait;
+use std::time::Clock;
 use terms::{Memory, Statement};
 use wire::{Fed, Feeder, Message, Version};
 
@@ -171,7 +172,7 @@ struct Reader<'a, D: Disk, J: Naming, G, R> {
     gate: &'a G,
 }
 
-impl<D: Disk, J: Naming, G: Gate, R: Wait> Reader<'_, D, J, G, R> {
+impl<D: Disk, J: Naming, G: Gate, R: Wait + Clock> Reader<'_, D, J, G, R> {
     /// Hands in one group. When it returns the member has answered it, and what it says of it is on its way.
     fn hand_in_group(&self, seat: &mut Seat<J>, group: &[(Statement, Toss)]) -> Result<(), LinkEnd>
         requires { length group.now ≤ 256 }
@@ -324,7 +325,7 @@ impl<D: Disk, J: Naming, G: Gate, R: Wait> Reader<'_, D, J, G, R> {
 /// - `Stopped`: the member, which is stopped, refused a group of what was read. The group and what was read behind it
 ///   weren't handed in.
 /// - `Memory`: there was no memory, and a beginning of what was read was handed in, perhaps none of it.
-pub fn read_link<D: Disk, J: Naming, S: Stream, G: Gate, T: Tosser, R: Wait>(
+pub fn read_link<D: Disk, J: Naming, S: Stream, G: Gate, T: Tosser, R: Wait + Clock>(
     rt: &R,
     alloc: Global,
     hub: &Hub<D, J>,

@@ -5,6 +5,7 @@
 
 mod account;
 mod batch;
+mod bell;
 mod block;
 mod board;
 mod book;
@@ -20,6 +21,7 @@ mod marks;
 mod notes;
 mod order;
 mod pace;
+mod pause;
 mod rack;
 mod seat;
 mod settle;

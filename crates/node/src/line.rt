@@ -98,10 +98,8 @@ pub(crate) struct Line<D, J: Naming> {
     first: usize,
     /// How many groups in a row were taken for which the bell isn't rung.
     quiet: u32,
-    /// Whether a thread serves the line at this moment.
+    /// Whether a link serves the line at this moment.
     pub(crate) is_busy: bool,
-    /// Whether a thread of its own serves the line. Links then wait for it, and don't serve it themselves.
-    pub(crate) has_server: bool,
 }
 
 impl<D, J: Naming> Line<D, J> {
@@ -116,7 +114,6 @@ impl<D, J: Naming> Line<D, J> {
             first: 0,
             quiet: 0,
             is_busy: false,
-            has_server: false,
         })
     }
 
@@ -225,18 +222,18 @@ impl<D, J: Naming> Line<D, J> {
         }
     }
 
-    /// Whom to wake behind a group, a bit for each link, the lowest of them that of link 0: those that were answered, and all
-    /// where they serve the line themselves.
+    /// Whom to wake behind a group, a bit for each link, the lowest of them that of link 0: those that were answered, and the
+    /// first that waits, which serves the line next.
     pub(crate) fn to_wake(&self) -> u64 {
-        if !self.has_server {
-            return u64::MAX;
-        }
         let mut links = 0;
         let mut bit = 1u64;
+        let mut has_next = false;
         for slot in &self.slots {
-            if slot.is_answered() {
+            let is_next = slot.waits() && !has_next;
+            if slot.is_answered() || is_next {
                 links |= bit;
             }
+            has_next = has_next || is_next;
             bit <<= 1;
         }
         links

@@ -8,7 +8,7 @@ use crate::machine::Machine;
 use crate::refusals::Refusal;
 use crate::shared::{Chair, Shared};
 use crate::sockets::{host_of, shut};
-use desk::{FollowEnd, Follower, Outlet, Rest, Telling};
+use desk::{FollowEnd, Follower, Outlet, Telling};
 use disk::Disk;
 use ghost_record::{Change, GhostRecord, Recorded};
 use links::StreamFault;
@@ -24,6 +24,9 @@ pub(crate) const FOLLOWERS: u16 = 1024;
 
 /// The milliseconds after which a client that has to take lines first is tried again.
 const RETRY: u64 = 10;
+
+/// The length of the rest behind a round, in times of what that took.
+const TIMES: u32 = 3;
 
 /// The milliseconds of the longest rest behind a round, so that a member's end isn't held up.
 const LONGEST: u64 = 100;
@@ -415,9 +418,12 @@ fn time_of<R: Machine>(rt: &R) -> Option<Instant> {
 /// that followers take a quarter of a processor at most.
 fn rest_behind<R: Machine>(rt: &R, began: Option<Instant>) -> Duration {
     let longest = Duration::from_millis(LONGEST);
-    match (began, time_of(rt)) {
-        (Some(began), Some(ended)) => Rest::behind(began, ended).left(ended).min(longest),
-        _ => longest,
+    let (Some(began), Some(ended)) = (began, time_of(rt)) else {
+        return longest;
+    };
+    match ended.saturating_duration_since(began).checked_mul(TIMES) {
+        Some(rest) => rest.min(longest),
+        None => longest,
     }
 }
 

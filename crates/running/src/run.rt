@@ -170,22 +170,7 @@ fn run_threads<D: Disk + Send, J: Life + Send + Sync, O: Operator, R: Machine>(
             }
             peer = peer.saturating_add(1);
         }
-        run_served(rt, operator, it, doors, address_of(it, peer).is_none())
-    })
-}
-
-/// Runs the thread that serves the line and all others until the operator ends the member, where the diallers were started.
-/// Where the system refuses that thread, links serve the line themselves.
-fn run_served<D: Disk + Send, J: Life + Send + Sync, O: Operator, R: Machine>(
-    rt: &R,
-    operator: &mut O,
-    it: &Shared<D, J>,
-    doors: &Doors,
-    dials: bool,
-) -> Result<(), RunFault> {
-    thread::scope(thread::scope_env(), rt, |scope| -> Result<(), RunFault> {
-        let _served = scope.spawn(move || it.serve_on(rt)).is_ok();
-        run_clock(rt, operator, it, doors, dials)
+        run_clock(rt, operator, it, doors, address_of(it, peer).is_none())
     })
 }
 

@@ -327,13 +327,6 @@ impl<D: Disk, J: Life> Shared<D, J> {
         }
     }
 
-    /// Has the book hear what waits in the line, group after group, until the end. It pauses before each, so that what others
-    /// read meanwhile is heard with it, and saved by the same two syncs.
-    pub(crate) fn serve_on<R: Machine>(&self, rt: &R) {
-        let pause = Duration::from_micros(pause_among(self.hub.header().size().n()));
-        self.hub.serve_on(rt, || thread::sleep(rt, pause));
-    }
-
     /// Ticks and rings the bell about once a second, pays for early Initials, and gives peers up that don't greet, until the end.
     pub(crate) fn tick_on<R: Machine>(&self, rt: &R) {
         for _ in rt.forever() {
@@ -523,15 +516,4 @@ impl<D: Disk, J: Life> Shared<D, J> {
         self.sockets.lock(rt).leave(chair.socket);
         self.leave_slot(rt, chair.slot.slot());
     }
-}
-
-/// How many microseconds a member of so many pauses before it hears a group: six for each statement that a step of a question
-/// brings it, of which there are n from each of n members, but at least 100 and at most 2,000.
-fn pause_among(n: u8) -> u64
-    ensures least { 100 ≤ result }
-    ensures most { result ≤ 2000 }
-    ensures between { 100 ≤ 6 * n * n → 6 * n * n ≤ 2000 → result ≡ 6 * n * n }
-{
-    let n = u64::from(n);
-    (6 * n * n).clamp(100, 2000)
 }

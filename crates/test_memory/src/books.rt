@@ -16,6 +16,7 @@ use std::alloc::Global;
 use std::fs;
 use std::marker::Brand;
 use std::sync::Wait;
+use std::time::Clock;
 
 /// A board for one question; none where memory is refused.
 fn board(alloc: Global) -> Option<NewBoard>
@@ -183,7 +184,7 @@ fn on_book<D: Disk, J: Naming, R: Wait>(
 }
 
 /// Does a call over a member that was just opened.
-fn at_book<D: Disk + Drop, J: Naming, R: Wait>(
+fn at_book<D: Disk + Drop, J: Naming, R: Wait + Clock>(
     rt: &R,
     alloc: Global,
     of: &Subject,
@@ -212,7 +213,12 @@ fn at_book<D: Disk + Drop, J: Naming, R: Wait>(
 }
 
 /// Does a call over a member on a new disk in memory.
-pub(crate) fn at_a_book<R: Wait>(rt: &R, alloc: Global, of: &Subject, call: BookCall) -> Ending {
+pub(crate) fn at_a_book<R: Wait + Clock>(
+    rt: &R,
+    alloc: Global,
+    of: &Subject,
+    call: BookCall,
+) -> Ending {
     let Some(member) = start(alloc, MemDisk::new(alloc), &of.header) else {
         return Ending::Before;
     };

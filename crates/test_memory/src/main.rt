@@ -19,6 +19,7 @@ use std::env::Env;
 use std::io;
 use std::process::ExitCode;
 use std::sync::Wait;
+use std::time::Clock;
 use subject::{Subject, make_subject};
 
 /// The calls, by their names.
@@ -82,7 +83,7 @@ fn book_call(name: &str) -> Option<BookCall> {
 }
 
 /// Does the call of that name.
-fn do_row<R: Wait>(rt: &R, host: &HostRuntime, of: &Subject, name: &str) -> Ending {
+fn do_row<R: Wait + Clock>(rt: &R, host: &HostRuntime, of: &Subject, name: &str) -> Ending {
     if let Some(ending) = do_pure(host, of, name) {
         return ending;
     }
@@ -93,7 +94,7 @@ fn do_row<R: Wait>(rt: &R, host: &HostRuntime, of: &Subject, name: &str) -> Endi
 }
 
 /// Does all calls, and prints how each ended: the code 0 where all ended as with ample memory.
-fn do_all<R: Wait>(rt: &R, host: &HostRuntime, of: &Subject) -> io::Result<u8> {
+fn do_all<R: Wait + Clock>(rt: &R, host: &HostRuntime, of: &Subject) -> io::Result<u8> {
     let mut code = 0;
     for name in ROWS {
         let ending = do_row(rt, host, of, name);

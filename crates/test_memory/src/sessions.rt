@@ -7,6 +7,7 @@ use node::{Hub, Naming, Seat, close};
 use rounds::{Toss, Tosser};
 use std::alloc::Global;
 use std::sync::Wait;
+use std::time::Clock;
 use wire::Version;
 
 /// A tosser that counts on from its last toss.
@@ -54,7 +55,7 @@ fn ending_of(why: LinkEnd) -> Ending {
 }
 
 /// A link is read that gives two statements in one frame: both were handed in, or none.
-pub(crate) fn reads<D: Disk + Drop, J: Naming, R: Wait>(
+pub(crate) fn reads<D: Disk + Drop, J: Naming, R: Wait + Clock>(
     rt: &R,
     alloc: Global,
     hub: Hub<D, J>,

@@ -164,7 +164,7 @@ fn greets(alloc: Global, header: &Header, mut stream: Scant) -> Option<String> {
 }
 
 /// The session of a link from a peer, whose seat is put back.
-fn reads<J: Naming, R: Wait>(
+fn reads<J: Naming, R: Wait + Clock>(
     rt: &R,
     alloc: Global,
     (hub, rack): (&Hub<MemDisk, J>, &Rack<J>),

@@ -2,7 +2,6 @@
 ghost use Rattle.std.specs.Prelude.{◌≡◌, ◌<◌, length};
 ghost use Rattle.terms_prelude.specs.Terms.{new_header, new_size};
 
-mod lines;
 mod pauses;
 
 use crate::beginnings::{at, board, header, open, take};

@@ -1,37 +1,37 @@
-//! When what waits in the line is heard: by the thread that serves it, once others have done with the book; without such a
-//! thread, by who waits next. And that the bell rings behind several groups.
+//! When what waits in the line is heard: behind a pause that goes on while others have the book or propose, by a link that
+//! finds nobody serving the line. And that the bell rings behind several groups.
 ghost use Rattle.std.specs.Prelude.{◌≡◌, length};
 ghost use Rattle.terms_prelude.specs.Terms.{new_header, new_size};
 
 use super::{closes, waits};
 use crate::beginnings::{at, board, header, open, take};
-use disk::{Disk, MemDisk};
+use disk::{Disk, FileDisk};
 use node::{Hub, Naming, NewBoard, Rack, Seat};
 use rounds::Toss;
 use std::marker::Brand;
 use std::process::Abort;
 use std::sync::Wait;
-use std::sync::atomic::{AtomicBool, AtomicUsize, Ordering};
+use std::sync::atomic::{AtomicBool, Ordering};
 use std::test::Fail;
-use std::thread;
 use std::thread::{Threads, join};
 use std::time::{Clock, Duration};
+use std::{fs, thread};
 use terms::Kind::{Echo, Initial};
 use terms::Statement;
 use terms::Value::One;
 
-/// What four threads do with the hub of member 1: one that serves the line, one that has to do with the member for others,
-/// and two links.
+/// The proposals of the client, one for each question.
+const PROPOSALS: u16 = 40;
+
+/// What threads do with the hub of member 1 of 16, among whom a link pauses for up to 0.4 seconds.
 #[derive(Clone, Copy)]
 enum Scene {
-    /// The first two pauses of who serves the line have a client propose; a link hands in.
-    Client,
-    /// One has the book while the line is served; a link hands in.
+    /// One has the book for a while, and both links hand in meanwhile.
     Lent,
-    /// One has the book, nobody serves the line; both links hand in.
-    Unserved,
-    /// A writer waits for the bell; both links hand in, together more than a group takes, and only the first makes the member
-    /// say something.
+    /// A client proposes on one question after the other, and both links hand in meanwhile.
+    Client,
+    /// A writer waits for the bell, and one has the book. Both links hand in meanwhile, together more than a group takes, and
+    /// only the first makes the member say something.
     Full,
 }
 
@@ -39,10 +39,8 @@ enum Scene {
 #[derive(Drop)]
 struct Play {
     scene: Scene,
-    /// How often who serves the line has paused.
-    pauses: AtomicUsize,
-    /// Whether the book is lent.
-    lent: AtomicBool,
+    /// Whether who has the book, or proposes, has begun.
+    begun: AtomicBool,
     /// Whether the writer has heard the bell.
     rung: AtomicBool,
 }
@@ -54,101 +52,33 @@ struct Link<J: Naming> {
     said: Statement,
 }
 
-/// Waits until so many pauses were counted, at most 10,000 turns of a millisecond. Whether they were.
-pub(super) fn reaches<R: Clock>(rt: &R, pauses: &AtomicUsize, wanted: usize) -> bool {
-    for _ in 0..10_000u32 {
-        if pauses.load(Ordering::SeqCst) >= wanted {
-            return true;
-        }
-        thread::sleep(rt, Duration::from_millis(1));
-    }
-    false
-}
-
-/// Hands one statement in, and says whether it was taken.
-fn hands_in<D: Disk, J: Naming, R: Wait>(rt: &R, hub: &Hub<D, J>, link: &mut Link<J>) -> bool {
-    hub.hand_in(rt, &mut link.seat, &[(link.said, Toss(0))])
-        .is_ok()
-}
-
-/// Hands one statement in 150 times, which alone doesn't fill a group, and with another such is more than one. Whether they
-/// were taken.
-fn hands_many_in<D: Disk, J: Naming, R: Wait>(rt: &R, hub: &Hub<D, J>, link: &mut Link<J>) -> bool {
-    hub.hand_in(rt, &mut link.seat, &[(link.said, Toss(0)); 150])
-        .is_ok()
-}
-
-/// Hands a statement in, and again, until the thread that serves the line has begun and pauses for it. Whether it did,
-/// and each was taken.
-fn hands_in_until_paused<D: Disk, J: Naming, R: Wait + Clock>(
-    rt: &R,
-    hub: &Hub<D, J>,
-    link: &mut Link<J>,
-    pauses: &AtomicUsize,
-) -> bool {
-    for _ in 0..10_000u32 {
-        if !hands_in(rt, hub, link) {
-            return false;
-        }
-        if pauses.load(Ordering::SeqCst) > 0 {
-            return true;
-        }
-        thread::sleep(rt, Duration::from_millis(1));
-    }
-    false
-}
-
-/// A client proposes on questions 0 and 1, one at each of the first two pauses.
-fn propose_twice<D: Disk, J: Naming, R: Wait>(rt: &R, hub: &Hub<D, J>, pause: usize) {
-    let question = match pause {
-        0 => 0,
-        1 => 1,
-        _ => return,
-    };
-    let mut book = hub.lock(rt);
-    let _answer = book.propose(question, question == 1, Toss(0));
-    hub.post(rt, &book);
-}
-
-/// A pause of who serves the line.
-fn pause<D: Disk, J: Naming, R: Wait + Clock>(rt: &R, hub: &Hub<D, J>, play: &Play) {
-    let pause = play.pauses.fetch_add(1, Ordering::SeqCst);
-    match play.scene {
-        Scene::Client => propose_twice(rt, hub, pause),
-        Scene::Lent | Scene::Unserved => thread::sleep(rt, Duration::from_millis(1)),
-        Scene::Full => thread::sleep(rt, Duration::from_millis(300)),
-    }
-}
-
-/// What the thread that serves the line does.
-fn serve<D: Disk, J: Naming, R: Wait + Clock>(rt: &R, hub: &Hub<D, J>, play: &Play) {
-    match play.scene {
-        Scene::Client | Scene::Lent | Scene::Full => {
-            hub.serve_on(rt, || pause(rt, hub, play));
-        }
-        Scene::Unserved => {}
-    }
-}
-
-/// Has the book from when the line is served until it was paused for five times more. Whether it was.
-fn lends_for_five_pauses<D: Disk, J: Naming, R: Wait + Clock>(
-    rt: &R,
-    hub: &Hub<D, J>,
-    play: &Play,
-) -> bool {
-    let begun = reaches(rt, &play.pauses, 1);
-    let _book = hub.lock(rt);
-    let before = play.pauses.load(Ordering::SeqCst);
-    play.lent.store(true, Ordering::SeqCst);
-    begun && reaches(rt, &play.pauses, before.saturating_add(5))
-}
-
-/// Has the book for a third of a second.
+/// Has the book for a while.
 fn lends<D: Disk, J: Naming, R: Wait + Clock>(rt: &R, hub: &Hub<D, J>, play: &Play) -> bool {
     let _book = hub.lock(rt);
-    play.lent.store(true, Ordering::SeqCst);
-    thread::sleep(rt, Duration::from_millis(300));
+    play.begun.store(true, Ordering::SeqCst);
+    thread::sleep(rt, Duration::from_millis(60));
     true
+}
+
+/// Proposes on each question, one a millisecond.
+fn proposes<D: Disk, J: Naming, R: Wait + Clock>(rt: &R, hub: &Hub<D, J>, play: &Play) -> bool {
+    for question in 0..PROPOSALS {
+        let mut book = hub.lock(rt);
+        let _answer = book.propose(question, question % 2 == 1, Toss(0));
+        hub.post(rt, &book);
+        drop(book);
+        play.begun.store(true, Ordering::SeqCst);
+        thread::sleep(rt, Duration::from_millis(1));
+    }
+    true
+}
+
+/// What the thread does that has to do with the member for others.
+fn use_member<D: Disk, J: Naming, R: Wait + Clock>(rt: &R, hub: &Hub<D, J>, play: &Play) -> bool {
+    match play.scene {
+        Scene::Lent | Scene::Full => lends(rt, hub, play),
+        Scene::Client => proposes(rt, hub, play),
+    }
 }
 
 /// Waits for the bell, as a writer. Whether it rang for something.
@@ -161,47 +91,54 @@ fn hears_the_bell<D: Disk, J: Naming, R: Wait>(rt: &R, hub: &Hub<D, J>, play: &P
     is_rung
 }
 
-/// What the thread does that has to do with the member for others. Whether that came out as it should.
-fn use_member<D: Disk, J: Naming, R: Wait + Clock>(rt: &R, hub: &Hub<D, J>, play: &Play) -> bool {
+/// What the writer does.
+fn write<D: Disk, J: Naming, R: Wait>(rt: &R, hub: &Hub<D, J>, play: &Play) -> bool {
     match play.scene {
-        Scene::Client => true,
-        Scene::Lent => lends_for_five_pauses(rt, hub, play),
-        Scene::Unserved => lends(rt, hub, play),
+        Scene::Lent | Scene::Client => true,
         Scene::Full => hears_the_bell(rt, hub, play),
     }
 }
 
-/// What the link of member 0 does, which ends the scene. Whether its statements were taken.
+/// Hands in what the link has: once, or 150 times, which alone doesn't fill a group, and with another such is more than one.
+/// Whether it was taken.
+fn hands_in<D: Disk, J: Naming, R: Wait + Clock>(
+    rt: &R,
+    hub: &Hub<D, J>,
+    link: &mut Link<J>,
+    play: &Play,
+) -> bool {
+    let events = [(link.said, Toss(0)); 150];
+    let group = match play.scene {
+        Scene::Lent | Scene::Client => &events[..1],
+        Scene::Full => events.as_slice(),
+    };
+    hub.hand_in(rt, &mut link.seat, group).is_ok()
+}
+
+/// What the link of member 0 does.
 fn hand_in_first<D: Disk, J: Naming, R: Wait + Clock>(
     rt: &R,
     hub: &Hub<D, J>,
     link: &mut Link<J>,
     play: &Play,
 ) -> bool {
+    let handed = waits(rt, &play.begun) && hands_in(rt, hub, link, play);
     match play.scene {
-        Scene::Client => hands_in_until_paused(rt, hub, link, &play.pauses),
-        Scene::Lent => {
-            hands_in_until_paused(rt, hub, link, &play.pauses)
-                && waits(rt, &play.lent)
-                && hands_in(rt, hub, link)
-        }
-        Scene::Unserved => waits(rt, &play.lent) && hands_in(rt, hub, link),
-        Scene::Full => hands_many_in(rt, hub, link) && waits(rt, &play.rung),
+        Scene::Lent | Scene::Client => handed,
+        Scene::Full => handed && waits(rt, &play.rung),
     }
 }
 
-/// What the link of member 2 does. Whether its statements were taken.
+/// What the link of member 2 does, a while later.
 fn hand_in_second<D: Disk, J: Naming, R: Wait + Clock>(
     rt: &R,
     hub: &Hub<D, J>,
     link: &mut Link<J>,
     play: &Play,
 ) -> bool {
-    match play.scene {
-        Scene::Client | Scene::Lent => true,
-        Scene::Unserved => waits(rt, &play.lent) && hands_in(rt, hub, link),
-        Scene::Full => hands_many_in(rt, hub, link),
-    }
+    let begun = waits(rt, &play.begun);
+    thread::sleep(rt, Duration::from_millis(20));
+    begun && hands_in(rt, hub, link, play)
 }
 
 /// What the links do, and the hub is shut.
@@ -212,8 +149,6 @@ fn hand_in<D: Disk + Send, J: Naming + Send + Sync, R: Threads + Wait + Clock + 
     other: &mut Link<J>,
     play: &Play,
 ) -> bool {
-    // The thread that serves the line has mostly begun by then.
-    thread::sleep(rt, Duration::from_millis(100));
     let (first, second) = join(
         rt,
         || hand_in_first(rt, hub, one, play),
@@ -223,87 +158,112 @@ fn hand_in<D: Disk + Send, J: Naming + Send + Sync, R: Threads + Wait + Clock + 
     first && second
 }
 
-/// Whether the member said what it should, and who served the line paused as often as it should.
-fn has_come_out<D: Disk, J: Naming>(hub: &Hub<D, J>, play: &Play) -> bool {
-    match play.scene {
-        // Two proposals and an Echo; one pause behind the last proposal.
-        Scene::Client => hub.said() == 3 && play.pauses.load(Ordering::SeqCst) == 3,
-        Scene::Lent | Scene::Unserved | Scene::Full => hub.said() == 1,
+/// How many statements the member said in the scene.
+fn said_in(scene: Scene) -> u64 {
+    match scene {
+        Scene::Lent => 2,
+        Scene::Client => u64::from(PROPOSALS) + 2,
+        Scene::Full => 1,
     }
 }
 
-/// Has the four threads play the scene.
-fn are_played<D: Disk + Send, J: Naming + Send + Sync, R: Threads + Wait + Clock + Abort + Sync>(
+/// The bytes of the journal where both links were heard together: a header of 24 bytes; three bytes in front of each batch, and
+/// six for each of its records; a gate behind the last.
+fn length_of(scene: Scene) -> u64 {
+    match scene {
+        Scene::Lent => 24 + 15 + 1,
+        Scene::Client => 24 + 9 * u64::from(PROPOSALS) + 15 + 1,
+        Scene::Full => 24 + 9 + 1,
+    }
+}
+
+/// Has the four threads play the scene. Whether all did what they should.
+fn are_played<D: Disk + Send, J: Naming + Send + Sync, R: Threads + Wait + Clock + Sync>(
     rt: &R,
     hub: &Hub<D, J>,
     rack: &Rack<J>,
     play: &Play,
-) -> Result<(), Fail> {
+) -> Result<bool, Fail> {
     let mut one = Link {
         seat: take(rt, rack, 0)?,
         said: at(0, 0, Initial, One)?,
     };
     let mut other = Link {
         seat: take(rt, rack, 2)?,
-        said: at(0, 0, Echo, One)?,
+        said: at(0, 2, if matches!(play.scene, Scene::Full) { Echo } else { Initial }, One)?,
     };
-    let ((), (used, handed)) = join(
+    let (used, (written, handed)) = join(
         rt,
-        || serve(rt, hub, play),
+        || use_member(rt, hub, play),
         || {
             join(
                 rt,
-                || use_member(rt, hub, play),
+                || write(rt, hub, play),
                 || hand_in(rt, hub, &mut one, &mut other, play),
             )
         },
     );
-    assert!(rt; used && handed && has_come_out(hub, play));
     rack.put(rt, one.seat);
     rack.put(rt, other.seat);
-    Ok(())
+    Ok(used && written && handed && hub.said() == said_in(play.scene))
 }
 
-/// Opens member 1 of four, two questions, and plays the scene.
-fn open_and_play<J: Naming + Send + Sync, R: Threads + Wait + Clock + Abort + AllocGlobal + Sync>(
+/// Opens member 1 of 16, 40 questions, over a file, and plays the scene. Whether it came out as it should.
+fn open_and_play<J: Naming + Send + Sync, R: Threads + Wait + Clock + AllocGlobal + Sync>(
     rt: &R,
+    disk: FileDisk,
     board: NewBoard,
     scene: Scene,
-) -> Result<(), Fail>
+) -> Result<bool, Fail>
     requires names { board ≡ J.names }
-    requires header { J.header ≡ new_header 7 (new_size 4 1 2) 1 }
-    requires cells { length board.cells ≡ 2 }
+    requires header { J.header ≡ new_header 7 (new_size 16 5 40) 1 }
+    requires cells { length board.cells ≡ 40 }
 {
-    let header = header(4, 1, 2, 1)?;
-    let disk = MemDisk::new(rt.alloc());
-    let (hub, rack) = open::<MemDisk, J>(rt.alloc(), disk, &header, false, board)?;
+    let header = header(16, 5, PROPOSALS, 1)?;
+    let (hub, rack) = open::<FileDisk, J>(rt.alloc(), disk, &header, false, board)?;
     let play = Play {
         scene,
-        pauses: AtomicUsize::new(0),
-        lent: AtomicBool::new(false),
+        begun: AtomicBool::new(false),
         rung: AtomicBool::new(false),
     };
-    are_played(rt, &hub, &rack, &play)?;
-    assert!(rt; closes(hub, rack.into_seats()));
+    let played = are_played(rt, &hub, &rack, &play)?;
+    Ok(played && closes(hub, rack.into_seats()))
+}
+
+#[test]
+fn a_link_pauses_while_another_has_the_book(rt: HostRuntime) -> Result<(), Fail> {
+    let path = "pauses_tests_lent";
+    let disk = FileDisk::open(&rt, path, true)?;
+    let played = open_and_play::<Brand, _>(&rt, disk, board(&rt, 40)?, Scene::Lent)?;
+    let length = fs::metadata(&rt, path)?.len();
+    fs::remove_file(&rt, path)?;
+    assert!(&rt; played && length == length_of(Scene::Lent));
     Ok(())
 }
 
 #[test]
-fn the_line_is_served_behind_a_client_that_proposes(rt: HostRuntime) -> Result<(), Fail> {
-    open_and_play::<Brand, _>(&rt, board(&rt, 2)?, Scene::Client)
-}
-
-#[test]
-fn the_line_is_served_behind_who_has_the_book(rt: HostRuntime) -> Result<(), Fail> {
-    open_and_play::<Brand, _>(&rt, board(&rt, 2)?, Scene::Lent)
-}
-
-#[test]
-fn a_link_that_waits_for_another_serves_the_line_next(rt: HostRuntime) -> Result<(), Fail> {
-    open_and_play::<Brand, _>(&rt, board(&rt, 2)?, Scene::Unserved)
+fn a_link_pauses_while_a_client_proposes(rt: HostRuntime) -> Result<(), Fail> {
+    let path = "pauses_tests_client";
+    let mut are_together = false;
+    // A client that the system holds up for longer than a pause is waited for no more: one time in ten it isn't.
+    for _ in 0..10u32 {
+        let disk = FileDisk::open(&rt, path, true)?;
+        let played = open_and_play::<Brand, _>(&rt, disk, board(&rt, 40)?, Scene::Client)?;
+        let length = fs::metadata(&rt, path)?.len();
+        fs::remove_file(&rt, path)?;
+        are_together = are_together || (played && length == length_of(Scene::Client));
+    }
+    assert!(&rt; are_together);
+    Ok(())
 }
 
 #[test]
 fn the_bell_rings_behind_what_a_group_leaves(rt: HostRuntime) -> Result<(), Fail> {
-    open_and_play::<Brand, _>(&rt, board(&rt, 2)?, Scene::Full)
+    let path = "pauses_tests_full";
+    let disk = FileDisk::open(&rt, path, true)?;
+    let played = open_and_play::<Brand, _>(&rt, disk, board(&rt, 40)?, Scene::Full)?;
+    let length = fs::metadata(&rt, path)?.len();
+    fs::remove_file(&rt, path)?;
+    assert!(&rt; played && length == length_of(Scene::Full));
+    Ok(())
 }

@@ -108,7 +108,7 @@ fn waits_until<R: Clock>(rt: &R, seen: &Seen, wakes: usize) -> bool {
 }
 
 /// A session of a reader, to which these bytes come.
-fn reads<J: Naming, R: Wait + AllocGlobal>(
+fn reads<J: Naming, R: Wait + Clock + AllocGlobal>(
     rt: &R,
     hub: &Hub<MemDisk, J>,
     seat: Seat<J>,
