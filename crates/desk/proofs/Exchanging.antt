@@ -13,8 +13,6 @@ use Rattle.desk.specs.declared.serving.DeskEnd.TheVariants as end
 use Rattle.desk.specs.Replies.{reply_text}
 use Rattle.desk.specs.Commands.{Parses, command_for}
 use Rattle.desk.specs.Sessions.{Sitting, AnswersRequest, AnswersLine, IsLine, Exchange, IsExchange, InTurn, AllGoOn, GoesOn, asked_in, replied_in, exchanged, BeginsRequest, BeginsToFollow, EndsBy, IsTooLong, Serves}
-use Rattle.node.specs.declared.order.Decision.{Decision}
-use Rattle.desk.specs.Following.{EndsTelling, FailsToTell, Tells}
 use Rattle.desk.specs.Lines.{AsksToFollow, IsRequest}
 use Rattle.desk.specs.Turns.{Says, FailsToSay, Refuses, Serving}
 
@@ -68,7 +66,7 @@ pub no_bytes : (held : List ℕ) → length held ≡ 0 → held ≡ []
 no_bytes [] none = refl
 no_bytes (byte ∷ held) none = absurd (omega arith)
 
-module _ {S : Type 0} (Replies : S → List ℕ → Reply → S → Type 0) (HasNumber : ℕ → Decision → Type 0) where
+module _ {S : Type 0} (Replies : S → List ℕ → Reply → S → Type 0) where
   in_turn-snoc : (before mid after : S) (xs : List Exchange) (x : Exchange) → InTurn Replies before xs mid → IsExchange Replies mid x after
       → InTurn Replies before (xs ++ x ∷ []) after
   in_turn-snoc before mid after [] x turns one = (after, subst (λ (s : S). IsExchange Replies s x after) turns one, refl)
@@ -129,14 +127,14 @@ module _ {S : Type 0} (Replies : S → List ℕ → Reply → S → Type 0) (Has
 
   -- its answer wasn't written
   pub answer_lost : (before mid after : S) (old now new : Told) (held more : List ℕ) → Serving Replies before mid old now held (10 ∷ more)
-      → FailsToSay (λ (said : Reply). Replies mid held said after) now new → Serves Replies HasNumber before after old new end.Lost
+      → FailsToSay (λ (said : Reply). Replies mid held said after) now new → Serves Replies before after old new end.Lost
   answer_lost before mid after old now new held more s said = record {
     exchanges = s.exchanges;
     rest = held ++ 10 ∷ more;
     between = mid;
     each = s.each;
     all_go_on = s.all_go_on;
-    ends = inr (inl (now, said.reply, inl (held, more, sym (append_assoc held (10 ∷ []) more), record { is_line = s.is_line; replied = said.fits }, s.told), said.broke));
+    ends = inr (now, said.reply, inl (held, more, sym (append_assoc held (10 ∷ []) more), record { is_line = s.is_line; replied = said.fits }, s.told), said.broke);
   }
 
   -- the same, where the byte was a 10 and the line that was answered the one that was held
@@ -150,7 +148,7 @@ module _ {S : Type 0} (Replies : S → List ℕ → Reply → S → Type 0) (Has
 
   pub ends_line_lost : (before mid after : S) (old now new : Told) (held asked more : List ℕ) (byte : ℕ)
       → Serving Replies before mid old now held (byte ∷ more) → byte ≡ 10 → asked ≡ held
-      → FailsToSay (λ (said : Reply). Replies mid asked said after) now new → Serves Replies HasNumber before after old new end.Lost
+      → FailsToSay (λ (said : Reply). Replies mid asked said after) now new → Serves Replies before after old new end.Lost
   ends_line_lost before mid after old now new held asked more byte s is same said =
       answer_lost before mid after old now new held more (subst (λ (b : ℕ). Serving Replies before mid old now held (b ∷ more)) is s)
       (subst (λ (l : List ℕ). FailsToSay (λ (said : Reply). Replies mid l said after) now new) same said)
@@ -167,9 +165,9 @@ module _ {S : Type 0} (Replies : S → List ℕ → Reply → S → Type 0) (Has
   -- a line ends the session, for a cause that is answered as a bad line
   refused : (before after : S) (old now new : Told) (held more : List ℕ) (why ended : DeskEnd) → (s : Serving Replies before after old now held more)
       → IsTooLong (held ++ more) ⊎ BeginsRequest (held ++ more)
-      → (new ≡ has_written (exchanged old s.exchanges (held ++ more)) (line (reply_text BadLine)) → EndsBy Replies HasNumber after (exchanged old s.exchanges (held ++ more)) (held ++ more) new why after)
-      → Refuses now new why ended → Serves Replies HasNumber before after old new ended
-  refused before after old now new held more why ended s cause ends (inl done) = subst (λ (w : DeskEnd). Serves Replies HasNumber before after old new w) (sym done.0) (record {
+      → (new ≡ has_written (exchanged old s.exchanges (held ++ more)) (line (reply_text BadLine)) → EndsBy Replies after (exchanged old s.exchanges (held ++ more)) (held ++ more) new why after)
+      → Refuses now new why ended → Serves Replies before after old new ended
+  refused before after old now new held more why ended s cause ends (inl done) = subst (λ (w : DeskEnd). Serves Replies before after old new w) (sym done.0) (record {
     exchanges = s.exchanges;
     rest = held ++ more;
     between = after;
@@ -177,25 +175,25 @@ module _ {S : Type 0} (Replies : S → List ℕ → Reply → S → Type 0) (Has
     all_go_on = s.all_go_on;
     ends = ends (done.1 ∙ ap (λ (t : Told). has_written t (line (reply_text BadLine))) s.told);
   })
-  refused before after old now new held more why ended s cause ends (inr broke) = subst (λ (w : DeskEnd). Serves Replies HasNumber before after old new w) (sym broke.0) (record {
+  refused before after old now new held more why ended s cause ends (inr broke) = subst (λ (w : DeskEnd). Serves Replies before after old new w) (sym broke.0) (record {
     exchanges = s.exchanges;
     rest = held ++ more;
     between = after;
     each = s.each;
     all_go_on = s.all_go_on;
-    ends = inr (inl (now, BadLine, inr (inl (cause, refl, refl, s.told)), broke.1));
+    ends = inr (now, BadLine, inr (inl (cause, refl, refl, s.told)), broke.1);
   })
 
   -- a line was too long
   pub too_long : (before after : S) (old now new : Told) (held more : List ℕ) (byte : ℕ) (ended : DeskEnd) → Serving Replies before after old now held (byte ∷ more)
-      → (byte == 10) ≡ false → 4096 ≤ length held → Refuses now new end.TooLong ended → Serves Replies HasNumber before after old new ended
+      → (byte == 10) ≡ false → 4096 ≤ length held → Refuses now new end.TooLong ended → Serves Replies before after old new ended
   too_long before after old now new held more byte ended s other long said =
       let is = is_too_long held more byte s.is_line other long in
       refused before after old now new held (byte ∷ more) end.TooLong ended s (inl is) (λ wrote. (is, refl, wrote)) said
 
   -- a line was the first one of a request of HTTP
   pub is_foreign : (before after : S) (old now new : Told) (held asked more : List ℕ) (byte : ℕ) (ended : DeskEnd) → Serving Replies before after old now held (byte ∷ more)
-      → byte ≡ 10 → asked ≡ held → IsRequest asked → Refuses now new end.Request ended → Serves Replies HasNumber before after old new ended
+      → byte ≡ 10 → asked ≡ held → IsRequest asked → Refuses now new end.Request ended → Serves Replies before after old new ended
   is_foreign before after old now new held asked more byte ended s is same request said =
       let begins : BeginsRequest (held ++ byte ∷ more) = record {
         asked = held;
@@ -207,9 +205,16 @@ module _ {S : Type 0} (Replies : S → List ℕ → Reply → S → Type 0) (Has
       refused before after old now new held (byte ∷ more) end.Request ended s (inr begins) (λ wrote. (begins, refl, wrote)) said
 
   -- a line was one that follows decisions
-  pub followed : (before after : S) (old now new : Told) (held asked more : List ℕ) (byte number : ℕ) (ended : DeskEnd) → Serving Replies before after old now held (byte ∷ more)
-      → byte ≡ 10 → asked ≡ held → AsksToFollow asked number → EndsTelling HasNumber number now new ended → Serves Replies HasNumber before after old new ended
-  followed before after old now new held asked more byte number ended s is same asks told = step told
+  pub followed : (before after : S) (old now : Told) (held asked more : List ℕ) (byte number : ℕ) → Serving Replies before after old now held (byte ∷ more)
+      → byte ≡ 10 → asked ≡ held → AsksToFollow asked number → Serves Replies before after old now (end.Follows number)
+  followed before after old now held asked more byte number s is same asks = record {
+    exchanges = s.exchanges;
+    rest = held ++ byte ∷ more;
+    between = after;
+    each = s.each;
+    all_go_on = s.all_go_on;
+    ends = (begins, refl, s.told);
+  }
     where
       begins : BeginsToFollow (held ++ byte ∷ more) number
       begins = record {
@@ -220,25 +225,9 @@ module _ {S : Type 0} (Replies : S → List ℕ → Reply → S → Type 0) (Has
         follows = subst (λ (l : List ℕ). AsksToFollow l number) same asks;
       }
 
-      by : (why : DeskEnd) → EndsBy Replies HasNumber after (exchanged old s.exchanges (held ++ byte ∷ more)) (held ++ byte ∷ more) new why after → Serves Replies HasNumber before after old new why
-      by why ends = record {
-        exchanges = s.exchanges;
-        rest = held ++ byte ∷ more;
-        between = after;
-        each = s.each;
-        all_go_on = s.all_go_on;
-        ends = ends;
-      }
-
-      step : EndsTelling HasNumber number now new ended → Serves Replies HasNumber before after old new ended
-      step (inl done) = subst (λ (w : DeskEnd). Serves Replies HasNumber before after old new w) (sym done.1)
-          (by end.Followed (number, done.0, begins, refl, subst (λ (t : Told). Tells HasNumber number done.0 t new) s.told done.2))
-      step (inr broke) = subst (λ (w : DeskEnd). Serves Replies HasNumber before after old new w) (sym broke.1)
-          (by end.Lost (inr (inr (number, broke.0, begins, refl, subst (λ (t : Told). FailsToTell HasNumber number broke.0 t new) s.told broke.2))))
-
   -- a read failed
   pub read_lost : (before after : S) (old now new : Told) (held : List ℕ) → Serving Replies before after old now held []
-      → new ≡ has_failed now → Serves Replies HasNumber before after old new end.Lost
+      → new ≡ has_failed now → Serves Replies before after old new end.Lost
   read_lost before after old now new held s failed = record {
     exchanges = s.exchanges;
     rest = held;
@@ -250,7 +239,7 @@ module _ {S : Type 0} (Replies : S → List ℕ → Reply → S → Type 0) (Has
 
   -- the input ended, and no line was held
   pub ended : (before after : S) (old now new : Told) (held : List ℕ) → Serving Replies before after old now held []
-      → held ≡ [] → new ≡ has_ended now → Serves Replies HasNumber before after old new end.Ended
+      → held ≡ [] → new ≡ has_ended now → Serves Replies before after old new end.Ended
   ended before after old now new held s none over = record {
     exchanges = s.exchanges;
     rest = [];
@@ -266,7 +255,7 @@ module _ {S : Type 0} (Replies : S → List ℕ → Reply → S → Type 0) (Has
 
   -- the input ended, and the line that was held was answered
   pub ended_by_line : (before mid after : S) (old now told new : Told) (held : List ℕ) → Serving Replies before mid old now held []
-      → 0 < length held → told ≡ has_ended now → Says (λ (said : Reply). Replies mid held said after) told new → Serves Replies HasNumber before after old new end.Ended
+      → 0 < length held → told ≡ has_ended now → Says (λ (said : Reply). Replies mid held said after) told new → Serves Replies before after old new end.Ended
   ended_by_line before mid after old now told new held s some over said = record {
     exchanges = s.exchanges;
     rest = held;
@@ -281,12 +270,12 @@ module _ {S : Type 0} (Replies : S → List ℕ → Reply → S → Type 0) (Has
   }
 
   pub ended_lost : (before mid after : S) (old now told new : Told) (held : List ℕ) → Serving Replies before mid old now held []
-      → 0 < length held → told ≡ has_ended now → FailsToSay (λ (said : Reply). Replies mid held said after) told new → Serves Replies HasNumber before after old new end.Lost
+      → 0 < length held → told ≡ has_ended now → FailsToSay (λ (said : Reply). Replies mid held said after) told new → Serves Replies before after old new end.Lost
   ended_lost before mid after old now told new held s some over said = record {
     exchanges = s.exchanges;
     rest = held;
     between = mid;
     each = s.each;
     all_go_on = s.all_go_on;
-    ends = inr (inl (told, said.reply, inr (inr ((some, record { is_line = s.is_line; replied = said.fits }), ended_at before mid old now told held s over)), said.broke));
+    ends = inr (told, said.reply, inr (inr ((some, record { is_line = s.is_line; replied = said.fits }), ended_at before mid old now told held s over)), said.broke);
   }

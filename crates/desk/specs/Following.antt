@@ -1,12 +1,9 @@
 -- What is written to a client that follows decisions.
-use Rattle.std.specs.Prelude.{ℕ, ◌≡◌, ◌⊎◌, ◌+◌, Bool, Option, Some, None, List, [], ◌∷◌, ◌++◌, codes, if◌then◌else◌}
+use Rattle.std.specs.Prelude.{ℕ, ◌≡◌, ◌+◌, Option, Some, None, List, [], ◌∷◌, ◌++◌, codes, if◌then◌else◌}
 use Rattle.std.specs.Fmt.{decimal}
 use Rattle.std.specs.List.{flat_map}
 use Rattle.numerals.specs.Lines.{line}
 use Rattle.node.specs.declared.order.Decision.{Decision}
-use Rattle.links.specs.Told.{Told, has_written, BreaksOff}
-use Rattle.desk.specs.declared.serving.DeskEnd.{DeskEnd}
-use Rattle.desk.specs.declared.serving.DeskEnd.TheVariants as end
 
 -- the line of a decision
 abbrev pub decision_text : Decision → List ℕ
@@ -26,19 +23,14 @@ AreNumbered HasNumber from [] to = from ≡ to
 AreNumbered HasNumber from (None ∷ told) to = AreNumbered HasNumber from told to
 AreNumbered HasNumber from (Some d ∷ told) to = HasNumber from d × AreNumbered HasNumber (from + 1) told to
 
--- decisions were told in turn, from one number up to another
-pub record Tells (HasNumber : ℕ → Decision → Type 0) (from to : ℕ) (old now : Told) : Type 0 where
-  pub told : List (Option Decision)
-  pub numbered : AreNumbered HasNumber from told to
-  pub wrote : now ≡ has_written old (told_texts told)
+-- how far a follower is: the number of the decision that it is told next, and the bytes that it is owed before that
+pub record FollowerView : Type 0 where
+  pub next : ℕ
+  pub owed : List ℕ
 
--- the same, but a write failed
-pub record FailsToTell (HasNumber : ℕ → Decision → Type 0) (from to : ℕ) (old now : Told) : Type 0 where
+-- Decisions are told in turn, from that number up to the follower's: what was written behind `old`, and what the follower is
+-- owed, are their lines.
+pub record Tells (HasNumber : ℕ → Decision → Type 0) (from : ℕ) (old : List ℕ) (follower : FollowerView) (now : List ℕ) : Type 0 where
   pub told : List (Option Decision)
-  pub numbered : AreNumbered HasNumber from told to
-  pub broke : BreaksOff old now (told_texts told)
-
--- how it ended
-abbrev pub EndsTelling : (ℕ → Decision → Type 0) → ℕ → Told → Told → DeskEnd → Type 0
-EndsTelling HasNumber from old now why =
-    ((to : ℕ) × (why ≡ end.Followed) × Tells HasNumber from to old now) ⊎ ((to : ℕ) × (why ≡ end.Lost) × FailsToTell HasNumber from to old now)
+  pub numbered : AreNumbered HasNumber from told follower.next
+  pub wrote : now ++ follower.owed ≡ old ++ told_texts told

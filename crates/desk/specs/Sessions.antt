@@ -8,9 +8,7 @@ use Rattle.node.specs.Views.{BookView}
 use Rattle.node.specs.States.{IsState}
 use Rattle.node.specs.declared.state.QuestionState.{QuestionState}
 use Rattle.links.specs.Told.{Told, has_written, has_failed, has_ended, BreaksOff}
-use Rattle.node.specs.declared.order.Decision.{Decision}
 use Rattle.member.specs.Readers.{member_header, member_is_stopped}
-use Rattle.desk.specs.Following.{Tells, FailsToTell}
 use Rattle.desk.specs.Lines.{AsksToFollow, LineAsks, IsRequest}
 use Rattle.desk.specs.Commands.{AsksNothing, command_for}
 use Rattle.desk.specs.Answers.{IsTranscriptReply, Proposes, links_reply, state_reply, status_reply, verdict_reply}
@@ -171,25 +169,24 @@ pub record BeginsToFollow (rest : List ℕ) (number : ℕ) : Type 0 where
   pub follows : AsksToFollow asked number
 
 -- how a session ends whose stream told `served` with the rest behind its last reply, and tells `now`
-abbrev pub EndsBy : {S : Type 0} → (S → List ℕ → Reply → S → Type 0) → (ℕ → Decision → Type 0) → S → Told → List ℕ → Told → DeskEnd → S → Type 0
+abbrev pub EndsBy : {S : Type 0} → (S → List ℕ → Reply → S → Type 0) → S → Told → List ℕ → Told → DeskEnd → S → Type 0
 -- the input ended, and what stands behind the last byte 10 was answered as a line
-EndsBy Replies HasNumber before served rest now end.Ended after =
+EndsBy Replies before served rest now end.Ended after =
     ((rest ≡ []) × (after ≡ before) × (now ≡ has_ended served))
     ⊎ ((reply : Reply) × IsLastLine Replies before rest reply after × (now ≡ has_written (has_ended served) (line (reply_text reply))))
 -- a line was too long, and was answered so
-EndsBy Replies HasNumber before served rest now end.TooLong after =
+EndsBy Replies before served rest now end.TooLong after =
     IsTooLong rest × (after ≡ before) × (now ≡ has_written served (line (reply_text BadLine)))
 -- a line was the first one of a request of HTTP, and was answered so
-EndsBy Replies HasNumber before served rest now end.Request after =
+EndsBy Replies before served rest now end.Request after =
     BeginsRequest rest × (after ≡ before) × (now ≡ has_written served (line (reply_text BadLine)))
--- decisions were followed from a number on, until the member was stopped or ended
-EndsBy Replies HasNumber before served rest now end.Followed after =
-    (number : ℕ) × (to : ℕ) × BeginsToFollow rest number × (after ≡ before) × Tells HasNumber number to served now
--- a read failed within a line, or the write of a reply or of a decision that was followed did
-EndsBy Replies HasNumber before served rest now end.Lost after =
+-- a line asked for decisions from a number on, and nothing was written for it
+EndsBy Replies before served rest now (end.Follows number) after =
+    BeginsToFollow rest number × (after ≡ before) × (now ≡ served)
+-- a read failed within a line, or the write of a reply did
+EndsBy Replies before served rest now end.Lost after =
     (IsLine rest × (after ≡ before) × (now ≡ has_failed served))
-    ⊎ (((told : Told) × (reply : Reply) × Owes Replies before served rest told reply after × BreaksOff told now (line (reply_text reply)))
-    ⊎ ((number : ℕ) × (to : ℕ) × BeginsToFollow rest number × (after ≡ before) × FailsToTell HasNumber number to served now))
+    ⊎ ((told : Told) × (reply : Reply) × Owes Replies before served rest told reply after × BreaksOff told now (line (reply_text reply)))
 
 -- a line behind which the session goes on: no request of HTTP, and none that follows decisions
 pub record GoesOn (asked : List ℕ) : Type 0 where
@@ -200,10 +197,10 @@ abbrev pub AllGoOn : List Exchange → Type 0
 AllGoOn exchanges = All (λ x. GoesOn x.asked) exchanges
 
 -- A client's session: its lines were answered in turn, up to a rest, and then it ended.
-pub record Serves {S : Type 0} (Replies : S → List ℕ → Reply → S → Type 0) (HasNumber : ℕ → Decision → Type 0) (before after : S) (old now : Told) (why : DeskEnd) : Type 0 where
+pub record Serves {S : Type 0} (Replies : S → List ℕ → Reply → S → Type 0) (before after : S) (old now : Told) (why : DeskEnd) : Type 0 where
   pub exchanges : List Exchange
   pub rest : List ℕ
   pub between : S
   pub each : InTurn Replies before exchanges between
   pub all_go_on : AllGoOn exchanges
-  pub ends : EndsBy Replies HasNumber between (exchanged old exchanges rest) rest now why after
+  pub ends : EndsBy Replies between (exchanged old exchanges rest) rest now why after

@@ -15,9 +15,10 @@
 //!
 //! Refusals, the first that holds: `ERR 1 line`, `ERR 2 question`, `ERR 3 bit`; `ERR 4 memory` where memory is refused.
 //!
-//! [`parse`] and [`answer`] wait for nobody, and their contracts are exact. [`serve`] is a client's whole session over any
+//! [`parse`] and [`answer`] wait for nobody, and their contracts are exact. [`serve`] is a client's session over any
 //! reader and writer; what it hands to these two, it cuts by one byte after the other, so that the pieces in which lines
-//! come don't matter.
+//! come don't matter. It ends at `FOLLOW k`: a [`Follower`] over an [`Outlet`] is told decisions then, and waits for nobody, so
+//! that one thread can tell many.
 #![tactic(auto)]
 
 mod answering;
@@ -25,6 +26,7 @@ mod command;
 mod following;
 mod held;
 mod line;
+mod outlet;
 mod reply;
 mod request;
 mod serving;
@@ -33,6 +35,8 @@ mod writing;
 
 pub use answering::answer;
 pub use command::{Command, parse};
+pub use following::{FollowEnd, Follower, Telling};
+pub use outlet::Outlet;
 pub use reply::Reply;
 pub use serving::{Desk, DeskEnd, serve};
 pub use turns::{Rest, Turns};

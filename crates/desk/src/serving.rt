@@ -3,7 +3,6 @@
 ghost use Rattle.std.specs.Prelude.{◌≡◌, ◌∷◌, ℕ, List, [], None, IfErr, IfSome, OnOk};
 ghost use Rattle.node.specs.Verdicts.{KnowsMore, known_at};
 ghost use Rattle.links.specs.Told.{Told, has_ended};
-ghost use Rattle.node.specs.Standings.{IsDecisionOf};
 ghost use Rattle.node.specs.Views.{BookView};
 ghost use Rattle.desk.specs.Answers.{IsTranscriptReply, verdict_reply};
 ghost use Rattle.desk.specs.Sessions.{Sitting, sitting, AnswersLine, IsAwaitReply, IsLinksReply, IsProposalReply, IsStateTold, IsStatusReply, Serves};
@@ -13,7 +12,6 @@ use crate::answering::{
     dossier_of, propose, reply_of, standing_links, standing_reply, state_reply, verdict_reply,
 };
 use crate::command::{Command, parse};
-use crate::following::follow;
 use crate::held::{HeldLine, LineStep};
 use crate::line::follows;
 use crate::reply::Reply;
@@ -42,8 +40,9 @@ pub enum DeskEnd {
     /// A line was the first one of a request of HTTP, which was answered by [`Reply::BadLine`]: a page in a browser sends it
     /// before lines of its own, and these are not read.
     Request,
-    /// The client followed decisions, and the member was stopped or came to its end.
-    Followed,
+    /// A line asked to follow decisions from this number on. Nothing was written for it: a [`Follower`](crate::Follower) is told
+    /// them from now on, and no line behind it is answered.
+    Follows(u64),
 }
 
 /// The seconds for which a decision is awaited.
@@ -255,7 +254,7 @@ impl<D: Disk, J: Naming, R: Wait + Clock> Server<'_, D, J, R> {
             OnOk result (Serving (AnswersLine D T.may_toss self.now.hub.now.size.questions) begun (sitting pass.new.known tosser.new) old (S.told stream.new) held.new more) }
         ensures off { (begun : Sitting T) (old : Told) (more : List ℕ) →
             Serving (AnswersLine D T.may_toss self.now.hub.now.size.questions) begun (sitting pass.old.known tosser.old) old (S.told stream.old) held.old (byte ∷ more) →
-            IfErr result (Serves (AnswersLine D T.may_toss self.now.hub.now.size.questions) (IsDecisionOf D self.now.hub.now) begun (sitting pass.new.known tosser.new) old (S.told stream.new)) }
+            IfErr result (Serves (AnswersLine D T.may_toss self.now.hub.now.size.questions) begun (sitting pass.new.known tosser.new) old (S.told stream.new)) }
     {
         match held.read(byte) {
             LineStep::More => Ok(()),
@@ -264,7 +263,7 @@ impl<D: Disk, J: Naming, R: Wait + Clock> Server<'_, D, J, R> {
                     return Err(refuse(stream, DeskEnd::Request));
                 }
                 match follows(held.line()) {
-                    Some(number) => Err(follow(self.rt, self.hub, number, stream)),
+                    Some(number) => Err(DeskEnd::Follows(number)),
                     None => self.answer_held(pass, tosser, held, stream),
                 }
             }
@@ -288,7 +287,7 @@ impl<D: Disk, J: Naming, R: Wait + Clock> Server<'_, D, J, R> {
             OnOk result (Serving (AnswersLine D T.may_toss self.now.hub.now.size.questions) begun (sitting pass.new.known tosser.new) old (S.told stream.new) held.new []) }
         ensures off { (begun : Sitting T) (old : Told) →
             Serving (AnswersLine D T.may_toss self.now.hub.now.size.questions) begun (sitting pass.old.known tosser.old) old (S.told stream.old) held.old piece.now →
-            IfErr result (Serves (AnswersLine D T.may_toss self.now.hub.now.size.questions) (IsDecisionOf D self.now.hub.now) begun (sitting pass.new.known tosser.new) old (S.told stream.new)) }
+            IfErr result (Serves (AnswersLine D T.may_toss self.now.hub.now.size.questions) begun (sitting pass.new.known tosser.new) old (S.told stream.new)) }
     {
         for byte in piece {
             if let Err(end) = self.serve_byte(pass, tosser, held, stream, *byte) {
@@ -310,7 +309,7 @@ impl<D: Disk, J: Naming, R: Wait + Clock> Server<'_, D, J, R> {
         ensures cells { pass.new.cells ≡ J.names.cells }
         ensures off { (begun : Sitting T) (old : Told) (before : Told) → S.told stream.old ≡ has_ended before →
             Serving (AnswersLine D T.may_toss self.now.hub.now.size.questions) begun (sitting pass.old.known tosser.old) old before held.old [] →
-            Serves (AnswersLine D T.may_toss self.now.hub.now.size.questions) (IsDecisionOf D self.now.hub.now) begun (sitting pass.new.known tosser.new) old (S.told stream.new) result }
+            Serves (AnswersLine D T.may_toss self.now.hub.now.size.questions) begun (sitting pass.new.known tosser.new) old (S.told stream.new) result }
     {
         if held.line().is_empty() {
             return DeskEnd::Ended;
@@ -336,7 +335,7 @@ impl<D: Disk, J: Naming, R: Wait + Clock> Server<'_, D, J, R> {
             OnOk result (Serving (AnswersLine D T.may_toss self.now.hub.now.size.questions) begun (sitting pass.new.known tosser.new) old (S.told stream.new) held.new []) }
         ensures off { (begun : Sitting T) (old : Told) →
             Serving (AnswersLine D T.may_toss self.now.hub.now.size.questions) begun (sitting pass.old.known tosser.old) old (S.told stream.old) held.old [] →
-            IfErr result (Serves (AnswersLine D T.may_toss self.now.hub.now.size.questions) (IsDecisionOf D self.now.hub.now) begun (sitting pass.new.known tosser.new) old (S.told stream.new)) }
+            IfErr result (Serves (AnswersLine D T.may_toss self.now.hub.now.size.questions) begun (sitting pass.new.known tosser.new) old (S.told stream.new)) }
     {
         let mut piece = [0u8; PIECE];
         match stream.read(&mut piece) {
@@ -347,11 +346,11 @@ impl<D: Disk, J: Naming, R: Wait + Clock> Server<'_, D, J, R> {
     }
 }
 
-/// Answers the lines of a client in turn, until its input ends, a line is too long or begins a request of HTTP, or the
-/// stream fails.
+/// Answers the lines of a client in turn, until its input ends, a line is too long or begins a request of HTTP, one asks to
+/// follow decisions, or the stream fails.
 ///
 /// A line ends at the byte 10, and bytes behind the last one are a line too. `ASK` and `AWAIT` go by the board; `ASK` takes no
-/// lock, and `AWAIT` and `FOLLOW` only that of what the hub shows, and not while they wait;
+/// lock, and `AWAIT` only that of what the hub shows, and not while it waits;
 /// `PROPOSE`, which waits until the member speaks, `STATE`, and `TRANSCRIPT`, which waits for its turn, take the book's; `STATUS`
 /// and `LINKS` only that of what the hub shows, behind which nobody waits for a disk. `PROPOSE` and `STATUS` take a toss each. What comes of a proposal is shown
 /// before its reply is written, so a `STATUS` behind it counts it. Replies are written without memory, and no lock is held while
@@ -370,8 +369,8 @@ pub fn serve<D: Disk, J: Naming, S: Stream, T: Tosser, R: Wait + Clock>(
 ) -> DeskEnd
     requires { pass.old.cells ≡ J.names.cells }
     ensures cells { pass.new.cells ≡ J.names.cells }
-    // Each decision that is followed is of a book of the hub, with its number. Each reply is that to its line, by what the pass knows then and with the tosses of the tosser, one a command.
-    ensures serves { Serves (AnswersLine D T.may_toss desk.entry.hub.now.size.questions) (IsDecisionOf D desk.entry.hub.now) (sitting pass.old.known tosser.old)
+    // Each reply is that to its line, by what the pass knows then and with the tosses of the tosser, one a command.
+    ensures serves { Serves (AnswersLine D T.may_toss desk.entry.hub.now.size.questions) (sitting pass.old.known tosser.old)
         (sitting pass.new.known tosser.new) (S.told stream.old) (S.told stream.new) result }
 {
     let Desk { hub, turns } = desk;

@@ -67,6 +67,9 @@ refused_text (refusal.Unreachable peer fault) caller count =
     codes "link-to " ++ (decimal peer ++ (codes " unreachable: " ++ (dial_fault_text fault ++ times_text count)))
 refused_text (refusal.Unsteady peer) caller count = codes "links of " ++ (decimal peer ++ (codes " come and go" ++ times_text count))
 refused_text refusal.Threadless caller count = codes "thread refused" ++ times_text count
+refused_text refusal.Crowded caller count = codes "follower refused: too many follow" ++ times_text count
+refused_text (refusal.Stalled host) caller count =
+    codes "follower from " ++ (ip_text host ++ (codes " closed: took nothing for 10 s" ++ times_text count))
 
 abbrev pub refusal_text : RefusalCount → List ℕ
 refusal_text refused = refused_text refused.refusal refused.caller refused.count

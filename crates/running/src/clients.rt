@@ -3,6 +3,7 @@
 ghost use Rattle.links.specs.Net.{told_net, is_closed_net};
 
 use crate::doors::Listener;
+use crate::followers::hand_on;
 use crate::life::Life;
 use crate::machine::Machine;
 use crate::refusals::Refusal;
@@ -16,8 +17,7 @@ use node::Board;
 use std::sync::Wait;
 use std::thread;
 
-/// The stream of a client in a slot. Each read that gives bytes is a hearing of it, and so is each write that takes some: a client
-/// that follows decisions says nothing more.
+/// The stream of a client in a slot. Each read that gives bytes is a hearing of it, and so is each write that takes some.
 #[derive(Drop)]
 struct Client<'a, D: Disk, J: Life, R> {
     rt: &'a R,
@@ -99,10 +99,12 @@ fn serve_chair<D: Disk, J: Life, R: Machine>(
     Some(serve(rt, desk, &mut pass, &mut *tosser, &mut client))
 }
 
-/// A session of the client in a chair.
+/// A session of the client in a chair. One that asks to follow decisions leaves the chair, and its session goes on elsewhere.
 pub(crate) fn answer_client<D: Disk, J: Life, R: Machine>(rt: &R, it: &Shared<D, J>, chair: Chair) {
-    let _end = serve_chair(rt, it, chair);
-    it.leave_chair(rt, chair);
+    match serve_chair(rt, it, chair) {
+        Some(DeskEnd::Follows(number)) => hand_on(rt, it, chair, number),
+        _ => it.leave_chair(rt, chair),
+    }
 }
 
 /// Takes clients in, each in a thread of its own, until the end. If all places are taken, the next client waits for one, and those

@@ -184,6 +184,13 @@ impl fmt::Display for RefusalCount {
             }
             (Refusal::Unsteady(peer), _) => write!(f, "links of {peer} come and go{times}"),
             (Refusal::Threadless, _) => write!(f, "thread refused{times}"),
+            (Refusal::Crowded, _) => write!(f, "follower refused: too many follow{times}"),
+            (Refusal::Stalled(host), _) => {
+                write!(
+                    f,
+                    "follower from {host} closed: took nothing for 10 s{times}"
+                )
+            }
         }
     }
 }

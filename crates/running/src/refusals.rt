@@ -34,6 +34,10 @@ pub enum Refusal {
     Unsteady(u8),
     /// The system refused a thread for a session.
     Threadless,
+    /// A client that asked to follow decisions was closed, because as many follow as may.
+    Crowded,
+    /// A client that follows decisions, from this host, was closed, because it took nothing of what it was owed.
+    Stalled(IpAddr),
 }
 
 /// What a line of a log tells of a refusal: how often it came, and who was refused last, if it said who it was.
@@ -125,6 +129,8 @@ fn is_from(refusal: Refusal, host: IpAddr, end: LinkEnd) -> bool
         Refusal::Unreachable(_, _) => false,
         Refusal::Unsteady(_) => false,
         Refusal::Threadless => false,
+        Refusal::Crowded => false,
+        Refusal::Stalled(_) => false,
     }
 }
 
@@ -138,6 +144,8 @@ fn is_by(refusal: Refusal, peer: u8) -> bool
         Refusal::Unreachable(_, _) => false,
         Refusal::Unsteady(_) => false,
         Refusal::Threadless => false,
+        Refusal::Crowded => false,
+        Refusal::Stalled(_) => false,
     }
 }
 
@@ -151,6 +159,8 @@ fn is_unreachable(refusal: Refusal, peer: u8, fault: DialFault) -> bool
         Refusal::Unreachable(other, cause) => other == peer && cause == fault,
         Refusal::Unsteady(_) => false,
         Refusal::Threadless => false,
+        Refusal::Crowded => false,
+        Refusal::Stalled(_) => false,
     }
 }
 
@@ -164,6 +174,8 @@ fn is_unsteady(refusal: Refusal, peer: u8) -> bool
         Refusal::Unreachable(_, _) => false,
         Refusal::Unsteady(other) => other == peer,
         Refusal::Threadless => false,
+        Refusal::Crowded => false,
+        Refusal::Stalled(_) => false,
     }
 }
 
@@ -177,6 +189,38 @@ fn is_threadless(refusal: Refusal) -> bool
         Refusal::Unreachable(_, _) => false,
         Refusal::Unsteady(_) => false,
         Refusal::Threadless => true,
+        Refusal::Crowded => false,
+        Refusal::Stalled(_) => false,
+    }
+}
+
+/// Returns `true` if it says that too many follow.
+fn is_crowded(refusal: Refusal) -> bool
+    ensures { IsTrue result ↔ (refusal ≡ kinds.Crowded) }
+{
+    match refusal {
+        Refusal::From(_, _) => false,
+        Refusal::By(_) => false,
+        Refusal::Unreachable(_, _) => false,
+        Refusal::Unsteady(_) => false,
+        Refusal::Threadless => false,
+        Refusal::Crowded => true,
+        Refusal::Stalled(_) => false,
+    }
+}
+
+/// Returns `true` if it says that a follower from that host took nothing.
+fn is_stalled(refusal: Refusal, host: IpAddr) -> bool
+    ensures { IsTrue result ↔ (refusal ≡ kinds.Stalled host) }
+{
+    match refusal {
+        Refusal::From(_, _) => false,
+        Refusal::By(_) => false,
+        Refusal::Unreachable(_, _) => false,
+        Refusal::Unsteady(_) => false,
+        Refusal::Threadless => false,
+        Refusal::Crowded => false,
+        Refusal::Stalled(other) => other == host,
     }
 }
 
@@ -190,6 +234,8 @@ fn is_same(one: Refusal, other: Refusal) -> bool
         Refusal::Unreachable(peer, fault) => is_unreachable(one, peer, fault),
         Refusal::Unsteady(peer) => is_unsteady(one, peer),
         Refusal::Threadless => is_threadless(one),
+        Refusal::Crowded => is_crowded(one),
+        Refusal::Stalled(host) => is_stalled(one, host),
     }
 }
 

@@ -9,6 +9,7 @@ use crate::clients::accept_clients;
 use crate::doors::{Door, Doors, Listener};
 use crate::events::LogEvent;
 use crate::fault::RunFault;
+use crate::followers::{Followers, follow_on};
 use crate::hosts::{Hosts, Peers};
 use crate::life::Life;
 use crate::linking::{accept_links, address_of, dial_on};
@@ -51,6 +52,8 @@ pub struct Addresses {
     pub local: Option<UnixListener>,
     /// How many clients are let in at once, 1 to 32. Another number counts as the nearer of these.
     pub clients: u8,
+    /// The most clients that follow decisions at once, 0 to 1,024. A higher number counts as 1,024.
+    pub followers: u16,
     /// For how many seconds the member listens at most before it speaks, 0 for not at all.
     pub patience: u64,
 }
@@ -84,6 +87,7 @@ struct Opened<D: Disk> {
     addresses: Vec<SocketAddr>,
     hosts: Hosts,
     clients: u8,
+    followers: u16,
     patience: u64,
     seed: [u8; 32],
 }
@@ -107,6 +111,7 @@ fn share<D: Disk + Drop, J: Life>(opened: Opened<D>) -> Result<Shared<D, J>, Mem
         addresses,
         hosts,
         clients,
+        followers,
         patience,
         seed,
     } = opened;
@@ -122,6 +127,8 @@ fn share<D: Disk + Drop, J: Life>(opened: Opened<D>) -> Result<Shared<D, J>, Mem
         turns: Turns::new(),
         slots: Mutex::new(Slots::new(clients)),
         left: Condvar::new(),
+        followers: Mutex::new(Followers::new(alloc, followers)),
+        followed: Condvar::new(),
         greetings: Mutex::new(Quota::new()),
         sockets: Mutex::new(Sockets::new(alloc)),
         ahead: Mutex::new(Ahead::nobody()),
@@ -198,6 +205,20 @@ fn run_local<D: Disk + Send, J: Life + Send + Sync, O: Operator, R: Machine>(
     })
 }
 
+/// Tells followers until the operator ends the member, where all threads before were started, and ends all threads.
+fn run_followers<D: Disk + Send, J: Life + Send + Sync, O: Operator, R: Machine>(
+    rt: &R,
+    operator: &mut O,
+    it: &Shared<D, J>,
+    doors: &Doors,
+    started: bool,
+) -> Result<(), RunFault> {
+    thread::scope(thread::scope_env(), rt, |scope| -> Result<(), RunFault> {
+        let tells = scope.spawn(move || follow_on(rt, it)).is_ok();
+        run_local(rt, operator, it, doors, started && tells)
+    })
+}
+
 /// Takes clients in until the operator ends the member, where all threads before were started, and ends all threads.
 fn run_desk<D: Disk + Send, J: Life + Send + Sync, O: Operator, R: Machine>(
     rt: &R,
@@ -211,7 +232,7 @@ fn run_desk<D: Disk + Send, J: Life + Send + Sync, O: Operator, R: Machine>(
         let clients = scope
             .spawn(move || accept_clients(rt, it, listener))
             .is_ok();
-        run_local(rt, operator, it, doors, started && clients)
+        run_followers(rt, operator, it, doors, started && clients)
     })
 }
 
@@ -363,8 +384,8 @@ fn local_door(local: Option<UnixListener>) -> Result<Option<Door>, RunFault> {
 ///
 /// It listens at its own two addresses, tries whether the system gives it its threads, tells the operator that it is ready,
 /// and then starts them: a clock, one that
-/// has the book hear what links hand in, a dialler for each member, one that takes links in and one that takes clients in, and
-/// one for each of these. At the end all of them end, and with them every connection.
+/// has the book hear what links hand in, a dialler for each member, one that takes links in and one that takes clients in,
+/// one for each of these, and one that tells all clients that follow decisions. At the end all of them end, and with them every connection.
 ///
 /// **It listens before it speaks**: it makes no record, and answers no proposal, before n - t - 1 other members have welcomed
 /// it, or the seconds of its patience have passed. So a member whose journal was lost is told by those that know more of it
@@ -403,6 +424,7 @@ pub fn run_member<D: Disk + Drop + Send, O: Operator, L: Log + Send, R: Machine>
         desk,
         local,
         clients,
+        followers,
         patience,
     } = addresses;
     let header = member.header();
@@ -422,6 +444,7 @@ pub fn run_member<D: Disk + Drop + Send, O: Operator, L: Log + Send, R: Machine>
         addresses: peers,
         hosts,
         clients,
+        followers,
         patience,
         seed,
     };

@@ -6,6 +6,7 @@ use crate::ahead::{Ahead, Welcomes};
 use crate::callers::Caller;
 use crate::doors::Listener;
 use crate::events::LogEvent;
+use crate::followers::Followers;
 use crate::hosts::{Peers, Sender};
 use crate::life::Life;
 use crate::log::Log;
@@ -50,6 +51,10 @@ pub(crate) struct Shared<D: Disk, J: Life> {
     pub(crate) slots: Mutex<Slots>,
     /// A client has left its slot, or a second has passed: for those that wait for one.
     pub(crate) left: Condvar,
+    /// Those that follow decisions.
+    pub(crate) followers: Mutex<Followers>,
+    /// A follower has come, or the end.
+    pub(crate) followed: Condvar,
     pub(crate) greetings: Mutex<Quota<GREETINGS>>,
     pub(crate) sockets: Mutex<Sockets>,
     /// Which members have heard more of this one than its journal holds.
@@ -98,6 +103,13 @@ impl<D: Disk, J: Life> Shared<D, J> {
         self.hub.shut(rt);
         self.sockets.lock(rt).close();
         self.call_waiting(rt);
+        self.call_teller_of_followers(rt);
+    }
+
+    /// Wakes the thread that tells followers, if it waits for somebody to follow.
+    fn call_teller_of_followers<R: Wait>(&self, rt: &R) {
+        let _followers = self.followers.lock(rt);
+        self.followed.notify_all();
     }
 
     /// A member that listens still is stopped, so that who waits for it to speak says nothing.
@@ -395,7 +407,7 @@ impl<D: Disk, J: Life> Shared<D, J> {
     }
 
     /// Gives a slot back.
-    fn leave_slot<R: Wait>(&self, rt: &R, slot: u8) {
+    pub(crate) fn leave_slot<R: Wait>(&self, rt: &R, slot: u8) {
         let mut slots = self.slots.lock(rt);
         slots.put(slot);
         self.left.notify_all();

@@ -189,6 +189,15 @@ impl Sockets {
         }
     }
 
+    /// Gives the socket of that number away as it is, and frees the number.
+    pub(crate) fn take(&mut self, number: usize) -> Option<TcpStream> {
+        if number >= self.open.len() {
+            return None;
+        }
+        let open = self.open[number].take()?;
+        Some(open.socket)
+    }
+
     /// Shuts the socket of that number down, and frees the number.
     pub(crate) fn leave(&mut self, number: usize) {
         if number < self.open.len() {
@@ -241,7 +250,7 @@ impl OpenSocket {
 }
 
 /// The host at the other end of a socket.
-fn host_of(socket: &TcpStream) -> Option<IpAddr> {
+pub(crate) fn host_of(socket: &TcpStream) -> Option<IpAddr> {
     match socket.peer_addr() {
         Ok(address) => Some(address.ip()),
         Err(_) => None,

@@ -16,13 +16,13 @@ fn one_if(is_wanted: bool) -> u32
 }
 
 /// Counts the threads of a member that takes part: a dialler for each member, a reader for each of n - t links, the clock, one
-/// at each of two doors and one for a client; one more for a log, and for a door of this machine.
+/// at each of two doors, one for a client and one for all followers; one more for a log, and for a door of this machine.
 pub(crate) fn least_threads(size: Size, has_log: bool, has_local: bool) -> u32
     ensures { result ≡ least_threads size has_log has_local }
 {
     size.recall();
     let (n, t) = (u32::from(size.n()), u32::from(size.t()));
-    n + (n - t) + 4 + one_if(has_log) + one_if(has_local)
+    n + (n - t) + 5 + one_if(has_log) + one_if(has_local)
 }
 
 /// Threads that do nothing until their trial is over.

@@ -24,6 +24,12 @@ abbrev pub clients_within : Option ℕ → ℕ → ℕ
 clients_within None n = 32
 clients_within (Some limit) n = min 32 (max 1 ((limit - wanted n 0) / 2))
 
+-- how many clients may follow decisions at once: as many as files are left for behind those of clients, but one at least and
+-- 1,024 at most, and as many where no limit is known
+abbrev pub followers_within : Option ℕ → ℕ → ℕ
+followers_within None n = 1024
+followers_within (Some limit) n = min 1024 (max 1 (limit - wanted n 32))
+
 -- what is said where there are too few for one client
 abbrev pub lack_text : ℕ → ℕ → List ℕ
 lack_text limit links =
@@ -45,3 +51,9 @@ abbrev pub fewer_text : ℕ → ℕ → ℕ → List ℕ
 fewer_text limit links clients =
     codes "bracha: " ++ (decimal limit ++ (codes " open files are enough for " ++ (decimal clients ++ (codes " of 32 clients: the links want "
     ++ (decimal links ++ codes ", and each client 2\n")))))
+
+-- what is said where there are enough for so many followers, but not for 1,024
+abbrev pub followers_text : ℕ → ℕ → ℕ → List ℕ
+followers_text limit links followers =
+    codes "bracha: " ++ (decimal limit ++ (codes " open files are enough for " ++ (decimal followers
+    ++ (codes " of 1024 followers: the links want " ++ (decimal links ++ codes ", each client 2 and each follower 1\n")))))

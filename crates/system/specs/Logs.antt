@@ -98,7 +98,7 @@ caller_fields (Some caller) = number_field (codes "member") caller.member ++ dif
 abbrev pub unreachable_fields : ℕ → DialFault → List Token
 unreachable_fields peer fault = number_field (codes "to") peer ++ text_field (codes "cause") (dial_fault_text fault)
 
--- who was refused, and by whom; which member can't be reached; or whose client was closed
+-- who was refused, and by whom; which member can't be reached; or from which host a follower was closed
 abbrev pub refusal_fields : Refusal → Option Caller → List Token
 refusal_fields (refusal.From host end) caller =
     text_field (codes "host") (ip_text host) ++ (text_field (codes "cause") (cause_text end) ++ caller_fields caller)
@@ -106,6 +106,8 @@ refusal_fields (refusal.By peer) caller = number_field (codes "by") peer
 refusal_fields (refusal.Unreachable peer fault) caller = unreachable_fields peer fault
 refusal_fields (refusal.Unsteady peer) caller = number_field (codes "member") peer
 refusal_fields refusal.Threadless caller = []
+refusal_fields refusal.Crowded caller = []
+refusal_fields (refusal.Stalled host) caller = text_field (codes "host") (ip_text host)
 
 abbrev pub refused_fields : RefusalCount → List Token
 refused_fields refused = refusal_fields refused.refusal refused.caller ++ number_field (codes "count") refused.count
@@ -130,6 +132,8 @@ refusal_name (refusal.By peer) = codes "refused"
 refusal_name (refusal.Unreachable peer fault) = codes "unreachable"
 refusal_name (refusal.Unsteady peer) = codes "unsteady"
 refusal_name refusal.Threadless = codes "thread-refused"
+refusal_name refusal.Crowded = codes "follower-refused"
+refusal_name (refusal.Stalled host) = codes "follower-closed"
 
 -- the name of an event
 abbrev pub event_name : LogEvent → List ℕ

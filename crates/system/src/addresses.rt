@@ -93,13 +93,15 @@ fn maybe_socket(address: &Option<Address>) -> Option<SocketAddr>
     }
 }
 
-/// Where the members of the settings are dialled and this one listens, how many clients are let in, and from where links are
-/// taken: from the members' own hosts, unless any host may speak for any member. No clients of a Unix socket are let in.
+/// Returns where the members of the settings are dialled and this one listens, how many clients are let in and may follow
+/// decisions, and from where links are taken: from the members' own hosts, unless any host may speak for any member. No clients of
+/// a Unix socket are let in.
 pub(crate) fn addresses_of(
     alloc: Global,
     settings: &Settings,
     any_host: bool,
     clients: u8,
+    followers: u16,
 ) -> Result<Addresses, Memory>
     ensures peers { IfOk result (λ it. AreSocketsOf (dialled settings.now.peers.items settings.now.listen settings.now.header.me) it.peers.items) }
     ensures own_entry { settings.now.listen ≡ None → IfOk result (λ it. it.listen ≡ None) }
@@ -109,6 +111,7 @@ pub(crate) fn addresses_of(
     ensures own { any_host ≡ false → IfOk result (λ it. it.hosts ≡ hosts.OfMembers) }
     ensures desk { IfOk result (λ it. IsSocketOf settings.now.desk it.desk) }
     ensures clients { IfOk result (λ it. it.clients ≡ clients) }
+    ensures followers { IfOk result (λ it. it.followers ≡ followers) }
 {
     let addresses = dialled(alloc, settings)?;
     let peers = socket_addresses(alloc, &addresses)?;
@@ -123,6 +126,7 @@ pub(crate) fn addresses_of(
         desk: socket_address(&settings.desk),
         local: None,
         clients,
+        followers,
         patience: PATIENCE,
     })
 }

@@ -56,7 +56,7 @@ pub use files::{
     audit_file, check_file, dump_file, hear_input, init_file, migrate_file, simulate_file,
 };
 pub use hearsay::{audit_all, transcript_of_all};
-pub use limits::{clients_within, descriptors_lack, open_limit};
+pub use limits::{clients_within, descriptors_lack, followers_within, open_limit};
 pub use live::run_file;
 pub use log::{LogForm, log_form};
 pub use pages::{Page, write_page};

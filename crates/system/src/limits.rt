@@ -1,7 +1,7 @@
 //! How many files a member may have open.
 
 ghost use Rattle.std.specs.Prelude.{ℕ, ◌≡◌, ◌+◌, ◌*◌, ◌<◌, ◌≤◌, IfOk, IfSome, IsTrue, ◌↔◌, MatchOption, Some, None, false, string_bytes};
-ghost use Rattle.system.specs.Limits.{HasLimit, IsFirstNumber, clients_within, fewer_text, lack_text, least_wanted, starved_text, wanted};
+ghost use Rattle.system.specs.Limits.{HasLimit, IsFirstNumber, clients_within, fewer_text, followers_text, followers_within, lack_text, least_wanted, starved_text, wanted};
 
 use crate::status::line_with;
 use numerals::{number, split_at_space};
@@ -48,6 +48,20 @@ fn fewer_words(alloc: Global, limit: u64, links: u64, clients: u8) -> Result<Str
     )
 }
 
+/// Returns what is said of so many files, which are enough for all clients and some of the followers.
+fn followers_words(
+    alloc: Global,
+    limit: u64,
+    links: u64,
+    followers: u16,
+) -> Result<String, AllocError>
+    ensures { IfOk result (λ text. string_bytes text ≡ followers_text limit links followers) }
+{
+    format!(in alloc;
+        "bracha: {limit} open files are enough for {followers} of 1024 followers: the links want {links}, each client 2 and each follower 1\n"
+    )
+}
+
 /// How many files the links of a member of so many want: four for each member, nine for its streams, its journal and its two
 /// doors, two that the doors hold for who comes next, and two for a client that comes in the place of another.
 fn wanted_by_links(n: u8) -> u64
@@ -64,6 +78,17 @@ pub fn clients_within(limit: Option<u64>, n: u8) -> u8
     match limit {
         None => 32,
         Some(limit) => (limit.saturating_sub(wanted_by_links(n)) / 2).clamp(1, 32) as u8,
+    }
+}
+
+/// Returns how many clients may follow decisions at once at a member of so many, if it may have `limit` files open: those for whom
+/// files are left if 32 clients are in, but one at least and 1,024 at most; 1,024 if no limit is known.
+pub fn followers_within(limit: Option<u64>, n: u8) -> u16
+    ensures { result ≡ followers_within limit n }
+{
+    match limit {
+        None => 1024,
+        Some(limit) => limit.saturating_sub(wanted_by_links(n) + 64).clamp(1, 1024) as u16,
     }
 }
 
@@ -102,13 +127,16 @@ pub fn starved_words(alloc: Global, limit: Option<u64>, needed: u8) -> Result<St
     }
 }
 
-/// What is said where a member of so many has too few files for its links and 32 clients; none where it has enough.
+/// Returns what is said if a member of so many has too few files for its links, 32 clients and 1,024 followers; none if it has
+/// enough.
 pub fn descriptors_lack(alloc: Global, limit: u64, n: u8) -> Result<Option<String>, AllocError>
     ensures few { limit < wanted n 1 →
         IfOk result (λ said. MatchOption said ⊥ (λ text. string_bytes text ≡ lack_text limit (wanted n 0))) }
     ensures fewer { wanted n 1 ≤ limit → limit < wanted n 32 →
         IfOk result (λ said. MatchOption said ⊥ (λ text. string_bytes text ≡ fewer_text limit (wanted n 0) (clients_within (Some limit) n))) }
-    ensures enough { wanted n 32 ≤ limit → IfOk result (λ said. said ≡ None) }
+    ensures followers { wanted n 32 ≤ limit → limit < wanted n 32 + 1024 →
+        IfOk result (λ said. MatchOption said ⊥ (λ text. string_bytes text ≡ followers_text limit (wanted n 0) (followers_within (Some limit) n))) }
+    ensures enough { wanted n 32 + 1024 ≤ limit → IfOk result (λ said. said ≡ None) }
 {
     let links = wanted_by_links(n);
     if limit < links + 2 {
@@ -117,6 +145,10 @@ pub fn descriptors_lack(alloc: Global, limit: u64, n: u8) -> Result<Option<Strin
     if limit < links + 64 {
         let clients = clients_within(Some(limit), n);
         return Ok(Some(fewer_words(alloc, limit, links, clients)?));
+    }
+    if limit < links + 64 + 1024 {
+        let followers = followers_within(Some(limit), n);
+        return Ok(Some(followers_words(alloc, limit, links, followers)?));
     }
     Ok(None)
 }

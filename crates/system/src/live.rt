@@ -13,7 +13,7 @@ use crate::fault::Fault;
 use crate::files::{Purpose, Source, failure_for, open_good_disk, read_settings};
 use crate::forgotten::{put_aside, refuse_forgotten};
 use crate::input::{Input, read_aside};
-use crate::limits::{clients_within, is_starved, starved_words};
+use crate::limits::{clients_within, followers_within, is_starved, starved_words};
 use crate::local_desk::{leave_socket, with_socket};
 use crate::log::{ErrorLog, LogForm};
 use crate::process::{blocks_signals, is_called_off, most_files, warn_of_files};
@@ -327,8 +327,8 @@ fn run_settings<'a, R: Machine>(
     let size = settings.header.size();
     let (limit, n) = (most_files(host), size.n());
     keep_from_starving(host, limit, size.wait())?;
-    let clients = clients_within(limit, n);
-    let addresses = addresses_of(host.alloc(), settings, any_host, clients).map_err(
+    let (clients, followers) = (clients_within(limit, n), followers_within(limit, n));
+    let addresses = addresses_of(host.alloc(), settings, any_host, clients, followers).map_err(
         |_| Fault::Memory,
     )?;
     refuse_forgotten(host, settings.journal.as_str(), settings.header.me())?;

@@ -259,6 +259,8 @@ fn put_refusal(object: &mut Writer, alloc: Global, refused: &RefusalCount) -> Re
         Refusal::Unreachable(peer, fault) => put_unreachable(object, peer, fault),
         Refusal::Unsteady(peer) => put_number(object, "member", u64::from(peer)),
         Refusal::Threadless => Ok(()),
+        Refusal::Crowded => Ok(()),
+        Refusal::Stalled(host) => put_address(object, alloc, host),
     }
 }
 
@@ -320,6 +322,8 @@ fn refusal_name(refusal: Refusal) -> &'static str
         Refusal::Unreachable(_, _) => "unreachable",
         Refusal::Unsteady(_) => "unsteady",
         Refusal::Threadless => "thread-refused",
+        Refusal::Crowded => "follower-refused",
+        Refusal::Stalled(_) => "follower-closed",
     }
 }
 

@@ -34,7 +34,7 @@ pub fn most_files(host: &HostRuntime) -> Option<u64> {
     }
 }
 
-/// Says on the standard error that so many files are too few for a member of so many and 32 clients, where that is so.
+/// Says on the standard error that so many files are too few for a member of so many, 32 clients and 1,024 followers, where that is so.
 pub fn warn_of_files(host: &HostRuntime, limit: Option<u64>, n: u8) {
     let Some(limit) = limit else {
         return;

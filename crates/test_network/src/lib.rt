@@ -3,6 +3,7 @@
 
 mod books;
 mod desks;
+mod followers;
 mod logs;
 mod sessions;
 mod streams;

@@ -10,6 +10,7 @@
 //! the counts that are due. `queue` begins an empty one, `put COUNT` puts so many decisions in, and `drain` answers how many there
 //! are, how many are missed, and the first and the last.
 //!
+//! `crowd MOST` begins one of so many followers: `comes` answers whether one more may follow, and at `goes` one goes.
 //! `quota` begins one of two: `enter` answers whether one more may enter, and at `leave` one leaves. `slots COUNT` are those of a
 //! member that lets so many clients in: `slot SECOND` takes one, `heard SECOND SLOT` and `left SLOT` are what comes of a client. `standing` is
 //! that of a link that is written, from which nothing was read; `reads` and `writes` answer how far it has come then, and whether
@@ -19,7 +20,7 @@
 use links::LinkEnd;
 use rounds::Tosser;
 use running::{
-    Caller, DialFault, Difference, GivenSlot, LogEvent, Queue, Quota, Refusal, RefusalCount,
+    Caller, Crowd, DialFault, Difference, GivenSlot, LogEvent, Queue, Quota, Refusal, RefusalCount,
     Refusals, Slots, Standing, tosser_for,
 };
 use std::alloc::Global;
@@ -34,6 +35,7 @@ pub struct Logs {
     refusals: Refusals,
     queue: Queue,
     quota: Quota<2>,
+    crowd: Crowd,
     slots: Slots,
     standing: Standing,
 }
@@ -113,6 +115,8 @@ fn refusal_of(cause: &str, number: &str) -> Option<Refusal> {
         "by" => Some(Refusal::By(number)),
         "unsteady" => Some(Refusal::Unsteady(number)),
         "threadless" => Some(Refusal::Threadless),
+        "crowded" => Some(Refusal::Crowded),
+        "stalled" => Some(Refusal::Stalled(host)),
         cause => Some(Refusal::Unreachable(number, dial_fault_of(cause)?)),
     }
 }
@@ -200,6 +204,7 @@ impl Logs {
             refusals: Refusals::new(),
             queue: Queue::new(alloc),
             quota: Quota::new(),
+            crowd: Crowd::new(0),
             slots: Slots::new(32),
             standing: Standing::Greeting,
         }
@@ -255,12 +260,18 @@ impl Logs {
         match words {
             ["quota"] => self.quota = Quota::new(),
             ["leave"] => self.quota.leave(),
+            ["crowd", most] => self.crowd = Crowd::new(most.parse().ok()?),
+            ["goes"] => self.crowd.leave(),
             ["slots", clients] => self.slots = Slots::new(clients.parse().ok()?),
             ["heard", now, slot] => self.slots.hear(slot.parse().ok()?, now.parse().ok()?),
             ["left", slot] => self.slots.put(slot.parse().ok()?),
             ["enter"] => {
                 let enters = self.quota.enter();
                 return format!(in self.alloc; "{enters}").ok();
+            }
+            ["comes"] => {
+                let comes = self.crowd.enter();
+                return format!(in self.alloc; "{comes}").ok();
             }
             ["slot", now] => return self.slot(now.parse().ok()?),
             ["standing"] => self.standing = Standing::Greeting,

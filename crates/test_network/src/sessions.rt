@@ -15,7 +15,7 @@
 //!
 //! `fill COUNT` is so many proposals, of 0 and 1 in turn on the questions from 0 on, and `hears COUNT` has the member hear so
 //! much of what it said; `stop` stops the member. `status` are the statements and decisions of the member, `records` its records, `history` its events,
-//! and `fits` whether these are those of its seats; `lacks` is the same where a seat is missing. Rows of `src/books.rt` are answered too. `tossers BYTE`
+//! and `fits` whether these are those of its seats; `lacks` is the same where a seat is missing. Rows of `src/books.rt` and `src/followers.rt` are answered too. `tossers BYTE`
 //! are those of the member's life, of a seed of that byte 32 times: how many there are of links, and the last one's first toss, and the same
 //! of the desk.
 //!
@@ -26,8 +26,8 @@ ghost use Rattle.member.specs.Memory.{memory_disk};
 ghost use Rattle.member.specs.Sound.{IsSound};
 ghost use Rattle.member.specs.Readers.{member_header, member_saved, MemberStandsFor};
 
-use crate::books;
 use crate::streams::{Scant, prepare};
+use crate::{books, followers};
 use desk::{Desk, Turns, serve};
 use disk::{Disk, MemDisk};
 use links::{Open, greet, read_link, write_link};
@@ -347,6 +347,9 @@ fn answers<J: Naming, R: Wait + Clock>(
         ["stop"] => {
             hub.stop(rt);
             nothing(alloc)
+        }
+        ["tell", number, steps @ ..] => {
+            followers::told(rt, alloc, hub, number.parse().ok()?, steps)
         }
         _ => match books::told(rt, alloc, (hub, rack), words) {
             Some(told) => Some(told),

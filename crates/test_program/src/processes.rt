@@ -1,15 +1,18 @@
 //! What the system says of a process, and what a member makes of it. Lines of a file of the system stand with `|` between them.
 //!
 //! `files LINES` answers how many files the process of this `/proc/self/limits` may have open, or `none`. `clients FILES N` answers
-//! how many clients a member of so many lets in at once, where FILES may be `none` too, and `lack FILES N` what it says of too few
-//! files, or `enough`. `quiet VALUE` answers whether the value of `BRACHA_QUIET` takes second lines away, and `loud` whether its
+//! how many clients a member of so many lets in at once, where FILES may be `none` too, `followers FILES N` how many may follow
+//! decisions, and `lack FILES N` what it says of too few files, or `enough`. `quiet VALUE` answers whether the value of `BRACHA_QUIET` takes second lines away, and `loud` whether its
 //! absence does. `blocked LINES` and `called LINES` answer whether the process of this `/proc/self/status` blocks a signal
 //! that ends a member, and whether one waits.
 
 use std::alloc::Global;
 use std::env::FillError;
 use std::rt::Env;
-use system::{clients_within, descriptors_lack, is_blocked, is_called, open_limit, wants_quiet};
+use system::{
+    clients_within, descriptors_lack, followers_within, is_blocked, is_called, open_limit,
+    wants_quiet,
+};
 
 /// An environment in which `BRACHA_QUIET` has this value, if it has one, and nothing else is.
 #[derive(Clone, Copy, Drop)]
@@ -95,6 +98,11 @@ pub fn told(alloc: Global, action: &str) -> Option<String> {
             let (files, n) = rest.split_once(' ')?;
             let clients = clients_within(files_of(files)?, n.parse().ok()?);
             format!(in alloc; "{clients}").ok()
+        }
+        "followers" => {
+            let (files, n) = rest.split_once(' ')?;
+            let followers = followers_within(files_of(files)?, n.parse().ok()?);
+            format!(in alloc; "{followers}").ok()
         }
         "lack" => {
             let (files, n) = rest.split_once(' ')?;

@@ -98,6 +98,7 @@ impl Cluster {
             desk: self.desk(me),
             local: None,
             clients: 32,
+            followers: 1024,
             patience: 0,
         })
     }

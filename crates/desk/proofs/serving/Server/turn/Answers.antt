@@ -1,6 +1,5 @@
 use Rattle.std.proofs.Common.{◌≡◌, rules}
 use Rattle.links.specs.Told.{has_ended}
-use Rattle.node.specs.Standings.{IsDecisionOf}
 use Rattle.desk.specs.Sessions.{AnswersLine, sitting}
 use Rattle.desk.proofs.Exchanging.{read_lost}
 use Rattle.desk.proofs.serving.Server.turn.Goals as goal
@@ -12,5 +11,5 @@ returns-in-Ok-eq0-clause-off g c = λ begun old s.
 
 pub returns-in-Err-clause-off : goal.returns-in-Err-clause-off
 returns-in-Err-clause-off g c = λ begun old s.
-    read_lost (AnswersLine g.row.D.Denot g.T.Tosser.may_toss c.args.self.now.hub.now.size.questions) (IsDecisionOf g.row.D.Denot c.args.self.now.hub.now) begun (sitting c.args.pass.now.known c.args.tosser.now)
+    read_lost (AnswersLine g.row.D.Denot g.T.Tosser.may_toss c.args.self.now.hub.now.size.questions) begun (sitting c.args.pass.now.known c.args.tosser.now)
     old (g.S.Stream.told c.args.stream.now) (g.S.Stream.told c.read.new.self) c.args.held.now s c.in-Err.ensures.fault
