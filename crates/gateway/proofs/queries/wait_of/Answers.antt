@@ -1,0 +1,9 @@
+use Rattle.std.proofs.Common.{inl, inr}
+use Rattle.gateway.proofs.Keeping.{some_text}
+use Rattle.gateway.proofs.queries.wait_of.Goals as goal
+
+pub returns-clause-none : goal.returns-clause-none
+returns-clause-none c = λ none wait is. elim is [
+  | inl empty ↦ some_text c.args.query.now c.if-is_empty.ensures empty.0
+  | inr timed ↦ c.timed.ensures.none none wait timed
+]

@@ -1,0 +1,12 @@
+pub mod Routes
+pub mod Queries
+pub mod Guards
+pub mod Motions
+pub mod Requests
+pub mod Watches
+pub mod Standings
+pub mod Answers
+pub mod Views
+pub mod Events
+pub mod Metrics
+pub mod Replies

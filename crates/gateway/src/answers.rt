@@ -1,0 +1,190 @@
+//! Objects of JSON about questions.
+
+ghost use Rattle.std.specs.Prelude.{◌≡◌, ◌≤◌, ◌++◌, List, IfOk, drop, string_bytes};
+ghost use Rattle.client.specs.Readings.{first_word};
+ghost use Rattle.gateway.specs.Answers.{TellsQuestion, proposal_object, question_head, ready_object, refusal_object, says_text, states_head, states_object, word_item, word_items};
+ghost use Rattle.gateway.specs.Watches.{Watches, watch_size, words_on};
+ghost use Rattle.gateway.specs.declared.watch.Told.{Told};
+
+use crate::queries::Position;
+use crate::requests::{Refusal, word_of};
+use crate::standings::{Stage, Standing, standing_fields, standing_of, states_text};
+use crate::watch::Watch;
+use std::alloc::{AllocError, Global};
+
+/// Returns JSON for what a member told.
+pub(crate) fn says_text(word: Option<bool>) -> &'static str
+    ensures { result.now ≡ says_text word }
+{
+    match word {
+        None => "null",
+        Some(false) => "0",
+        Some(true) => "1",
+    }
+}
+
+/// Returns a member's item behind a comma.
+fn word_item(alloc: Global, member: u8, word: Option<bool>) -> Result<String, AllocError>
+    ensures { IfOk result (λ text. string_bytes text ≡ word_item member word) }
+{
+    format!(in alloc; ",{{\"member\":{member},\"says\":{}}}", says_text(word))
+}
+
+/// Returns the items of all members, with a comma before each.
+fn word_items(alloc: Global, watch: &Watch, question: u16, n: u8) -> Result<String, AllocError>
+    requires { n ≤ 64 }
+    ensures { (heard : List Told) → Watches watch.now heard →
+        IfOk result (λ text. string_bytes text ≡ word_items (first_word (words_on question heard)) 0 n) }
+{
+    let mut text = String::new(alloc);
+    for member in 0..n {
+        let item = word_item(alloc, member, watch.word_of(question, member))?;
+        text.push_str(item.as_str())?;
+    }
+    Ok(text)
+}
+
+/// Returns what stands before the members' items.
+fn question_head(alloc: Global, question: u16, standing: Standing) -> Result<String, AllocError>
+    ensures { IfOk result (λ text. string_bytes text ≡ question_head question standing) }
+{
+    format!(in alloc;
+        "{{\"question\":{question},{},\"members\":[",
+        standing_fields(standing)
+    )
+}
+
+/// Returns the text without its first byte.
+pub(crate) fn behind_first(bytes: &[u8]) -> &[u8]
+    ensures { result.now ≡ drop 1 bytes.now }
+{
+    match bytes {
+        [_, rest @ ..] => rest,
+        _ => bytes,
+    }
+}
+
+/// Returns a text of three parts.
+pub(crate) fn joined(
+    alloc: Global,
+    front: &[u8],
+    middle: &[u8],
+    end: &[u8],
+) -> Result<Vec<u8>, AllocError>
+    ensures { IfOk result (λ bytes. bytes.items ≡ (front.now ++ middle.now) ++ end.now) }
+{
+    let mut bytes = Vec::new(alloc);
+    bytes.extend_from_slice(front)?;
+    bytes.extend_from_slice(middle)?;
+    bytes.extend_from_slice(end)?;
+    Ok(bytes)
+}
+
+/// Returns the object of JSON of a question: its state, and what each member told. A decision in it is one that more than t
+/// members told; before there is one the state is that of the stage.
+///
+/// # Errors
+///
+/// [`AllocError`] if an allocation failed.
+pub fn question_text(
+    alloc: Global,
+    watch: &Watch,
+    question: u16,
+    stage: Stage,
+) -> Result<Vec<u8>, AllocError>
+    ensures { (heard : List Told) → Watches watch.now heard →
+        IfOk result (λ bytes. TellsQuestion (watch_size watch.now) heard question stage bytes.items) }
+{
+    let standing = standing_of(watch.decision(question), stage);
+    let n = watch.size().n();
+    let head = question_head(alloc, question, standing)?;
+    let items = word_items(alloc, watch, question, n)?;
+    joined(
+        alloc,
+        head.as_bytes(),
+        behind_first(items.as_bytes()),
+        b"]}\n",
+    )
+}
+
+/// Returns the object of JSON of a proposal: the question's state, how many members took the bit, and how many had one.
+///
+/// # Errors
+///
+/// [`AllocError`] if an allocation failed.
+pub fn proposal_text(
+    alloc: Global,
+    question: u16,
+    standing: Standing,
+    taken: u8,
+    have: u8,
+) -> Result<String, AllocError>
+    ensures { IfOk result (λ text. string_bytes text ≡ proposal_object question standing taken have) }
+{
+    format!(in alloc;
+        "{{\"question\":{question},{},\"taken\":{taken},\"have\":{have}}}\n",
+        standing_fields(standing)
+    )
+}
+
+/// Returns the object of JSON of a refusal.
+///
+/// # Errors
+///
+/// [`AllocError`] if an allocation failed.
+pub fn refusal_text(alloc: Global, refusal: Refusal) -> Result<String, AllocError>
+    ensures { IfOk result (λ text. string_bytes text ≡ refusal_object refusal) }
+{
+    format!(in alloc; "{{\"error\":\"{}\"}}\n", word_of(refusal))
+}
+
+/// The moment at which states were looked at.
+#[derive(Clone, Copy, Debug, PartialEq, Eq)]
+pub struct Moment {
+    /// The number of questions of the cluster.
+    pub questions: u16,
+    /// The first question that is told.
+    pub from: u16,
+    /// The question after the last.
+    pub to: u16,
+    /// The last event before the moment.
+    pub after: Position,
+}
+
+/// Returns what stands before the letters of questions.
+fn states_head(alloc: Global, moment: &Moment) -> Result<String, AllocError>
+    ensures { IfOk result (λ text. string_bytes text ≡ states_head moment.now) }
+{
+    format!(in alloc;
+        "{{\"questions\":{},\"from\":{},\"to\":{},\"life\":\"{}\",\"after\":{},\"states\":\"",
+        moment.questions, moment.from, moment.to, moment.after.life, moment.after.number
+    )
+}
+
+/// Returns the object of JSON of these questions: a letter for each, and the position from which the stream goes on.
+///
+/// # Errors
+///
+/// [`AllocError`] if an allocation failed.
+pub fn questions_text(
+    alloc: Global,
+    moment: &Moment,
+    standings: &[Standing],
+) -> Result<Vec<u8>, AllocError>
+    ensures { IfOk result (λ bytes. bytes.items ≡ states_object moment.now standings.now) }
+{
+    let head = states_head(alloc, moment)?;
+    let letters = states_text(alloc, standings)?;
+    joined(alloc, head.as_bytes(), &letters, b"\"}\n")
+}
+
+/// Returns the object of JSON that says if the cluster can decide.
+pub fn ready_text(ready: bool) -> &'static str
+    ensures { result.now ≡ ready_object ready }
+{
+    if ready {
+        "{\"ready\":true}\n"
+    } else {
+        "{\"ready\":false}\n"
+    }
+}
