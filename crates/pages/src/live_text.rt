@@ -8,7 +8,7 @@ pub(crate) const LIVE: &str = "<!DOCTYPE html>\n\
 <meta name=\"viewport\" content=\"width=device-width, initial-scale=1\">\n\
 <meta name=\"color-scheme\" content=\"light dark\">\n\
 <meta name=\"referrer\" content=\"no-referrer\">\n\
-<meta http-equiv=\"Content-Security-Policy\" content=\"default-src 'none'; connect-src 'self'; script-src 'sha256-1AvmgXlaB12+4XrdeqQcAPHQZ/TrdEtp6E+UUFJ0QkE='; style-src 'sha256-+vw+9zp1i1sOFJyQzpvYNR4SInKG8I5sqmJh1sgYrpc='; img-src data:; base-uri 'none'; form-action 'none'; require-trusted-types-for 'script'; trusted-types 'none'\">\n\
+<meta http-equiv=\"Content-Security-Policy\" content=\"default-src 'none'; connect-src 'self'; script-src 'sha256-AKTy12DhZDaKtjTVxvQnbP5xJV96W7xuRcfxWC2btdE='; style-src 'sha256-+vw+9zp1i1sOFJyQzpvYNR4SInKG8I5sqmJh1sgYrpc='; img-src data:; base-uri 'none'; form-action 'none'; require-trusted-types-for 'script'; trusted-types 'none'\">\n\
 <link rel=\"icon\" href=\"data:,\">\n\
 <title>bracha cluster</title>\n\
 <style>\n\
@@ -443,7 +443,7 @@ function showMembers() {\n\
 \x20\x20});\n\
 \x20\x20$(\"members\").replaceChildren(...rows);\n\
 \x20\x20$(\"ringsays\").replaceChildren(liars.length ? el(\"span\", { class: \"bad\" }, \"Contradicted by more than \" + others() + \": member \" + ranges(liars.map((m) => m.member)) + \". \") : \"No member contradicts the others. \",\n\
-\x20\x20\x20\x20\"Left arc: links in; right arc: links out; full is \" + n + \". Dashed: a link that is down.\");\n\
+\x20\x20\x20\x20\"Left arc: links in; right arc: links out; full is \" + n + \".\" + (members.some((m) => Array.isArray(m.down_out)) ? \" Dashed: a link that is down.\" : \"\"));\n\
 \x20\x20ring(); title();\n\
 }\n\
 function title() { document.title = (goneAt ? \"\\u2715 gone\" : (members.filter((m) => m.state === \"up\").length + \"/\" + n)) + \" \\u2013 bracha cluster \" + (cluster ?? \"\"); }\n\
@@ -567,4 +567,4 @@ window.brachaLive = { state: () => ({ n, t, Q, tally: { ...tally }, after, life,
 
 /// The policy of this page, as a header.
 pub(crate) const LIVE_POLICY: &str =
-    "default-src 'none'; connect-src 'self'; script-src 'sha256-1AvmgXlaB12+4XrdeqQcAPHQZ/TrdEtp6E+UUFJ0QkE='; style-src 'sha256-+vw+9zp1i1sOFJyQzpvYNR4SInKG8I5sqmJh1sgYrpc='; img-src data:; base-uri 'none'; form-action 'none'; require-trusted-types-for 'script'; trusted-types 'none'; frame-ancestors 'none'";
+    "default-src 'none'; connect-src 'self'; script-src 'sha256-AKTy12DhZDaKtjTVxvQnbP5xJV96W7xuRcfxWC2btdE='; style-src 'sha256-+vw+9zp1i1sOFJyQzpvYNR4SInKG8I5sqmJh1sgYrpc='; img-src data:; base-uri 'none'; form-action 'none'; require-trusted-types-for 'script'; trusted-types 'none'; frame-ancestors 'none'";

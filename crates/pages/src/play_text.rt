@@ -7,7 +7,7 @@ pub(crate) const PLAY_BEFORE: &str = "<!DOCTYPE html>\n\
 <meta charset=\"utf-8\">\n\
 <meta name=\"viewport\" content=\"width=device-width, initial-scale=1\">\n\
 <meta name=\"color-scheme\" content=\"light dark\">\n\
-<meta http-equiv=\"Content-Security-Policy\" content=\"default-src 'none'; script-src 'sha256-MtnqNAdzqInlEjjuQw/6VI1iHHkOeRA3Fi9FC2Vic6Q='; style-src 'sha256-eFsXTWaYH5DzHB0qRukrzErsNjzIgyQnw+bWq8X1dQM='; base-uri 'none'; form-action 'none'; require-trusted-types-for 'script'; trusted-types 'none'\">\n\
+<meta http-equiv=\"Content-Security-Policy\" content=\"default-src 'none'; script-src 'sha256-AK+7q3dgikr/HrVelq07OBSgVlU2kTOtGnE8FvC1iyU='; style-src 'sha256-eFsXTWaYH5DzHB0qRukrzErsNjzIgyQnw+bWq8X1dQM='; base-uri 'none'; form-action 'none'; require-trusted-types-for 'script'; trusted-types 'none'\">\n\
 <title>A simulated run</title>\n\
 <style>\n\
 :root {\n\
@@ -616,7 +616,7 @@ function drawChart() {\n\
 \x20\x20const e0 = Math.max(0, eventOfStep(first) - 1);\n\
 \x20\x20for (let m = 0; m < n; m++) {\n\
 \x20\x20\x20\x20const name = sv(\"text\", { x: X(m), y: 16, \"text-anchor\": \"middle\", \"font-size\": n > 24 ? 11 : 13, \"font-weight\": 700 });\n\
-\x20\x20\x20\x20name.textContent = n > 12 ? m : (isLiar[m] ? \"liar \" : \"\") + m;\n\
+\x20\x20\x20\x20name.textContent = (isLiar[m] ? (n > 12 || small ? \"L\" : \"liar \") : \"\") + m;\n\
 \x20\x20\x20\x20if (isLiar[m]) name.style.fill = \"var(--lie)\";\n\
 \x20\x20\x20\x20name.addEventListener(\"click\", () => { me = m; $(\"me\").value = m; show(true); });\n\
 \x20\x20\x20\x20name.style.cursor = \"pointer\";\n\
