@@ -95,6 +95,14 @@ lacks '(127\.0\.0\.1|localhost):(3[2-9]|[4-6][0-9])[0-9]{3}'
 lacks '[ ">=]/tmp/'
 lacks xxd
 
+# A page with a stale hash is blank in a browser.
+if said=$(tools/pages --check); then
+    passed=$((passed + 1))
+else
+    echo "$said"
+    failed=$((failed + 1))
+fi
+
 # One version, wherever one is named.
 if said=$(tools/release "$program"); then
     passed=$((passed + 1))
