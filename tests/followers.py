@@ -230,7 +230,7 @@ def who_takes_nothing_is_closed(folder, port):
         found += differs("they are closed", soon(lambda: descriptors(members[0]) == files + 1, 20), True)
         took = time.monotonic() - begun
         found += differs(f"in ten seconds ({took:.1f} s)", 8 < took < 15, True)
-        found += differs("it is told", "follower from 127.0.0.1 closed: took nothing for 10 s" in log_of(folder), True)
+        found += differs("it is told", soon(lambda: "follower from 127.0.0.1 closed: took nothing for 10 s" in log_of(folder), 3), True)
         found += differs("the other follower goes on", other.ended, set())
         other.close()
         for it in stalled:
