@@ -19,7 +19,8 @@ def find():
     program = shutil.which("chromium")
     if program is None and os.environ.get("CI"):
         for words in (["update", "-qq"], ["install", "-y", "-qq", "chromium"]):
-            subprocess.run(["apt-get", *words], stdout=subprocess.DEVNULL, stderr=sys.stderr, check=False)
+            with contextlib.suppress(OSError, subprocess.TimeoutExpired):
+                subprocess.run(["apt-get", *words], stdout=subprocess.DEVNULL, stderr=sys.stderr, check=False, timeout=240)
         program = shutil.which("chromium")
     return program
 
@@ -99,7 +100,7 @@ class Page:
             raise RuntimeError(fault.get("exception", {}).get("description", fault["text"]))
         return got["result"].get("value")
 
-    def until(self, script, seconds=10):
+    def until(self, script, seconds=20):
         """Whether the expression becomes true in that time."""
         end = time.monotonic() + seconds
         while time.monotonic() < end:
