@@ -99,7 +99,7 @@ class Page:
             raise RuntimeError(fault.get("exception", {}).get("description", fault["text"]))
         return got["result"].get("value")
 
-    def until(self, script, seconds=10):
+    def until(self, script, seconds=20):
         """Whether the expression becomes true in that time."""
         end = time.monotonic() + seconds
         while time.monotonic() < end:
