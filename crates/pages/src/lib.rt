@@ -1,5 +1,5 @@
-//! The texts of the program's two pages, for browsers: that of a cluster, which `bracha gateway` serves, and that of a run,
-//! which `bracha simulate --page` writes. Their sources are `html/live.html` and `html/play.html`; `tools/pages` writes
+//! The texts of two pages for browsers: that of a cluster, for a gateway, and that of a simulated run, between whose parts
+//! `playing` writes the run. Their sources are `html/live.html` and `html/play.html`; `tools/pages` writes
 //! the constants.
 #![tactic(auto)]
 
