@@ -1,8 +1,8 @@
 #!/usr/bin/env python3
 """tests/pages.py [PROGRAM]
 
-Tries both pages in headless Chromium: the page of a run with worked scripts and with drawn ones, whose runs tests/reference/page.py
-makes of the program's traces, and the page of a cluster against made-up gateways. PROGRAM is
+Tries both pages of the program in headless Chromium: `bracha simulate --page` with worked scripts and with drawn ones, against the
+object that tests/reference/page.py makes of the trace, and the page of a cluster against made-up gateways. PROGRAM is
 crates/bracha/out/bracha unless another is named. Needs Debian's chromium, which is installed if CI is set and it is missing; it
 takes the ports 28300 to 28309 and half a minute. With PAGES_PICTURES=FOLDER it leaves pictures there. Prints what is wrong, and in
 its last line `N passed, M failed`; the status is 1 where M isn't 0.
@@ -91,16 +91,12 @@ class Checks:
 
 
 def played(folder, name, script):
-    """The run of a script, and the file of its page."""
+    """The page of a script's run, and its trace, as files."""
     path, trace, page = (f"{folder}/{it}" for it in (name, f"{name}.trace", f"{name}.html"))
     with open(path, "w", encoding="utf-8") as file:
         file.write(script)
-    subprocess.run([PROGRAM, "simulate", "--trace", trace, path], check=True, stdout=subprocess.DEVNULL, timeout=60)
-    before, _, after = parts_of(f"{TOP}/crates/pages/html/play.html")
-    run = reference.object_of(path, trace, name)
-    with open(page, "w", encoding="utf-8") as file:
-        file.write(before + RUN + run + after)
-    return json.loads(run), page
+    subprocess.run([PROGRAM, "simulate", "--trace", trace, "--page", page, path], check=True, stdout=subprocess.DEVNULL, timeout=60)
+    return path, trace, page
 
 
 def parts_of(page):
@@ -109,6 +105,18 @@ def parts_of(page):
         before, rest = file.read().split(RUN, 1)
     end = rest.index("</script>")
     return before, rest[:end], rest[end:]
+
+
+TEMPLATE = parts_of(f"{TOP}/crates/pages/html/play.html")[::2]
+
+
+def check_object(checks, script, trace, page):
+    """The run in the page is the object that the reference makes of the trace."""
+    before, run, after = parts_of(page)
+    name = os.path.basename(script)
+    checks.same(f"{name}: the page around its run", (before, after), TEMPLATE)
+    checks.same(f"{name}: its run", run, reference.object_of(script, trace, name))
+    return json.loads(run)
 
 
 def picture(page, name):
@@ -268,8 +276,9 @@ def check_runs(checks, chromium, folder):
             scripts[name] = file.read()
     scripts[NASTY] = scripts["small.script"]
     for number, (name, script) in enumerate(scripts.items()):
-        run, page = played(folder, name, script)
-        checks.same(f"{name}: its name", json.loads(parts_of(page)[1])["name"], name)
+        path, trace, page = played(folder, name, script)
+        run = check_object(checks, path, trace, page)
+        checks.same(f"{name}: its name", run["name"], name)
         if chromium:
             plain = f"{folder}/{number}.html"
             os.rename(page, plain)

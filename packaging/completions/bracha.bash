@@ -8,7 +8,7 @@ _bracha() {
         return
     fi
     case $before in
-    --trace | --chart)
+    --trace | --chart | --page)
         mapfile -t COMPREPLY < <(compgen -f -- "$word")
         return
         ;;
@@ -19,7 +19,7 @@ _bracha() {
     run) mapfile -t COMPREPLY < <(compgen -W "--stay --log --log-json --any-host --quiet --help" -f -- "$word") ;;
     migrate) mapfile -t COMPREPLY < <(compgen -W "--quiet --help" -f -- "$word") ;;
     dump) mapfile -t COMPREPLY < <(compgen -W "--count --json --quiet --help" -f -- "$word") ;;
-    simulate) mapfile -t COMPREPLY < <(compgen -W "--trace --chart --question --member --from --to --forever --seed --seconds --quiet --help" -f -- "$word") ;;
+    simulate) mapfile -t COMPREPLY < <(compgen -W "--trace --chart --page --question --member --from --to --forever --seed --seconds --quiet --help" -f -- "$word") ;;
     rounds) mapfile -t COMPREPLY < <(compgen -W "--n --t --liars --order --seeds --chart --quiet --help" -- "$word") ;;
     hear) mapfile -t COMPREPLY < <(compgen -W "--n --t --questions --me --quiet --help" -- "$word") ;;
     audit) mapfile -t COMPREPLY < <(compgen -W "--n --t --questions --all --timeout --quiet --help" -f -- "$word") ;;

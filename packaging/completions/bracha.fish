@@ -41,6 +41,7 @@ complete -c bracha -n "__fish_seen_subcommand_from propose ask decide status tra
 complete -c bracha -n "__fish_seen_subcommand_from dump" -l count -d "How many records there are"
 complete -c bracha -n "__fish_seen_subcommand_from simulate" -l trace -r -F -d "A line for each event"
 complete -c bracha -n "__fish_seen_subcommand_from simulate" -l chart -r -F -d "A chart in SVG"
+complete -c bracha -n "__fish_seen_subcommand_from simulate" -l page -r -F -d "A page that plays the run"
 complete -c bracha -n "__fish_seen_subcommand_from simulate" -l question -x -d "Only events of this question"
 complete -c bracha -n "__fish_seen_subcommand_from simulate" -l member -x -d "Only events of this member"
 complete -c bracha -n "__fish_seen_subcommand_from simulate" -l from -x -d "The first event"

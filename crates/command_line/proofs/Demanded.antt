@@ -262,21 +262,22 @@ simulate_demands words e =
     let script = text_in (codes "script") rows in
     let trace = text_in (codes "trace") rows in
     let chart = text_in (codes "chart") rows in
+    let page = text_in (codes "page") rows in
     let question = may_have 16 65535 (codes "question") rows (omega arith)
-    (perhaps_in (built_at simulate_app) words solid e _ (inr (inr (inr (inl refl))))) in
-    let member = may_have 8 255 (codes "member") rows (omega arith)
     (perhaps_in (built_at simulate_app) words solid e _ (inr (inr (inr (inr (inl refl)))))) in
-    let from = may_have 32 4294967295 (codes "from") rows (omega arith)
+    let member = may_have 8 255 (codes "member") rows (omega arith)
     (perhaps_in (built_at simulate_app) words solid e _ (inr (inr (inr (inr (inr (inl refl))))))) in
-    let to = may_have 32 4294967295 (codes "to") rows (omega arith)
+    let from = may_have 32 4294967295 (codes "from") rows (omega arith)
     (perhaps_in (built_at simulate_app) words solid e _ (inr (inr (inr (inr (inr (inr (inl refl)))))))) in
+    let to = may_have 32 4294967295 (codes "to") rows (omega arith)
+    (perhaps_in (built_at simulate_app) words solid e _ (inr (inr (inr (inr (inr (inr (inr (inl refl))))))))) in
     let forever = flag_in (codes "forever") rows in
     let seed = may_have 32 4294967295 (codes "seed") rows (omega arith)
-    (perhaps_in (built_at simulate_app) words solid e _ (inr (inr (inr (inr (inr (inr (inr (inr (inl refl)))))))))) in
+    (perhaps_in (built_at simulate_app) words solid e _ (inr (inr (inr (inr (inr (inr (inr (inr (inr (inl refl))))))))))) in
     let seconds = may_have 32 4294967295 (codes "seconds") rows (omega arith)
-    (perhaps_in (built_at simulate_app) words solid e _ (inr (inr (inr (inr (inr (inr (inr (inr (inr (inl refl))))))))))) in (
-      Simulate script.0 trace.0 chart.0 question.0 member.0 from.0 to.0 forever.0 seed.0 seconds.0,
-      (refl, script.1, trace.1, chart.1, question.1, member.1, from.1, to.1, forever.1, seed.1, seconds.1),
+    (perhaps_in (built_at simulate_app) words solid e _ (inr (inr (inr (inr (inr (inr (inr (inr (inr (inr (inl refl)))))))))))) in (
+      Simulate script.0 trace.0 chart.0 page.0 question.0 member.0 from.0 to.0 forever.0 seed.0 seconds.0,
+      (refl, script.1, trace.1, chart.1, page.1, question.1, member.1, from.1, to.1, forever.1, seed.1, seconds.1),
     )
 
 rounds_demands : Demanding rounds_app

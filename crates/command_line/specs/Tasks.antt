@@ -75,10 +75,11 @@ Names name rows (Audit file question all n t questions timeout) = (name ≡ code
     × HasFlag (codes "all") rows all × MayHaveNumber 16 (codes "n") rows n
     × MayHaveNumber 16 (codes "t") rows t × MayHaveNumber 16 (codes "questions") rows questions
     × MayHaveText (codes "timeout") rows (option_map (λ text. text.now) timeout)
-Names name rows (Simulate script trace chart question member from to forever seed seconds) =
+Names name rows (Simulate script trace chart page question member from to forever seed seconds) =
     (name ≡ codes "simulate") × MayHaveText (codes "script") rows (option_map (λ path. path.now) script)
     × MayHaveText (codes "trace") rows (option_map (λ path. path.now) trace)
     × MayHaveText (codes "chart") rows (option_map (λ path. path.now) chart)
+    × MayHaveText (codes "page") rows (option_map (λ path. path.now) page)
     × MayHaveNumber 16 (codes "question") rows question × MayHaveNumber 8 (codes "member") rows member
     × MayHaveNumber 32 (codes "from") rows from × MayHaveNumber 32 (codes "to") rows to
     × HasFlag (codes "forever") rows forever × MayHaveNumber 32 (codes "seed") rows seed

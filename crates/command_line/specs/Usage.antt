@@ -163,12 +163,12 @@ abbrev pub forever_rules : List Rule
 forever_rules = flag_rule (codes "forever") ∷ as_u32 (option_rule (codes "seed"))
     ∷ as_u32 (option_rule (codes "seconds")) ∷ []
 
--- `bracha simulate [--trace FILE] [--chart FILE] [--question Q] [--member M] [--from FIRST] [--to LAST] [--forever]
+-- `bracha simulate [--trace FILE] [--chart FILE] [--page FILE] [--question Q] [--member M] [--from FIRST] [--to LAST] [--forever]
 --  [--seed S] [--seconds N] [SCRIPT]`
 abbrev pub simulate_app : App
 simulate_app = taking (codes "simulate")
     (last_rule (codes "script") ∷ option_rule (codes "trace") ∷ option_rule (codes "chart")
-    ∷ choice_rules ++ forever_rules)
+    ∷ option_rule (codes "page") ∷ choice_rules ++ forever_rules)
 
 -- `bracha rounds --n N --t T [--liars L] [--order ORDER] [--seeds K] [--chart FILE]`
 abbrev pub rounds_app : App

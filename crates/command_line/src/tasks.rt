@@ -112,13 +112,14 @@ pub enum Task<'a> {
         questions: Option<u16>,
         timeout: Option<&'a str>,
     },
-    /// Runs the script in this file, and writes a trace and a chart of the run into those files. The chart has the events of
+    /// Runs the script in this file, and writes a trace, a chart and a page of the run into those files. The chart has the events of
     /// this question and this member alone, from that number to that one. Or runs random scripts from this seed on, for so many
     /// seconds or for good. Each form wants values that the other one doesn't take: any of them may be missing here.
     Simulate {
         script: Option<&'a str>,
         trace: Option<&'a str>,
         chart: Option<&'a str>,
+        page: Option<&'a str>,
         question: Option<u16>,
         member: Option<u8>,
         from: Option<u32>,
@@ -608,15 +609,17 @@ fn simulate<'a>(alloc: Global) -> Built<'a>
 {
     let about = "Simulate a cluster from a script, or from random ones";
     let examples =
-        "Prints every decision, then how many events there were and how many were skipped. If a trace or chart goes to standard output, this goes to standard error. With --forever and no script, plays random scripts one after another until stopped, and stops at a run that breaks a promise.\n\nExamples (in the repository):\n  bracha simulate crates/bracha/examples/small.script\n  bracha simulate --chart small.svg crates/bracha/examples/small.script\n  bracha simulate --chart small.svg --member 1 --from 8 --to 20 crates/bracha/examples/small.script\n  bracha simulate --trace - crates/bracha/examples/small.script\n  bracha simulate --forever --seed 1 --seconds 60";
+        "Prints every decision, then how many events there were and how many were skipped. If a trace, chart or page goes to standard output, this goes to standard error. With --forever and no script, plays random scripts one after another until stopped, and stops at a run that breaks a promise.\n\nExamples (in the repository):\n  bracha simulate crates/bracha/examples/small.script\n  bracha simulate --chart small.svg crates/bracha/examples/small.script\n  bracha simulate --chart small.svg --member 1 --from 8 --to 20 crates/bracha/examples/small.script\n  bracha simulate --page small.html crates/bracha/examples/small.script\n  bracha simulate --trace - crates/bracha/examples/small.script\n  bracha simulate --forever --seed 1 --seconds 60";
     let trace = "Write a line per event to FILE; - is standard output";
     let chart = "Draw the run as an SVG sequence chart to FILE; - is standard output";
+    let page = "Write a page to FILE that plays the run in a browser; - is standard output";
     let command = named(alloc, "simulate", about, examples);
     let script = "Script to run; - is standard input";
     let script = last_word(alloc, "script", "SCRIPT", script);
     let command = with_arg(command, script);
     let command = with_arg(command, file(alloc, "trace", trace));
     let command = with_arg(command, file(alloc, "chart", chart));
+    let command = with_arg(command, file(alloc, "page", page));
     let command = with_choice(alloc, command);
     with_forever(alloc, command)
 }
@@ -925,6 +928,7 @@ fn simulate_of<'a>(options: &ArgMatches<'a>) -> Option<Task<'a>>
         script: text_of(options, "script"),
         trace: text_of(options, "trace"),
         chart: text_of(options, "chart"),
+        page: text_of(options, "page"),
         question: u16_of(options, "question"),
         member: u8_of(options, "member"),
         from: u32_of(options, "from"),

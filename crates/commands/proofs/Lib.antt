@@ -14,3 +14,4 @@ pub mod Owning
 pub mod Asking
 mod Counting
 pub mod Staging
+pub mod Showing

@@ -1,6 +1,6 @@
 //! The command `simulate` as the program runs it: the pages are put somewhere, and then the verdicts are printed.
 
-ghost use Rattle.std.specs.Prelude.{◌≡◌, ◌≢◌, ◌||◌, true, IfOk, OnOk, Err, is_some, option_map, string_bytes};
+ghost use Rattle.std.specs.Prelude.{◌≡◌, ◌≢◌, ◌↔◌, true, IfOk, IsTrue, OnOk, Err, string_bytes};
 ghost use Rattle.std.specs.Io.KnownBytes.{Appends};
 ghost use Rattle.script.specs.Scripts.{IsScript};
 ghost use Rattle.commands.specs.declared.fault.SimulateFault.{SimulateFault};
@@ -8,11 +8,11 @@ ghost use Rattle.commands.specs.declared.simulate.Simulation.{Simulation};
 ghost use Rattle.commands.specs.Faults.{IsOfSimulate, IsOfWriting};
 ghost use Rattle.commands.specs.Pages.{IsOutcome};
 ghost use Rattle.commands.specs.Simulations.{simulation_text};
-ghost use Rattle.commands.specs.Shows.{AreSaid, TakesOutput};
+ghost use Rattle.commands.specs.Shows.{wants_pages, AreSaid, TakesOutput};
 ghost use Rattle.commands.specs.declared.shown.SimulationEnd.TheVariants as ends;
 
 use crate::fault::SimulateFault;
-use crate::simulate::{Simulation, counted_text, print_verdicts, takes_output};
+use crate::simulate::{Simulation, counted_text, is_output, print_verdicts};
 use std::alloc::Global;
 use std::io::Write;
 
@@ -43,11 +43,29 @@ pub enum SimulationEnd<F> {
     Printing(SimulateFault),
 }
 
-/// Whether a page has a path.
-fn has_pages(trace: Option<&str>, chart: Option<&str>) -> bool
-    ensures { result ≡ (is_some trace.entry || is_some chart.entry) }
+/// The paths of the pages that are wanted of a simulation, each `-` for the standard output.
+#[derive(Clone, Copy, Debug)]
+pub struct PagePaths<'a> {
+    /// The path of the trace.
+    pub trace: Option<&'a str>,
+    /// The path of the chart.
+    pub chart: Option<&'a str>,
+    /// The path of the page that plays the run.
+    pub play: Option<&'a str>,
+}
+
+/// Returns `true` if a page has a path.
+fn has_pages(paths: &PagePaths<'_>) -> bool
+    ensures { result ≡ wants_pages paths.now }
 {
-    trace.is_some() || chart.is_some()
+    paths.trace.is_some() || paths.chart.is_some() || paths.play.is_some()
+}
+
+/// Returns `true` if a page takes the standard output.
+fn takes_any(paths: &PagePaths<'_>) -> bool
+    ensures { IsTrue result ↔ TakesOutput paths.now }
+{
+    is_output(paths.trace) || is_output(paths.chart) || is_output(paths.play)
 }
 
 /// Runs the script over empty disks in memory, and puts its pages on the shelf. The text of its outcome comes out.
@@ -100,14 +118,12 @@ fn play<S: Shelf>(
     }
 }
 
-/// Runs the script over empty disks in memory, puts a trace and a chart of it on the shelf where they have a path, and only
-/// then prints its outcome as [`crate::simulate_text`] does: to the output, or aside, where the path of a page is `-`. The
-/// status is 0.
+/// Runs the script over empty disks in memory, puts its pages on the shelf if one has a path, and only then prints its outcome as
+/// [`crate::simulate_text`] does: to the output, or aside, where the path of a page is `-`. The status is 0.
 pub fn show_simulation<S: Shelf, W: Write, E: Write>(
     alloc: Global,
     text: &[u8],
-    trace: Option<&str>,
-    chart: Option<&str>,
+    paths: &PagePaths<'_>,
     shelf: &mut S,
     output: &mut W,
     errors: &mut E,
@@ -116,15 +132,12 @@ pub fn show_simulation<S: Shelf, W: Write, E: Write>(
     // What was put and is printed is of a simulation of the script that the text says, which is a run of the world.
     ensures all { OnOk result ((simulation : Simulation)
         × IsScript text.now simulation.script × IsOutcome simulation.script simulation.outcome
-        × ((is_some trace.entry || is_some chart.entry) ≡ true → S.has simulation shelf.new)
-        × AreSaid (option_map (λ path. path.now) trace.entry) (option_map (λ path. path.now) chart.entry)
+        × (wants_pages paths.now ≡ true → S.has simulation shelf.new) × AreSaid paths.now
         (Appends (W.contents output.old) (W.contents output.new) (simulation_text simulation.outcome))
         (Appends (E.contents errors.old) (E.contents errors.new) (simulation_text simulation.outcome))) }
     // The other writer is left alone.
-    ensures no_output { TakesOutput (option_map (λ path. path.now) trace.entry) (option_map (λ path. path.now) chart.entry) →
-        output.new ≡ output.old }
-    ensures no_errors { (TakesOutput (option_map (λ path. path.now) trace.entry) (option_map (λ path. path.now) chart.entry) → ⊥) →
-        errors.new ≡ errors.old }
+    ensures no_output { TakesOutput paths.now → output.new ≡ output.old }
+    ensures no_errors { (TakesOutput paths.now → ⊥) → errors.new ≡ errors.old }
     // A fault of the script comes before anything is put or printed, and one of a page before anything is printed.
     ensures script { (fault : SimulateFault) → result ≡ Err (ends.Script fault) → IsOfSimulate text.now fault }
     ensures unput { (fault : SimulateFault) → result ≡ Err (ends.Script fault) → shelf.new ≡ shelf.old }
@@ -132,11 +145,11 @@ pub fn show_simulation<S: Shelf, W: Write, E: Write>(
     ensures page { (fault : S.Fault) → result ≡ Err (ends.Page fault) → (output.new ≡ output.old) × (errors.new ≡ errors.old) }
     ensures printing { (fault : SimulateFault) → result ≡ Err (ends.Printing fault) → IsOfWriting fault }
 {
-    let verdicts = match play(alloc, text, has_pages(trace, chart), shelf) {
+    let verdicts = match play(alloc, text, has_pages(paths), shelf) {
         Ok(verdicts) => verdicts,
         Err(end) => return Err(end),
     };
-    let aside = takes_output(trace, chart);
+    let aside = takes_any(paths);
     match print_verdicts(aside, verdicts.as_str(), output, errors) {
         Ok(status) => Ok(status),
         Err(fault) => Err(SimulationEnd::Printing(fault)),

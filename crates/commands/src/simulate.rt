@@ -20,6 +20,7 @@ ghost use Rattle.commands.specs.Simulations.{verdict_line, line_of_counts, simul
 use crate::fault::SimulateFault;
 use disk::MemDisk;
 use numerals::is;
+use playing::{Template, write_page};
 use report::{Choice, Run, is_skipped, write_chart, write_trace};
 use script::{Script, Source};
 use sim::{Cluster, Event, Mark, Outcome, SimFault};
@@ -184,7 +185,7 @@ impl Simulation {
     ghost use Rattle.sim.specs.declared.TheConstants.{MOST_EVENTS};
     ghost use Rattle.script.specs.Scripts.{IsScript};
     ghost use Rattle.commands.specs.Faults.{IsOfSimulate};
-    ghost use Rattle.commands.specs.Pages.{IsOutcome, trace_of, IsChartOf};
+    ghost use Rattle.commands.specs.Pages.{IsOutcome, trace_of, IsChartOf, page_of};
     ghost use Rattle.commands.specs.Simulations.{simulation_text};
 
     /// Reads the script, and runs it over empty disks in memory.
@@ -248,6 +249,28 @@ impl Simulation {
         };
         write_chart(alloc, &run, choice, output)
     }
+
+    /// Writes the page that plays it, between the parts of the template and with this name, as it is made. The errors are those of
+    /// [`write_page`].
+    pub fn write_page<W: Write>(
+        &self,
+        alloc: Global,
+        name: &str,
+        template: &Template<'_>,
+        output: &mut W,
+    ) -> io::Result<()>
+        ensures { OnOk result (Appends (W.contents output.old) (W.contents output.new)
+            (page_of template.now.before.now template.now.after.now name.now self.now)) }
+    {
+        let run = playing::Run {
+            name,
+            size: self.script.size,
+            liars: self.script.liars.as_slice(),
+            events: self.script.events.as_slice(),
+            outcome: &self.outcome,
+        };
+        write_page(alloc, &run, template, output)
+    }
 }
 
 /// Writes the text. The status is 0. [`SimulateFault::Stream`] and [`SimulateFault::Memory`]: the write failed.
@@ -285,7 +308,7 @@ pub fn simulate_text<W: Write>(
 }
 
 /// Whether the path is `-`, which stands for the standard output.
-fn is_output(path: Option<&str>) -> bool
+pub(crate) fn is_output(path: Option<&str>) -> bool
     ensures { IsTrue result ↔ (option_map (λ text. text.now) path.entry ≡ Some (codes "-")) }
 {
     match path {

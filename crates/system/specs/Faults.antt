@@ -46,6 +46,12 @@ fault_status other = 1
 abbrev pub IsNoText : ℕ → List ℕ → Fault → Type 0
 IsNoText place bytes fault = (IsUtf8 bytes → ⊥) × (fault ≡ ends.Argument place)
 
--- no two of the paths of a script, a trace and a chart are the same words
-abbrev pub AreApart : List ℕ → Option (List ℕ) → Option (List ℕ) → Type 0
-AreApart script trace chart = (trace ≢ Some script) × (chart ≢ Some script) × ((path : List ℕ) → trace ≡ Some path → chart ≢ Some path)
+-- the paths of two pages aren't the same words
+abbrev pub ArePagesApart : Option (List ℕ) → Option (List ℕ) → Type 0
+ArePagesApart one other = (path : List ℕ) → one ≡ Some path → other ≢ Some path
+
+-- no two of the paths of a script, its trace, its chart and its page are the same words
+abbrev pub AreApart : List ℕ → Option (List ℕ) → Option (List ℕ) → Option (List ℕ) → Type 0
+AreApart script trace chart play =
+    ((trace ≢ Some script) × (chart ≢ Some script) × (play ≢ Some script))
+    × ArePagesApart trace chart × ArePagesApart trace play × ArePagesApart chart play

@@ -97,6 +97,9 @@ pub enum Fault {
     /// The file of a chart couldn't be written.
     #[error("chart")]
     Chart,
+    /// The file of a page couldn't be written.
+    #[error("page")]
+    Page,
     /// A write of the output failed.
     #[error("stream")]
     Stream,

@@ -10,7 +10,9 @@ ghost use Rattle.std.specs.Prelude.{◌≡◌, ◌≢◌, IfErr, IfOk, IfSome, c
 use crate::doors::keep_to_own_doors;
 use crate::fault::Fault;
 use crate::forgotten::refuse_forgotten;
-use crate::pages::{Page, fault_at, keep_apart, keep_two_apart, warn_of_length, write_page};
+use crate::page_files::{
+    Page, fault_at, keep_apart, keep_two_apart, name_of, warn_of_length, write_page,
+};
 use crate::reading::{Text, read_file};
 use crate::rows::{check_rows, check_size};
 use crate::telling::{
@@ -20,9 +22,9 @@ use crate::telling::{
 use crate::trouble::{Failure, Whereabouts};
 use crate::unsynced::{MarkedDisk, refuse_unsynced};
 use commands::{
-    Choice, DumpFault, InitFault, MigrationFault, Shelf, Simulation, SimulationEnd, check_journal,
-    dump_count, dump_count_object, dump_lines, dump_objects, init_disk, migrate_disks, print_check,
-    print_settings, show_simulation,
+    Choice, DumpFault, InitFault, MigrationFault, PagePaths, Shelf, Simulation, SimulationEnd,
+    check_journal, dump_count, dump_count_object, dump_lines, dump_objects, init_disk,
+    migrate_disks, print_check, print_settings, show_simulation,
 };
 use disk::{Disk, FileDisk, FirstError, MemDisk};
 use hearing::hear_lines;
@@ -524,9 +526,10 @@ pub fn migrate_file(rt: &HostRuntime, old: &str, new: &str) -> Result<u8, Failur
 #[derive(Drop)]
 struct PageFiles<'a> {
     rt: &'a HostRuntime,
-    trace: Option<&'a str>,
-    chart: Option<&'a str>,
+    paths: PagePaths<'a>,
     choice: Choice,
+    /// The name of the run.
+    name: &'a str,
 }
 
 impl<'a> Shelf for PageFiles<'a> {
@@ -534,12 +537,15 @@ impl<'a> Shelf for PageFiles<'a> {
 
     fn put(&mut self, _alloc: Global, simulation: &Simulation) -> Result<(), Failure> {
         check_size(self.rt.alloc(), simulation.script.size, self.choice)?;
-        let trace = fault_at(self.trace, Fault::Trace);
-        let _no_rows = write_page(self.rt, simulation, Page::Trace, self.trace, trace)?;
-        let chart = fault_at(self.chart, Fault::Chart);
+        let trace = fault_at(self.paths.trace, Fault::Trace);
+        let _no_rows = write_page(self.rt, simulation, Page::Trace, self.paths.trace, trace)?;
+        let chart = fault_at(self.paths.chart, Fault::Chart);
         let page = Page::Chart(self.choice);
-        let rows = write_page(self.rt, simulation, page, self.chart, chart)?;
-        warn_of_length(self.rt, rows, self.chart);
+        let rows = write_page(self.rt, simulation, page, self.paths.chart, chart)?;
+        warn_of_length(self.rt, rows, self.paths.chart);
+        let play = fault_at(self.paths.play, Fault::Page);
+        let page = Page::Play(self.name);
+        let _no_rows = write_page(self.rt, simulation, page, self.paths.play, play)?;
         Ok(())
     }
 }
@@ -552,33 +558,32 @@ fn script_path(path: &str) -> &str
     if path == "-" { "/dev/stdin" } else { path }
 }
 
-/// Runs the script in the file, or the one on the standard input where its path is `-`, and writes a trace and a chart of it where
-/// they are asked for, the chart with the events that are chosen. Only then the verdicts are printed; they go to the standard error
+/// Runs the script in the file, or the one on the standard input where its path is `-`, and writes those pages of it that have a
+/// path, the chart with the events that are chosen. Only then the verdicts are printed; they go to the standard error
 /// where a page takes the standard output.
 pub fn simulate_file(
     rt: &HostRuntime,
     path: &str,
-    trace: Option<&str>,
-    chart: Option<&str>,
+    paths: &PagePaths<'_>,
     choice: Choice,
 ) -> Result<u8, Failure> {
+    let name = name_of(path);
     let path = script_path(path);
-    check_rows(rt.alloc(), chart, choice)?;
-    keep_apart(rt, path, trace, chart)?;
+    check_rows(rt.alloc(), paths.chart, choice)?;
+    keep_apart(rt, path, paths)?;
     let text = read_file(rt, path, Text::Script)?;
     let mut files = PageFiles {
         rt,
-        trace,
-        chart,
+        paths: *paths,
         choice,
+        name,
     };
     let mut output = io::writer(rt);
     let mut errors = rt.stderr();
     match show_simulation(
         rt.alloc(),
         &text,
-        trace,
-        chart,
+        paths,
         &mut files,
         &mut output,
         &mut errors,

@@ -28,7 +28,7 @@ mod log;
 mod misfits;
 mod moment;
 mod objects;
-mod pages;
+mod page_files;
 mod patience;
 mod process;
 mod reading;
@@ -50,7 +50,7 @@ pub use asking_all::{Motion, Query, ask_all, decide};
 pub use callers::{Caller, Cluster};
 pub use chance::{Measuring, measure_rounds};
 pub use cluster::{NewCluster, new_cluster};
-pub use commands::Choice;
+pub use commands::{Choice, PagePaths};
 pub use fault::Fault;
 pub use files::{
     audit_file, check_file, dump_file, hear_input, init_file, migrate_file, simulate_file,
@@ -59,7 +59,7 @@ pub use hearsay::{audit_all, transcript_of_all};
 pub use limits::{clients_within, descriptors_lack, followers_within, open_limit};
 pub use live::run_file;
 pub use log::{LogForm, log_form};
-pub use pages::{Page, write_page};
+pub use page_files::{Page, write_page};
 pub use patience::patience_of;
 pub use shapes::{AuditWords, Audited, SimulateWords, audited_of, simulate};
 pub use signals::{is_blocked, is_called};

@@ -10,7 +10,7 @@ use crate::fault::Fault;
 use crate::files::simulate_file;
 use crate::rows::check_rows;
 use crate::trouble::{Failure, Whereabouts};
-use commands::Choice;
+use commands::{Choice, PagePaths};
 use std::alloc::Global;
 
 /// The object of `audit`.
@@ -50,6 +50,7 @@ pub struct SimulateWords<'a> {
     pub script: Option<&'a str>,
     pub trace: Option<&'a str>,
     pub chart: Option<&'a str>,
+    pub page: Option<&'a str>,
     pub choice: Choice,
     pub forever: bool,
     pub seed: Option<u32>,
@@ -64,7 +65,7 @@ const AUDIT: &str =
 
 /// The forms of `simulate`.
 const SIMULATE: &str =
-    "wants a script, or --forever without one, which --seed and --seconds go with, but no chart or trace";
+    "wants a script, or --forever without one, which --seed and --seconds go with, but no chart, page or trace";
 
 /// Returns the object that the words of `audit` name; none if they have neither form.
 fn audited_by(words: &AuditWords) -> Option<Audited>
@@ -93,6 +94,11 @@ pub fn audited_of(alloc: Global, words: &AuditWords) -> Result<Audited, Failure>
     }
 }
 
+/// Returns `true` if the words of `simulate` name the file of a page.
+fn has_page(words: &SimulateWords<'_>) -> bool {
+    words.trace.is_some() || words.chart.is_some() || words.page.is_some()
+}
+
 /// Returns the scripts that the words of `simulate` name; none if they have neither form.
 fn simulated_by<'a>(words: &SimulateWords<'a>) -> Option<Simulated<'a>> {
     match words.script {
@@ -103,7 +109,7 @@ fn simulated_by<'a>(words: &SimulateWords<'a>) -> Option<Simulated<'a>> {
             Some(Simulated::Script(script))
         }
         None => {
-            if !words.forever || words.trace.is_some() || words.chart.is_some() {
+            if !words.forever || has_page(words) {
                 return None;
             }
             Some(Simulated::Forever {
@@ -118,7 +124,12 @@ fn simulated_by<'a>(words: &SimulateWords<'a>) -> Option<Simulated<'a>> {
 pub fn simulate(rt: &HostRuntime, words: &SimulateWords<'_>) -> Result<u8, Failure> {
     match simulated_by(words) {
         Some(Simulated::Script(script)) => {
-            simulate_file(rt, script, words.trace, words.chart, words.choice)
+            let paths = PagePaths {
+                trace: words.trace,
+                chart: words.chart,
+                play: words.page,
+            };
+            simulate_file(rt, script, &paths, words.choice)
         }
         Some(Simulated::Forever { seed, seconds }) => {
             check_rows(rt.alloc(), None, words.choice)?;

@@ -1393,14 +1393,16 @@ fn check_leaves_a_journal_as_it_is(rt: HostRuntime) -> Result<(), Fail> {
 
 #[test]
 fn pages_go_into_their_files(rt: HostRuntime) -> Result<(), Fail> {
-    let (script, trace, chart) = (
+    let (script, trace, chart, page) = (
         "bracha_tests_pages.script",
         "bracha_tests_pages.trace",
         "bracha_tests_pages.svg",
+        "bracha_tests_pages.html",
     );
     // A page that can't be written is told before anything is printed.
     let no_trace = "simulate --trace bracha_tests_none/page bracha_tests_pages.script";
     let no_chart = "simulate --chart bracha_tests_none/page bracha_tests_pages.script";
+    let no_page = "simulate --page bracha_tests_none/page bracha_tests_pages.script";
     let steps = [
         Put(script, ONE_PROPOSAL.as_bytes()),
         Prints(
@@ -1409,13 +1411,20 @@ fn pages_go_into_their_files(rt: HostRuntime) -> Result<(), Fail> {
         ),
         Has(trace, b"1 propose 0 0 1: done: initial 0 0 1 1 one\n"),
         Begins(chart, b"<svg "),
+        Prints(
+            "simulate --page bracha_tests_pages.html bracha_tests_pages.script",
+            "events 1 skipped 0\nstatus 0\n",
+        ),
+        Begins(page, b"<!DOCTYPE html>\n"),
         Ends(no_trace, "trace", 1),
         Omits(no_trace, "events"),
         Ends(no_chart, "chart", 1),
         Omits(no_chart, "events"),
+        Ends(no_page, "page", 1),
+        Omits(no_page, "events"),
     ];
     play(&rt, &steps)?;
-    remove(&rt, &[script, trace, chart])
+    remove(&rt, &[script, trace, chart, page])
 }
 
 #[test]
@@ -1450,7 +1459,7 @@ const AUDIT_FORMS: &str =
 
 /// The same of `simulate`.
 const SIMULATE_FORMS: &str =
-    "bracha: words\nsimulate: wants a script, or --forever without one, which --seed and --seconds go with, but no chart or trace\n";
+    "bracha: words\nsimulate: wants a script, or --forever without one, which --seed and --seconds go with, but no chart, page or trace\n";
 
 #[test]
 fn an_audit_ends_by_its_answer(rt: HostRuntime) -> Result<(), Fail> {
@@ -1551,6 +1560,18 @@ fn pages_keep_off_other_files(rt: HostRuntime) -> Result<(), Fail> {
         Lacks("bracha_tests_apart/a"),
         Ends(
             "simulate --trace - --chart - bracha_tests_apart.script",
+            "same file -",
+            2,
+        ),
+        is_kept,
+        Ends(
+            "simulate --page bracha_tests_apart.script bracha_tests_apart.script",
+            "same file bracha_tests_apart.script",
+            2,
+        ),
+        is_kept,
+        Ends(
+            "simulate --chart - --page - bracha_tests_apart.script",
             "same file -",
             2,
         ),

@@ -8,6 +8,7 @@ returns c = record {
     search (rules, sym c.text_of.ensures),
     search (rules, sym c.text_of-2.ensures),
     search (rules, sym c.text_of-3.ensures),
+    search (rules, sym c.text_of-4.ensures),
     search (rules, c.u16_of.ensures),
     search (rules, c.u8_of.ensures),
     search (rules, c.u32_of.ensures),

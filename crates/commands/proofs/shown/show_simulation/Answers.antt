@@ -12,7 +12,7 @@ pub returns-in-Ok-print_verdicts-clause-all : goal.returns-in-Ok-print_verdicts-
 returns-in-Ok-print_verdicts-clause-all g c =
     let of = c.in-Ok.ensures.all in
     let said = c.in-Ok-print_verdicts.ensures in
-    let takes = c.takes_output-aside.ensures in (
+    let takes = c.takes_any-aside.ensures in (
       of.0,
       of.1,
       of.2,

@@ -1,13 +1,15 @@
 //! Where the pages of a simulation go.
 
-ghost use Rattle.system.specs.Faults.{AreApart, IsMeant};
+ghost use Rattle.commands.specs.Shows.{path_text};
+ghost use Rattle.system.specs.Faults.{AreApart, ArePagesApart, IsMeant};
 ghost use Rattle.system.specs.declared.fault.Fault.TheVariants as ends;
 ghost use Rattle.system.specs.Troubles.{IsNamed};
 ghost use Rattle.std.specs.Prelude.{IfSome, ◌≡◌, ◌≢◌, ◌≤◌, ◌↔◌, IfErr, IsOk, IsTrue, None, Some, codes, option_map};
 
 use crate::fault::Fault;
 use crate::trouble::{Failure, Whereabouts};
-use commands::{Choice, Simulation, takes_output};
+use commands::{Choice, PagePaths, Simulation, Template, takes_output};
+use pages::{play_after, play_before};
 use std::alloc::Global;
 use std::fs::{self, File, Metadata};
 use std::io::{self, BufWriter, Write};
@@ -15,21 +17,31 @@ use std::os::unix::fs::MetadataExt;
 use std::path::Path;
 
 /// A page of a simulation.
-#[derive(Clone, Copy, Debug, PartialEq, Eq)]
-pub enum Page {
+#[derive(Clone, Copy, Debug)]
+pub enum Page<'a> {
     /// A line for each event.
     Trace,
     /// A sequence chart in SVG, with the events that are chosen.
     Chart(Choice),
+    /// HTML that plays the run, with this name.
+    Play(&'a str),
+}
+
+/// Returns the last part of a path, which names a run.
+pub fn name_of(path: &str) -> &str {
+    match Path::new(path).file_name() {
+        Some(name) => name.to_str().unwrap_or(path),
+        None => path,
+    }
 }
 
 /// Writes a page of the simulation, where it has a path, into the file there, or to the standard output where the path is
 /// `-`. What was in the file is replaced. The page is written as it is made: where that fails a part of it may be written. The
-/// number of a chart's rows comes out, and 0 for a trace and for no page.
+/// number of a chart's rows comes out, and 0 for another page and for none.
 pub fn write_page(
     rt: &HostRuntime,
     simulation: &Simulation,
-    page: Page,
+    page: Page<'_>,
     path: Option<&str>,
     fault: Fault,
 ) -> Result<u64, Failure>
@@ -64,7 +76,7 @@ pub fn fault_at(path: Option<&str>, of_file: Fault) -> Fault
 fn write_into<W: Write + Drop>(
     alloc: Global,
     simulation: &Simulation,
-    page: Page,
+    page: Page<'_>,
     output: W,
 ) -> io::Result<u64> {
     let mut output = BufWriter::new(alloc, output)?;
@@ -74,13 +86,26 @@ fn write_into<W: Write + Drop>(
             0
         }
         Page::Chart(choice) => simulation.write_chart(alloc, choice, &mut output)?,
+        Page::Play(name) => {
+            let template = Template {
+                before: play_before(),
+                after: play_after(),
+            };
+            simulation.write_page(alloc, name, &template, &mut output)?;
+            0
+        }
     };
     output.flush()?;
     Ok(rows)
 }
 
 /// Writes a page into the file at that path, or to the standard output where the path is `-`.
-fn write_at(rt: &HostRuntime, simulation: &Simulation, page: Page, path: &str) -> io::Result<u64> {
+fn write_at(
+    rt: &HostRuntime,
+    simulation: &Simulation,
+    page: Page<'_>,
+    path: &str,
+) -> io::Result<u64> {
     if takes_output(Some(path), None) {
         return write_into(rt.alloc(), simulation, page, io::writer(rt));
     }
@@ -176,20 +201,25 @@ fn keep_off(rt: &HostRuntime, page: Option<&str>, file: &str) -> Result<(), Faul
     }
 }
 
-/// Refuses pages that would be written over the script or over one another, before anything is written.
-/// [`Fault::SameFile`]: two of the paths name one file.
-pub fn keep_apart(
-    rt: &HostRuntime,
-    script: &str,
-    trace: Option<&str>,
-    chart: Option<&str>,
-) -> Result<(), Fault>
-    ensures { IsOk result → AreApart script.now (option_map (λ path. path.now) trace.entry) (option_map (λ path. path.now) chart.entry) }
+/// Refuses two pages that would be written over one another. [`Fault::SameFile`]: their paths name one file.
+fn keep_pages_apart(rt: &HostRuntime, one: Option<&str>, other: Option<&str>) -> Result<(), Fault>
+    ensures { IsOk result → ArePagesApart (option_map (λ path. path.now) one.entry) (option_map (λ path. path.now) other.entry) }
 {
-    keep_off(rt, trace, script)?;
-    keep_off(rt, chart, script)?;
-    match trace {
-        Some(trace) => keep_off(rt, chart, trace),
+    match one {
+        Some(path) => keep_off(rt, other, path),
         None => Ok(()),
     }
+}
+
+/// Refuses pages that would be written over the script or over one another, before anything is written.
+/// [`Fault::SameFile`]: two of the paths name one file.
+pub fn keep_apart(rt: &HostRuntime, script: &str, paths: &PagePaths<'_>) -> Result<(), Fault>
+    ensures { IsOk result → AreApart script.now (path_text paths.now.trace) (path_text paths.now.chart) (path_text paths.now.play) }
+{
+    keep_off(rt, paths.trace, script)?;
+    keep_off(rt, paths.chart, script)?;
+    keep_off(rt, paths.play, script)?;
+    keep_pages_apart(rt, paths.trace, paths.chart)?;
+    keep_pages_apart(rt, paths.trace, paths.play)?;
+    keep_pages_apart(rt, paths.chart, paths.play)
 }
