@@ -237,6 +237,7 @@ fn simulation(alloc: Global, task: Task) -> Option<String> {
         script,
         trace,
         chart,
+        page,
         question,
         member,
         from,
@@ -249,6 +250,7 @@ fn simulation(alloc: Global, task: Task) -> Option<String> {
         return None;
     };
     let mut text = pages(alloc, script, trace, chart)?;
+    add_text(&mut text, " page ", page)?;
     add_number(alloc, &mut text, " question ", question.map(u32::from))?;
     add_number(alloc, &mut text, " member ", member.map(u32::from))?;
     add_number(alloc, &mut text, " from ", from)?;
