@@ -1,0 +1,390 @@
+//! The book of a gateway: a cluster as it is known, and its events.
+
+use gateway::{
+    Event, MemberState, MemberView, Position, Reply, Stage, Standing, Tally, Told, Watch,
+    standing_of,
+};
+use std::alloc::{AllocError, Global};
+use std::mem;
+use terms::Size;
+
+/// The most events that are kept. Who follows from an earlier one loads everything anew.
+const MOST_EVENTS: usize = 16_384;
+
+/// The most proposals that are under way.
+const MOST_MOTIONS: usize = 64;
+
+/// A proposal that is being made to all members.
+#[derive(Clone, Copy, Debug, PartialEq, Eq)]
+pub(crate) struct Motion {
+    /// Its number.
+    pub(crate) number: u64,
+    pub(crate) question: u16,
+    pub(crate) bit: bool,
+    /// The members that replied, a bit each.
+    pub(crate) replied: u64,
+    /// The number of members that took it.
+    pub(crate) taken: u8,
+    /// The number of members that had one, or decided.
+    pub(crate) have: u8,
+}
+
+/// A cluster as the gateway knows it.
+#[derive(Drop)]
+pub(crate) struct Book {
+    alloc: Global,
+    size: Size,
+    pub(crate) watch: Watch,
+    stages: Vec<Stage>,
+    /// The milliseconds since 1970 at which each question was proposed here.
+    begun: Vec<Option<u64>>,
+    views: Vec<MemberView>,
+    events: Vec<Event>,
+    /// The number of events before these.
+    before: u64,
+    motions: Vec<Motion>,
+    /// The number of proposals that were made.
+    motion_count: u64,
+    decisions: u64,
+    pub(crate) refusals: u64,
+    times: Vec<u32>,
+    sum: u64,
+}
+
+/// Returns a member of which nothing is known.
+fn new_view(alloc: Global) -> MemberView {
+    MemberView {
+        state: MemberState::Silent,
+        coming: 0,
+        going: 0,
+        statements: 0,
+        decided: 0,
+        contradicts: Vec::new(alloc),
+    }
+}
+
+/// Returns the first 64 events at most.
+fn first_of(events: &[Event]) -> &[Event] {
+    let most = events.len().min(64);
+    &events[..most]
+}
+
+impl Book {
+    /// Returns a book of a cluster of which nothing is known.
+    pub(crate) fn new(alloc: Global, size: Size) -> Result<Book, AllocError> {
+        let mut stages = Vec::new(alloc);
+        let mut begun = Vec::new(alloc);
+        let mut views = Vec::new(alloc);
+        for _ in 0..size.questions() {
+            stages.push(Stage::Unproposed)?;
+            begun.push(None)?;
+        }
+        for _ in 0..size.n() {
+            views.push(new_view(alloc))?;
+        }
+        Ok(Book {
+            alloc,
+            size,
+            watch: Watch::new(alloc, size)?,
+            stages,
+            begun,
+            views,
+            events: Vec::new(alloc),
+            before: 0,
+            motions: Vec::new(alloc),
+            motion_count: 0,
+            decisions: 0,
+            refusals: 0,
+            times: Vec::new(alloc),
+            sum: 0,
+        })
+    }
+
+    /// Returns the number of the last event.
+    pub(crate) fn last(&self) -> u64 {
+        self.before.saturating_add(self.events.len() as u64)
+    }
+
+    /// Notes an event. If memory for it is refused, followers load everything anew.
+    fn note(&mut self, event: Event) {
+        if self.events.len() >= MOST_EVENTS || self.events.push(event).is_err() {
+            self.before = self.last().saturating_add(1);
+            self.events = Vec::new(self.alloc);
+        }
+    }
+
+    /// Returns the events after this number, 64 at most. `None` if they aren't kept, or there was no such number.
+    pub(crate) fn after(&self, number: u64) -> Option<&[Event]> {
+        if number < self.before {
+            return None;
+        }
+        let skipped = (number - self.before) as usize;
+        let events = self.events.as_slice();
+        if skipped > events.len() {
+            return None;
+        }
+        Some(first_of(&events[skipped..]))
+    }
+
+    /// Returns the stage of a question.
+    pub(crate) fn stage(&self, question: u16) -> Stage {
+        match self.stages.get(usize::from(question)) {
+            Some(stage) => *stage,
+            None => Stage::Unproposed,
+        }
+    }
+
+    /// Returns the state of a question.
+    pub(crate) fn standing(&self, question: u16) -> Standing {
+        standing_of(self.watch.decision(question), self.stage(question))
+    }
+
+    /// Returns the states of questions.
+    pub(crate) fn standings(&self, from: u16, to: u16) -> Result<Vec<Standing>, AllocError> {
+        let mut standings = Vec::new(self.alloc);
+        for question in from..to {
+            standings.push(self.standing(question))?;
+        }
+        Ok(standings)
+    }
+
+    /// Notes that a question is under way.
+    fn begin(&mut self, question: u16) {
+        if let Some(stage) = self.stages.get_mut(usize::from(question)) {
+            if *stage == Stage::Unproposed {
+                *stage = Stage::Proposed;
+                self.note(Event::Proposed(question));
+            }
+        }
+    }
+
+    /// Returns the milliseconds from the proposal of the question to this moment, if it was proposed here.
+    fn time_of(&self, question: u16, time: u64) -> Option<u32> {
+        match self.begun.get(usize::from(question)) {
+            Some(Some(begun)) => Some(u32::try_from(time.saturating_sub(*begun)).unwrap_or(
+                u32::MAX,
+            )),
+            _ => None,
+        }
+    }
+
+    /// Notes a decision that is new.
+    fn decide(&mut self, question: u16, bit: bool, time: u64) {
+        let ms = self.time_of(question, time);
+        self.decisions = self.decisions.saturating_add(1);
+        if let Some(ms) = ms {
+            self.sum = self.sum.saturating_add(u64::from(ms));
+            let _untold = self.times.push(ms).is_err();
+        }
+        self.note(Event::Decided {
+            question,
+            bit,
+            ms,
+            time,
+        });
+        for member in 0..self.size.n() {
+            if let Some(bit) = self.watch.contradiction(question, member) {
+                self.note(Event::Contradiction {
+                    member,
+                    question,
+                    bit,
+                });
+            }
+        }
+    }
+
+    /// Takes a decision that a member told.
+    pub(crate) fn hear(&mut self, told: Told, time: u64) {
+        if self.watch.word_of(told.question, told.member).is_some() {
+            return;
+        }
+        let before = self.watch.decision(told.question);
+        if !self.watch.take(told) {
+            return;
+        }
+        match (before, self.watch.decision(told.question)) {
+            (None, Some(bit)) => self.decide(told.question, bit, time),
+            (Some(bit), _) => {
+                if bit != told.bit {
+                    self.note(Event::Contradiction {
+                        member: told.member,
+                        question: told.question,
+                        bit: told.bit,
+                    });
+                }
+            }
+            (None, None) => self.begin(told.question),
+        }
+    }
+
+    /// Notes the state of a member's desk.
+    pub(crate) fn set_state(&mut self, member: u8, state: MemberState) {
+        if let Some(view) = self.views.get_mut(usize::from(member)) {
+            if view.state != state {
+                view.state = state;
+                self.note(Event::Member { member, state });
+            }
+        }
+    }
+
+    /// Notes what a member's desk replied to `STATUS` or `LINKS`.
+    pub(crate) fn set_reply(&mut self, member: u8, reply: Reply) {
+        match reply {
+            Reply::Up {
+                statements,
+                decided,
+            } => {
+                self.set_state(member, MemberState::Up);
+                if let Some(view) = self.views.get_mut(usize::from(member)) {
+                    view.statements = statements;
+                    view.decided = decided;
+                }
+            }
+            Reply::Links { coming, going } => {
+                if let Some(view) = self.views.get_mut(usize::from(member)) {
+                    view.coming = coming;
+                    view.going = going;
+                }
+            }
+            Reply::Stopped => self.set_state(member, MemberState::Stopped),
+            Reply::Decided { .. } | Reply::Taken | Reply::Have | Reply::Other => {}
+        }
+    }
+
+    /// Returns the members, with what each contradicts.
+    pub(crate) fn members(&self) -> Result<Vec<MemberView>, AllocError> {
+        let mut views = Vec::new(self.alloc);
+        for member in 0..self.size.n() {
+            let contradicts = self.watch.contradictions(self.alloc, member)?;
+            let Some(view) = self.views.get(usize::from(member)) else {
+                return Err(AllocError);
+            };
+            views.push(MemberView {
+                state: view.state,
+                coming: view.coming,
+                going: view.going,
+                statements: view.statements,
+                decided: view.decided,
+                contradicts,
+            })?;
+        }
+        Ok(views)
+    }
+
+    /// Returns the members whose desks answered last, a bit each.
+    pub(crate) fn reachable(&self) -> u64 {
+        let mut mask = 0;
+        for (member, view) in self.views.iter().enumerate() {
+            if view.state == MemberState::Up {
+                mask |= 1 << (member & 63);
+            }
+        }
+        mask
+    }
+
+    /// Returns the numbers for Prometheus.
+    pub(crate) fn tally(&self) -> Result<Tally, AllocError> {
+        let mut waiting: u64 = 0;
+        for question in 0..self.size.questions() {
+            if self.standing(question) == Standing::Proposed {
+                waiting = waiting.saturating_add(1);
+            }
+        }
+        let mut times = Vec::new(self.alloc);
+        times.extend_from_slice(&self.times)?;
+        Ok(Tally {
+            questions: u64::from(self.size.questions()),
+            waiting,
+            decisions: self.decisions,
+            refusals: self.refusals,
+            times,
+            sum: self.sum,
+        })
+    }
+
+    /// Begins a proposal to all members, and returns its number. `None` if as many are under way as are taken.
+    pub(crate) fn propose(&mut self, question: u16, bit: bool, time: u64) -> Option<u64> {
+        if self.motions.len() >= MOST_MOTIONS {
+            return None;
+        }
+        let number = self.motion_count;
+        let motion = Motion {
+            number,
+            question,
+            bit,
+            replied: 0,
+            taken: 0,
+            have: 0,
+        };
+        if self.motions.push(motion).is_err() {
+            return None;
+        }
+        self.motion_count = number.saturating_add(1);
+        if let Some(begun) = self.begun.get_mut(usize::from(question)) {
+            if begun.is_none() {
+                *begun = Some(time);
+            }
+        }
+        self.begin(question);
+        Some(number)
+    }
+
+    /// Returns a proposal that the member hasn't replied to, if there is one.
+    pub(crate) fn motion_for(&self, member: u8) -> Option<Motion> {
+        self.motions
+            .iter()
+            .find(|motion| motion.replied >> (member & 63) & 1 == 0)
+            .copied()
+    }
+
+    /// Notes what a member replied to a proposal.
+    pub(crate) fn reply(&mut self, number: u64, member: u8, reply: Reply) {
+        for motion in self.motions.iter_mut() {
+            if motion.number == number {
+                motion.replied |= 1 << (member & 63);
+                match reply {
+                    Reply::Taken => motion.taken = motion.taken.saturating_add(1),
+                    Reply::Have => motion.have = motion.have.saturating_add(1),
+                    _ => {}
+                }
+            }
+        }
+    }
+
+    /// Returns a proposal that is under way.
+    pub(crate) fn motion(&self, number: u64) -> Option<Motion> {
+        self.motions
+            .iter()
+            .find(|motion| motion.number == number)
+            .copied()
+    }
+
+    /// Returns `true` while a member that answers hasn't replied to the proposal.
+    pub(crate) fn is_asked(&self, number: u64) -> bool {
+        match self.motion(number) {
+            Some(motion) => self.reachable() & !motion.replied != 0,
+            None => false,
+        }
+    }
+
+    /// Ends a proposal, and returns it.
+    pub(crate) fn end_motion(&mut self, number: u64) -> Option<Motion> {
+        let ended = self.motion(number);
+        let mut rest = Vec::new(self.alloc);
+        for motion in mem::replace(&mut self.motions, Vec::new(self.alloc)) {
+            if motion.number != number {
+                let _lost = rest.push(motion).is_err();
+            }
+        }
+        self.motions = rest;
+        ended
+    }
+
+    /// Returns the position of the last event in this life.
+    pub(crate) fn position(&self, life: u64) -> Position {
+        Position {
+            life,
+            number: self.last(),
+        }
+    }
+}

@@ -1,0 +1,379 @@
+//! The connections of a gateway's clients, and its start: begin at `open`, last.
+
+ghost use Rattle.std.specs.Io.{ReadsAtMost, WritesAtMost};
+
+use crate::asking::ask_on;
+use crate::book::Book;
+use crate::deadline::Deadline;
+use crate::door::Door;
+use crate::following::follow_on;
+use crate::lines::{read_from, write_all, write_to};
+use crate::shared::Shared;
+use crate::streaming::serve_follower;
+use gateway::Position;
+use http_server::{Config, Connection};
+use std::alloc::{AllocError, Global};
+use std::hash::RandomState;
+use std::io::{self, Read, Write};
+use std::net::{Net, SocketAddr, TcpListener, TcpStream};
+use std::sync::atomic::{AtomicBool, AtomicU64, Ordering};
+use std::sync::{Arc, Condvar, Mutex, Wait};
+use std::thread::{self, Threads};
+use std::time::{Clock, Duration};
+use terms::Size;
+
+/// The most connections.
+const MOST_CLIENTS: u64 = 256;
+
+/// The most bytes of a body.
+const LONGEST_BODY: usize = 4096;
+
+/// The milliseconds in which a request has to come, and an answer has to be taken.
+const TO_COME: u64 = 10_000;
+
+/// The answer to a connection beyond the most.
+const FULL: &[u8] =
+    b"HTTP/1.1 503 Service Unavailable\r\ncontent-type: application/json\r\ncontent-length: 17\r\nconnection: close\r\n\r\n{\"error\":\"busy\"}\n";
+
+/// The answer to a head that doesn't come.
+const LATE: &[u8] =
+    b"HTTP/1.1 408 Request Timeout\r\ncontent-type: application/json\r\ncontent-length: 17\r\nconnection: close\r\n\r\n{\"error\":\"late\"}\n";
+
+/// A runtime of which each thread may take a copy, and that speaks TCP.
+pub trait Runner: Wait
+    + Threads
+    + Sync
+    + Clock
+    + Net<Stream = TcpStream, Listener = TcpListener>
+    + Copy
+    + Send
+    + 'static {}
+
+impl<
+    R: Wait
+        + Threads
+        + Sync
+        + Clock
+        + Net<Stream = TcpStream, Listener = TcpListener>
+        + Copy
+        + Send
+        + 'static,
+> Runner for R {}
+
+/// A connection of a client, with the time in which its next request has to come.
+#[derive(Drop)]
+struct Timed<'a, R: 'static> {
+    rt: &'a R,
+    socket: &'a TcpStream,
+    deadline: Deadline,
+}
+
+impl<'a, R: Clock + 'static> Read for Timed<'a, R> {
+    fn read(&mut self, piece: &mut [u8]) -> io::Result<usize> {
+        let limit = self.deadline.left(self.rt)?;
+        self.socket.set_read_timeout(Some(limit))?;
+        read_from(self.socket, piece)
+    }
+}
+
+impl<'a, R: Clock + 'static> Write for Timed<'a, R> {
+    fn write(&mut self, piece: &[u8]) -> io::Result<usize> {
+        let limit = self.deadline.left(self.rt)?;
+        self.socket.set_write_timeout(Some(limit))?;
+        write_to(self.socket, piece)
+    }
+
+    fn flush(&mut self) -> io::Result<()> {
+        Ok(())
+    }
+}
+
+/// Returns the limits of a connection.
+fn config() -> Config {
+    let mut config = Config::default();
+    config.max_body_len = LONGEST_BODY;
+    config.read_size = 2048;
+    config
+}
+
+impl<'a, R: Clock + 'static> Timed<'a, R> {
+    /// Begins the time anew.
+    fn renew(&mut self) -> io::Result<()> {
+        self.deadline = Deadline::new(self.rt, TO_COME)?;
+        Ok(())
+    }
+}
+
+/// Writes some of what is pending. The time for the next request begins anew.
+fn write_some<R: Clock + 'static>(
+    connection: &mut Connection,
+    timed: &mut Timed<'_, R>,
+) -> io::Result<()> {
+    timed.renew()?;
+    let written = connection.write_to(timed)?;
+    if written == 0 {
+        return Err(io::Error::from(io::ErrorKind::WriteZero));
+    }
+    timed.renew()
+}
+
+/// Reads some of the next request.
+fn read_some<R: Clock + 'static>(
+    connection: &mut Connection,
+    timed: &mut Timed<'_, R>,
+) -> io::Result<()> {
+    let _read = connection.read_from(timed)?;
+    Ok(())
+}
+
+/// Writes or reads, as the connection wants.
+fn move_some<R: Clock + 'static>(
+    connection: &mut Connection,
+    timed: &mut Timed<'_, R>,
+) -> io::Result<()> {
+    if connection.wants_write() {
+        write_some(connection, timed)
+    } else {
+        read_some(connection, timed)
+    }
+}
+
+/// Answers what was read. Returns `true` once the connection is done.
+fn answer_some<R: Wait + Clock + 'static>(
+    connection: &mut Connection,
+    door: &mut Door<'_, R>,
+) -> bool {
+    connection.advance(door);
+    door.follow.is_some() || door.it.is_over() || connection.is_done()
+}
+
+/// Serves requests over a connection, until it is done.
+fn talk<R: Wait + Clock + 'static>(
+    connection: &mut Connection,
+    door: &mut Door<'_, R>,
+    timed: &mut Timed<'_, R>,
+) -> io::Result<()> {
+    for _ in 0..u64::MAX {
+        if answer_some(connection, door) {
+            return Ok(());
+        }
+        move_some(connection, timed)?;
+    }
+    Ok(())
+}
+
+/// Serves requests over a connection, until it is done. Returns the position of a follower, once one asks for the stream.
+fn converse<R: Wait + Clock + 'static>(
+    rt: &R,
+    it: &Shared,
+    socket: &TcpStream,
+) -> io::Result<Option<Option<Position>>> {
+    let deadline = Deadline::new(rt, TO_COME)?;
+    let mut connection = Connection::new(it.alloc, it.keys, config());
+    let mut door = Door {
+        rt,
+        it,
+        follow: None,
+    };
+    let mut timed = Timed {
+        rt,
+        socket,
+        deadline,
+    };
+    talk(&mut connection, &mut door, &mut timed)?;
+    Ok(door.follow)
+}
+
+/// Serves a client until it goes.
+fn serve_client<R: Runner>(rt: &R, it: &Shared, socket: &TcpStream) -> io::Result<()> {
+    socket.set_nodelay(true)?;
+    match converse(rt, it, socket) {
+        Ok(Some(from)) => serve_follower(rt, it, socket, from),
+        Ok(None) => Ok(()),
+        Err(error) => {
+            if error.kind() == io::ErrorKind::TimedOut
+                || error.kind() == io::ErrorKind::WouldBlock
+            {
+                return write_all(rt, socket, LATE, Deadline::new(rt, 1000)?);
+            }
+            Err(error)
+        }
+    }
+}
+
+/// One client's thread.
+fn client_thread<R: Runner>(rt: R, it: Arc<Shared>, socket: TcpStream) {
+    let it: &Shared = &it;
+    let _ended = serve_client(&rt, it, &socket).is_err();
+    it.clients.fetch_sub(1, Ordering::SeqCst);
+}
+
+/// Tells a client that there are too many.
+fn turn_away<R: Runner>(rt: &R, socket: &TcpStream) -> io::Result<()> {
+    write_all(rt, socket, FULL, Deadline::new(rt, 1000)?)
+}
+
+/// Lets a client in, in a thread of its own, if there aren't too many.
+fn admit<R: Runner>(rt: &R, it: &Arc<Shared>, socket: TcpStream) {
+    if it.clients.fetch_add(1, Ordering::SeqCst) >= MOST_CLIENTS {
+        it.clients.fetch_sub(1, Ordering::SeqCst);
+        let _untold = turn_away(rt, &socket).is_err();
+        return;
+    }
+    let theirs: Result<Arc<Shared>, AllocError> = it.clone();
+    let Ok(theirs) = theirs else {
+        it.clients.fetch_sub(1, Ordering::SeqCst);
+        return;
+    };
+    let own = *rt;
+    if thread::spawn(rt, move || client_thread(own, theirs, socket)).is_err() {
+        it.clients.fetch_sub(1, Ordering::SeqCst);
+    }
+}
+
+/// Takes clients in, until the gateway ends.
+fn accept_on<R: Runner>(rt: R, it: Arc<Shared>, listener: TcpListener) {
+    for _ in 0..u64::MAX {
+        match listener.accept() {
+            Ok((socket, _from)) => admit(&rt, &it, socket),
+            Err(_) => thread::sleep(&rt, Duration::from_millis(50)),
+        }
+        if it.is_over() {
+            return;
+        }
+    }
+}
+
+/// The settings of a gateway.
+#[derive(Drop)]
+pub struct Opening {
+    /// The cluster's number.
+    pub cluster: u64,
+    /// The cluster's size.
+    pub size: Size,
+    /// The members' desks, in the order of the members.
+    pub desks: Vec<SocketAddr>,
+    /// The address at which the gateway listens.
+    pub listen: SocketAddr,
+    /// The token that a proposal must show; empty if none is needed.
+    pub token: Vec<u8>,
+    /// A number that nobody knows.
+    pub life: u64,
+    /// Keys that nobody knows.
+    pub keys: RandomState,
+}
+
+/// The reason why a gateway doesn't start.
+#[derive(Debug, Drop)]
+pub enum OpeningFault {
+    /// The address can't be listened at.
+    Listen(io::Error),
+    /// Memory was refused.
+    Memory,
+    /// The system starts no thread.
+    Thread,
+}
+
+/// A gateway that runs.
+#[derive(Drop)]
+pub struct Portal {
+    it: Arc<Shared>,
+}
+
+impl Portal {
+    /// Ends all threads.
+    pub fn end(&self) {
+        self.it.over.store(true, Ordering::SeqCst);
+        self.it.changed.notify_all();
+    }
+}
+
+/// Returns what the threads share.
+fn new_shared(alloc: Global, opening: Opening) -> Result<Shared, AllocError> {
+    let Opening {
+        cluster,
+        size,
+        desks,
+        listen,
+        token,
+        life,
+        keys,
+    } = opening;
+    Ok(Shared {
+        alloc,
+        cluster,
+        size,
+        desks,
+        port: listen.port(),
+        local: listen.ip().is_loopback(),
+        token,
+        life,
+        keys,
+        book: Mutex::new(Book::new(alloc, size)?),
+        changed: Condvar::new(),
+        over: AtomicBool::new(false),
+        clients: AtomicU64::new(0),
+        streams: AtomicU64::new(0),
+    })
+}
+
+/// Starts the two threads of a member.
+fn start_member<R: Runner>(rt: &R, it: &Arc<Shared>, member: u8) -> Result<(), OpeningFault> {
+    let first: Result<Arc<Shared>, AllocError> = it.clone();
+    let second: Result<Arc<Shared>, AllocError> = it.clone();
+    let (Ok(first), Ok(second)) = (first, second) else {
+        return Err(OpeningFault::Memory);
+    };
+    let own = *rt;
+    if thread::spawn(rt, move || follow_on(own, first, member)).is_err() {
+        return Err(OpeningFault::Thread);
+    }
+    let own = *rt;
+    if thread::spawn(rt, move || ask_on(own, second, member)).is_err() {
+        return Err(OpeningFault::Thread);
+    }
+    Ok(())
+}
+
+/// Starts the thread that takes clients in.
+fn start_accepting<R: Runner>(
+    rt: &R,
+    it: &Arc<Shared>,
+    listener: TcpListener,
+) -> Result<(), OpeningFault> {
+    let theirs: Result<Arc<Shared>, AllocError> = it.clone();
+    let Ok(theirs) = theirs else {
+        return Err(OpeningFault::Memory);
+    };
+    let own = *rt;
+    if thread::spawn(rt, move || accept_on(own, theirs, listener)).is_err() {
+        return Err(OpeningFault::Thread);
+    }
+    Ok(())
+}
+
+/// Starts a gateway: it listens, follows every member, and serves its clients in threads of their own.
+///
+/// # Errors
+///
+/// - [`OpeningFault::Listen`] if the address can't be listened at;
+/// - [`OpeningFault::Memory`] if an allocation failed;
+/// - [`OpeningFault::Thread`] if the system starts no thread.
+pub fn open<R: Runner>(rt: &R, alloc: Global, opening: Opening) -> Result<Portal, OpeningFault> {
+    let listener = match TcpListener::bind(rt, opening.listen) {
+        Ok(listener) => listener,
+        Err(error) => return Err(OpeningFault::Listen(error)),
+    };
+    let n = opening.size.n();
+    let Ok(shared) = new_shared(alloc, opening) else {
+        return Err(OpeningFault::Memory);
+    };
+    let Ok(it) = Arc::new(alloc, shared) else {
+        return Err(OpeningFault::Memory);
+    };
+    for member in 0..n {
+        start_member(rt, &it, member)?;
+    }
+    start_accepting(rt, &it, listener)?;
+    Ok(Portal { it })
+}
