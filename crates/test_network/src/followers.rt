@@ -1,6 +1,6 @@
 //! A follower of decisions, over a stream that takes what its row says.
 //!
-//! `tell NUMBER STEPS` tells a new follower the decisions from that number on. A step is `COUNT`,
+//! `follows NUMBER STEPS` tells a new follower the decisions from that number on. A step is `COUNT`,
 //! at which the follower is told once, and the stream takes so many bytes at most; `fail`, the same
 //! with a write that fails; `+SECONDS`, after which so many seconds more have passed; or `left`,
 //! from which on the client's input has ended. The answer is what the last call said, and all that

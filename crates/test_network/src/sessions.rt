@@ -348,7 +348,7 @@ fn answers<J: Naming, R: Wait + Clock>(
             hub.stop(rt);
             nothing(alloc)
         }
-        ["tell", number, steps @ ..] => {
+        ["follows", number, steps @ ..] => {
             followers::told(rt, alloc, hub, number.parse().ok()?, steps)
         }
         _ => match books::told(rt, alloc, (hub, rack), words) {
