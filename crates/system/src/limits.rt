@@ -7,6 +7,9 @@ use crate::status::line_with;
 use numerals::{number, split_at_space};
 use std::alloc::{AllocError, Global};
 
+/// The followers for whom there have to be files, or the member says so.
+const FEWER: u64 = 512;
+
 /// The number that the first word writes, behind which a space stands.
 fn first_number(text: &[u8]) -> Option<u64>
     ensures some { IfSome result (IsFirstNumber text.now) }
@@ -127,16 +130,16 @@ pub fn starved_words(alloc: Global, limit: Option<u64>, needed: u8) -> Result<St
     }
 }
 
-/// Returns what is said if a member of so many has too few files for its links, 32 clients and 1,024 followers; none if it has
-/// enough.
+/// Returns what is said if a member of so many has too few files for its links, 32 clients and 512 followers; none if it has
+/// enough. Of a limit of 1,024 files, as most systems set it, nothing is said.
 pub fn descriptors_lack(alloc: Global, limit: u64, n: u8) -> Result<Option<String>, AllocError>
     ensures few { limit < wanted n 1 →
         IfOk result (λ said. MatchOption said ⊥ (λ text. string_bytes text ≡ lack_text limit (wanted n 0))) }
     ensures fewer { wanted n 1 ≤ limit → limit < wanted n 32 →
         IfOk result (λ said. MatchOption said ⊥ (λ text. string_bytes text ≡ fewer_text limit (wanted n 0) (clients_within (Some limit) n))) }
-    ensures followers { wanted n 32 ≤ limit → limit < wanted n 32 + 1024 →
+    ensures followers { wanted n 32 ≤ limit → limit < wanted n 32 + 512 →
         IfOk result (λ said. MatchOption said ⊥ (λ text. string_bytes text ≡ followers_text limit (wanted n 0) (followers_within (Some limit) n))) }
-    ensures enough { wanted n 32 + 1024 ≤ limit → IfOk result (λ said. said ≡ None) }
+    ensures enough { wanted n 32 + 512 ≤ limit → IfOk result (λ said. said ≡ None) }
 {
     let links = wanted_by_links(n);
     if limit < links + 2 {
@@ -146,7 +149,7 @@ pub fn descriptors_lack(alloc: Global, limit: u64, n: u8) -> Result<Option<Strin
         let clients = clients_within(Some(limit), n);
         return Ok(Some(fewer_words(alloc, limit, links, clients)?));
     }
-    if limit < links + 64 + 1024 {
+    if limit < links + 64 + FEWER {
         let followers = followers_within(Some(limit), n);
         return Ok(Some(followers_words(alloc, limit, links, followers)?));
     }
