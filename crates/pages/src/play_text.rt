@@ -158,7 +158,7 @@ kbd { border: 1px solid var(--line); border-radius: 4px; padding: 0 .3em; font-s
 \x20\x20\x20\x20<div id=\"stage\" tabindex=\"0\" role=\"group\" aria-label=\"Picture of the run\"></div>\n\
 \x20\x20\x20\x20<details>\n\
 \x20\x20\x20\x20\x20\x20<summary>What the signs mean</summary>\n\
-\x20\x20\x20\x20\x20\x20<p><span class=\"glyph k0 v0\">I0</span> Initial, <span class=\"glyph k1 v1\">E1</span> Echo, <span class=\"glyph k2 v1\">R1</span> Ready:\n\
+\x20\x20\x20\x20\x20\x20<p><span class=\"glyph k0 v0\">I<b>0</b></span> Initial, <span class=\"glyph k1 v1\">E<b>1</b></span> Echo, <span class=\"glyph k2 v1\">R<b>1</b></span> Ready:\n\
 \x20\x20\x20\x20\x20\x20\x20\x20the letter and the shape are the kind, the digit and the colour the value.\n\
 \x20\x20\x20\x20\x20\x20\x20\x20<span class=\"glyph k1 v2\">E!0</span> <span class=\"glyph k1 v3\">E!1</span> are sure of 0 or 1, <span class=\"glyph k1 v4\">E?</span> is unsure.</p>\n\
 \x20\x20\x20\x20\x20\x20<p>A solid arrow is a statement that comes to a member; a <span class=\"lie\">red dashed one with a cross is a lie</span>.\n\
