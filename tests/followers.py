@@ -176,6 +176,7 @@ def all_see_the_same(folder, port):
         found = differs("followers that have what was decided", soon(lambda: followers.have(200), 10), True)
         found += differs("threads beside 1,024 followers", soon(lambda: threads(members[0]) <= before, 5), True)
         beside = [decide(links, lines, question) for question in range(200, 400)]
+        found += differs("followers that have the last decision in two seconds", soon(lambda: followers.have(400), 2), True)
         found += differs("other clients that are served, 31 beside the one that decides", are_served(desks[0], 31), 31)
         one = Followers(desks[0], 1)
         found += differs("one follower too many is closed", soon(lambda: one.ended, 5), {0})
