@@ -234,6 +234,7 @@ says 'a word that is no port' 2 $'error: invalid value \'70000\' for \'--port <F
     "$program" new-cluster --n 4 --t 1 --questions 1 --cluster 7 --port 70000 nowhere
 says 'a word that is no bit, in short' 2 $'error: invalid value \'yes\' for \'<V>\': invalid digit found in string\n\nFor more information, try \'--help\'.' \
     env BRACHA_QUIET=1 "$program" propose 127.0.0.1:7110 0 yes
+says 'a second line unless less is asked for' 2 $'bracha: words\nV: must be 0 or 1' env BRACHA_QUIET=0 "$program" decide --all client.toml 11 2
 form='localhost or four numbers with points between them, a colon and a port from 1 to 65535: no host names, no IPv6'
 for word in '[::1]:7110' tcp://127.0.0.1:7110 127.0.0.1:0 '127.0.0.1 :7110' 127.0.0.1 unix:; do
     says "the address $word" 1 "bracha: address
@@ -284,7 +285,9 @@ says 'progress of rounds' 0 'bracha: some' bash -c 'timeout 4 "$0" rounds --n 7 
 says 'no progress of rounds' 124 '' timeout 3 "$program" rounds --quiet --n 7 --t 2 --order adversary --seeds 1000000
 
 # Drawn scripts, for ten seconds. A finding would be printed with its script.
-says 'random scripts' 0 'seed 1 scripts N events N decisions N' bash -c '"$0" simulate --forever --seed 1 --seconds 10 --quiet | sed -E "s/(scripts|events|decisions) [1-9][0-9]*/\1 N/g"' "$program"
+says 'random scripts' 0 'seed 1 scripts N events N decisions N' bash -c '
+    "$0" simulate --forever --seed 1 --seconds 10 --quiet >scripts.txt && sed -E "s/(scripts|events|decisions) [1-9][0-9]*/\1 N/g" scripts.txt' "$program"
+says 'random scripts that differ' 0 '' awk '$6 % $4 == 0 && $8 % $4 == 0 { print "each has as many events and decisions" }' scripts.txt
 says 'progress of random scripts' 0 $'seed 7 scripts\nseed 7 scripts' bash -c '"$0" simulate --forever --seed 7 --seconds 3 2>&1 | cut -d " " -f 1-3' "$program"
 says 'random scripts by the time' 0 'seed N scripts' bash -c '"$0" simulate --forever --seconds 0 2>&1 | cut -d " " -f 1-3 | sed -E "s/ [1-9][0-9]{9} / N /"' "$program"
 truncate -s 1G sparse

@@ -35,13 +35,13 @@ def check(function):
     return function
 
 
-def say(words, folder, **more):
-    """What the program says on both streams, and its status."""
+def say(words, folder, limit=12, **more):
+    """What the program says on both streams, and its status; it has so many seconds."""
     try:
         ran = subprocess.run([PROGRAM, *words], cwd=folder, stdin=subprocess.DEVNULL, stdout=subprocess.PIPE, stderr=subprocess.STDOUT,
-                             text=True, timeout=12, **more)
+                             text=True, timeout=limit, **more)
     except subprocess.TimeoutExpired:
-        return "goes on for 12 seconds", None
+        return f"goes on for {limit} seconds", None
     return ran.stdout, ran.returncode
 
 
@@ -58,13 +58,13 @@ def settings(folder, me, peers, desk, n, t, questions=64, cluster=7, more=""):
 
 
 @contextlib.contextmanager
-def running(path, *options, new=True, **more):
-    """A member that runs until a signal."""
+def running(path, *options, new=True, stays=True, **more):
+    """A member that runs until a signal, or until its input ends."""
     if new:
         subprocess.run([PROGRAM, "init", path], check=True)
+    words, given = (["--stay"], subprocess.DEVNULL) if stays else ([], subprocess.PIPE)
     with open(f"{path}.log", "ab") as log:
-        process = subprocess.Popen([PROGRAM, "run", "--stay", *options, path], stdin=subprocess.DEVNULL, stdout=subprocess.PIPE,
-                                   stderr=log, **more)
+        process = subprocess.Popen([PROGRAM, "run", *words, *options, path], stdin=given, stdout=subprocess.PIPE, stderr=log, **more)
     try:
         assert b"ready" in process.stdout.readline(), f"{path} isn't ready"
         yield process
@@ -354,6 +354,11 @@ def lines_of(path):
         return [line.split("Z ", 1)[-1].rstrip("\n") for line in log]
 
 
+def lacks(path, heads):
+    """Those of these beginnings with which no line of the member's log begins."""
+    return sorted(head for head in heads if not any(line.startswith(head) for line in lines_of(path)))
+
+
 def follows_another(port):
     """The link of a member that is welcomed though its Hello came a moment before the end of the one before."""
     before = soon(lambda: is_welcomed(port, 1, 0, "127.0.0.2"))
@@ -401,10 +406,10 @@ def links_of_a_member(folder, port):
         for it in (first, link, again, *silent):
             if it:
                 it.close()
-        told_of = [line for line in lines_of(path) if "127.0.0.9" not in line]
-        for line in ("link-up from 1", "link-down from 1 lost", "refused from 127.0.0.4 stranger", "refused from 127.0.0.3 stranger: member 1 from another host"):
-            found += differs(f"the log says: {line}", line in told_of, True)
-    return found + differs("what is told of its own links", [it for it in told_of if it.endswith(" 0") or " 0 " in it], ["ready member 0"])
+        wanted = ("link-up from 1", "link-down from 1 lost", "refused from 127.0.0.4 stranger", "refused from 127.0.0.3 stranger: member 1 from another host")
+        found += differs("lines that the log lacks", soon(lambda: not lacks(path, wanted)) or lacks(path, wanted), True)
+    own = [it for it in lines_of(path) if it.startswith("link") and (it.endswith(" 0") or " 0 " in it)]
+    return found + differs("what is told of its own links", own, [])
 
 
 @check
@@ -627,9 +632,9 @@ def cluster_file(folder, name, ports, t=1):
     return path
 
 
-def timed(words, folder):
+def timed(words, folder, limit=12):
     begun = time.monotonic()
-    said, status = say(words, folder)
+    said, status = say(words, folder, limit)
     return said, status, time.monotonic() - begun
 
 
@@ -1109,24 +1114,21 @@ def the_end_closes_all(folder, port):
 
 @check
 def the_last_lines_of_a_log(folder, port):
-    """A log ends with what happened last: each decision that a client was told, and the refusals that were counted and not told."""
-    path = settings(folder, 0, [f"127.0.0.1:{port}"], f"127.0.0.1:{port + 1}", 1, 0, questions=4096)
-    decided = []
-    with running(path, "--log", preexec_fn=block_term) as process, dial(port + 1) as link, link.makefile("rb") as replies:
+    """A log ends with what happened last: the decisions that a client was told right before the end, and the refusals that were counted
+    and not told."""
+    path = settings(folder, 0, [f"127.0.0.1:{port}"], f"127.0.0.1:{port + 1}", 1, 0)
+    with running(path, "--log", stays=False) as process:
         for _ in range(3):
             is_closed(dial(port, "127.0.0.9"), 3)
-        process.send_signal(signal.SIGTERM)
-        with contextlib.suppress(OSError):
-            for question in range(4096):
-                link.sendall(b"PROPOSE %d 1\nAWAIT %d\n" % (question, question))
-                if [replies.readline(), replies.readline()] != [b"OK\n", b"DECIDED 1\n"]:
-                    break
-                decided.append(f"decided {question} 1")
-                time.sleep(0.005)
+        found = []
+        for question in (5, 6):
+            told(port + 1, f"PROPOSE {question} 1")
+            found += differs("a decision", told(port + 1, f"AWAIT {question}")[0], "DECIDED 1")
+        process.stdin.close()
         process.wait(8)
     lines = lines_of(path)
-    found = differs("the end", lines[-1:], ["end"])
-    found += differs(f"of {len(decided)} decisions those that aren't told", [it for it in decided if it not in lines], [])
+    found += differs("the end", lines[-1:], ["end"])
+    found += differs("decisions", [it for it in lines if it.startswith("decided")], ["decided 5 1", "decided 6 1"])
     return found + differs("refusals", [it for it in lines if it.startswith("refused")], ["refused from 127.0.0.9 stranger", "refused from 127.0.0.9 stranger, x2"])
 
 
@@ -1153,9 +1155,8 @@ def who_welcomes_a_member_counts(folder, port):
             link.close()
         over.set()
         found += differs("links that have ended don't count", links("LINKS 1 1 4 3"), True)
-    lines = [it for it in lines_of(more) if it.startswith("link-") and "unreachable" not in it]
-    return found + differs("the log of links", sorted(set(it.rsplit(" ", 1)[0] if "down" in it else it for it in lines)),
-                           ["link-down from 3", "link-down to 1", "link-down to 2", "link-up from 3", "link-up to 1", "link-up to 2"])
+        wanted = {f"link-{way}" for way in ("up from 3", "down from 3", "up to 1", "up to 2", "down to 1", "down to 2")}
+        return found + differs("lines that the log lacks", soon(lambda: not lacks(more, wanted)) or lacks(more, wanted), True)
 
 
 @check
@@ -1185,8 +1186,8 @@ def desks_that_flood_and_hang_up(folder, port):
             link.sendall(b"0 01000500010100\n" * 8192)
 
     with serving(port, floods), serving(port + 1, lambda link: asked.append(time.monotonic())):
-        said, status, took = timed(["transcript", "--all", "--timeout", "9", cluster_file(folder, "floods", [port], 0), "5"], folder)
-        found = differs(f"a flood ({took:.1f} s)", (said, status, took < 7), ("bracha: member 0 doesn't answer\n", 1, True))
+        said, status, took = timed(["transcript", "--all", "--timeout", "30", cluster_file(folder, "floods", [port], 0), "5"], folder, 40)
+        found = differs(f"a flood ({took:.1f} s)", (said, status, took < 25), ("bracha: member 0 doesn't answer\n", 1, True))
         say(["decide", "--all", "--timeout", "2", cluster_file(folder, "hangs-up", [port + 1], 0), "5", "1"], folder)
         return found + differs(f"asked {len(asked)} times in two seconds", 2 < len(asked) < 16, True)
 
@@ -1200,9 +1201,7 @@ def a_stopped_member_takes_no_link(folder, port):
 
     path = settings(folder, 0, [f"127.0.0.1:{port}", f"127.0.0.1:{port + 1}"], f"127.0.0.1:{port + 2}", 2, 0)
     subprocess.run([PROGRAM, "init", path], check=True)
-    with serving(port + 1, welcomes), subprocess.Popen([PROGRAM, "--quiet", "run", path], stdin=subprocess.PIPE, stdout=subprocess.PIPE,
-                                                       stderr=subprocess.STDOUT, text=True, preexec_fn=no_room) as process:
-        process.stdout.readline()
+    with serving(port + 1, welcomes), running(path, "--quiet", new=False, stays=False, preexec_fn=no_room) as process:
         link = soon(lambda: is_welcomed(port, 1, 0, n=2, t=0))
         found = differs("a link before", link is not None, True)
         found += differs("PROPOSE", told(port + 2, "PROPOSE 0 1")[0], "STOPPED")
@@ -1211,8 +1210,8 @@ def a_stopped_member_takes_no_link(folder, port):
         time.sleep(0.3)
         found += differs("a link to a stopped member", is_welcomed(port, 1, 0, n=2, t=0), None)
         found += differs("what clients are told", [told(port + 2, line)[0] for line in ("STATUS", "LINKS", "AWAIT 1")], ["STOPPED"] * 3)
-        said, _ = process.communicate(timeout=8)
-        return found + differs("its end", (said.splitlines()[-1:], process.returncode), (["bracha: stopped"], 1))
+        process.stdin.close()
+        return found + differs("its status", process.wait(8), 1)
 
 
 @check
@@ -1267,8 +1266,8 @@ def threads_that_are_refused(folder, port):
         found = differs("a client before", told(port + 2, "STATUS")[0], "UP 0 0")
         # Of its user's threads there are more than one already.
         limit("--nproc=1:")
-        refused = [is_closed(dial(at), 3) for _ in range(80) for at in (port, port + 2)]
-        found += differs("connections that are closed, of 160", sum(refused), 160)
+        kept = next((it for it in range(160) if not is_closed(dial((port, port + 2)[it % 2]), 3)), None)
+        found += differs("the first of 160 connections that isn't closed", kept, None)
         limit("--nproc=4096:")
         link = soon(lambda: is_welcomed(port, 1, 0, n=2, t=0))
         found += differs("a link behind them", link is not None, True)
