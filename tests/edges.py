@@ -3,7 +3,7 @@
 
 Looks at the edges of the built program for what a user would suffer from and no contract says: how long a client waits, which
 statuses commands end with, whose links a member takes, what it opens and says more often than it should, what a command leaves
-behind. PROGRAM is crates/bracha/out/bracha unless another is named. It takes the ports 28400 to 29199, a C
+behind. PROGRAM is crates/bracha/out/bracha unless another is named. It takes the ports 28400 to 29219, a C
 compiler and a minute, with all checks side by side. Prints what is wrong, and in its last line `N passed, M failed`; the status is 1 where M isn't 0.
 """
 import concurrent.futures
@@ -43,6 +43,13 @@ def say(words, folder, limit=12, **more):
     except subprocess.TimeoutExpired:
         return f"goes on for {limit} seconds", None
     return ran.stdout, ran.returncode
+
+
+def apart(words, folder, **more):
+    """What the program says on its standard output, what on its standard error, and its status."""
+    ran = subprocess.run([PROGRAM, *words], cwd=folder, stdin=subprocess.DEVNULL, stdout=subprocess.PIPE, stderr=subprocess.PIPE, text=True,
+                         timeout=20, check=False, **more)
+    return ran.stdout, ran.stderr, ran.returncode
 
 
 def differs(what, is_so, should):
@@ -95,9 +102,9 @@ def is_welcomed(port, me, to, host="127.0.0.1", **size):
     return None
 
 
-def soon(tries):
-    """What comes of one of some tries in three seconds, if anything does."""
-    for _ in range(30):
+def soon(tries, seconds=3):
+    """What comes of one of some tries in so many seconds, if anything does."""
+    for _ in range(10 * seconds):
         found = tries()
         if found:
             return found
@@ -105,10 +112,26 @@ def soon(tries):
     return None
 
 
+def await_one(desk, replies, question):
+    """Asks a desk until it has decided 1 on a question, for twenty seconds at most."""
+    end = time.monotonic() + 20
+    while time.monotonic() < end:
+        desk.sendall(b"ASK %d\n" % question)
+        if replies.readline() == b"DECIDED 1\n":
+            return
+        time.sleep(0.002)
+    raise TimeoutError(f"question {question} is undecided for 20 seconds")
+
+
 @contextlib.contextmanager
-def serving(port, answer):
-    """Has a thread answer each connection to the port."""
-    listener = socket.create_server(("127.0.0.1", port), backlog=64)
+def serving(port, answer, listener=None):
+    """Has a thread answer each connection to the port, by this socket where one is given."""
+    if listener:
+        listener.setsockopt(socket.SOL_SOCKET, socket.SO_REUSEADDR, 1)
+        listener.bind(("127.0.0.1", port))
+        listener.listen(64)
+    else:
+        listener = socket.create_server(("127.0.0.1", port), backlog=64)
 
     def accepts():
         while True:
@@ -300,14 +323,20 @@ def checks_of_settings(folder, port):
 
 @check
 def a_folder_for_an_input(folder, port):
-    """A run whose input can't be read ends with that fault."""
+    """A run whose input can't be read ends with that fault, and so does what can't print all that it has to say."""
     path = settings(folder, 0, [f"127.0.0.1:{port}"], f"127.0.0.1:{port + 1}", 1, 0)
     subprocess.run([PROGRAM, "init", path], check=True)
     descriptor = os.open("/", os.O_RDONLY)
     ran = subprocess.run([PROGRAM, "--quiet", "run", path], stdin=descriptor, stdout=subprocess.PIPE, stderr=subprocess.STDOUT, text=True,
                          timeout=20)
     os.close(descriptor)
-    return differs("run </", (ran.returncode, ran.stdout), (1, "member 0 ready\nbracha: stream\n"))
+    found = differs("run </", (ran.returncode, ran.stdout), (1, "member 0 ready\nbracha: stream\n"))
+    with open("/dev/full", "w", encoding="ascii") as full:
+        for words in (["--quiet", "run", "--stay", path], ["--quiet", "new-cluster", "--n", "4", "--t", "1", "--questions", "1", "--cluster", "7", "many"]):
+            ran = subprocess.run([PROGRAM, *words], cwd=folder, stdin=subprocess.DEVNULL, stdout=full, stderr=subprocess.PIPE, text=True, timeout=20,
+                                 check=False)
+            found += differs(f"{words[1]} >/dev/full", (ran.returncode, ran.stderr), (1, "bracha: stream\n"))
+    return found + differs("the files of the cluster", len(os.listdir(f"{folder}/many")), 5)
 
 
 @check
@@ -332,11 +361,7 @@ def a_proof_of_more_liars(folder, port):
             for line in lines:
                 line.readline()
             for link, line in zip(links, lines):
-                while True:
-                    link.sendall(b"ASK %d\n" % question)
-                    if line.readline() == b"DECIDED 1\n":
-                        break
-                    time.sleep(0.002)
+                await_one(link, line, question)
             took.append(time.monotonic() - begun)
             for link in links:
                 link.close()
@@ -460,8 +485,7 @@ def idles_of_a_writer(folder, port):
                 desk.sendall(b"PROPOSE %d 1\n" % question)
             for desk, line in zip(desks, lines):
                 line.readline()
-                while desk.sendall(b"ASK %d\n" % question) or line.readline() == b"UNDECIDED\n":
-                    time.sleep(0.002)
+                await_one(desk, line, question)
         count, took = len(idles) - before, time.monotonic() - begun
     return differs(f"{count} idles on three links in {took:.1f} seconds are few", count <= 3 * took + 6, True)
 
@@ -791,6 +815,8 @@ def a_client_believes_more_than_t(folder, port):
         json_one = pool.submit(timed, ["ask", "--all", "--json", cluster_file(folder, "json", [port, port + 1, liar, port + 2]), "5"], folder)
         past = pool.submit(timed, ["--quiet", "ask", "--all", cluster_file(folder, "past", [port, port + 1, port + 2, liar]), "64"], folder)
         found += differs("one alone", alone.result()[:2], ("UNDECIDED\nbracha: member 1 says 1\n", 1))
+        both = apart(["ask", "--all", cluster_file(folder, "apart", [port, liar, port + 10, port + 11]), "5"], folder)
+        found += differs("its two streams", both, ("UNDECIDED\n", "bracha: member 0 says 1\nbracha: member 1 says 0\n", 1))
         found += differs("one of each", split.result()[:2], ("UNDECIDED\nbracha: member 0 says 1\nbracha: member 1 says 0\n", 1))
         found += differs("one is stopped", stopped.result()[:2], ("DECIDED 1\nbracha: member 0 has another reply\n", 0))
         said, status, took = silent.result()
@@ -800,6 +826,12 @@ def a_client_believes_more_than_t(folder, port):
         found += differs("JSON", json_one.result()[:2], ('{"decided":1}\nbracha: member 2 says 0\n', 0))
         found += differs("past the last question", past.result()[:2], ("bracha: question\n", 2))
     return found
+
+
+def states(link):
+    """A desk at which question 7 is open, and no other was proposed."""
+    for line in link.makefile("rb"):
+        link.sendall(b"OPEN 2 3\n" if line == b"STATE 7\n" else b"UNPROPOSED\n")
 
 
 @check
@@ -823,6 +855,13 @@ def all_are_spoken_to_at_once(folder, port):
         path = cluster_file(folder, "json", [port + 10, port + 11, port + 12, port + 18])
         should = "".join(f'{{"member":{it},"reply":{{"up":true,"statements":5,"decided":1}}}}\n' for it in range(3)) + '{"member":3,"reply":null}\n'
         found += differs("JSON", say(["status", "--all", "--json", path], folder), (should, 1))
+    with serving(port + 18, states), serving(port + 19, states):
+        path = cluster_file(folder, "states", [port + 18, port + 19], 0)
+        found += differs("a question", say(["status", "--all", "--question", "7", path], folder), ("member 0 OPEN 2 3\nmember 1 OPEN 2 3\n", 0))
+        should = "".join(f'{{"member":{it},"reply":{{"open":true,"round":2,"step":3}}}}\n' for it in (0, 1))
+        found += differs("its JSON", say(["status", "--all", "--question", "7", "--json", path], folder), (should, 0))
+        should = '{"open":true,"round":2,"step":3}\n'
+        found += differs("its JSON, of one", say(["status", "--question", "7", "--json", f"127.0.0.1:{port + 18}"], folder), (should, 0))
     return found
 
 
@@ -888,6 +927,9 @@ def proofs_of_more_than_t_are_wanted(folder, port):
             found += differs(f"one proves, one {name} ({said})", ("no\n" in said, says in said, status, took < 4), (True, True, 1, True))
         path = cluster_file(folder, "nobody", [port + 19, port + 12, port + 15, port + 16])
         said, status, took = timed(["transcript", "--all", "--timeout", "2", path, "5"], folder)
+        found += differs("an output without a transcript", apart(["transcript", "--all", "--timeout", "1", path, "5"], folder)[0], "")
+        path = cluster_file(folder, "one-of-them", [port + 8, port + 12, port + 15, port + 16])
+        found += differs("a proof alone", apart(["audit", "--all", "--timeout", "1", path, "5"], folder)[::2], ("no\n", 1))
         words = ["member 0 sends no transcript: THIN", *(f"member {it} doesn't answer" for it in (1, 2, 3))]
         found += differs(f"nobody has one ({said})", ([it in said for it in words], status, took < 4), ([True] * 4, 1, True))
     return found
@@ -1292,6 +1334,41 @@ def a_peer_that_does_not_answer(folder, port):
         path = settings(folder, 0, [f"127.0.0.1:{port}", f"127.0.0.1:{port + 1}"], f"127.0.0.1:{port + 2}", 2, 0)
         with running(path, "--log"):
             return differs("the log", soon(lambda: "link-to 1 unreachable: no answer" in lines_of(path)), True)
+
+
+@check
+def a_peer_that_takes_nothing(folder, port):
+    """A link whose peer welcomes it and takes nothing more is closed in ten seconds, and dialled again."""
+    welcomed = []
+
+    def takes_nothing(link):
+        welcomed.append(time.monotonic())
+        link.recv(18, socket.MSG_WAITALL)
+        link.sendall(struct.pack(">HBQ", 9, 2, 0))
+        time.sleep(40)
+
+    peers = [f"127.0.0.1:{port + it}" for it in range(4)]
+    with contextlib.ExitStack() as stack:
+        small = stack.enter_context(socket.socket())
+        # Segments and a window so small that statements have no room on the way.
+        small.setsockopt(socket.IPPROTO_TCP, socket.TCP_MAXSEG, 88)
+        small.setsockopt(socket.SOL_SOCKET, socket.SO_RCVBUF, 1024)
+        stack.enter_context(serving(port + 3, takes_nothing, small))
+        for me in range(3):
+            stack.enter_context(running(settings(folder, me, peers, f"127.0.0.1:{port + 4 + me}", 4, 1, questions=1024)))
+        desks = [stack.enter_context(dial(port + 4 + me, timeout=20.0)) for me in range(3)]
+        lines = [desk.makefile("rb") for desk in desks]
+        for first in range(0, 1024, 64):
+            for desk in desks:
+                desk.sendall(b"".join(b"PROPOSE %d 1\n" % it for it in range(first, first + 64)))
+            for line in lines:
+                for _ in range(64):
+                    line.readline()
+        await_one(desks[0], lines[0], 1023)
+        count, begun = len(welcomed), time.monotonic()
+        again = soon(lambda: len(welcomed) >= count + 3, 20)
+        took = time.monotonic() - begun
+    return differs(f"each of three members dials it again ({took:.1f} s)", (again, took > 4), (True, True))
 
 
 @check

@@ -81,6 +81,7 @@ says 'a start in the same boot' 1 "$marked" timeout 20 "$program" run --stay alo
 says 'a check in the same boot' 1 "$marked" bash -c '"$0" check alone.toml >/dev/null' "$program"
 says 'init in the same boot' 1 "$marked" "$program" init alone.toml
 says 'migrate in the same boot' 1 "$marked" "$program" migrate alone.journal other.journal
+says 'migrate onto it' 1 "$marked" "$program" migrate other.journal alone.journal
 says 'a dump in the same boot' 0 0 "$program" dump --count alone.journal
 ln -sfn 00000000-0000-0000-0000-000000000000 alone.journal.unsynced
 says 'a check in the next boot' 0 'records 0' bash -c '"$0" check alone.toml | tail -n 1' "$program"
