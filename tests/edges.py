@@ -3,7 +3,7 @@
 
 Looks at the edges of the built program for what a user would suffer from and no contract says: how long a client waits, which
 statuses commands end with, whose links a member takes, what it opens and says more often than it should, what a command leaves
-behind. PROGRAM is crates/bracha/out/bracha unless another is named. It takes the ports 28400 to 29219, a C
+behind. PROGRAM is crates/bracha/out/bracha unless another is named. It takes the ports 28400 to 29239, a C
 compiler and a minute, with all checks side by side. Prints what is wrong, and in its last line `N passed, M failed`; the status is 1 where M isn't 0.
 """
 import concurrent.futures
@@ -1151,7 +1151,12 @@ def the_end_closes_all(folder, port):
             found += differs(f"{name} is closed", link is not None and is_closed(link, 1), True)
             if link:
                 link.close()
-    return found
+    os.mkdir(f"{folder}/alone")
+    path = settings(f"{folder}/alone", 0, [f"127.0.0.1:{port + 10 + it}" for it in range(4)], f"127.0.0.1:{port + 14}", 4, 1)
+    with running(path, "--log", preexec_fn=block_term) as process:
+        process.send_signal(signal.SIGTERM)
+        found += differs("the status of one that listens still", process.wait(8), 0)
+    return found + differs("its last line", lines_of(path)[-1:], ["end"])
 
 
 @check
@@ -1369,6 +1374,28 @@ def a_peer_that_takes_nothing(folder, port):
         again = soon(lambda: len(welcomed) >= count + 3, 20)
         took = time.monotonic() - begun
     return differs(f"each of three members dials it again ({took:.1f} s)", (again, took > 4), (True, True))
+
+
+@check
+def a_link_to_an_earlier_life(folder, port):
+    """A member whose peer comes back dials it again, though the connection to the peer's earlier life looks alive."""
+    dialled = []
+
+    def forgets(link):
+        dialled.append(time.monotonic())
+        link.recv(18, socket.MSG_WAITALL)
+        link.sendall(struct.pack(">HBQ", 9, 2, 0))
+        time.sleep(20)
+
+    path = settings(folder, 0, [f"127.0.0.1:{port}", f"127.0.0.1:{port + 1}"], f"127.0.0.1:{port + 2}", 2, 0)
+    with serving(port + 1, forgets), running(path):
+        time.sleep(4)
+        found = differs("dials before", len(dialled), 1)
+        link = is_welcomed(port, 1, 0, n=2, t=0)
+        found += differs("a dial once it is back", soon(lambda: len(dialled) > 1, 2), True)
+        if link:
+            link.close()
+        return found
 
 
 @check
