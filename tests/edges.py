@@ -406,7 +406,10 @@ def links_of_a_member(folder, port):
     peers = [f"127.0.0.1:{port}", f"127.0.0.2:{port + 1}", f"127.0.0.3:{port + 1}", f"127.0.0.3:{port + 2}"]
     path = settings(folder, 0, peers, f"127.0.0.1:{port + 9}", 4, 1)
     found = []
-    with running(path, "--log"):
+    with running(path, "--log") as process:
+        descriptors = lambda: len(os.listdir(f"/proc/{process.pid}/fd"))
+        time.sleep(0.5)
+        before = descriptors()
         foreign = is_welcomed(port, 1, 0, "127.0.0.4")
         found += differs("a link from a host that is no member's", foreign, None)
         other = is_welcomed(port, 1, 0, "127.0.0.3")
@@ -431,6 +434,7 @@ def links_of_a_member(folder, port):
         for it in (first, link, again, *silent):
             if it:
                 it.close()
+        found += differs("descriptors come down", soon(lambda: descriptors() <= before + 4), True)
         wanted = ("link-up from 1", "link-down from 1 lost", "refused from 127.0.0.4 stranger", "refused from 127.0.0.3 stranger: member 1 from another host")
         found += differs("lines that the log lacks", soon(lambda: not lacks(path, wanted)) or lacks(path, wanted), True)
     own = [it for it in lines_of(path) if it.startswith("link") and (it.endswith(" 0") or " 0 " in it)]
