@@ -97,7 +97,7 @@ done
 # the proposal that waited.
 run member-0
 says 'a proposal while it listens' 1 'bracha: no answer' "$program" --quiet propose --timeout 1 127.0.0.1:7110 9 1
-says 'a status while it listens' 0 'UP 0 0' "$program" status 127.0.0.1:7110
+says 'a status while it listens' 0 'UP 0 0' "$program" status --timeout 1 127.0.0.1:7110
 says 'links while it listens' 0 'LINKS 1 1 4 3' "$program" status --links 127.0.0.1:7110
 says 'not ready while it listens' 1 'LINKS 1 1 4 3' "$program" status --ready 127.0.0.1:7110
 says 'a second life beside it' 1 $'bracha: file\nmember-0.journal: open: another process has it' timeout 20 "$program" run --stay member-0.toml
@@ -463,7 +463,11 @@ run elsewhere
 says 'a desk that was left behind' 0 'DECIDED 1' "$program" ask --timeout 60 unix:alone.desk 41
 end_of 4
 says 'a desk that is gone' 1 '' bash -c '[ -e alone.desk ]'
+run elsewhere
+rm alone.desk
 echo 'a note' >alone.desk
+end_of 5
+says 'a note that came in its place' 0 'a note' cat alone.desk
 says 'a note at its path' 1 $'bracha: listen\nalone.desk: listen: a file is there that is no socket' "$program" run --stay elsewhere.toml
 
 says 'no files to speak of' 1 $'bracha: file\nopen files: 12 are too few: this member wants 17 at least, and 2 for each client (`ulimit -n`)' \
@@ -507,7 +511,7 @@ print("paced" if reaches(8192) < 11000 else "not paced")
 print("all heard" if reaches(len(said)) == len(said) else "more than was said")
 END
 says 'a liar ahead of all' 0 $'paced\nall heard' timeout 90 python3 early.py
-end_of 5
+end_of 6
 
 # A journal that is too long to go through is told whose it is all the same.
 truncate -s 20M alone.journal

@@ -585,7 +585,7 @@ def followed(port, number, lines, stop):
 
 @check
 def who_follows_misses_nothing(folder, port):
-    """A follower is told each decision once, in the order of the member's journal, over a kill of the member, and an empty line
+    """A follower is told each decision once, in the order of the member's journal, over kills of the member, and an empty line
     where there is none for a while."""
     with clusters(folder, port) as (desks, members, again):
         stop, lines, later = threading.Event(), [], []
@@ -606,6 +606,9 @@ def who_follows_misses_nothing(folder, port):
             soon(lambda: sum(1 for it in lines if it) == len(order))
             late.append(time.monotonic() - begun)
         found = differs(f"half of them told at once ({sorted(late)[4]:.2f} s)", sorted(late)[4] < 0.3, True)
+        # By now its journal has some four hundred records.
+        again(1)
+        found += differs("a member that is started with all its records", told(desks[1], "AWAIT 38")[0], "DECIDED 0")
         time.sleep(6)
         members[1].send_signal(signal.SIGKILL)
         stop.set()
@@ -679,13 +682,16 @@ def beside_faults(folder, ports, words, should, within):
     return found
 
 
-def unanswered(port, threads, times):
-    """How many of these connections were closed with no answer to their one line: so many times in each of so many threads."""
+def unanswered(port, threads, times, end):
+    """How many of these connections had no answer to their one line before they were closed or this time came: so many times in each of
+    so many threads."""
     def ask():
         missing = 0
-        for _ in range(times):
+        for number in range(times):
+            if time.time() > end:
+                return missing + times - number
             try:
-                with dial(port, timeout=30.0) as link:
+                with dial(port, timeout=15.0) as link:
                     link.sendall(b"ASK 0\n")
                     missing += link.recv(64) != b"UNDECIDED\n"
             except OSError:
@@ -698,11 +704,13 @@ def unanswered(port, threads, times):
 
 @check
 def twice_as_many_clients_as_places(folder, port):
-    """64 clients come again and again, with a line each: each waits for a place in turn, and none is closed unanswered."""
+    """64 clients come again and again, with a line each: each waits for a place in turn, none is closed unanswered, and they don't wait
+    long."""
     path = settings(folder, 0, [f"127.0.0.1:{port}"], f"127.0.0.1:{port + 1}", 1, 0)
     with running(path), concurrent.futures.ProcessPoolExecutor(4, multiprocessing.get_context("spawn")) as pool:
-        waiting = [pool.submit(unanswered, port + 1, 16, 200) for _ in range(4)]
-        return differs("closed unanswered, of 12,800", sum(it.result() for it in waiting), 0)
+        end = time.time() + 45
+        waiting = [pool.submit(unanswered, port + 1, 16, 200, end) for _ in range(4)]
+        return differs("unanswered in 45 seconds, of 12,800", sum(it.result() for it in waiting), 0)
 
 
 def is_open(link):
