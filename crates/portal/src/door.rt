@@ -1,6 +1,7 @@
 //! The answers to requests: begin at `Door`.
 
-ghost use Rattle.std.specs.Prelude.{◌≡◌, [], IfOk, IsTrue, OnOk, option_map_or};
+ghost use Rattle.std.specs.Prelude.{◌≡◌, [], IfOk, IsTrue, OnOk};
+ghost use Rattle.std.specs.Option.{option_map_or};
 ghost use Rattle.http.specs.FieldValue.{is_visible_text};
 ghost use Rattle.http.specs.Request.{head_of};
 ghost use Rattle.http_uri.specs.Uri.{uri_query};

@@ -4,7 +4,7 @@ use crate::cluster::Proposal;
 use ghost_record::{Change, Recorded};
 use std::marker::Model;
 
-/// What was handed on: questions, each with its bit.
+/// The proposals that were handed on: questions, each with its bit.
 #[derive(Drop)]
 pub(crate) struct Handed {}
 

@@ -1,4 +1,4 @@
-//! What a thread that serves a client needs of its runtime.
+//! The runtime of a thread that serves a client.
 
 use std::net::{Net, TcpListener, TcpStream};
 use std::sync::Wait;

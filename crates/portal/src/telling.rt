@@ -1,4 +1,4 @@
-//! What is told of a book, while its lock is held.
+//! The answers that are made of a book, while its lock is held.
 
 ghost use Rattle.std.specs.Prelude.{◌≡◌, IfOk};
 ghost use Rattle.portal.specs.Served.{IsToldAt};

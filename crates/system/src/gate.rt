@@ -1,12 +1,9 @@
 //! The command `gateway`: a cluster over HTTP. Begin at `run_gateway`, last.
 
-ghost use Rattle.std.specs.Prelude.{◌≡◌, ◌↔◌, List, Some, ℕ, IfErr, IfOk, IfSome, IsTrue, None};
-ghost use Rattle.system.specs.Faults.{IsMeant};
-ghost use Rattle.system.specs.Gates.{HasToken, IsToken, IsTokenByte, is_open_mode};
-ghost use Rattle.system.specs.Sockets.{AreSocketsOf, IsSocketOf};
+ghost use Rattle.std.specs.Prelude.{◌≡◌, ◌↔◌, IfErr, IfOk, IfSome, IsTrue};
+ghost use Rattle.system.specs.Gates.{HasToken, IsToken, IsTokenByte, IsUnopened, Opens, is_open_mode};
 ghost use Rattle.system.specs.Troubles.{IsNamed};
 ghost use Rattle.system.specs.declared.fault.Fault.TheVariants as ends;
-ghost use Rattle.settings.specs.declared.address.Address.{Address as AddressOf};
 
 use crate::addresses::{socket_address, socket_addresses};
 use crate::callers::Caller;
@@ -71,7 +68,9 @@ pub struct Gate<'a> {
 /// # Errors
 ///
 /// [`Fault::Address`] if the text isn't one.
-fn listen_address(alloc: Global, text: Option<&str>) -> Result<Address, Failure> {
+fn listen_address(alloc: Global, text: Option<&str>) -> Result<Address, Failure>
+    ensures { IfErr result (λ failure. failure.fault ≡ ends.Address) }
+{
     let Some(text) = text else {
         return Ok(LISTEN);
     };
@@ -117,7 +116,9 @@ fn token_in(text: &[u8]) -> Option<&[u8]>
 }
 
 /// Returns `true` if a file of this mode may be read or written by others than its owner and its group.
-fn is_open_mode(mode: u32) -> bool {
+fn is_open_mode(mode: u32) -> bool
+    ensures { result ≡ is_open_mode mode }
+{
     mode & 0o006 != 0
 }
 
@@ -203,7 +204,9 @@ fn opening_of(
     client: &ClientSettings,
     listen: SocketAddr,
     token: Vec<u8>,
-) -> Result<Opening, Failure> {
+) -> Result<Opening, Failure>
+    ensures { IfOk result (Opens client.now listen token.items) }
+{
     let desks = socket_addresses(host.alloc(), &client.desks).map_err(|_| Fault::Memory)?;
     Ok(Opening {
         cluster: client.cluster,
@@ -217,7 +220,9 @@ fn opening_of(
 }
 
 /// Returns the failure of a gateway that doesn't start at this address.
-fn unopened(alloc: Global, address: &str, fault: OpeningFault) -> Failure {
+fn unopened(alloc: Global, address: &str, fault: OpeningFault) -> Failure
+    ensures { IsUnopened result.fault }
+{
     match fault {
         OpeningFault::Listen(error) => {
             let fault = Fault::Run(RunFault::Listen);
