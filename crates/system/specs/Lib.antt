@@ -9,6 +9,7 @@ pub mod Desks
 pub mod Doors
 pub mod Reading
 pub mod Forms
+pub mod Gates
 pub mod Misfits
 pub mod Moments
 pub mod Logs
