@@ -70,6 +70,8 @@ impl Disk for FileDisk {
 
     ghost keeps = { λ _. ⊥ };
 
+    ghost begun = { λ _. [] };
+
     ghost state = { λ _. at_rest [] };
 
     ghost moment = { λ _. 0 };

@@ -130,9 +130,11 @@ impl Disk for MemDisk {
     ghost use Rattle.std.specs.Prelude.{◌⊎◌, ◌+◌, ◌≤◌, take, drop};
     ghost use Rattle.disk.specs.Model.{Elapses, FailedWrite, after_write};
     ghost use Rattle.disk.specs.Fuse.{Burns};
-    ghost use Rattle.disk.specs.Memory.{memory_state, memory_moment, memory_since, memory_failures, fuse_left};
+    ghost use Rattle.disk.specs.Memory.{memory_state, memory_moment, memory_since, memory_failures, memory_begun, fuse_left};
 
     ghost keeps = { λ _. Unit {0} };
+
+    ghost begun = { memory_begun };
 
     ghost state = { memory_state };
 
@@ -156,6 +158,7 @@ impl Disk for MemDisk {
         ensures listed { memory_moment self.new ≡ memory_moment self.old + 1 }
         ensures fuse { Burns (memory_moment self.old) (memory_moment self.new)
             (fuse_left self.old) (fuse_left self.new) result }
+        ensures begun { memory_begun self.new ≡ memory_begun self.old }
         ensures cause { CountsFailures (memory_failures self.old) (memory_failures self.new) result }
         ensures counted { CountsFault (memory_failures self.old) (memory_failures self.new) result }
     {
@@ -173,6 +176,7 @@ impl Disk for MemDisk {
         ensures listed { memory_moment self.new ≡ memory_moment self.old + 1 }
         ensures fuse { Burns (memory_moment self.old) (memory_moment self.new)
             (fuse_left self.old) (fuse_left self.new) result }
+        ensures begun { memory_begun self.new ≡ memory_begun self.old }
         ensures cause { CountsFailures (memory_failures self.old) (memory_failures self.new) result }
         ensures counted { CountsFault (memory_failures self.old) (memory_failures self.new) result }
     {
@@ -192,6 +196,7 @@ impl Disk for MemDisk {
             (memory_since self.old) (memory_since self.new) (memory_state self.old) (memory_state self.new) result }
         ensures fuse { Burns (memory_moment self.old) (memory_moment self.new)
             (fuse_left self.old) (fuse_left self.new) result }
+        ensures begun { memory_begun self.new ≡ memory_begun self.old }
         ensures cause { CountsFailures (memory_failures self.old) (memory_failures self.new) result }
         ensures counted { CountsFault (memory_failures self.old) (memory_failures self.new) result }
     {
@@ -210,6 +215,7 @@ impl Disk for MemDisk {
         ensures listed { memory_moment self.new ≡ memory_moment self.old + 1 }
         ensures fuse { Burns (memory_moment self.old) (memory_moment self.new)
             (fuse_left self.old) (fuse_left self.new) result }
+        ensures begun { memory_begun self.new ≡ memory_begun self.old }
         ensures cause { CountsFailures (memory_failures self.old) (memory_failures self.new) result }
         ensures counted { CountsFault (memory_failures self.old) (memory_failures self.new) result }
     {

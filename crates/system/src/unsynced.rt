@@ -162,6 +162,8 @@ impl Disk for MarkedDisk {
 
     ghost keeps = { λ _. ⊥ };
 
+    ghost begun = { λ _. [] };
+
     ghost state = { λ _. at_rest [] };
 
     ghost moment = { λ _. 0 };
