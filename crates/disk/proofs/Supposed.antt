@@ -1,7 +1,7 @@
 -- One answer more of a file by what is supposed of it.
-use Rattle.std.proofs.Common.{◌≡◌, ◌⊎◌, inr, ℕ, ◌≤◌, List, [], ◌∷◌, ◌++◌, length, take, Result, refl, sym, ◌∙◌, ap, subst, arith}
+use Rattle.std.proofs.Common.{◌≡◌, ℕ, ◌≤◌, List, [], ◌∷◌, ◌++◌, length, take, Result, refl, sym, ap, subst, arith}
 use Rattle.disk.specs.Model.{State, FailedWrite, Elapses}
-use Rattle.disk.specs.Replay.{FilePast, after_call, after_torn_write, state_of, LeftSince}
+use Rattle.disk.specs.Replay.{after_call, after_torn_write, LeftSince}
 use Rattle.disk.specs.Laws.{outside_part, put_elsewhere, may_leave_seen}
 use Rattle.disk.specs.Supposed.{FileModel, Reply, IsFaithful, IsAnswer, call_of, past_of, state_after}
 use Rattle.disk.specs.Supposed.Reply.{Lost}

@@ -2,7 +2,6 @@
 use Rattle.std.specs.Prelude.{◌≡◌, ℕ, List, [], ◌∷◌, length, take, drop}
 use Rattle.disk.specs.Model.{State}
 use Rattle.disk.specs.Replay.{Call, FilePast, begun, listed, state_of}
-use Rattle.disk.specs.Replay.Call as replayed
 
 -- what a call of the disk was answered
 pub data Reply : Type 0 where
@@ -27,12 +26,12 @@ pub record FileModel : Type 0 where
 
 -- what a call did to such a file, by the calls that were answered before it, the last of them first
 abbrev pub call_of : FileModel → List Reply → Reply → Call
-call_of file before (Told n) = replayed.Still
-call_of file before (Gave at bytes) = replayed.Still
-call_of file before (Wrote at bytes) = replayed.Wrote at bytes
-call_of file before (Lost at n) = replayed.Torn at n (file.torn before)
-call_of file before Synced = replayed.Synced
-call_of file before Refused = replayed.Still
+call_of file before (Told n) = Call.Still
+call_of file before (Gave at bytes) = Call.Still
+call_of file before (Wrote at bytes) = Call.Wrote at bytes
+call_of file before (Lost at n) = Call.Torn at n (file.torn before)
+call_of file before Synced = Call.Synced
+call_of file before Refused = Call.Still
 
 -- the file and all calls so far, of which the last is first here
 abbrev pub past_of : FileModel → List Reply → FilePast

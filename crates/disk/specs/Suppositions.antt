@@ -1,7 +1,7 @@
 -- Laws of what is supposed of a file.
 use Rattle.std.specs.Prelude.{◌≡◌, ◌≢◌, ◌+◌, ◌≤◌, ℕ, List, [], ◌∷◌, ◌++◌, length, take, drop}
 use Rattle.disk.specs.Supposed.{FileModel, Reply, IsFaithful, state_after}
-use Rattle.disk.specs.Supposed.Reply.{Told, Gave, Wrote, Lost, Synced, Refused}
+use Rattle.disk.specs.Supposed.Reply.{Told, Gave, Wrote, Synced}
 
 -- These calls were answered as by the file. Then the next call, whichever it is, has an answer that is the file's too.
 pub record HasAnswers (file : FileModel) (before : List Reply) : Type 0 where

@@ -1,4 +1,4 @@
-use Rattle.std.proofs.Common.{◌≡◌, ℕ, List, ◌∷◌, length, take, drop, refl, sym, ap, arith, length-take-le, length-drop}
+use Rattle.std.proofs.Common.{◌≡◌, ℕ, ◌∷◌, length, take, drop, refl, sym, ap, arith, length-take-le, length-drop}
 use Rattle.disk.specs.Supposed.{state_after}
 use Rattle.disk.specs.Supposed.Reply.{Told, Gave}
 use Rattle.disk.proofs.Supposed.{earlier}
