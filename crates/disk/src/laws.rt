@@ -2,6 +2,7 @@
 //! is the law.
 
 ghost use Rattle.disk.specs.Losses.{LeavesAnything, LeavesElsewhere, LeavesLonger, LeavesTorn, LeavesTornOnceFailed};
+ghost use Rattle.disk.specs.Suppositions.{IsLostByFalse, MayBeSo};
 
 /// What may be lost by a crash, or by a write that failed.
 ///
@@ -19,4 +20,14 @@ pub fn losses()
     ensures torn { LeavesTorn }
     ensures torn_once_failed { LeavesTornOnceFailed }
     ensures elsewhere { LeavesElsewhere }
+{}
+
+/// What is supposed of a file says something.
+///
+/// - `may_be_so`: of each file it may be so. Before the first call nothing is false yet, and as long as nothing is, the next
+///   call has an answer that is the file's: its length, so many of its bytes, or that a write or a sync succeeded.
+/// - `lost`: a length that isn't the file's, and a read that gives other bytes, make it false, whatever is answered later.
+pub fn suppositions()
+    ensures may_be_so { MayBeSo }
+    ensures lost { IsLostByFalse }
 {}

@@ -23,7 +23,7 @@ pub struct MemDisk {
 }
 
 impl MemDisk {
-    ghost use Rattle.disk.specs.Memory.{memory_state, memory_moment, memory_failures, fuse_left, with_fuse};
+    ghost use Rattle.disk.specs.Memory.{memory_begun, memory_state, memory_moment, memory_failures, fuse_left, with_fuse};
 
     /// An empty file, with no fuse in. It takes no memory.
     pub fn new(alloc: Global) -> MemDisk
@@ -62,6 +62,7 @@ impl MemDisk {
     pub fn crash(mut self, pick: Pick) -> Result<MemDisk, AllocError>
         ensures state { IfOk result (λ disk. memory_state disk ≡ at_rest (left (memory_state self) pick)) }
         ensures may_leave { IfOk result (λ disk. MayLeave (memory_state self) (memory_state disk).seen) }
+        ensures begun { IfOk result (λ disk. memory_begun disk ≡ (memory_state disk).seen) }
         ensures moment { IfOk result (λ disk. memory_moment disk ≡ 0) }
         ensures failures { IfOk result (λ disk. memory_failures disk ≡ 0) }
         ensures fuse { IfOk result (λ disk. fuse_left disk ≡ None) }

@@ -1,7 +1,7 @@
 //! Clusters in one process, over disks in memory, with clients over TCP on this machine.
 ghost use Rattle.std.specs.Prelude.{◌≡◌, IfSome, false, []};
 ghost use Rattle.member.specs.Memory.{memory_disk};
-ghost use Rattle.member.specs.Sound.{IsSound};
+ghost use Rattle.member.specs.Sound.{HasItsFile, IsSound};
 ghost use Rattle.member.specs.Readers.{member_saved, member_is_stopped, MemberStandsFor};
 
 mod crowded;
@@ -11,7 +11,7 @@ mod silent;
 mod turned_away;
 mod versions;
 
-use disk::MemDisk;
+use disk::{MemDisk, Pick};
 use links::LinkEnd;
 use member::Member;
 use rounds::{ChaChaTosser, Tosser};
@@ -107,6 +107,7 @@ impl Cluster {
     fn member(&self, alloc: Global, me: u8, calls: Option<u64>) -> Option<Member<MemDisk>>
         ensures sound { IfSome result (λ m. IsSound memory_disk m) }
         ensures fresh { IfSome result (λ m. member_is_stopped m ≡ false → MemberStandsFor m (member_saved m) []) }
+        ensures begun { IfSome result (HasItsFile memory_disk) }
     {
         let Ok(size) = Size::new(self.n, self.t, 1) else {
             return None;
@@ -116,6 +117,10 @@ impl Cluster {
         if journal::create(&mut disk, &header).is_err() {
             return None;
         }
+        // The file that was made is the one with which the disk begins.
+        let Ok(mut disk) = disk.crash(Pick::Kept) else {
+            return None;
+        };
         // Opening makes three calls.
         disk.fuse(calls.map(|more| more.wrapping_add(3)));
         match Member::open(alloc, disk, &header) {
