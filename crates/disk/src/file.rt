@@ -52,7 +52,7 @@ pub struct FileDisk<P: Premise> {
 }
 
 impl<P: Premise> FileDisk<P> {
-    ghost use Rattle.disk.specs.File.{file_failures, file_replies, is_named, file_done, folder_done};
+    ghost use Rattle.disk.specs.File.{file_failures, file_replies, file_state, is_named, file_done, folder_done};
 
     /// Opens a file for reading and writing. A missing one is made, empty, where `make` says so.
     ///
@@ -62,6 +62,7 @@ impl<P: Premise> FileDisk<P> {
         ensures failures { IfOk result (λ disk. file_failures disk ≡ 0) }
         ensures unnamed { IfOk result (λ disk. is_named disk ≡ false) }
         ensures no_call { IfOk result (λ disk. file_replies disk ≡ []) }
+        ensures as_it_began { IfOk result (λ disk. file_state P.file disk ≡ at_rest P.file.start) }
     {
         let folder = File::open(rt, folder_of(path))?;
         let mut options = OpenOptions::new();
@@ -83,6 +84,7 @@ impl<P: Premise> FileDisk<P> {
         ensures done { (file_done self.new ≡ file_done self.old) × (folder_done self.new ≡ folder_done self.old) }
         ensures named { is_named self.new ≡ is_named self.old }
         ensures replies { file_replies self.new ≡ file_replies self.old }
+        ensures state { file_state P.file self.new ≡ file_state P.file self.old }
     {
         self.named.keep_first_error(alloc)
     }
