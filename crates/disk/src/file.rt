@@ -19,11 +19,14 @@ use std::path::Path;
 use std::rt::Files;
 use std::sync::Arc;
 
-/// What is supposed of a file: the bytes with which it begins, and what a write that fails leaves in its range. Nobody can
-/// know these, so a program is generic over them, and is called at `Brand`: what is proved of it is proved of every file.
+/// Premise of a [`FileDisk`]: what is supposed of its file.
+///
+/// Nobody knows the bytes of a file before they are read. So a program is generic over its premises, and is called at
+/// `Brand`: what is proved of it is proved of every file.
 pub trait Premise {
     ghost use Rattle.disk.specs.Supposed.{FileModel};
 
+    /// The bytes with which the file begins, and those that a failed write leaves in its range.
     ghost file: { FileModel };
 }
 
@@ -36,8 +39,8 @@ impl Premise for Brand {
 /// An open file of the operating system. One process at a time has it open: it holds the file's lock for as long as it
 /// lives.
 ///
-/// It keeps the model as long as each length and each read is that of the file that is supposed, written by its own calls
-/// alone.
+/// The disk keeps the model while each length and each read were those of the file that is supposed, written by its own calls
+/// alone. Example: the file begins with 24 bytes, and the first length is 25. From then on nothing is said of its bytes.
 ///
 /// A read or a write that the system answers in part is continued, and a call that a signal interrupts is made again.
 /// The first sync that succeeds also puts the folder on the disk, so that the file is found there after a crash.
@@ -49,7 +52,7 @@ pub struct FileDisk<P: Premise> {
 }
 
 impl<P: Premise> FileDisk<P> {
-    ghost use Rattle.disk.specs.File.{file_failures, file_replies, is_named, file_done, folder_done};
+    ghost use Rattle.disk.specs.File.{file_failures, file_replies, file_state, is_named, file_done, folder_done};
 
     /// Opens a file for reading and writing. A missing one is made, empty, where `make` says so.
     ///
@@ -59,6 +62,7 @@ impl<P: Premise> FileDisk<P> {
         ensures failures { IfOk result (λ disk. file_failures disk ≡ 0) }
         ensures unnamed { IfOk result (λ disk. is_named disk ≡ false) }
         ensures no_call { IfOk result (λ disk. file_replies disk ≡ []) }
+        ensures as_it_began { IfOk result (λ disk. file_state P.file disk ≡ at_rest P.file.start) }
     {
         let folder = File::open(rt, folder_of(path))?;
         let mut options = OpenOptions::new();
@@ -80,11 +84,12 @@ impl<P: Premise> FileDisk<P> {
         ensures done { (file_done self.new ≡ file_done self.old) × (folder_done self.new ≡ folder_done self.old) }
         ensures named { is_named self.new ≡ is_named self.old }
         ensures replies { file_replies self.new ≡ file_replies self.old }
+        ensures state { file_state P.file self.new ≡ file_state P.file self.old }
     {
         self.named.keep_first_error(alloc)
     }
 
-    /// One call more was answered, so.
+    /// Notes a call with its answer.
     fn note(&mut self, reply: &DiskReply<'_>)
         ensures named { self.new.named ≡ self.old.named }
         ensures replies { file_replies self.new ≡ replies_after (file_replies self.old) reply.now }

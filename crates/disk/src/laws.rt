@@ -22,11 +22,11 @@ pub fn losses()
     ensures elsewhere { LeavesElsewhere }
 {}
 
-/// What is supposed of a file says something.
+/// Proves that a premise of a file says something.
 ///
-/// - `may_be_so`: of each file it may be so. Before the first call nothing is false yet, and as long as nothing is, the next
-///   call has an answer that is the file's: its length, so many of its bytes, or that a write or a sync succeeded.
-/// - `lost`: a length that isn't the file's, and a read that gives other bytes, make it false, whatever is answered later.
+/// - `may_be_so`: each premise may hold. It holds before the first call. While it holds, the next call has an answer by
+///   which it holds: the file's length, its bytes, or that a write or a sync succeeded.
+/// - `lost`: a length that isn't the file's, and a read that gives other bytes, end it, whatever is answered later.
 pub fn suppositions()
     ensures may_be_so { MayBeSo }
     ensures lost { IsLostByFalse }

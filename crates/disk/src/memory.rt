@@ -62,7 +62,7 @@ impl MemDisk {
     pub fn crash(mut self, pick: Pick) -> Result<MemDisk, AllocError>
         ensures state { IfOk result (λ disk. memory_state disk ≡ at_rest (left (memory_state self) pick)) }
         ensures may_leave { IfOk result (λ disk. MayLeave (memory_state self) (memory_state disk).seen) }
-        ensures begun { IfOk result (λ disk. memory_begun disk ≡ (memory_state disk).seen) }
+        ensures as_it_began { IfOk result (λ disk. memory_state disk ≡ at_rest (memory_begun disk)) }
         ensures moment { IfOk result (λ disk. memory_moment disk ≡ 0) }
         ensures failures { IfOk result (λ disk. memory_failures disk ≡ 0) }
         ensures fuse { IfOk result (λ disk. fuse_left disk ≡ None) }

@@ -1,8 +1,8 @@
-//! What a disk answered, to be recorded for clauses alone.
+//! Answers of a disk, to be recorded for clauses alone.
 use ghost_record::{Change, Recorded};
 use std::marker::Model;
 
-/// The calls of a disk that were answered, each with its answer, the last of them first.
+/// Calls of a disk with their answers, the last of them first.
 #[derive(Drop)]
 pub(crate) struct Replies {}
 

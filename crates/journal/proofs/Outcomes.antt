@@ -69,5 +69,6 @@ opened_with {D} disk before after header gate records journal disk_is gate_is he
       header_is = header_is;
       quiet = read.quiet;
       later = omega (arith, read.quiet);
+      begun = read.begun;
       kept = read.kept;
     }

@@ -1,13 +1,14 @@
 //! The commands over the files that their words name, and over the standard streams.
 
 ghost use Rattle.migration.specs.OldOutcomes.{IsUntouched};
-ghost use Rattle.disk.specs.File.{file_replies};
+ghost use Rattle.disk.specs.File.{file_state};
+ghost use Rattle.disk.specs.Model.{at_rest};
 ghost use Rattle.system.specs.Disks.{marked_file};
 ghost use Rattle.system.specs.Faults.{IsMeant};
 ghost use Rattle.system.specs.Troubles.{IsNamed, IsTold};
 ghost use Rattle.system.specs.declared.trouble.Whereabouts.TheVariants as whereabouts;
 ghost use Rattle.system.specs.declared.fault.Fault.TheVariants as ends;
-ghost use Rattle.std.specs.Prelude.{◌≡◌, ◌≢◌, [], IfErr, IfOk, IfSome, codes, ⊤};
+ghost use Rattle.std.specs.Prelude.{◌≡◌, ◌≢◌, IfErr, IfOk, IfSome, codes, ⊤};
 
 use crate::doors::keep_to_own_doors;
 use crate::fault::Fault;
@@ -160,13 +161,13 @@ pub fn first_error_in(kept: &Option<Arc<FirstError>>) -> Option<io::Error> {
     }
 }
 
-/// The disk in the file of a journal, which is a regular file, and what is told of it. No call of the disk was made.
+/// The disk in the file of a journal, which is a regular file, and what is told of it. It is as it began.
 pub fn open_disk<'a, P: Premise>(
     rt: &HostRuntime,
     path: &'a str,
     purpose: Purpose,
 ) -> Result<(MarkedDisk<P>, Source<'a>), Failure>
-    ensures no_call { IfOk result (λ opened. file_replies (marked_file opened.0) ≡ []) }
+    ensures as_it_began { IfOk result (λ opened. file_state P.file (marked_file opened.0) ≡ at_rest P.file.start) }
     ensures source { IfOk result (λ opened. opened.1.path.now ≡ path.now) }
     ensures fault { IfErr result (λ failure. IsMeant ends.File failure.fault) }
     ensures named { IfErr result (IsNamed path.now) }
@@ -185,7 +186,7 @@ pub fn open_good_disk<'a, P: Premise>(
     path: &'a str,
     purpose: Purpose,
 ) -> Result<(MarkedDisk<P>, Source<'a>), Failure>
-    ensures no_call { IfOk result (λ opened. file_replies (marked_file opened.0) ≡ []) }
+    ensures as_it_began { IfOk result (λ opened. file_state P.file (marked_file opened.0) ≡ at_rest P.file.start) }
     ensures source { IfOk result (λ opened. opened.1.path.now ≡ path.now) }
 {
     refuse_unsynced(rt, path)?;
@@ -201,7 +202,7 @@ fn open_file<P: Premise>(
     path: &str,
     purpose: Purpose,
 ) -> Result<FileDisk<P>, Failure>
-    ensures no_call { IfOk result (λ disk. file_replies disk ≡ []) }
+    ensures as_it_began { IfOk result (λ disk. file_state P.file disk ≡ at_rest P.file.start) }
     ensures fault { IfErr result (λ failure. IsMeant ends.File failure.fault) }
     ensures named { IfErr result (IsNamed path.now) }
 {

@@ -267,7 +267,7 @@ fn input_of<R: Machine>(rt: &R, host: &HostRuntime, stay: bool) -> Option<Arc<In
 /// [`Fault::Journal`]: they are of no use, or a sync of the journal failed since the machine was started. [`Fault::Run`]: no
 /// listener could be had, the member was stopped when the input ended, or its journal is gone; or it was forgotten, in this run
 /// or in an earlier one, and its journal is put aside.
-pub fn run_file<R: Machine, P: Premise>(
+pub fn run_file<R: Machine, P: Premise + Send>(
     rt: &R,
     host: &HostRuntime,
     path: &str,
@@ -316,7 +316,7 @@ fn open_member<D: Disk>(
 }
 
 /// Runs the member of these settings, as `run_file` says.
-fn run_settings<'a, R: Machine, P: Premise>(
+fn run_settings<'a, R: Machine, P: Premise + Send>(
     rt: &R,
     host: &'a HostRuntime,
     settings: &'a Settings,

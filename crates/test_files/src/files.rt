@@ -102,7 +102,8 @@ const CLOSED_FILE: &str = "disk_tests_closed/file";
 
 /// Whether no disk is had at the path, whether it is to be made or not.
 fn is_refused(rt: &HostRuntime, path: &str) -> bool {
-    FileDisk::<Brand>::open(rt, path, false).is_err() && FileDisk::<Brand>::open(rt, path, true).is_err()
+    FileDisk::<Brand>::open(rt, path, false).is_err()
+        && FileDisk::<Brand>::open(rt, path, true).is_err()
 }
 
 /// Takes away all leave to open the file. Permissions don't hold for the superuser.
