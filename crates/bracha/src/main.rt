@@ -10,6 +10,7 @@ use clap::error::ErrorKind;
 use command_line::{Task, command};
 use std::convert::AsStr;
 use std::io;
+use std::marker::Brand;
 use std::net::{TcpListener, TcpStream};
 use std::process::ExitCode;
 use system::{
@@ -176,7 +177,7 @@ fn work<R: Caller>(rt: &R, host: &HostRuntime, task: Task, quiet: bool) -> Resul
                 },
             )
         }
-        Task::Init { settings } => init_file(host, settings),
+        Task::Init { settings } => init_file::<Brand>(host, settings),
         Task::Check { settings, json } => check_file(host, settings, json),
         Task::Run {
             settings,
@@ -184,7 +185,7 @@ fn work<R: Caller>(rt: &R, host: &HostRuntime, task: Task, quiet: bool) -> Resul
             log,
             log_json,
             any_host,
-        } => run_file(rt, host, settings, stay, log_form(log, log_json), any_host),
+        } => run_file::<R, Brand>(rt, host, settings, stay, log_form(log, log_json), any_host),
         Task::Propose {
             address,
             question,
@@ -305,8 +306,8 @@ fn work<R: Caller>(rt: &R, host: &HostRuntime, task: Task, quiet: bool) -> Resul
             journal,
             count,
             json,
-        } => dump_file(host, journal, count, json),
-        Task::Migrate { old, new } => migrate_file(host, old, new),
+        } => dump_file::<Brand>(host, journal, count, json),
+        Task::Migrate { old, new } => migrate_file::<Brand, Brand>(host, old, new),
         Task::Simulate {
             script,
             trace,
