@@ -302,8 +302,9 @@ def questions_are_told_by_more_than_t(folder, port):
         found += differs("the cluster", [members[it] for it in ("cluster", "n", "t", "questions", "propose")], [7, 4, 1, 512, "open"])
         _, heads, _ = gateway.ask("HEAD", "/v1/questions/7")
         found += differs("HEAD", heads["content-type"], "application/json")
-        found += differs("curl", subprocess.run(["curl", "-fsS", f"http://localhost:{gateway.port}/v1/questions/7"], capture_output=True, text=True,
-                                                check=False).stdout.startswith('{"question":7,"state":"decided","bit":1'), True)
+        if shutil.which("curl"):
+            said = subprocess.run(["curl", "-fsS", f"http://localhost:{gateway.port}/v1/questions/7"], capture_output=True, text=True, check=False)
+            found += differs("curl", said.stdout.startswith('{"question":7,"state":"decided","bit":1'), True)
         said = subprocess.run([PROGRAM, "ask", "--all", f"{folder}/client.toml", "7"], capture_output=True, text=True, check=False)
         found += differs("ask beside it", said.stdout, "DECIDED 1\n")
         status, took = gateway.end()
@@ -568,7 +569,7 @@ def hostile_clients_harm_nobody(folder, port):
                          (b"HTTP/1.1 414", b"HTTP/1.1 431", b"HTTP/1.1 400", b""), True)
         long = b"POST /v1/questions/9 HTTP/1.1\r\n" + head + b"Content-Type: application/json\r\nContent-Length: 2000000\r\n\r\n" + b" " * 2_000_000
         found += differs("a body of 2 MB", (raw(gateway, long) or b"")[:12] in (b"HTTP/1.1 413", b""), True)
-        links = idle_links(gateway, 1000)
+        links = idle_links(gateway, min(1000, resource.getrlimit(resource.RLIMIT_NOFILE)[0] - 200))
         begun = time.monotonic()
         time.sleep(0.5)
         for link in links[:100]:
