@@ -4,7 +4,7 @@ _bracha() {
     COMPREPLY=()
     [ "${COMP_WORDS[1]}" != --quiet ] || at=2
     if [ "$COMP_CWORD" -le "$at" ]; then
-        mapfile -t COMPREPLY < <(compgen -W "new-cluster init check run propose ask decide status transcript audit dump migrate simulate rounds hear help --quiet --help --version" -- "$word")
+        mapfile -t COMPREPLY < <(compgen -W "new-cluster init check run propose ask decide status transcript audit gateway dump migrate simulate rounds hear help --quiet --help --version" -- "$word")
         return
     fi
     case $before in
@@ -22,6 +22,7 @@ _bracha() {
     simulate) mapfile -t COMPREPLY < <(compgen -W "--trace --chart --page --question --member --from --to --forever --seed --seconds --quiet --help" -f -- "$word") ;;
     rounds) mapfile -t COMPREPLY < <(compgen -W "--n --t --liars --order --seeds --chart --quiet --help" -- "$word") ;;
     hear) mapfile -t COMPREPLY < <(compgen -W "--n --t --questions --me --quiet --help" -- "$word") ;;
+    gateway) mapfile -t COMPREPLY < <(compgen -W "--listen --token --quiet --help" -f -- "$word") ;;
     audit) mapfile -t COMPREPLY < <(compgen -W "--n --t --questions --all --timeout --quiet --help" -f -- "$word") ;;
     new-cluster) mapfile -t COMPREPLY < <(compgen -W "--n --t --questions --cluster --port --desk --quiet --help" -d -- "$word") ;;
     propose) mapfile -t COMPREPLY < <(compgen -W "--all --timeout --quiet --help" -f -- "$word") ;;
@@ -29,7 +30,7 @@ _bracha() {
     decide) mapfile -t COMPREPLY < <(compgen -W "--all --json --timeout --quiet --help" -f -- "$word") ;;
     status) mapfile -t COMPREPLY < <(compgen -W "--all --question --links --ready --json --timeout --quiet --help" -f -- "$word") ;;
     transcript) mapfile -t COMPREPLY < <(compgen -W "--all --timeout --quiet --help" -f -- "$word") ;;
-    help) mapfile -t COMPREPLY < <(compgen -W "new-cluster init check run propose ask decide status transcript audit dump migrate simulate rounds hear" -- "$word") ;;
+    help) mapfile -t COMPREPLY < <(compgen -W "new-cluster init check run propose ask decide status transcript audit gateway dump migrate simulate rounds hear" -- "$word") ;;
     esac
 }
 complete -o filenames -F _bracha bracha

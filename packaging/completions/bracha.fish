@@ -1,5 +1,5 @@
 # Completions of fish for bracha. Put it into ~/.config/fish/completions, /etc/fish/completions or /usr/share/fish/vendor_completions.d.
-set -l commands new-cluster init check run propose ask decide status transcript audit dump migrate simulate rounds hear help
+set -l commands new-cluster init check run propose ask decide status transcript audit gateway dump migrate simulate rounds hear help
 complete -c bracha -f
 complete -c bracha -n "not __fish_seen_subcommand_from $commands" -a new-cluster -d "Write the settings of a new cluster"
 complete -c bracha -n "not __fish_seen_subcommand_from $commands" -a init -d "Make the journal of a member"
@@ -11,6 +11,7 @@ complete -c bracha -n "not __fish_seen_subcommand_from $commands" -a decide -d "
 complete -c bracha -n "not __fish_seen_subcommand_from $commands" -a status -d "Ask a member whether it is up"
 complete -c bracha -n "not __fish_seen_subcommand_from $commands" -a transcript -d "Ask a member for what it heard of a decision"
 complete -c bracha -n "not __fish_seen_subcommand_from $commands" -a audit -d "Say whether a transcript is proof"
+complete -c bracha -n "not __fish_seen_subcommand_from $commands" -a gateway -d "Serve a cluster over HTTP"
 complete -c bracha -n "not __fish_seen_subcommand_from $commands" -a dump -d "Print a journal"
 complete -c bracha -n "not __fish_seen_subcommand_from $commands" -a migrate -d "Bring a journal of version 1 over"
 complete -c bracha -n "not __fish_seen_subcommand_from $commands" -a simulate -d "Run a script of a whole cluster"
@@ -20,7 +21,7 @@ complete -c bracha -n "not __fish_seen_subcommand_from $commands" -a help -d "Pr
 complete -c bracha -n "not __fish_seen_subcommand_from $commands" -l version -d "Print the version"
 complete -c bracha -l help -d "Print help"
 complete -c bracha -l quiet -d "One line for a fault"
-complete -c bracha -F -n "__fish_seen_subcommand_from new-cluster init check run propose ask decide status transcript audit dump migrate simulate"
+complete -c bracha -F -n "__fish_seen_subcommand_from new-cluster init check run propose ask decide status transcript audit gateway dump migrate simulate"
 complete -c bracha -n "__fish_seen_subcommand_from run" -l stay -d "Run until a signal"
 complete -c bracha -n "__fish_seen_subcommand_from run" -l any-host -d "Unsafe: take links from any host"
 complete -c bracha -n "__fish_seen_subcommand_from run" -l log -d "Tell events on standard error"
@@ -59,6 +60,8 @@ complete -c bracha -n "__fish_seen_subcommand_from hear" -l n -x -d "Members"
 complete -c bracha -n "__fish_seen_subcommand_from hear" -l t -x -d "Liars"
 complete -c bracha -n "__fish_seen_subcommand_from hear" -l questions -x -d "Questions"
 complete -c bracha -n "__fish_seen_subcommand_from hear" -l me -x -d "The member that hears"
+complete -c bracha -n "__fish_seen_subcommand_from gateway" -l listen -x -d "Address to listen at"
+complete -c bracha -n "__fish_seen_subcommand_from gateway" -l token -r -F -d "File of the token"
 complete -c bracha -n "__fish_seen_subcommand_from audit" -l n -x -d "Members"
 complete -c bracha -n "__fish_seen_subcommand_from audit" -l t -x -d "Liars"
 complete -c bracha -n "__fish_seen_subcommand_from audit" -l questions -x -d "Questions"

@@ -10,15 +10,16 @@ use clap::error::ErrorKind;
 use command_line::{Task, command};
 use std::convert::AsStr;
 use std::io;
+use std::marker::Brand;
 use std::net::{TcpListener, TcpStream};
 use std::process::ExitCode;
 use system::{
-    AuditWords, Audited, Caller, Choice, Cluster, Failure, Fault, HeldStreams, Measuring, Motion,
-    NewCluster, Query, SimulateWords, StateForm, ask_all, ask_at, audit_all, audit_file,
+    AuditWords, Audited, Caller, Choice, Cluster, Failure, Fault, Gate, HeldStreams, Measuring,
+    Motion, NewCluster, Query, SimulateWords, StateForm, ask_all, ask_at, audit_all, audit_file,
     audited_of, await_at, check_file, decide, dump_file, hear_end, hear_input, hold_streams,
     init_file, links_at, log_form, measure_rounds, migrate_file, new_cluster, number_words,
-    own_words, patience_of, propose_at, propose_to_all, run_file, simulate, size_of, state_at,
-    status_at, status_of_all, transcript_at, transcript_of_all, wants_quiet,
+    own_words, patience_of, propose_at, propose_to_all, run_file, run_gateway, simulate, size_of,
+    state_at, status_at, status_of_all, transcript_at, transcript_of_all, wants_quiet,
 };
 
 /// The member or the cluster that a client speaks to, and for how long.
@@ -176,7 +177,7 @@ fn work<R: Caller>(rt: &R, host: &HostRuntime, task: Task, quiet: bool) -> Resul
                 },
             )
         }
-        Task::Init { settings } => init_file(host, settings),
+        Task::Init { settings } => init_file::<Brand>(host, settings),
         Task::Check { settings, json } => check_file(host, settings, json),
         Task::Run {
             settings,
@@ -184,7 +185,7 @@ fn work<R: Caller>(rt: &R, host: &HostRuntime, task: Task, quiet: bool) -> Resul
             log,
             log_json,
             any_host,
-        } => run_file(rt, host, settings, stay, log_form(log, log_json), any_host),
+        } => run_file::<R, Brand>(rt, host, settings, stay, log_form(log, log_json), any_host),
         Task::Propose {
             address,
             question,
@@ -271,6 +272,19 @@ fn work<R: Caller>(rt: &R, host: &HostRuntime, task: Task, quiet: bool) -> Resul
             };
             audit(rt, host, file, words, timeout)
         }
+        Task::Gateway {
+            file,
+            listen,
+            token,
+        } => run_gateway(
+            rt,
+            host,
+            &Gate {
+                file,
+                listen,
+                token,
+            },
+        ),
         Task::Rounds {
             n,
             t,
@@ -292,8 +306,8 @@ fn work<R: Caller>(rt: &R, host: &HostRuntime, task: Task, quiet: bool) -> Resul
             journal,
             count,
             json,
-        } => dump_file(host, journal, count, json),
-        Task::Migrate { old, new } => migrate_file(host, old, new),
+        } => dump_file::<Brand>(host, journal, count, json),
+        Task::Migrate { old, new } => migrate_file::<Brand, Brand>(host, old, new),
         Task::Simulate {
             script,
             trace,

@@ -145,6 +145,11 @@ audit_app = taking (codes "audit")
     (word_rule (codes "file") ∷ as_u16 (last_rule (codes "question")) ∷ all_rule
     ∷ audited_rules ++ timeout_rule ∷ [])
 
+-- `bracha gateway [--listen ADDRESS] [--token FILE] FILE`
+abbrev pub gateway_app : App
+gateway_app = taking (codes "gateway")
+    (word_rule (codes "file") ∷ option_rule (codes "listen") ∷ option_rule (codes "token") ∷ [])
+
 -- `bracha dump [--count] [--json] JOURNAL`
 abbrev pub dump_app : App
 dump_app = taking (codes "dump") (word_rule (codes "journal") ∷ flag_rule (codes "count") ∷ json_rule ∷ [])
@@ -199,7 +204,7 @@ with_telling app = with_rule (with_rule app quiet_rule) verbose_rule
 -- the commands, in the order of the help
 abbrev pub commands : List App
 commands = new_cluster_app ∷ init_app ∷ check_app ∷ run_app ∷ propose_app ∷ ask_app ∷ decide_app
-    ∷ status_app ∷ transcript_app ∷ audit_app ∷ dump_app ∷ migrate_app ∷ simulate_app ∷ rounds_app
+    ∷ status_app ∷ transcript_app ∷ audit_app ∷ gateway_app ∷ dump_app ∷ migrate_app ∷ simulate_app ∷ rounds_app
     ∷ hear_app ∷ []
 
 -- `bracha [--quiet] [--verbose] COMMAND [--quiet] [--verbose] ..`

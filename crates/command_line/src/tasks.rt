@@ -1,7 +1,7 @@
 //! The words of the command line.
 
 ghost use Rattle.command_line.specs.Tasks.{AreQuiet, AskFor, HasFlag, HasNumberOption, IsAskedFor, IsQuiet, Names, SaysQuiet, rows_in};
-ghost use Rattle.command_line.specs.Usage.{Builds, address_rule, all_rule, needed_all_rule, as_u16, as_u32, as_u8, ask_app, json_rule, audit_app, audited_rules, decide_app, bare_app, check_app, choice_rules, dump_app, option_rule, flag_rule, last_rule, timeout_rule, hear_app, init_app, migrate_app, new_cluster_app, number_rule, program_app};
+ghost use Rattle.command_line.specs.Usage.{Builds, address_rule, all_rule, needed_all_rule, as_u16, as_u32, as_u8, ask_app, json_rule, audit_app, audited_rules, decide_app, bare_app, check_app, choice_rules, dump_app, gateway_app, option_rule, flag_rule, last_rule, timeout_rule, hear_app, init_app, migrate_app, new_cluster_app, number_rule, program_app};
 ghost use Rattle.command_line.specs.Usage.{forever_rules, propose_app, rounds_app, run_app, simulate_app, size_rules, status_app, transcript_app, desk_rules, quiet_rule, verbose_rule, word_rule, with_rules, with_telling};
 ghost use Rattle.clap.specs.Words.{App, FailsBy, Rule, app_of, fault_of, first_of, new_app, rule_of, subcommand_rows_of, with_rule, with_subcommand};
 ghost use Rattle.std.specs.Prelude.{◌≡◌, ◌↔◌, IfOk, IfSome, IsNone, IsTrue, Some, codes, map, option_map, ℕ};
@@ -111,6 +111,13 @@ pub enum Task<'a> {
         t: Option<u16>,
         questions: Option<u16>,
         timeout: Option<&'a str>,
+    },
+    /// Serves the cluster of the client's settings in this file to browsers and other clients of HTTP, at this address. Proposals
+    /// must show the token in that file.
+    Gateway {
+        file: &'a str,
+        listen: Option<&'a str>,
+        token: Option<&'a str>,
     },
     /// Runs the script in this file, and writes a trace, a chart and a page of the run into those files. The chart has the events of
     /// this question and this member alone, from that number to that one. Or runs random scripts from this seed on, for so many
@@ -545,6 +552,35 @@ fn audit<'a>(alloc: Global) -> Built<'a>
     with_timeout(alloc, command)
 }
 
+fn gateway<'a>(alloc: Global) -> Built<'a>
+    ensures { Builds gateway_app result }
+{
+    let about = "Serve a cluster over HTTP: a page, JSON, events, metrics";
+    let examples =
+        "Prints `gateway ADDRESS cluster C members N` once it listens. A decision is told only if more than T members report it. Runs until SIGTERM or SIGINT. A proposal must show the token of --token in `Authorization: Bearer`. Without --token anybody may propose if ADDRESS is a loopback address, and nobody if it is another.\n\nExamples (on this machine; for others, with a token):\n  bracha gateway client.toml\n  bracha gateway --listen 10.0.0.1:7180 --token gateway.token client.toml";
+    let file = word(
+        alloc,
+        "file",
+        "FILE",
+        "The file client.toml of `new-cluster`",
+    );
+    let listen = option(
+        alloc,
+        "listen",
+        "ADDRESS",
+        "Address to listen at, HOST:PORT [default: 127.0.0.1:7180]",
+    );
+    let token = option(
+        alloc,
+        "token",
+        "FILE",
+        "File of the token, one line, that only its owner can read",
+    );
+    let command = with_arg(named(alloc, "gateway", about, examples), file);
+    let command = with_arg(command, listen);
+    with_arg(command, token)
+}
+
 fn dump<'a>(alloc: Global) -> Built<'a>
     ensures { Builds dump_app result }
 {
@@ -691,6 +727,7 @@ fn program<'a>(alloc: Global) -> Built<'a>
     let program = with_command(alloc, program, status(alloc));
     let program = with_command(alloc, program, transcript(alloc));
     let program = with_command(alloc, program, audit(alloc));
+    let program = with_command(alloc, program, gateway(alloc));
     let program = with_command(alloc, program, dump(alloc));
     let program = with_command(alloc, program, migrate(alloc));
     let program = with_command(alloc, program, simulate(alloc));
@@ -896,6 +933,18 @@ fn audit_of<'a>(options: &ArgMatches<'a>) -> Option<Task<'a>>
     })
 }
 
+/// The values of `gateway`'s words.
+fn gateway_of<'a>(options: &ArgMatches<'a>) -> Option<Task<'a>>
+    ensures some { IfSome result (Names (codes "gateway") (rows_in options.now)) }
+    ensures none { IsNone result → (task : Task) → Names (codes "gateway") (rows_in options.now) task → ⊥ }
+{
+    Some(Task::Gateway {
+        file: text_of(options, "file")?,
+        listen: text_of(options, "listen"),
+        token: text_of(options, "token"),
+    })
+}
+
 /// The values of `dump`'s words.
 fn dump_of<'a>(options: &ArgMatches<'a>) -> Option<Task<'a>>
     ensures some { IfSome result (Names (codes "dump") (rows_in options.now)) }
@@ -971,6 +1020,7 @@ fn named_task<'a>(name: &str, options: &ArgMatches<'a>) -> Option<Task<'a>>
         "status" => status_of(options),
         "transcript" => transcript_of(options),
         "audit" => audit_of(options),
+        "gateway" => gateway_of(options),
         "dump" => dump_of(options),
         "migrate" => migrate_of(options),
         "simulate" => simulate_of(options),

@@ -120,10 +120,10 @@ pub fn check_journal<D: Disk, W: Write>(
     output: &mut W,
 ) -> Result<u8, DumpFault>
     ensures status { IfOk result (λ status. status ≡ 0) }
-    ensures all { D.keeps disk.old → OnOk result ((records : List Record)
+    ensures all { D.keeps disk.new → OnOk result ((records : List Record)
         × Holds header.now records (D.state disk.old).seen
         × Appends (W.contents output.old) (W.contents output.new) (records_line (length records))) }
-    ensures fault { D.keeps disk.old → (fault : JournalFault) → result ≡ Err (DumpFault.Journal fault) → IsOfFile fault → RefusesFile header.now fault (D.state disk.old).seen }
+    ensures fault { D.keeps disk.new → (fault : JournalFault) → result ≡ Err (DumpFault.Journal fault) → IsOfFile fault → RefusesFile header.now fault (D.state disk.old).seen }
     ensures nothing { (fault : JournalFault) → result ≡ Err (DumpFault.Journal fault) → output.new ≡ output.old }
     ensures only { IfErr result IsOfDump }
     ensures untouched { IsUntouched D.Disk disk.old disk.new }
@@ -144,10 +144,10 @@ pub fn print_check<D: Disk, W: Write>(
     output: &mut W,
 ) -> Result<u8, DumpFault>
     ensures status { IfOk result (λ status. status ≡ 0) }
-    ensures all { D.keeps disk.old → OnOk result ((records : List Record)
+    ensures all { D.keeps disk.new → OnOk result ((records : List Record)
         × Holds settings.now.header records (D.state disk.old).seen
         × Appends (W.contents output.old) (W.contents output.new) (check_object settings.now (length records))) }
-    ensures fault { D.keeps disk.old → (fault : JournalFault) → result ≡ Err (DumpFault.Journal fault) → IsOfFile fault → RefusesFile settings.now.header fault (D.state disk.old).seen }
+    ensures fault { D.keeps disk.new → (fault : JournalFault) → result ≡ Err (DumpFault.Journal fault) → IsOfFile fault → RefusesFile settings.now.header fault (D.state disk.old).seen }
     ensures nothing { (fault : JournalFault) → result ≡ Err (DumpFault.Journal fault) → output.new ≡ output.old }
     ensures only { IfErr result IsOfDump }
     ensures untouched { IsUntouched D.Disk disk.old disk.new }

@@ -140,8 +140,8 @@ pub(crate) fn read_records<D: Disk>(
     disk: &mut D,
     header: &Header,
 ) -> Result<Vec<Record>, JournalFault>
-    ensures held { D.keeps disk.old → IfOk result (λ records. Holds header.now records.items (D.state disk.old).seen) }
-    ensures fault { D.keeps disk.old → IfErr result (λ fault. IsOfFile fault → RefusesFile header.now fault (D.state disk.old).seen) }
+    ensures held { D.keeps disk.new → IfOk result (λ records. Holds header.now records.items (D.state disk.old).seen) }
+    ensures fault { D.keeps disk.new → IfErr result (λ fault. IsOfFile fault → RefusesFile header.now fault (D.state disk.old).seen) }
     ensures device { IsErrOf result Device → D.failures disk.old < D.failures disk.new }
     ensures only { IfErr result IsFaultOfOpening }
     ensures untouched { IsUntouched D.Disk disk.old disk.new }
@@ -153,8 +153,8 @@ pub(crate) fn read_records<D: Disk>(
 /// Reads the header of the journal on the disk, and its batches. All of the file is looked at, and no byte is changed.
 fn look<D: Disk>(alloc: Global, disk: &mut D) -> Result<(Header, Batches), JournalFault>
     ensures held { IfOk result (λ seen. (records : List Record) × HasLeft seen.1 records
-        × (D.keeps disk.old → Holds seen.0 records (D.state disk.old).seen)) }
-    ensures fault { D.keeps disk.old → IfErr result (λ fault. (fault ≡ Memory) ⊎ IsUnreadable fault (D.state disk.old).seen) }
+        × (D.keeps disk.new → Holds seen.0 records (D.state disk.old).seen)) }
+    ensures fault { D.keeps disk.new → IfErr result (λ fault. (fault ≡ Memory) ⊎ IsUnreadable fault (D.state disk.old).seen) }
     ensures device { IsErrOf result Device → D.failures disk.old < D.failures disk.new }
     ensures only { IfErr result IsFaultOfOpening }
     ensures untouched { IsUntouched D.Disk disk.old disk.new }
@@ -175,10 +175,10 @@ fn print_records<D: Disk, W: Write>(
     output: &mut W,
 ) -> Result<u8, DumpFault>
     ensures status { IfOk result (λ status. status ≡ 0) }
-    ensures all { D.keeps disk.old → OnOk result ((header : Header) × (records : List Record)
+    ensures all { D.keeps disk.new → OnOk result ((header : Header) × (records : List Record)
         × Holds header records (D.state disk.old).seen
         × Appends (W.contents output.old) (W.contents output.new) (head_text form header ++ records_text form records)) }
-    ensures fault { D.keeps disk.old → (fault : JournalFault) → result ≡ Err (DumpFault.Journal fault) → IsUnreadable fault (D.state disk.old).seen }
+    ensures fault { D.keeps disk.new → (fault : JournalFault) → result ≡ Err (DumpFault.Journal fault) → IsUnreadable fault (D.state disk.old).seen }
     ensures nothing { (fault : JournalFault) → result ≡ Err (DumpFault.Journal fault) → output.new ≡ output.old }
     ensures device { result ≡ Err (DumpFault.Journal Device) → D.failures disk.old < D.failures disk.new }
     ensures untouched { IsUntouched D.Disk disk.old disk.new }
@@ -200,10 +200,10 @@ fn print_count<D: Disk, W: Write>(
     output: &mut W,
 ) -> Result<u8, DumpFault>
     ensures status { IfOk result (λ status. status ≡ 0) }
-    ensures all { D.keeps disk.old → OnOk result ((header : Header) × (records : List Record)
+    ensures all { D.keeps disk.new → OnOk result ((header : Header) × (records : List Record)
         × Holds header records (D.state disk.old).seen
         × Appends (W.contents output.old) (W.contents output.new) (count_text form records)) }
-    ensures fault { D.keeps disk.old → (fault : JournalFault) → result ≡ Err (DumpFault.Journal fault) → IsUnreadable fault (D.state disk.old).seen }
+    ensures fault { D.keeps disk.new → (fault : JournalFault) → result ≡ Err (DumpFault.Journal fault) → IsUnreadable fault (D.state disk.old).seen }
     ensures nothing { (fault : JournalFault) → result ≡ Err (DumpFault.Journal fault) → output.new ≡ output.old }
     ensures device { result ≡ Err (DumpFault.Journal Device) → D.failures disk.old < D.failures disk.new }
     ensures untouched { IsUntouched D.Disk disk.old disk.new }
@@ -228,10 +228,10 @@ pub fn dump_lines<D: Disk, W: Write>(
     output: &mut W,
 ) -> Result<u8, DumpFault>
     ensures status { IfOk result (λ status. status ≡ 0) }
-    ensures all { D.keeps disk.old → OnOk result ((header : Header) × (records : List Record)
+    ensures all { D.keeps disk.new → OnOk result ((header : Header) × (records : List Record)
         × Holds header records (D.state disk.old).seen
         × Appends (W.contents output.old) (W.contents output.new) (dump_text header records)) }
-    ensures fault { D.keeps disk.old → (fault : JournalFault) → result ≡ Err (DumpFault.Journal fault) → IsUnreadable fault (D.state disk.old).seen }
+    ensures fault { D.keeps disk.new → (fault : JournalFault) → result ≡ Err (DumpFault.Journal fault) → IsUnreadable fault (D.state disk.old).seen }
     ensures nothing { (fault : JournalFault) → result ≡ Err (DumpFault.Journal fault) → output.new ≡ output.old }
     ensures device { result ≡ Err (DumpFault.Journal Device) → D.failures disk.old < D.failures disk.new }
     ensures untouched { IsUntouched D.Disk disk.old disk.new }
@@ -248,10 +248,10 @@ pub fn dump_count<D: Disk, W: Write>(
     output: &mut W,
 ) -> Result<u8, DumpFault>
     ensures status { IfOk result (λ status. status ≡ 0) }
-    ensures all { D.keeps disk.old → OnOk result ((header : Header) × (records : List Record)
+    ensures all { D.keeps disk.new → OnOk result ((header : Header) × (records : List Record)
         × Holds header records (D.state disk.old).seen
         × Appends (W.contents output.old) (W.contents output.new) (number_text records)) }
-    ensures fault { D.keeps disk.old → (fault : JournalFault) → result ≡ Err (DumpFault.Journal fault) → IsUnreadable fault (D.state disk.old).seen }
+    ensures fault { D.keeps disk.new → (fault : JournalFault) → result ≡ Err (DumpFault.Journal fault) → IsUnreadable fault (D.state disk.old).seen }
     ensures nothing { (fault : JournalFault) → result ≡ Err (DumpFault.Journal fault) → output.new ≡ output.old }
     ensures device { result ≡ Err (DumpFault.Journal Device) → D.failures disk.old < D.failures disk.new }
     ensures untouched { IsUntouched D.Disk disk.old disk.new }
@@ -268,10 +268,10 @@ pub fn dump_objects<D: Disk, W: Write>(
     output: &mut W,
 ) -> Result<u8, DumpFault>
     ensures status { IfOk result (λ status. status ≡ 0) }
-    ensures all { D.keeps disk.old → OnOk result ((header : Header) × (records : List Record)
+    ensures all { D.keeps disk.new → OnOk result ((header : Header) × (records : List Record)
         × Holds header records (D.state disk.old).seen
         × Appends (W.contents output.old) (W.contents output.new) (objects_text header records)) }
-    ensures fault { D.keeps disk.old → (fault : JournalFault) → result ≡ Err (DumpFault.Journal fault) → IsUnreadable fault (D.state disk.old).seen }
+    ensures fault { D.keeps disk.new → (fault : JournalFault) → result ≡ Err (DumpFault.Journal fault) → IsUnreadable fault (D.state disk.old).seen }
     ensures nothing { (fault : JournalFault) → result ≡ Err (DumpFault.Journal fault) → output.new ≡ output.old }
     ensures device { result ≡ Err (DumpFault.Journal Device) → D.failures disk.old < D.failures disk.new }
     ensures untouched { IsUntouched D.Disk disk.old disk.new }
@@ -288,10 +288,10 @@ pub fn dump_count_object<D: Disk, W: Write>(
     output: &mut W,
 ) -> Result<u8, DumpFault>
     ensures status { IfOk result (λ status. status ≡ 0) }
-    ensures all { D.keeps disk.old → OnOk result ((header : Header) × (records : List Record)
+    ensures all { D.keeps disk.new → OnOk result ((header : Header) × (records : List Record)
         × Holds header records (D.state disk.old).seen
         × Appends (W.contents output.old) (W.contents output.new) (count_object (length records))) }
-    ensures fault { D.keeps disk.old → (fault : JournalFault) → result ≡ Err (DumpFault.Journal fault) → IsUnreadable fault (D.state disk.old).seen }
+    ensures fault { D.keeps disk.new → (fault : JournalFault) → result ≡ Err (DumpFault.Journal fault) → IsUnreadable fault (D.state disk.old).seen }
     ensures nothing { (fault : JournalFault) → result ≡ Err (DumpFault.Journal fault) → output.new ≡ output.old }
     ensures device { result ≡ Err (DumpFault.Journal Device) → D.failures disk.old < D.failures disk.new }
     ensures untouched { IsUntouched D.Disk disk.old disk.new }

@@ -2,6 +2,7 @@
 //! is the law.
 
 ghost use Rattle.disk.specs.Losses.{LeavesAnything, LeavesElsewhere, LeavesLonger, LeavesTorn, LeavesTornOnceFailed};
+ghost use Rattle.disk.specs.Suppositions.{IsLostByFalse, MayBeSo};
 
 /// What may be lost by a crash, or by a write that failed.
 ///
@@ -19,4 +20,14 @@ pub fn losses()
     ensures torn { LeavesTorn }
     ensures torn_once_failed { LeavesTornOnceFailed }
     ensures elsewhere { LeavesElsewhere }
+{}
+
+/// Proves that a premise of a file says something.
+///
+/// - `may_be_so`: each premise may hold. It holds before the first call. While it holds, the next call has an answer by
+///   which it holds: the file's length, its bytes, or that a write or a sync succeeded.
+/// - `lost`: a length that isn't the file's, and a read that gives other bytes, end it, whatever is answered later.
+pub fn suppositions()
+    ensures may_be_so { MayBeSo }
+    ensures lost { IsLostByFalse }
 {}

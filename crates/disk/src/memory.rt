@@ -23,7 +23,7 @@ pub struct MemDisk {
 }
 
 impl MemDisk {
-    ghost use Rattle.disk.specs.Memory.{memory_state, memory_moment, memory_failures, fuse_left, with_fuse};
+    ghost use Rattle.disk.specs.Memory.{memory_begun, memory_state, memory_moment, memory_failures, fuse_left, with_fuse};
 
     /// An empty file, with no fuse in. It takes no memory.
     pub fn new(alloc: Global) -> MemDisk
@@ -62,6 +62,7 @@ impl MemDisk {
     pub fn crash(mut self, pick: Pick) -> Result<MemDisk, AllocError>
         ensures state { IfOk result (λ disk. memory_state disk ≡ at_rest (left (memory_state self) pick)) }
         ensures may_leave { IfOk result (λ disk. MayLeave (memory_state self) (memory_state disk).seen) }
+        ensures as_it_began { IfOk result (λ disk. memory_state disk ≡ at_rest (memory_begun disk)) }
         ensures moment { IfOk result (λ disk. memory_moment disk ≡ 0) }
         ensures failures { IfOk result (λ disk. memory_failures disk ≡ 0) }
         ensures fuse { IfOk result (λ disk. fuse_left disk ≡ None) }
@@ -130,9 +131,11 @@ impl Disk for MemDisk {
     ghost use Rattle.std.specs.Prelude.{◌⊎◌, ◌+◌, ◌≤◌, take, drop};
     ghost use Rattle.disk.specs.Model.{Elapses, FailedWrite, after_write};
     ghost use Rattle.disk.specs.Fuse.{Burns};
-    ghost use Rattle.disk.specs.Memory.{memory_state, memory_moment, memory_since, memory_failures, fuse_left};
+    ghost use Rattle.disk.specs.Memory.{memory_state, memory_moment, memory_since, memory_failures, memory_begun, fuse_left};
 
     ghost keeps = { λ _. Unit {0} };
+
+    ghost begun = { memory_begun };
 
     ghost state = { memory_state };
 
@@ -156,6 +159,7 @@ impl Disk for MemDisk {
         ensures listed { memory_moment self.new ≡ memory_moment self.old + 1 }
         ensures fuse { Burns (memory_moment self.old) (memory_moment self.new)
             (fuse_left self.old) (fuse_left self.new) result }
+        ensures begun { memory_begun self.new ≡ memory_begun self.old }
         ensures cause { CountsFailures (memory_failures self.old) (memory_failures self.new) result }
         ensures counted { CountsFault (memory_failures self.old) (memory_failures self.new) result }
     {
@@ -173,6 +177,7 @@ impl Disk for MemDisk {
         ensures listed { memory_moment self.new ≡ memory_moment self.old + 1 }
         ensures fuse { Burns (memory_moment self.old) (memory_moment self.new)
             (fuse_left self.old) (fuse_left self.new) result }
+        ensures begun { memory_begun self.new ≡ memory_begun self.old }
         ensures cause { CountsFailures (memory_failures self.old) (memory_failures self.new) result }
         ensures counted { CountsFault (memory_failures self.old) (memory_failures self.new) result }
     {
@@ -192,6 +197,7 @@ impl Disk for MemDisk {
             (memory_since self.old) (memory_since self.new) (memory_state self.old) (memory_state self.new) result }
         ensures fuse { Burns (memory_moment self.old) (memory_moment self.new)
             (fuse_left self.old) (fuse_left self.new) result }
+        ensures begun { memory_begun self.new ≡ memory_begun self.old }
         ensures cause { CountsFailures (memory_failures self.old) (memory_failures self.new) result }
         ensures counted { CountsFault (memory_failures self.old) (memory_failures self.new) result }
     {
@@ -210,6 +216,7 @@ impl Disk for MemDisk {
         ensures listed { memory_moment self.new ≡ memory_moment self.old + 1 }
         ensures fuse { Burns (memory_moment self.old) (memory_moment self.new)
             (fuse_left self.old) (fuse_left self.new) result }
+        ensures begun { memory_begun self.new ≡ memory_begun self.old }
         ensures cause { CountsFailures (memory_failures self.old) (memory_failures self.new) result }
         ensures counted { CountsFault (memory_failures self.old) (memory_failures self.new) result }
     {

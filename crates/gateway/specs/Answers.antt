@@ -1,9 +1,11 @@
 -- Objects of JSON about questions.
-use Rattle.std.specs.Prelude.{ℕ, zero, suc, ◌≡◌, Bool, true, false, Option, Some, None, List, [], ◌++◌, codes, drop, map}
+use Rattle.std.specs.Prelude.{ℕ, zero, suc, ◌≡◌, Bool, true, false, Option, Some, None, List, [], ◌∷◌, ◌++◌, ◌==◌, codes, drop, if◌then◌else◌, map}
 use Rattle.std.specs.Fmt.{decimal}
+use Rattle.std.specs.List.{flat_map}
 use Rattle.terms_prelude.specs.Terms.{Size}
 use Rattle.client.specs.Readings.{first_word}
 use Rattle.gateway.specs.declared.answers.Moment.{Moment}
+use Rattle.gateway.specs.declared.answers.Transcript.{Transcript}
 use Rattle.gateway.specs.declared.requests.Refusal.{Refusal}
 use Rattle.gateway.specs.declared.standings.Stage.{Stage}
 use Rattle.gateway.specs.declared.standings.Standing.{Standing}
@@ -45,6 +47,27 @@ abbrev pub proposal_object : ℕ → Standing → ℕ → ℕ → List ℕ
 proposal_object question standing taken have =
     codes "{\"question\":" ++ (decimal question ++ (codes "," ++ (standing_fields standing
     ++ (codes ",\"taken\":" ++ (decimal taken ++ (codes ",\"have\":" ++ (decimal have ++ codes "}\n")))))))
+
+-- the lines of a text of JSON: the end of each is `\n`
+abbrev pub escaped_byte : ℕ → List ℕ
+escaped_byte byte = if byte == 10 then codes "\\n" else byte ∷ []
+
+abbrev pub escaped : List ℕ → List ℕ
+escaped text = flat_map escaped_byte text
+
+-- what an audit says
+abbrev pub yes_or_no : Bool → List ℕ
+yes_or_no false = codes "no"
+yes_or_no true = codes "yes"
+
+-- the object of a transcript
+abbrev pub transcript_head : Transcript → List ℕ
+transcript_head told =
+    codes "{\"question\":" ++ (decimal told.question ++ (codes ",\"bit\":" ++ (says_text (Some told.bit) ++ (codes ",\"member\":"
+    ++ (decimal told.member ++ (codes ",\"audit\":\"" ++ (yes_or_no told.proven ++ codes "\",\"transcript\":\"")))))))
+
+abbrev pub transcript_object : Transcript → List ℕ
+transcript_object told = (transcript_head told ++ escaped told.text.now) ++ codes "\"}\n"
 
 -- the object of questions: a letter for each, and the position from which the stream goes on
 abbrev pub states_head : Moment → List ℕ

@@ -7,10 +7,22 @@ use Rattle.gateway.specs.declared.guards.Policy.{Policy}
 abbrev pub IsHost : List ℕ → ℕ → List ℕ → Type 0
 IsHost name port host = (digits : List ℕ) × (host ≡ name ++ digits) × IsBelow 16 digits port
 
+-- the host is one of this machine's own names with the port
+abbrev pub IsPortHost : ℕ → List ℕ → Type 0
+IsPortHost port host =
+    IsHost (codes "127.0.0.1:") port host ⊎ (IsHost (codes "localhost:") port host ⊎ IsHost (codes "[::1]:") port host)
+
+-- the host is one of these names alone
+abbrev pub IsBareHost : List ℕ → Type 0
+IsBareHost host = (host ≡ codes "127.0.0.1") ⊎ ((host ≡ codes "localhost") ⊎ (host ≡ codes "[::1]"))
+
+-- a browser leaves out the port of HTTP, which is 80
+abbrev pub IsBareLocalHost : ℕ → List ℕ → Type 0
+IsBareLocalHost port host = (port ≡ 80) × IsBareHost host
+
 -- the host is one of this machine's own names
 abbrev pub IsLocalHost : ℕ → List ℕ → Type 0
-IsLocalHost port host =
-    IsHost (codes "127.0.0.1:") port host ⊎ (IsHost (codes "localhost:") port host ⊎ IsHost (codes "[::1]:") port host)
+IsLocalHost port host = IsPortHost port host ⊎ IsBareLocalHost port host
 
 -- a gateway at a loopback address takes these names alone: under another name a page of somebody else may lead here
 abbrev pub IsOwnHost : Policy → List ℕ → Type 0

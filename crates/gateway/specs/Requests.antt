@@ -115,6 +115,8 @@ IsRefusedAt policy size at request refusal.Memory = request.method ≡ method.Po
 IsRefusedAt policy size at request refusal.Length = ⊥
 IsRefusedAt policy size at request refusal.Busy = ⊥
 IsRefusedAt policy size at request refusal.Silent = ⊥
+IsRefusedAt policy size at request refusal.Undecided = ⊥
+IsRefusedAt policy size at request refusal.Thin = ⊥
 
 -- why a request is refused
 abbrev pub IsRefused : Policy → Size → Request → Refusal → Type 0
@@ -139,6 +141,8 @@ status_of refusal.Memory = 503
 status_of refusal.Length = 413
 status_of refusal.Busy = 429
 status_of refusal.Silent = 503
+status_of refusal.Undecided = 404
+status_of refusal.Thin = 404
 
 abbrev pub word_of : Refusal → List ℕ
 word_of refusal.Host = codes "host"
@@ -155,3 +159,5 @@ word_of refusal.Memory = codes "memory"
 word_of refusal.Length = codes "length"
 word_of refusal.Busy = codes "busy"
 word_of refusal.Silent = codes "silent"
+word_of refusal.Undecided = codes "undecided"
+word_of refusal.Thin = codes "thin"

@@ -2,7 +2,7 @@
 
 ghost use Rattle.std.specs.Prelude.{◌≡◌, ◌≤◌, ◌++◌, List, IfOk, drop, string_bytes};
 ghost use Rattle.client.specs.Readings.{first_word};
-ghost use Rattle.gateway.specs.Answers.{TellsQuestion, proposal_object, question_head, ready_object, refusal_object, says_text, states_head, states_object, word_item, word_items};
+ghost use Rattle.gateway.specs.Answers.{TellsQuestion, proposal_object, question_head, escaped, escaped_byte, ready_object, refusal_object, says_text, states_head, states_object, transcript_head, transcript_object, word_item, word_items, yes_or_no};
 ghost use Rattle.gateway.specs.Watches.{Watches, watch_size, words_on};
 ghost use Rattle.gateway.specs.declared.watch.Told.{Told};
 
@@ -136,6 +136,76 @@ pub fn refusal_text(alloc: Global, refusal: Refusal) -> Result<String, AllocErro
     ensures { IfOk result (λ text. string_bytes text ≡ refusal_object refusal) }
 {
     format!(in alloc; "{{\"error\":\"{}\"}}\n", word_of(refusal))
+}
+
+/// A transcript that a member sent.
+#[derive(Clone, Copy, Debug, PartialEq, Eq)]
+pub struct Transcript<'a> {
+    /// The question.
+    pub question: u16,
+    /// The bit that it is for.
+    pub bit: bool,
+    /// The member.
+    pub member: u8,
+    /// Set if its statements are proof of the bit.
+    pub proven: bool,
+    /// Its lines, each with its end.
+    pub text: &'a [u8],
+}
+
+/// Returns the word of an audit.
+fn yes_or_no(proven: bool) -> &'static str
+    ensures { result.now ≡ yes_or_no proven }
+{
+    if proven { "yes" } else { "no" }
+}
+
+/// Returns what stands before the lines of a transcript.
+fn transcript_head(alloc: Global, told: &Transcript<'_>) -> Result<String, AllocError>
+    ensures { IfOk result (λ text. string_bytes text ≡ transcript_head told.now) }
+{
+    format!(in alloc;
+        "{{\"question\":{},\"bit\":{},\"member\":{},\"audit\":\"{}\",\"transcript\":\"",
+        told.question,
+        says_text(Some(told.bit)),
+        told.member,
+        yes_or_no(told.proven)
+    )
+}
+
+/// Appends a byte of a transcript as a text of JSON has it.
+fn push_escaped(text: &mut Vec<u8>, byte: u8) -> Result<(), AllocError>
+    ensures { IfOk result (λ _. text.new.items ≡ text.old.items ++ escaped_byte byte) }
+{
+    if byte == b'\n' {
+        return text.extend_from_slice(b"\\n");
+    }
+    text.extend_from_slice(&[byte])
+}
+
+/// Returns the lines of a transcript as a text of JSON has them.
+fn escaped(alloc: Global, text: &[u8]) -> Result<Vec<u8>, AllocError>
+    ensures { IfOk result (λ bytes. bytes.items ≡ escaped text.now) }
+{
+    let mut bytes = Vec::new(alloc);
+    for byte in text {
+        push_escaped(&mut bytes, *byte)?;
+    }
+    Ok(bytes)
+}
+
+/// Returns the object of JSON of a transcript: its lines, and what an audit says of it. The lines have nothing but digits, letters
+/// and blanks.
+///
+/// # Errors
+///
+/// [`AllocError`] if an allocation failed.
+pub fn transcript_text(alloc: Global, told: &Transcript<'_>) -> Result<Vec<u8>, AllocError>
+    ensures { IfOk result (λ bytes. bytes.items ≡ transcript_object told.now) }
+{
+    let head = transcript_head(alloc, told)?;
+    let lines = escaped(alloc, told.text)?;
+    joined(alloc, head.as_bytes(), &lines, b"\"}\n")
 }
 
 /// The moment at which states were looked at.

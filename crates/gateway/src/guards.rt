@@ -1,7 +1,7 @@
 //! The conditions under which a request is answered, or proposes.
 
-ghost use Rattle.std.specs.Prelude.{◌≡◌, ◌↔◌, ◌++◌, ℕ, List, IsTrue};
-ghost use Rattle.gateway.specs.Guards.{IsHost, IsJsonType, IsLocalHost, IsOwnHost, IsOwnOrigin, ShowsToken, TakesProposals};
+ghost use Rattle.std.specs.Prelude.{◌≡◌, ◌↔◌, ◌++◌, ℕ, List, IsTrue, codes};
+ghost use Rattle.gateway.specs.Guards.{IsBareHost, IsBareLocalHost, IsHost, IsJsonType, IsLocalHost, IsPortHost, IsOwnHost, IsOwnOrigin, ShowsToken, TakesProposals};
 
 use numerals::{behind, is, number16};
 
@@ -26,13 +26,34 @@ fn is_host(host: &[u8], name: &str, port: u16) -> bool
     }
 }
 
-/// Returns `true` if the host is one of this machine's own names.
-fn is_local_host(host: &[u8], port: u16) -> bool
-    ensures { IsTrue result ↔ IsLocalHost port host.now }
+/// Returns `true` if the host is one of this machine's own names with the port.
+fn is_port_host(host: &[u8], port: u16) -> bool
+    ensures { IsTrue result ↔ IsPortHost port host.now }
 {
     is_host(host, "127.0.0.1:", port)
         || is_host(host, "localhost:", port)
         || is_host(host, "[::1]:", port)
+}
+
+/// Returns `true` if the host is one of this machine's own names alone.
+fn is_bare_host(host: &[u8]) -> bool
+    ensures { IsTrue result ↔ IsBareHost host.now }
+{
+    is(host, "127.0.0.1") || is(host, "localhost") || is(host, "[::1]")
+}
+
+/// Returns `true` if the host is one of this machine's own names alone, and the port is that of HTTP.
+fn is_bare_local_host(host: &[u8], port: u16) -> bool
+    ensures { IsTrue result ↔ IsBareLocalHost port host.now }
+{
+    port == 80 && is_bare_host(host)
+}
+
+/// Returns `true` if the host is one of this machine's own names.
+fn is_local_host(host: &[u8], port: u16) -> bool
+    ensures { IsTrue result ↔ IsLocalHost port host.now }
+{
+    is_port_host(host, port) || is_bare_local_host(host, port)
 }
 
 /// Returns `true` if the gateway takes requests under this host.
@@ -66,11 +87,35 @@ pub(crate) fn takes_proposals(policy: &Policy<'_>) -> bool
     policy.local || !policy.token.is_empty()
 }
 
+/// Returns `true` if the bytes are the same. Looks at every pair, so its time doesn't tell how many are.
+fn are_same(one: &[u8], other: &[u8]) -> bool
+    ensures { IsTrue result ↔ (one.now ≡ other.now) }
+{
+    if one.len() != other.len() {
+        return false;
+    }
+    let mut same = true;
+    for at in 0..one.len() {
+        same &= one[at] == other[at];
+    }
+    same
+}
+
+/// Returns `true` if the field is `Bearer` and the token.
+fn bears(authorization: &[u8], token: &[u8]) -> bool
+    ensures { IsTrue result ↔ (authorization.now ≡ codes "Bearer " ++ token.now) }
+{
+    match behind(authorization, "Bearer ") {
+        Some(shown) => are_same(shown, token),
+        None => false,
+    }
+}
+
 /// Returns `true` if the token is shown, or none is needed.
 pub(crate) fn shows_token(token: &[u8], authorization: &[u8]) -> bool
     ensures { IsTrue result ↔ ShowsToken token.now authorization.now }
 {
-    token.is_empty() || is_both(authorization, "Bearer ", token)
+    token.is_empty() || bears(authorization, token)
 }
 
 /// Returns `true` if the text begins with these words.

@@ -18,7 +18,10 @@ mod standings;
 mod views;
 mod watch;
 
-pub use answers::{Moment, proposal_text, question_text, questions_text, ready_text, refusal_text};
+pub use answers::{
+    Moment, Transcript, proposal_text, question_text, questions_text, ready_text, refusal_text,
+    transcript_text,
+};
 pub use events::{Event, beat_text, event_text, restarted_text};
 pub use guards::Policy;
 pub use metrics::{Tally, metrics_text};

@@ -35,6 +35,8 @@ pub enum Reply {
     Taken,
     /// The member had a proposal, or decided the question.
     Have,
+    /// The member came to the last step of the question's last round: a reply to `STATE`.
+    Spent,
     /// The member is stopped.
     Stopped,
     /// Any other line.
@@ -127,6 +129,9 @@ fn plain_reply(line: &[u8]) -> Reply
     }
     if is(line, "STOPPED") {
         return Reply::Stopped;
+    }
+    if is(line, "SPENT") {
+        return Reply::Spent;
     }
     if is_had(line) {
         return Reply::Have;

@@ -123,8 +123,12 @@ pub enum Refusal {
     Length,
     /// As many clients are served as the gateway takes.
     Busy,
-    /// Too few members answer.
+    /// No member answers.
     Silent,
+    /// The question isn't decided, so no member has a transcript.
+    Undecided,
+    /// No member that answers has a transcript: each decided before its last start.
+    Thin,
 }
 
 /// Returns the status of HTTP for a refusal.
@@ -146,6 +150,8 @@ pub fn status_of(refusal: Refusal) -> u16
         Refusal::Length => 413,
         Refusal::Busy => 429,
         Refusal::Silent => 503,
+        Refusal::Undecided => 404,
+        Refusal::Thin => 404,
     }
 }
 
@@ -168,6 +174,8 @@ pub fn word_of(refusal: Refusal) -> &'static str
         Refusal::Length => "length",
         Refusal::Busy => "busy",
         Refusal::Silent => "silent",
+        Refusal::Undecided => "undecided",
+        Refusal::Thin => "thin",
     }
 }
 

@@ -39,7 +39,7 @@ impl Batches {
         header: &Header,
     ) -> Result<Batches, JournalFault>
         ensures left { IfOk result (λ batches. (records : List Record) × HasLeft batches records
-            × (D.keeps disk.old → Holds header.now records (D.state disk.old).seen)) }
+            × (D.keeps disk.new → Holds header.now records (D.state disk.old).seen)) }
         ensures read { OnOk result (WasRead D.Disk disk.old disk.new) }
         ensures fault { IfErr result (λ fault. HandsBack D.Disk disk.old header.now fault disk.new) }
     {

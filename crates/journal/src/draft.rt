@@ -62,11 +62,11 @@ impl<D: Disk> Draft<D> {
         requires well_formed { AreWellFormedFor (draft_header self.old) records.now }
         requires drafted { D.keeps (draft_disk self.old) → (batches : List Batch) × IsDraftOf D.state batches self.old }
 
-        ensures added { D.keeps (draft_disk self.old) → OnOk result ((batches : List Batch) →
+        ensures added { D.keeps (draft_disk self.new) → OnOk result ((batches : List Batch) →
             IsDraftOf D.state batches self.old → IsDraftOf D.state (batches ++ new_batch records.now ∷ []) self.new) }
-        ensures any_moment { D.keeps (draft_disk self.old) →
+        ensures any_moment { D.keeps (draft_disk self.new) →
             LeavesOnly D.moment D.since (draft_disk self.old) (draft_disk self.new) IsNoJournal }
-        ensures four_calls { D.keeps (draft_disk self.old) → OnOk result (
+        ensures four_calls { D.keeps (draft_disk self.new) → OnOk result (
             D.moment (draft_disk self.new) ≡ D.moment (draft_disk self.old) + 4) }
         ensures gate { OnOk result (draft_gate self.new ≡ draft_gate self.old + 3 + 6 * length records.now) }
         ensures room { OnOk result (draft_gate self.old + 3 + 6 * length records.now ≤ 2 ^ 31) }
@@ -76,7 +76,7 @@ impl<D: Disk> Draft<D> {
         ensures full { IsErrOf result JournalFault.Full ↔ (2 ^ 31 < draft_gate self.old + 3 + 6 * length records.now) }
         ensures device { IsErrOf result JournalFault.Device → D.failures (draft_disk self.old) < D.failures (draft_disk self.new) }
         ensures later { D.failures (draft_disk self.old) ≤ D.failures (draft_disk self.new) }
-        ensures kept { D.keeps (draft_disk self.old) ↔ D.keeps (draft_disk self.new) }
+        ensures kept { D.keeps (draft_disk self.new) → D.keeps (draft_disk self.old) }
         ensures header { draft_header self.new ≡ draft_header self.old }
     {
         self.tail.add(records)?;
@@ -134,12 +134,12 @@ fn new_draft(header: &Header) -> [u8; 25]
 
 /// Writes the first byte of a journal over that of a file that is all on the disk.
 fn write_first<D: Disk>(disk: &mut D) -> Result<(), DeviceFault>
-    ensures done { D.keeps disk.old → OnOk result (
+    ensures done { D.keeps disk.new → OnOk result (
         D.state disk.new ≡ at_rest (overwritten (D.state disk.old).seen 0 (66 ∷ []))) }
-    ensures any_moment { D.keeps disk.old → LeavesOnly D.moment D.since disk.old disk.new
+    ensures any_moment { D.keeps disk.new → LeavesOnly D.moment D.since disk.old disk.new
         (MayLeave (after_write (D.state disk.old) 0 (66 ∷ []))) }
-    ensures two_calls { D.keeps disk.old → OnOk result (D.moment disk.new ≡ D.moment disk.old + 2) }
-    ensures kept { D.keeps disk.old ↔ D.keeps disk.new }
+    ensures two_calls { D.keeps disk.new → OnOk result (D.moment disk.new ≡ D.moment disk.old + 2) }
+    ensures kept { D.keeps disk.new → D.keeps disk.old }
     ensures cause { CountsFailures (D.failures disk.old) (D.failures disk.new) result }
 {
     disk.write_at(0, &[FIRST])?;

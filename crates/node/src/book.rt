@@ -223,7 +223,7 @@ impl<D: Disk, J: Naming> Book<D, J> {
         ensures length { IfOk result (λ answers. length answers.items ≡ length events.now) }
         ensures saved { IfOk result (λ answers.
             HasSaved D.Disk self.old.member (records_of_all (replies_of answers.items)) self.new.member) }
-        ensures four_calls { D.keeps (member_disk self.old.member) → IfOk result (λ answers.
+        ensures four_calls { D.keeps (member_disk self.new.member) → IfOk result (λ answers.
             0 < length (records_of_all (replies_of answers.items)) →
             D.moment (member_disk self.new.member) ≡ D.moment (member_disk self.old.member) + 4) }
         ensures seat { OnOk result (HandsIn seat.old seat.new (said_in events.now) (length events.now)) }
@@ -282,7 +282,7 @@ impl<D: Disk, J: Naming> Book<D, J> {
         ensures length { IfOk result (λ answers. length answers.items ≡ length group.now.items) }
         ensures saved { IfOk result (λ answers.
             HasSaved D.Disk self.old.member (records_of_all (replies_of answers.items)) self.new.member) }
-        ensures four_calls { D.keeps (member_disk self.old.member) → IfOk result (λ answers.
+        ensures four_calls { D.keeps (member_disk self.new.member) → IfOk result (λ answers.
             0 < length (records_of_all (replies_of answers.items)) →
             D.moment (member_disk self.new.member) ≡ D.moment (member_disk self.old.member) + 4) }
         // In the world it is the member's event, or the member hears nothing and goes down.

@@ -14,6 +14,9 @@ use std::{io, thread};
 /// The milliseconds between two questions for the member's state.
 const PACE: u64 = 2000;
 
+/// The most questions that a member is asked for each time.
+const MOST_STATES: u32 = 16;
+
 /// Returns the reply to a line.
 fn exchange<R: Runner>(
     rt: &R,
@@ -40,6 +43,31 @@ fn propose<R: Runner>(
     it.book.lock(rt).reply(motion.number, member, reply);
     it.changed.notify_all();
     Ok(())
+}
+
+/// Asks the member how it stands with some of the questions that are under way, from this one on. Returns the question after the
+/// last of them; 0 after the last of all.
+fn ask_open<R: Runner>(
+    rt: &R,
+    it: &Shared,
+    lines: &mut DeskLines,
+    member: u8,
+    from: u16,
+) -> io::Result<u16> {
+    let mut next = from;
+    for _ in 0..MOST_STATES {
+        let open = it.book.lock(rt).open_from(next, member);
+        let Some(question) = open else {
+            return Ok(0);
+        };
+        let line = format!(in it.alloc; "STATE {question}\n")?;
+        if exchange(rt, it, lines, line.as_str())? == Reply::Spent {
+            it.book.lock(rt).set_spent(question, member);
+            it.changed.notify_all();
+        }
+        next = question.saturating_add(1);
+    }
+    Ok(next)
 }
 
 /// Asks for the member's counts and links.
@@ -84,11 +112,13 @@ fn propose_all<R: Runner>(
 /// Speaks to the member over one connection, until it ends.
 fn ask_once<R: Runner>(rt: &R, it: &Shared, member: u8) -> io::Result<()> {
     let mut lines = connect(rt, it, member)?;
+    let mut next = 0;
     for _ in 0..u64::MAX {
         if it.is_over() {
             return Ok(());
         }
         ask(rt, it, &mut lines, member)?;
+        next = ask_open(rt, it, &mut lines, member, next)?;
         let pause = Deadline::new(rt, PACE)?;
         propose_all(rt, it, &mut lines, member, pause)?;
     }

@@ -1,5 +1,10 @@
 //! The book of a gateway: a cluster as it is known, and its events.
 
+ghost use Rattle.std.specs.Prelude.{List};
+ghost use Rattle.gateway.specs.Watches.{Watches};
+ghost use Rattle.gateway.specs.declared.watch.Told.{Told};
+
+use crate::hearing::Hearing;
 use gateway::{
     Event, MemberState, MemberView, Position, Reply, Stage, Standing, Tally, Told, Watch,
     standing_of,
@@ -34,10 +39,12 @@ pub(crate) struct Motion {
 pub(crate) struct Book {
     alloc: Global,
     size: Size,
-    pub(crate) watch: Watch,
+    hearing: Hearing,
     stages: Vec<Stage>,
     /// The milliseconds since 1970 at which each question was proposed here.
     begun: Vec<Option<u64>>,
+    /// The members that came to the last step of each question's last round, a bit each.
+    spent: Vec<u64>,
     views: Vec<MemberView>,
     events: Vec<Event>,
     /// The number of events before these.
@@ -46,7 +53,7 @@ pub(crate) struct Book {
     /// The number of proposals that were made.
     motion_count: u64,
     decisions: u64,
-    pub(crate) refusals: u64,
+    refusals: u64,
     times: Vec<u32>,
     sum: u64,
 }
@@ -74,10 +81,12 @@ impl Book {
     pub(crate) fn new(alloc: Global, size: Size) -> Result<Book, AllocError> {
         let mut stages = Vec::new(alloc);
         let mut begun = Vec::new(alloc);
+        let mut spent = Vec::new(alloc);
         let mut views = Vec::new(alloc);
         for _ in 0..size.questions() {
             stages.push(Stage::Unproposed)?;
             begun.push(None)?;
+            spent.push(0)?;
         }
         for _ in 0..size.n() {
             views.push(new_view(alloc))?;
@@ -85,9 +94,10 @@ impl Book {
         Ok(Book {
             alloc,
             size,
-            watch: Watch::new(alloc, size)?,
+            hearing: Hearing::new(alloc, size)?,
             stages,
             begun,
+            spent,
             views,
             events: Vec::new(alloc),
             before: 0,
@@ -126,6 +136,28 @@ impl Book {
         Some(first_of(&events[skipped..]))
     }
 
+    /// Returns the watch.
+    pub(crate) fn watch(&self) -> &Watch
+        ensures { (heard : List Told) × Watches result.now heard }
+    {
+        self.hearing.watch()
+    }
+
+    /// Returns the decision of a question: the bit that more than t members told.
+    pub(crate) fn decision(&self, question: u16) -> Option<bool> {
+        self.hearing.watch().decision(question)
+    }
+
+    /// Returns the bit that a member told of a question.
+    pub(crate) fn word_of(&self, question: u16, member: u8) -> Option<bool> {
+        self.hearing.watch().word_of(question, member)
+    }
+
+    /// Counts a request that was refused.
+    pub(crate) fn count_refusal(&mut self) {
+        self.refusals = self.refusals.saturating_add(1);
+    }
+
     /// Returns the stage of a question.
     pub(crate) fn stage(&self, question: u16) -> Stage {
         match self.stages.get(usize::from(question)) {
@@ -136,7 +168,7 @@ impl Book {
 
     /// Returns the state of a question.
     pub(crate) fn standing(&self, question: u16) -> Standing {
-        standing_of(self.watch.decision(question), self.stage(question))
+        standing_of(self.decision(question), self.stage(question))
     }
 
     /// Returns the states of questions.
@@ -183,7 +215,7 @@ impl Book {
             time,
         });
         for member in 0..self.size.n() {
-            if let Some(bit) = self.watch.contradiction(question, member) {
+            if let Some(bit) = self.watch().contradiction(question, member) {
                 self.note(Event::Contradiction {
                     member,
                     question,
@@ -195,14 +227,14 @@ impl Book {
 
     /// Takes a decision that a member told.
     pub(crate) fn hear(&mut self, told: Told, time: u64) {
-        if self.watch.word_of(told.question, told.member).is_some() {
+        if self.word_of(told.question, told.member).is_some() {
             return;
         }
-        let before = self.watch.decision(told.question);
-        if !self.watch.take(told) {
+        let before = self.decision(told.question);
+        if !self.hearing.take(told) {
             return;
         }
-        match (before, self.watch.decision(told.question)) {
+        match (before, self.decision(told.question)) {
             (None, Some(bit)) => self.decide(told.question, bit, time),
             (Some(bit), _) => {
                 if bit != told.bit {
@@ -247,7 +279,7 @@ impl Book {
                 }
             }
             Reply::Stopped => self.set_state(member, MemberState::Stopped),
-            Reply::Decided { .. } | Reply::Taken | Reply::Have | Reply::Other => {}
+            Reply::Decided { .. } | Reply::Taken | Reply::Have | Reply::Spent | Reply::Other => {}
         }
     }
 
@@ -255,7 +287,7 @@ impl Book {
     pub(crate) fn members(&self) -> Result<Vec<MemberView>, AllocError> {
         let mut views = Vec::new(self.alloc);
         for member in 0..self.size.n() {
-            let contradicts = self.watch.contradictions(self.alloc, member)?;
+            let contradicts = self.watch().contradictions(self.alloc, member)?;
             let Some(view) = self.views.get(usize::from(member)) else {
                 return Err(AllocError);
             };
@@ -300,6 +332,49 @@ impl Book {
             times,
             sum: self.sum,
         })
+    }
+
+    /// Returns `true` if the question is under way, and the member wasn't seen at its end.
+    fn is_open_for(&self, question: u16, member: u8) -> bool {
+        let Some(spent) = self.spent.get(usize::from(question)) else {
+            return false;
+        };
+        *spent >> (member & 63) & 1 == 0 && self.standing(question) == Standing::Proposed
+    }
+
+    /// Returns the first question from this one on that is under way, and at whose end the member wasn't seen.
+    pub(crate) fn open_from(&self, question: u16, member: u8) -> Option<u16> {
+        for question in question..self.size.questions() {
+            if self.is_open_for(question, member) {
+                return Some(question);
+            }
+        }
+        None
+    }
+
+    /// Notes that a member came to the last step of the question's last round. Once n - t did, no decision is awaited.
+    pub(crate) fn set_spent(&mut self, question: u16, member: u8) {
+        let place = usize::from(question);
+        let Some(spent) = self.spent.get_mut(place) else {
+            return;
+        };
+        *spent |= 1 << (member & 63);
+        let count = spent.count_ones();
+        self.size.recall();
+        if count < u32::from(self.size.n() - self.size.t()) {
+            return;
+        }
+        self.end_question(place, question);
+    }
+
+    /// Notes that no decision of the question is awaited.
+    fn end_question(&mut self, place: usize, question: u16) {
+        if let Some(stage) = self.stages.get_mut(place) {
+            if *stage == Stage::Proposed {
+                *stage = Stage::Spent;
+                self.note(Event::Spent(question));
+            }
+        }
     }
 
     /// Begins a proposal to all members, and returns its number. `None` if as many are under way as are taken.

@@ -19,6 +19,15 @@ impl Deadline {
         })
     }
 
+    /// Returns the end of so many milliseconds from now on, or this one if it comes first. `TimedOut` if it is over.
+    pub(crate) fn within<R: Clock>(&self, rt: &R, milliseconds: u64) -> io::Result<Deadline> {
+        let left = self.left(rt)?;
+        Ok(Deadline {
+            start: Instant::now(rt)?,
+            whole: left.min(Duration::from_millis(milliseconds)),
+        })
+    }
+
     /// Returns the time that is left. `TimedOut` if none is.
     pub(crate) fn left<R: Clock>(&self, rt: &R) -> io::Result<Duration> {
         let left = self.whole.saturating_sub(self.start.elapsed(rt)?);

@@ -4,6 +4,7 @@ use crate::deadline::Deadline;
 use crate::lines::DeskLines;
 use crate::serving::Runner;
 use crate::shared::{Shared, time_now};
+use crate::speaker::Speaker;
 use gateway::{Reply, Told, reply_of};
 use std::net::TcpStream;
 use std::sync::Arc;
@@ -27,7 +28,7 @@ pub(crate) const FIRST_REST: u64 = 250;
 const LAST_NUMBER: u32 = 99_999;
 
 /// Returns the lines of a new connection to a member's desk.
-pub(crate) fn connect<R: Runner>(rt: &R, it: &Shared, member: u8) -> io::Result<DeskLines> {
+pub(crate) fn connect<R: Speaker>(rt: &R, it: &Shared, member: u8) -> io::Result<DeskLines> {
     let Some(desk) = it.desks.get(usize::from(member)) else {
         return Err(io::Error::from(io::ErrorKind::NotFound));
     };

@@ -3,12 +3,19 @@
 
 mod asking;
 mod book;
+mod cluster;
 mod deadline;
 mod door;
+mod fetching;
 mod following;
+mod handed;
+mod hearing;
 mod lines;
+mod reach;
 mod serving;
 mod shared;
+mod speaker;
 mod streaming;
+mod telling;
 
 pub use serving::{Opening, OpeningFault, Portal, Runner, open};

@@ -7,10 +7,13 @@ use crate::book::Book;
 use crate::deadline::Deadline;
 use crate::door::Door;
 use crate::following::follow_on;
+use crate::handed::Handed;
 use crate::lines::{read_from, write_all, write_to};
+use crate::reach::Reach;
 use crate::shared::Shared;
 use crate::streaming::serve_follower;
 use gateway::Position;
+use ghost_record::GhostRecord;
 use http_server::{Config, Connection};
 use std::alloc::{AllocError, Global};
 use std::hash::RandomState;
@@ -28,8 +31,11 @@ const MOST_CLIENTS: u64 = 256;
 /// The most bytes of a body.
 const LONGEST_BODY: usize = 4096;
 
-/// The milliseconds in which a request has to come, and an answer has to be taken.
+/// The milliseconds in which a request has to come.
 const TO_COME: u64 = 10_000;
+
+/// The milliseconds in which the answers to requests have to be taken.
+const TO_TAKE: u64 = 60_000;
 
 /// The answer to a connection beyond the most.
 const FULL: &[u8] =
@@ -66,6 +72,8 @@ struct Timed<'a, R: 'static> {
     rt: &'a R,
     socket: &'a TcpStream,
     deadline: Deadline,
+    /// Set while answers are written.
+    writes: bool,
 }
 
 impl<'a, R: Clock + 'static> Read for Timed<'a, R> {
@@ -97,24 +105,29 @@ fn config() -> Config {
 }
 
 impl<'a, R: Clock + 'static> Timed<'a, R> {
-    /// Begins the time anew.
-    fn renew(&mut self) -> io::Result<()> {
-        self.deadline = Deadline::new(self.rt, TO_COME)?;
+    /// Begins the time anew, in which a request has to come or answers have to be taken, unless it runs.
+    fn turn(&mut self, writes: bool) -> io::Result<()> {
+        if self.writes == writes {
+            return Ok(());
+        }
+        let limit = if writes { TO_TAKE } else { TO_COME };
+        self.deadline = Deadline::new(self.rt, limit)?;
+        self.writes = writes;
         Ok(())
     }
 }
 
-/// Writes some of what is pending. The time for the next request begins anew.
+/// Writes some of what is pending.
 fn write_some<R: Clock + 'static>(
     connection: &mut Connection,
     timed: &mut Timed<'_, R>,
 ) -> io::Result<()> {
-    timed.renew()?;
+    timed.turn(true)?;
     let written = connection.write_to(timed)?;
     if written == 0 {
         return Err(io::Error::from(io::ErrorKind::WriteZero));
     }
-    timed.renew()
+    Ok(())
 }
 
 /// Reads some of the next request.
@@ -122,6 +135,7 @@ fn read_some<R: Clock + 'static>(
     connection: &mut Connection,
     timed: &mut Timed<'_, R>,
 ) -> io::Result<()> {
+    timed.turn(false)?;
     let _read = connection.read_from(timed)?;
     Ok(())
 }
@@ -139,18 +153,15 @@ fn move_some<R: Clock + 'static>(
 }
 
 /// Answers what was read. Returns `true` once the connection is done.
-fn answer_some<R: Wait + Clock + 'static>(
-    connection: &mut Connection,
-    door: &mut Door<'_, R>,
-) -> bool {
+fn answer_some<R: Runner>(connection: &mut Connection, door: &mut Door<'_, Reach<'_, R>>) -> bool {
     connection.advance(door);
-    door.follow.is_some() || door.it.is_over() || connection.is_done()
+    door.follow.is_some() || door.cluster.it.is_over() || connection.is_done()
 }
 
 /// Serves requests over a connection, until it is done.
-fn talk<R: Wait + Clock + 'static>(
+fn talk<R: Runner>(
     connection: &mut Connection,
-    door: &mut Door<'_, R>,
+    door: &mut Door<'_, Reach<'_, R>>,
     timed: &mut Timed<'_, R>,
 ) -> io::Result<()> {
     for _ in 0..u64::MAX {
@@ -163,7 +174,7 @@ fn talk<R: Wait + Clock + 'static>(
 }
 
 /// Serves requests over a connection, until it is done. Returns the position of a follower, once one asks for the stream.
-fn converse<R: Wait + Clock + 'static>(
+fn converse<R: Runner>(
     rt: &R,
     it: &Shared,
     socket: &TcpStream,
@@ -171,14 +182,21 @@ fn converse<R: Wait + Clock + 'static>(
     let deadline = Deadline::new(rt, TO_COME)?;
     let mut connection = Connection::new(it.alloc, it.keys, config());
     let mut door = Door {
-        rt,
-        it,
+        alloc: it.alloc,
+        policy: it.policy(),
+        size: it.size,
+        cluster: Reach {
+            rt,
+            it,
+            handed: GhostRecord::new(),
+        },
         follow: None,
     };
     let mut timed = Timed {
         rt,
         socket,
         deadline,
+        writes: false,
     };
     talk(&mut connection, &mut door, &mut timed)?;
     Ok(door.follow)
@@ -314,6 +332,8 @@ fn new_shared(alloc: Global, opening: Opening) -> Result<Shared, AllocError> {
         over: AtomicBool::new(false),
         clients: AtomicU64::new(0),
         streams: AtomicU64::new(0),
+        fetches: AtomicU64::new(0),
+        turns: AtomicU64::new(0),
     })
 }
 

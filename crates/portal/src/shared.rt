@@ -34,6 +34,10 @@ pub(crate) struct Shared {
     pub(crate) clients: AtomicU64,
     /// The number of followers.
     pub(crate) streams: AtomicU64,
+    /// The number of transcripts that are being fetched.
+    pub(crate) fetches: AtomicU64,
+    /// The number of transcripts that were fetched.
+    pub(crate) turns: AtomicU64,
 }
 
 impl Shared {

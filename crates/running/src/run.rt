@@ -1,7 +1,7 @@
 //! The life of a member, from its opening to its end: begin at `run_member`, last.
 
 ghost use Rattle.std.specs.Prelude.{◌≡◌, ◌*◌, ◌+◌, ◌<◌, ◌^◌, [], false, length, IfOk};
-ghost use Rattle.member.specs.Sound.{IsSound};
+ghost use Rattle.member.specs.Sound.{HasItsFile, IsSound};
 ghost use Rattle.member.specs.Readers.{member_header, member_saved, member_is_stopped, MemberStandsFor};
 
 use crate::ahead::{Ahead, Welcomes};
@@ -401,7 +401,8 @@ fn local_door(local: Option<UnixListener>) -> Result<Option<Door>, RunFault> {
 /// [`RunFault::Forgotten`] where that is because more than t members have heard more of it than its journal holds.
 /// Whatever comes, the member is gone with its threads; what it saved is on its disk.
 ///
-/// All that its links and its desk toss comes from a seed that the operator takes.
+/// All that its links and its desk toss comes from a seed that the operator takes. Its records are those of the file with which
+/// its disk began, so nobody wrote that file since the disk was opened.
 ///
 /// It may wait: for its operator, for locks and for its threads.
 pub fn run_member<D: Disk + Drop + Send, O: Operator, L: Log + Send, R: Machine>(
@@ -416,6 +417,7 @@ pub fn run_member<D: Disk + Drop + Send, O: Operator, L: Log + Send, R: Machine>
     requires seed { O.may_toss_from operator.old seed }
     requires sound { IsSound D.Disk member }
     requires fresh { member_is_stopped member ≡ false → MemberStandsFor member (member_saved member) [] }
+    requires begun { HasItsFile D.Disk member }
 {
     let Addresses {
         peers,

@@ -198,10 +198,9 @@ impl<D: Disk, J: Life> Shared<D, J> {
         }
     }
 
-    /// What the book has that wasn't told is to be told, if the member has a log. That a member that has not spoken was stopped
-    /// by its end is no news.
+    /// What the book has that wasn't told is to be told, if the member has a log.
     pub(crate) fn log_book<R: Machine>(&self, rt: &R) {
-        if self.telling.lock(rt).is_none() || self.has_ended_unheard() {
+        if self.telling.lock(rt).is_none() {
             return;
         }
         let book = self.hub.read(rt);
@@ -233,8 +232,11 @@ impl<D: Disk, J: Life> Shared<D, J> {
         }
     }
 
-    /// What a book has that wasn't told is to be told.
+    /// What a book has that wasn't told is to be told. That a member that has not spoken was stopped by its end is no news.
     fn look<R: Machine>(&self, rt: &R, book: &Book<D, J>) {
+        if self.has_ended_unheard() {
+            return;
+        }
         if let Some(telling) = &mut *self.telling.lock(rt) {
             telling.look(book);
         }

@@ -6,9 +6,11 @@ pub mod Status
 pub mod Signals
 pub mod Limits
 pub mod Desks
+pub mod Disks
 pub mod Doors
 pub mod Reading
 pub mod Forms
+pub mod Gates
 pub mod Misfits
 pub mod Moments
 pub mod Logs

@@ -28,7 +28,10 @@ pub fn socket_address(address: &Address) -> SocketAddr
 }
 
 /// These addresses as sockets have them.
-fn socket_addresses(alloc: Global, addresses: &[Address]) -> Result<Vec<SocketAddr>, Memory>
+pub(crate) fn socket_addresses(
+    alloc: Global,
+    addresses: &[Address],
+) -> Result<Vec<SocketAddr>, Memory>
     ensures { IfOk result (λ sockets. AreSocketsOf addresses.now sockets.items) }
 {
     let mut sockets = Vec::new(alloc);

@@ -70,13 +70,16 @@ pub enum Fault {
     /// The journal of a member that is to run couldn't be opened.
     #[error("journal {0}")]
     Journal(JournalFault),
-    /// What ended `run`.
+    /// The token of a gateway isn't one, or others may read or write its file.
+    #[error("token")]
+    Token,
+    /// What ended `run`, or an address at which a gateway can't listen.
     #[error(transparent)]
     Run(#[from] RunFault),
     /// The hosts of a new cluster aren't any, or not as many as members.
     #[error("hosts")]
     Hosts,
-    /// The address of a desk isn't one.
+    /// The address of a desk, or of a gateway, isn't one.
     #[error("address")]
     Address,
     /// What ended `propose`, `ask`, `status` or `transcript`.

@@ -1,6 +1,9 @@
 //! The commands over the files that their words name, and over the standard streams.
 
 ghost use Rattle.migration.specs.OldOutcomes.{IsUntouched};
+ghost use Rattle.disk.specs.File.{file_state};
+ghost use Rattle.disk.specs.Model.{at_rest};
+ghost use Rattle.system.specs.Disks.{marked_file};
 ghost use Rattle.system.specs.Faults.{IsMeant};
 ghost use Rattle.system.specs.Troubles.{IsNamed, IsTold};
 ghost use Rattle.system.specs.declared.trouble.Whereabouts.TheVariants as whereabouts;
@@ -26,7 +29,7 @@ use commands::{
     check_journal, dump_count, dump_count_object, dump_lines, dump_objects, init_disk,
     migrate_disks, print_check, print_settings, show_simulation,
 };
-use disk::{Disk, FileDisk, FirstError, MemDisk};
+use disk::{Disk, FileDisk, FirstError, MemDisk, Premise};
 use hearing::hear_lines;
 use journal::JournalFault;
 use migration::MigrateFault;
@@ -158,17 +161,18 @@ pub fn first_error_in(kept: &Option<Arc<FirstError>>) -> Option<io::Error> {
     }
 }
 
-/// The disk in the file of a journal, which is a regular file, and what is told of it.
-pub fn open_disk<'a>(
+/// The disk in the file of a journal, which is a regular file, and what is told of it. It is as it began.
+pub fn open_disk<'a, P: Premise>(
     rt: &HostRuntime,
     path: &'a str,
     purpose: Purpose,
-) -> Result<(MarkedDisk, Source<'a>), Failure>
+) -> Result<(MarkedDisk<P>, Source<'a>), Failure>
+    ensures as_it_began { IfOk result (λ opened. file_state P.file (marked_file opened.0) ≡ at_rest P.file.start) }
     ensures source { IfOk result (λ opened. opened.1.path.now ≡ path.now) }
     ensures fault { IfErr result (λ failure. IsMeant ends.File failure.fault) }
     ensures named { IfErr result (IsNamed path.now) }
 {
-    let mut disk = open_file(rt, path, purpose)?;
+    let mut disk = open_file::<P>(rt, path, purpose)?;
     let first_error = disk.keep_first_error(rt.alloc()).ok();
     let disk = MarkedDisk::new(rt, disk, path);
     Ok((disk, Source { path, first_error }))
@@ -177,27 +181,33 @@ pub fn open_disk<'a>(
 /// The disk in the file of a journal that is to be relied on: of which no sync failed since the machine was started.
 ///
 /// [`Fault::Journal`] with [`JournalFault::Device`]: one did.
-pub fn open_good_disk<'a>(
+pub fn open_good_disk<'a, P: Premise>(
     rt: &HostRuntime,
     path: &'a str,
     purpose: Purpose,
-) -> Result<(MarkedDisk, Source<'a>), Failure>
+) -> Result<(MarkedDisk<P>, Source<'a>), Failure>
+    ensures as_it_began { IfOk result (λ opened. file_state P.file (marked_file opened.0) ≡ at_rest P.file.start) }
     ensures source { IfOk result (λ opened. opened.1.path.now ≡ path.now) }
 {
     refuse_unsynced(rt, path)?;
-    let opened = open_disk(rt, path, purpose)?;
+    let opened = open_disk::<P>(rt, path, purpose)?;
     // Who had the file until now may have left the mark meanwhile.
     refuse_unsynced(rt, path)?;
     Ok(opened)
 }
 
 /// The disk in the file of a journal, which is a regular file.
-fn open_file(rt: &HostRuntime, path: &str, purpose: Purpose) -> Result<FileDisk, Failure>
+fn open_file<P: Premise>(
+    rt: &HostRuntime,
+    path: &str,
+    purpose: Purpose,
+) -> Result<FileDisk<P>, Failure>
+    ensures as_it_began { IfOk result (λ disk. file_state P.file disk ≡ at_rest P.file.start) }
     ensures fault { IfErr result (λ failure. IsMeant ends.File failure.fault) }
     ensures named { IfErr result (IsNamed path.now) }
 {
     keep_to_files(rt, path)?;
-    match FileDisk::open(rt, path, purpose == Purpose::Make) {
+    match FileDisk::<P>::open(rt, path, purpose == Purpose::Make) {
         Ok(disk) => Ok(disk),
         // Its lock is held.
         Err(error) if error.kind() == io::ErrorKind::WouldBlock => {
@@ -218,11 +228,11 @@ fn open_file(rt: &HostRuntime, path: &str, purpose: Purpose) -> Result<FileDisk,
 }
 
 /// Makes the journal that the settings in the file name.
-pub fn init_file(rt: &HostRuntime, path: &str) -> Result<u8, Failure> {
+pub fn init_file<P: Premise>(rt: &HostRuntime, path: &str) -> Result<u8, Failure> {
     let settings = read_settings(rt, path)?;
     let journal = settings.journal.as_str();
     refuse_forgotten(rt, journal, settings.header.me())?;
-    let (mut disk, source) = open_good_disk(rt, journal, Purpose::Make)?;
+    let (mut disk, source) = open_good_disk::<P>(rt, journal, Purpose::Make)?;
     match init_disk(&mut disk, &settings) {
         Ok(status) => Ok(status),
         Err(fault) => {
@@ -431,10 +441,15 @@ fn dump_disk<D: Disk>(
 }
 
 /// Prints the journal in the file, or only how many records it has; as lines, or as objects of JSON.
-pub fn dump_file(rt: &HostRuntime, path: &str, count: bool, json: bool) -> Result<u8, Failure>
+pub fn dump_file<P: Premise>(
+    rt: &HostRuntime,
+    path: &str,
+    count: bool,
+    json: bool,
+) -> Result<u8, Failure>
     ensures named { IfErr result (IsNamed path.now) }
 {
-    let (mut disk, source) = open_disk(rt, path, Purpose::Look)?;
+    let (mut disk, source) = open_disk::<P>(rt, path, Purpose::Look)?;
     match dump_disk(rt, &mut disk, count, json) {
         Ok(status) => Ok(status),
         Err(fault) => Err(dump_failure(rt, &source, fault, None)),
@@ -504,12 +519,16 @@ fn unmade(rt: &HostRuntime, new: &str, made: bool, failure: Failure) -> Failure 
 /// it is gone, and one that was there is left; after one of the printing it is whole. The status is 0.
 ///
 /// [`Fault::SameFile`]: the two paths name one file.
-pub fn migrate_file(rt: &HostRuntime, old: &str, new: &str) -> Result<u8, Failure> {
+pub fn migrate_file<P: Premise, Q: Premise>(
+    rt: &HostRuntime,
+    old: &str,
+    new: &str,
+) -> Result<u8, Failure> {
     keep_two_apart(rt, new, old)?;
     refuse_unsynced(rt, new)?;
-    let (mut from, old_source) = open_good_disk(rt, old, Purpose::Look)?;
+    let (mut from, old_source) = open_good_disk::<P>(rt, old, Purpose::Look)?;
     let made = fs::metadata(rt, new).is_err();
-    let (to, new_source) = open_disk(rt, new, Purpose::Make)?;
+    let (to, new_source) = open_disk::<Q>(rt, new, Purpose::Make)?;
     match migrate_disks(rt.alloc(), &mut from, to, &mut io::writer(rt)) {
         Ok(_disk) => Ok(0),
         Err((MigrationFault::Stream, _)) => {

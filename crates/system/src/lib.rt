@@ -19,6 +19,7 @@ mod fault;
 mod files;
 mod forgotten;
 mod forms;
+mod gate;
 mod hearsay;
 mod input;
 mod limits;
@@ -55,6 +56,7 @@ pub use fault::Fault;
 pub use files::{
     audit_file, check_file, dump_file, hear_input, init_file, migrate_file, simulate_file,
 };
+pub use gate::{Gate, run_gateway};
 pub use hearsay::{audit_all, transcript_of_all};
 pub use limits::{clients_within, descriptors_lack, followers_within, open_limit};
 pub use live::run_file;

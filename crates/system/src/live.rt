@@ -20,7 +20,7 @@ use crate::process::{blocks_signals, is_called_off, most_files, warn_of_files};
 use crate::replaced::Watched;
 use crate::trouble::{Failure, Trouble, Whereabouts, trouble_of};
 use crate::unsynced::remove_old_mark;
-use disk::Disk;
+use disk::{Disk, Premise};
 use member::Member;
 use running::{Machine, Operator, RunFault, run_member};
 use settings::Settings;
@@ -267,7 +267,7 @@ fn input_of<R: Machine>(rt: &R, host: &HostRuntime, stay: bool) -> Option<Arc<In
 /// [`Fault::Journal`]: they are of no use, or a sync of the journal failed since the machine was started. [`Fault::Run`]: no
 /// listener could be had, the member was stopped when the input ended, or its journal is gone; or it was forgotten, in this run
 /// or in an earlier one, and its journal is put aside.
-pub fn run_file<R: Machine>(
+pub fn run_file<R: Machine, P: Premise + Send>(
     rt: &R,
     host: &HostRuntime,
     path: &str,
@@ -276,7 +276,7 @@ pub fn run_file<R: Machine>(
     any_host: bool,
 ) -> Result<u8, Failure> {
     let settings = read_settings(host, path)?;
-    run_settings(rt, host, &settings, stay, log, any_host)
+    run_settings::<R, P>(rt, host, &settings, stay, log, any_host)
 }
 
 /// Refuses to run with too few open files for a member that needs links with so many.
@@ -316,7 +316,7 @@ fn open_member<D: Disk>(
 }
 
 /// Runs the member of these settings, as `run_file` says.
-fn run_settings<'a, R: Machine>(
+fn run_settings<'a, R: Machine, P: Premise + Send>(
     rt: &R,
     host: &'a HostRuntime,
     settings: &'a Settings,
@@ -332,7 +332,7 @@ fn run_settings<'a, R: Machine>(
         |_| Fault::Memory,
     )?;
     refuse_forgotten(host, settings.journal.as_str(), settings.header.me())?;
-    let (disk, source) = open_good_disk(host, settings.journal.as_str(), Purpose::Run)?;
+    let (disk, source) = open_good_disk::<P>(host, settings.journal.as_str(), Purpose::Run)?;
     remove_old_mark(host, source.path);
     let journal = Watched::new(host, source.path);
     let member = match open_member(host, &source, disk, &settings.header) {

@@ -249,7 +249,7 @@ const FILE: &str = "refused-memory.journal";
 pub(crate) fn opens_over_a_file(host: &HostRuntime, of: &Subject) -> Ending {
     let alloc = host.alloc();
     let _old = fs::remove_file(host, FILE);
-    let Ok(disk) = FileDisk::open(host, FILE, true) else {
+    let Ok(disk) = FileDisk::<Brand>::open(host, FILE, true) else {
         return Ending::Before;
     };
     let Some(member) = start(alloc, disk, &of.header) else {
@@ -258,7 +258,7 @@ pub(crate) fn opens_over_a_file(host: &HostRuntime, of: &Subject) -> Ending {
     let Some(board) = board(alloc) else {
         return Ending::Before;
     };
-    let ending = opens::<FileDisk, Brand>(alloc, member, board);
+    let ending = opens::<FileDisk<Brand>, Brand>(alloc, member, board);
     match fs::read(host, FILE) {
         Ok(bytes) => ending.if_so(bytes.as_slice() == JOURNAL.as_slice(), "file changed"),
         Err(_) => Ending::Before,

@@ -109,6 +109,14 @@ fn hearsay(
     Some(text)
 }
 
+/// Returns the text of a gateway that is to serve.
+fn serving(alloc: Global, file: &str, listen: Option<&str>, token: Option<&str>) -> Option<String> {
+    let mut text = format!(in alloc; "gateway {file}").ok()?;
+    add_text(&mut text, " listen ", listen)?;
+    add_text(&mut text, " token ", token)?;
+    Some(text)
+}
+
 /// The text of a client's other tasks: none of any that isn't one.
 fn client_text(alloc: Global, task: Task) -> Option<String> {
     match task {
@@ -140,6 +148,11 @@ fn client_text(alloc: Global, task: Task) -> Option<String> {
             all,
             timeout,
         } => hearsay(alloc, address, question, all, timeout),
+        Task::Gateway {
+            file,
+            listen,
+            token,
+        } => serving(alloc, file, listen, token),
         _ => None,
     }
 }
@@ -344,9 +357,10 @@ fn task_text(alloc: Global, task: Task) -> Option<String> {
             json,
             timeout,
         } => asking(alloc, address, question, (all, wait, json), timeout),
-        Task::Decide { .. } | Task::Status { .. } | Task::Transcript { .. } => {
-            client_text(alloc, task)
-        }
+        Task::Decide { .. }
+        | Task::Status { .. }
+        | Task::Transcript { .. }
+        | Task::Gateway { .. } => client_text(alloc, task),
         Task::Simulate { .. } => simulation(alloc, task),
         Task::Dump {
             journal,

@@ -4,6 +4,7 @@
 mod audits;
 mod ballots;
 mod broadcasts;
+pub mod chains;
 mod cores;
 mod frames;
 pub mod numbers;

@@ -217,8 +217,8 @@ fn settles<D: Disk + Drop, J: Naming, R: Wait + Abort + AllocGlobal>(
 fn it_settles_over_a_file(rt: HostRuntime) -> Result<(), Fail> {
     let path = "node_tests_file";
     let _ = fs::remove_file(&rt, path);
-    let disk = FileDisk::open(&rt, path, true)?;
-    settles::<FileDisk, Brand, _>(&rt, disk, board(&rt, 1)?)?;
+    let disk = FileDisk::<Brand>::open(&rt, path, true)?;
+    settles::<FileDisk<Brand>, Brand, _>(&rt, disk, board(&rt, 1)?)?;
     fs::remove_file(&rt, path)?;
     Ok(())
 }

@@ -1706,6 +1706,7 @@ fn help_shows_what_is_taken(rt: HostRuntime) -> Result<(), Fail> {
         "status",
         "transcript",
         "audit",
+        "gateway",
         "dump",
         "migrate",
         "simulate",

@@ -220,7 +220,7 @@ fn are_played<D: Disk + Send, J: Naming + Send + Sync, R: Threads + Wait + Clock
 /// Opens member 1 of 16, 40 questions, over a file, and plays the scene. Whether it came out as it should.
 fn open_and_play<J: Naming + Send + Sync, R: Threads + Wait + Clock + AllocGlobal + Sync>(
     rt: &R,
-    disk: FileDisk,
+    disk: FileDisk<Brand>,
     board: NewBoard,
     scene: Scene,
 ) -> Result<bool, Fail>
@@ -229,7 +229,7 @@ fn open_and_play<J: Naming + Send + Sync, R: Threads + Wait + Clock + AllocGloba
     requires cells { length board.cells ≡ 40 }
 {
     let header = header(16, 5, PROPOSALS, 1)?;
-    let (hub, rack) = open::<FileDisk, J>(rt.alloc(), disk, &header, false, board)?;
+    let (hub, rack) = open::<FileDisk<Brand>, J>(rt.alloc(), disk, &header, false, board)?;
     let play = Play {
         scene,
         begun: AtomicBool::new(false),
@@ -242,7 +242,7 @@ fn open_and_play<J: Naming + Send + Sync, R: Threads + Wait + Clock + AllocGloba
 #[test]
 fn a_link_pauses_while_another_has_the_book(rt: HostRuntime) -> Result<(), Fail> {
     let path = "pauses_tests_lent";
-    let disk = FileDisk::open(&rt, path, true)?;
+    let disk = FileDisk::<Brand>::open(&rt, path, true)?;
     let played = open_and_play::<Brand, _>(&rt, disk, board(&rt, 40)?, Scene::Lent)?;
     let length = fs::metadata(&rt, path)?.len();
     fs::remove_file(&rt, path)?;
@@ -256,7 +256,7 @@ fn a_link_pauses_while_a_client_proposes(rt: HostRuntime) -> Result<(), Fail> {
     let mut are_together = false;
     // A client that the system holds up for longer than a pause is waited for no more: one time in ten it isn't.
     for _ in 0..10u32 {
-        let disk = FileDisk::open(&rt, path, true)?;
+        let disk = FileDisk::<Brand>::open(&rt, path, true)?;
         let played = open_and_play::<Brand, _>(&rt, disk, board(&rt, 40)?, Scene::Client)?;
         let length = fs::metadata(&rt, path)?.len();
         fs::remove_file(&rt, path)?;
@@ -269,7 +269,7 @@ fn a_link_pauses_while_a_client_proposes(rt: HostRuntime) -> Result<(), Fail> {
 #[test]
 fn the_bell_rings_behind_what_a_group_leaves(rt: HostRuntime) -> Result<(), Fail> {
     let path = "pauses_tests_full";
-    let disk = FileDisk::open(&rt, path, true)?;
+    let disk = FileDisk::<Brand>::open(&rt, path, true)?;
     let played = open_and_play::<Brand, _>(&rt, disk, board(&rt, 40)?, Scene::Full)?;
     let length = fs::metadata(&rt, path)?.len();
     fs::remove_file(&rt, path)?;

@@ -87,5 +87,11 @@ returns-in-audit-clause-some c = subst (λ (name : Text). IfSome c.audit_of.resu
 pub returns-in-audit-clause-none : goal.returns-in-audit-clause-none
 returns-in-audit-clause-none c = λ none task named. c.audit_of.ensures.none none task (subst (λ (name : Text). Names name (rows_in c.args.options.now) task) c.in-audit.is named)
 
+pub returns-in-gateway-clause-some : goal.returns-in-gateway-clause-some
+returns-in-gateway-clause-some c = subst (λ (name : Text). IfSome c.gateway_of.result (Names name (rows_in c.args.options.now))) (sym c.in-gateway.is) c.gateway_of.ensures.some
+
+pub returns-in-gateway-clause-none : goal.returns-in-gateway-clause-none
+returns-in-gateway-clause-none c = λ none task named. c.gateway_of.ensures.none none task (subst (λ (name : Text). Names name (rows_in c.args.options.now) task) c.in-gateway.is named)
+
 pub returns-in-text-clause-none : goal.returns-in-text-clause-none
 returns-in-text-clause-none c = λ none task named. c.new_cluster_of.ensures.none none task (subst (λ (name : Text). Names name (rows_in c.args.options.now) task) c.in-text.is named)

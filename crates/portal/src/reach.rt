@@ -1,0 +1,211 @@
+//! A cluster as the thread of a connection reaches it: through the book that all threads share. Begin at `Reach`.
+
+ghost use Rattle.std.specs.Prelude.{◌≡◌, IfOk};
+ghost use Rattle.portal.specs.Served.{IsToldAt};
+
+use crate::cluster::{Answer, Cluster, Kind, Proposal, answer_of, good_answer};
+use crate::fetching::{Fetched, Sent, fetch};
+use crate::handed::{Handed, HandedOn};
+use crate::shared::{Shared, time_now};
+use crate::speaker::Speaker;
+use crate::telling::{
+    members_answer, metrics_answer, question_answer, questions_answer, ready_answer,
+};
+use gateway::{
+    Moment, Refusal, Standing, Task, Transcript, proposal_text, refusal_text, status_of,
+    transcript_text,
+};
+use ghost_record::GhostRecord;
+use pages::live;
+use std::alloc::AllocError;
+use std::sync::atomic::Ordering;
+use std::time::Duration;
+use terms::Size;
+
+/// The milliseconds in which members reply to a proposal.
+const REPLIES: u64 = 3000;
+
+/// The most transcripts that are fetched at once: one takes up to a hundred megabytes for some seconds.
+const MOST_FETCHES: u64 = 1;
+
+/// A cluster as the thread of a connection reaches it.
+#[derive(Drop)]
+pub(crate) struct Reach<'a, R: 'static> {
+    pub(crate) rt: &'a R,
+    pub(crate) it: &'a Shared,
+    /// The proposals that this connection handed on.
+    pub(crate) handed: GhostRecord<Handed>,
+}
+
+impl<'a, R: Speaker> Reach<'a, R> {
+    /// Waits until the question is decided, for so many seconds.
+    fn await_decision(&self, question: u16, seconds: u16) {
+        if seconds == 0 {
+            return;
+        }
+        let limit = Duration::from_secs(u64::from(seconds));
+        let book = self.it.book.lock(self.rt);
+        let (_book, _late) = self
+            .it
+            .changed
+            .wait_timeout_while(self.rt, book, limit, |book| {
+                book.decision(question).is_none() && !self.it.is_over()
+            });
+    }
+
+    /// Returns the answer about a question.
+    fn question(&self, size: Size, question: u16, wait: u16) -> Result<Answer, AllocError>
+        ensures { IfOk result (λ answer. answer.status ≡ 200 → IsToldAt size question answer.body.items) }
+    {
+        self.await_decision(question, wait);
+        let book = self.it.book.lock(self.rt);
+        question_answer(self.it.alloc, &book, size, question)
+    }
+
+    /// Returns the answer about these questions.
+    fn questions(&self, from: u16, to: u16) -> Result<Answer, AllocError> {
+        let book = self.it.book.lock(self.rt);
+        let moment = Moment {
+            questions: self.it.size.questions(),
+            from,
+            to,
+            after: book.position(self.it.life),
+        };
+        questions_answer(self.it.alloc, &book, &moment)
+    }
+
+    /// Returns the answer to a transcript that a member sent.
+    fn sent(&self, question: u16, bit: bool, sent: &Sent) -> Result<Answer, AllocError> {
+        let told = Transcript {
+            question,
+            bit,
+            member: sent.member,
+            proven: sent.proven,
+            text: &sent.text,
+        };
+        let body = transcript_text(self.it.alloc, &told)?;
+        Ok(good_answer(Kind::Json, body))
+    }
+
+    /// Returns a transcript of the question's decision.
+    fn fetched(&self, question: u16, bit: bool) -> Result<Answer, AllocError> {
+        match fetch(self.rt, self.it, question, bit) {
+            Ok(Fetched::Sent(sent)) => self.sent(question, bit, &sent),
+            Ok(Fetched::Thin) => self.refuse(Refusal::Thin),
+            Ok(Fetched::Silent) => self.refuse(Refusal::Silent),
+            Err(_) => Err(AllocError),
+        }
+    }
+
+    /// Returns a transcript of the question's decision, unless too many are being fetched.
+    fn turned(&self, question: u16, bit: bool) -> Result<Answer, AllocError> {
+        if self.it.fetches.fetch_add(1, Ordering::SeqCst) >= MOST_FETCHES {
+            self.it.fetches.fetch_sub(1, Ordering::SeqCst);
+            return self.refuse(Refusal::Busy);
+        }
+        let answer = self.fetched(question, bit);
+        self.it.fetches.fetch_sub(1, Ordering::SeqCst);
+        answer
+    }
+
+    /// Returns a transcript of the question.
+    fn transcript(&self, question: u16) -> Result<Answer, AllocError> {
+        let decision = self.it.book.lock(self.rt).decision(question);
+        match decision {
+            Some(bit) => self.turned(question, bit),
+            None => self.without_decision(),
+        }
+    }
+
+    /// Returns the refusal of a transcript of a question that isn't decided.
+    fn without_decision(&self) -> Result<Answer, AllocError> {
+        let reachable = self.it.book.lock(self.rt).reachable();
+        if reachable == 0 {
+            self.refuse(Refusal::Silent)
+        } else {
+            self.refuse(Refusal::Undecided)
+        }
+    }
+
+    /// Waits until each member that answers has replied to a proposal.
+    fn await_replies(&self, number: u64) {
+        let limit = Duration::from_millis(REPLIES);
+        let book = self.it.book.lock(self.rt);
+        let (_book, _late) = self
+            .it
+            .changed
+            .wait_timeout_while(self.rt, book, limit, |book| { book.is_asked(number) });
+    }
+
+    /// Returns the answer to a proposal of this number once members replied to it.
+    fn replied(&self, number: u64, proposal: Proposal) -> Result<Answer, AllocError> {
+        self.await_replies(number);
+        self.await_decision(proposal.question, proposal.wait);
+        let mut book = self.it.book.lock(self.rt);
+        let standing = book.standing(proposal.question);
+        let Some(motion) = book.end_motion(number) else {
+            return Err(AllocError);
+        };
+        drop(book);
+        if motion.taken == 0 && motion.have == 0 {
+            return self.refuse(Refusal::Silent);
+        }
+        let (question, taken, have) = (proposal.question, motion.taken, motion.have);
+        let text = proposal_text(self.it.alloc, question, standing, taken, have)?;
+        let status = match standing {
+            Standing::Decided(_) => 200,
+            _ => 202,
+        };
+        answer_of(self.it.alloc, status, Kind::Json, text.as_bytes())
+    }
+}
+
+impl<'a, R: Speaker> Cluster for Reach<'a, R> {
+    ghost handed = { λ reach. reach.handed.value };
+
+    fn read(&self, size: Size, task: Task) -> Result<Answer, AllocError> {
+        let alloc = self.it.alloc;
+        match task {
+            Task::Page => answer_of(alloc, 200, Kind::Page, live().as_bytes()),
+            Task::Health => answer_of(alloc, 200, Kind::Json, b"{\"ok\":true}\n"),
+            Task::Ready => ready_answer(self.it, &self.it.book.lock(self.rt)),
+            Task::Metrics => metrics_answer(alloc, &self.it.book.lock(self.rt)),
+            Task::Members => members_answer(self.it, &self.it.book.lock(self.rt)),
+            Task::Questions { from, to } => self.questions(from, to),
+            Task::Question { question, wait } => self.question(size, question, wait),
+            Task::Transcript(question) => self.transcript(question),
+            Task::Decisions(after) => {
+                let mut answer = answer_of(alloc, 200, Kind::Events, b"")?;
+                answer.follow = Some(after);
+                Ok(answer)
+            }
+            Task::Propose { .. } => self.refuse(Refusal::Method),
+        }
+    }
+
+    fn propose(&mut self, proposal: Proposal) -> Result<Answer, AllocError> {
+        let time = time_now(self.rt);
+        let begun = self
+            .it
+            .book
+            .lock(self.rt)
+            .propose(proposal.question, proposal.bit, time);
+        let Some(number) = begun else {
+            return self.refuse(Refusal::Busy);
+        };
+        self.handed = self.handed.then(&HandedOn { proposal });
+        self.it.changed.notify_all();
+        self.replied(number, proposal)
+    }
+
+    fn refuse(&self, refusal: Refusal) -> Result<Answer, AllocError> {
+        self.it.book.lock(self.rt).count_refusal();
+        let text = refusal_text(self.it.alloc, refusal)?;
+        answer_of(
+            self.it.alloc,
+            status_of(refusal),
+            Kind::Json,
+            text.as_bytes(),
+        )
+    }
+}
