@@ -347,6 +347,12 @@ mistake 'a migration of a record that is none' $'migrate BadRecord\ndamaged.jour
 truncate -s 30 damaged.journal
 mistake 'a migration of a part of a batch' $'migrate CutShort\ndamaged.journal: byte 24: bytes 01 00 02 02 00 00: migrate CutShort' migrate damaged.journal new.journal
 old='a journal of version 1: `bracha migrate OLD NEW` brings it over into a new file'
+cp mistaken.journal kept.journal
+says 'a migration with closed streams' 1 'bracha: stream' bash -c '
+    status=0
+    "$0" --quiet migrate mistaken.journal closed.journal <&- >&- || status=$?
+    cmp mistaken.journal kept.journal
+    exit "$status"' "$program"
 mistake 'a run of version 1' $'journal OldVersion\nmistaken.journal: '"$old" run mistaken.toml
 truncate -s 1G mistaken.journal
 says 'a migration that is refused memory' 1 'bracha: memory' bash -c 'ulimit -v 500000; exec "$0" migrate mistaken.journal new.journal' "$program"

@@ -1168,7 +1168,7 @@ def the_end_closes_all(folder, port):
     with running(path, "--log", preexec_fn=block_term) as process:
         process.send_signal(signal.SIGTERM)
         found += differs("the status of one that listens still", process.wait(8), 0)
-    return found + differs("its last line", lines_of(path)[-1:], ["end"])
+    return found + differs("what it tells of itself", [it for it in lines_of(path) if not it.startswith("link")], ["ready member 0", "end"])
 
 
 @check
