@@ -1,7 +1,7 @@
 //! The command `gateway`: a cluster over HTTP. Begin at `run_gateway`, last.
 
 ghost use Rattle.std.specs.Prelude.{◌≡◌, ◌↔◌, IfErr, IfOk, IfSome, IsTrue};
-ghost use Rattle.system.specs.Gates.{HasToken, IsToken, IsTokenByte, IsUnopened, Opens, is_open_mode};
+ghost use Rattle.system.specs.Gates.{HasToken, IsLineOf, IsToken, IsTokenByte, IsUnopened, Opens, is_open_mode};
 ghost use Rattle.system.specs.Troubles.{IsNamed};
 ghost use Rattle.system.specs.declared.fault.Fault.TheVariants as ends;
 
@@ -91,7 +91,9 @@ fn is_token_byte(byte: u8) -> bool
 }
 
 /// Returns the text without the end of its line.
-fn without_end(text: &[u8]) -> &[u8] {
+fn without_end(text: &[u8]) -> &[u8]
+    ensures { IsLineOf text.now result.now }
+{
     match text.strip_suffix(b"\n") {
         Some(line) => line,
         None => text,
