@@ -609,8 +609,9 @@ def who_follows_misses_nothing(folder, port):
         found = differs(f"half of them told at once ({sorted(late)[4]:.2f} s)", sorted(late)[4] < 0.3, True)
         # By now its journal has some four hundred records.
         again(1)
+        before = len(lines)
         found += differs("a member that is started with all its records", told(desks[1], "AWAIT 38")[0], "DECIDED 0")
-        time.sleep(6)
+        soon(lambda: "" in lines[before:], 9)
         members[1].send_signal(signal.SIGKILL)
         stop.set()
         members[1].wait()
@@ -621,7 +622,7 @@ def who_follows_misses_nothing(folder, port):
         found += differs("the follower and the journal", heard, journal)
         found += differs("all questions", sorted(int(it.split()[1]) for it in heard), sorted(order))
         found += differs("the follower from number 3 on", [it for it in later if it], heard[3:])
-        return found + differs("an empty line", "" in lines, True)
+        return found + differs("an empty line", "" in lines[before:], True)
 
 
 def answer(reply):
