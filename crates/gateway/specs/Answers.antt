@@ -69,14 +69,24 @@ transcript_head told =
 abbrev pub transcript_object : Transcript → List ℕ
 transcript_object told = (transcript_head told ++ escaped told.text.now) ++ codes "\"}\n"
 
--- the object of questions: a letter for each, and the position from which the stream goes on
+-- the object of questions: a letter for each, the decisions in each of the last seconds, and the position from which the stream
+-- goes on
 abbrev pub states_head : Moment → List ℕ
 states_head moment =
     codes "{\"questions\":" ++ (decimal moment.questions ++ (codes ",\"from\":" ++ (decimal moment.from ++ (codes ",\"to\":" ++ (decimal moment.to
-    ++ (codes ",\"life\":\"" ++ (decimal moment.after.life ++ (codes "\",\"after\":" ++ (decimal moment.after.number ++ codes ",\"states\":\"")))))))))
+    ++ (codes ",\"life\":\"" ++ (decimal moment.after.life ++ (codes "\",\"after\":" ++ (decimal moment.after.number ++ codes ",\"lately\":[")))))))))
 
-abbrev pub states_object : Moment → List Standing → List ℕ
-states_object moment standings = (states_head moment ++ map letter standings) ++ codes "\"}\n"
+abbrev pub number_item : ℕ → List ℕ
+number_item number = codes "," ++ decimal number
+
+abbrev pub number_items : List ℕ → List ℕ
+number_items numbers = flat_map number_item numbers
+
+abbrev pub states_front : Moment → List ℕ → List ℕ
+states_front moment lately = (states_head moment ++ drop 1 (number_items lately)) ++ codes "],\"states\":\""
+
+abbrev pub states_object : Moment → List ℕ → List Standing → List ℕ
+states_object moment lately standings = (states_front moment lately ++ map letter standings) ++ codes "\"}\n"
 
 -- the object that says if the cluster can decide
 abbrev pub ready_object : Bool → List ℕ

@@ -2,7 +2,7 @@
 
 ghost use Rattle.std.specs.Prelude.{◌≡◌, ◌≤◌, ◌++◌, List, IfOk, drop, string_bytes};
 ghost use Rattle.client.specs.Readings.{first_word};
-ghost use Rattle.gateway.specs.Answers.{TellsQuestion, proposal_object, question_head, escaped, escaped_byte, ready_object, refusal_object, says_text, states_head, states_object, transcript_head, transcript_object, word_item, word_items, yes_or_no};
+ghost use Rattle.gateway.specs.Answers.{TellsQuestion, proposal_object, question_head, escaped, escaped_byte, ready_object, refusal_object, number_item, number_items, says_text, states_front, states_head, states_object, transcript_head, transcript_object, word_item, word_items, yes_or_no};
 ghost use Rattle.gateway.specs.Watches.{Watches, watch_size, words_on};
 ghost use Rattle.gateway.specs.declared.watch.Told.{Told};
 
@@ -222,18 +222,51 @@ pub struct Moment {
     pub after: Position,
 }
 
-/// Returns what stands before the letters of questions.
+/// Returns what stands before the numbers of the last seconds.
 fn states_head(alloc: Global, moment: &Moment) -> Result<String, AllocError>
     ensures { IfOk result (λ text. string_bytes text ≡ states_head moment.now) }
 {
     format!(in alloc;
-        "{{\"questions\":{},\"from\":{},\"to\":{},\"life\":\"{}\",\"after\":{},\"states\":\"",
+        "{{\"questions\":{},\"from\":{},\"to\":{},\"life\":\"{}\",\"after\":{},\"lately\":[",
         moment.questions, moment.from, moment.to, moment.after.life, moment.after.number
     )
 }
 
-/// Returns the object of JSON of these questions: a letter for each, and the position from which
-/// the stream goes on.
+/// Returns a number behind a comma.
+fn number_item(alloc: Global, number: u32) -> Result<String, AllocError>
+    ensures { IfOk result (λ text. string_bytes text ≡ number_item number) }
+{
+    format!(in alloc; ",{number}")
+}
+
+/// Returns numbers, with a comma before each.
+fn number_items(alloc: Global, numbers: &[u32]) -> Result<String, AllocError>
+    ensures { IfOk result (λ text. string_bytes text ≡ number_items numbers.now) }
+{
+    let mut text = String::new(alloc);
+    for number in numbers {
+        let item = number_item(alloc, *number)?;
+        text.push_str(item.as_str())?;
+    }
+    Ok(text)
+}
+
+/// Returns what stands before the letters of questions.
+fn states_front(alloc: Global, moment: &Moment, lately: &[u32]) -> Result<Vec<u8>, AllocError>
+    ensures { IfOk result (λ bytes. bytes.items ≡ states_front moment.now lately.now) }
+{
+    let head = states_head(alloc, moment)?;
+    let items = number_items(alloc, lately)?;
+    joined(
+        alloc,
+        head.as_bytes(),
+        behind_first(items.as_bytes()),
+        b"],\"states\":\"",
+    )
+}
+
+/// Returns the object of JSON of these questions: a letter for each, the number of decisions in
+/// each of the last seconds, and the position from which the stream goes on.
 ///
 /// # Errors
 ///
@@ -241,13 +274,14 @@ fn states_head(alloc: Global, moment: &Moment) -> Result<String, AllocError>
 pub fn questions_text(
     alloc: Global,
     moment: &Moment,
+    lately: &[u32],
     standings: &[Standing],
 ) -> Result<Vec<u8>, AllocError>
-    ensures { IfOk result (λ bytes. bytes.items ≡ states_object moment.now standings.now) }
+    ensures { IfOk result (λ bytes. bytes.items ≡ states_object moment.now lately.now standings.now) }
 {
-    let head = states_head(alloc, moment)?;
+    let front = states_front(alloc, moment, lately)?;
     let letters = states_text(alloc, standings)?;
-    joined(alloc, head.as_bytes(), &letters, b"\"}\n")
+    joined(alloc, &front, &letters, b"\"}\n")
 }
 
 /// Returns the object of JSON that says if the cluster can decide.

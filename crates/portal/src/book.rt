@@ -19,6 +19,9 @@ const MOST_EVENTS: usize = 16_384;
 /// The most proposals that are under way.
 const MOST_MOTIONS: usize = 64;
 
+/// The seconds whose decisions are counted.
+const SECONDS: usize = 60;
+
 /// A proposal that is being made to all members.
 #[derive(Clone, Copy, Debug, PartialEq, Eq)]
 pub(crate) struct Motion {
@@ -52,6 +55,8 @@ pub(crate) struct Book {
     motions: Vec<Motion>,
     /// The number of proposals that were made.
     motion_count: u64,
+    /// The milliseconds since 1970 of each decision, in their order.
+    decided_at: Vec<u64>,
     decisions: u64,
     refusals: u64,
     times: Vec<u32>,
@@ -103,6 +108,7 @@ impl Book {
             before: 0,
             motions: Vec::new(alloc),
             motion_count: 0,
+            decided_at: Vec::new(alloc),
             decisions: 0,
             refusals: 0,
             times: Vec::new(alloc),
@@ -206,6 +212,7 @@ impl Book {
     fn decide(&mut self, question: u16, bit: bool, time: u64) {
         let ms = self.time_of(question, time);
         self.decisions = self.decisions.saturating_add(1);
+        let _uncounted = self.decided_at.push(time).is_err();
         if let Some(ms) = ms {
             self.sum = self.sum.saturating_add(u64::from(ms));
             let _untold = self.times.push(ms).is_err();
@@ -249,6 +256,20 @@ impl Book {
             }
             (None, None) => self.begin(told.question),
         }
+    }
+
+    /// Returns the number of decisions in each of the last 60 seconds, the present one last.
+    pub(crate) fn lately(&self, time: u64) -> Result<Vec<u32>, AllocError> {
+        let mut counts: Vec<u32> = Vec::new(self.alloc);
+        counts.resize(SECONDS, 0)?;
+        for decided_at in &self.decided_at {
+            let ago = (time / 1000).saturating_sub(*decided_at / 1000);
+            let place = usize::try_from(ago).unwrap_or(usize::MAX);
+            if let Some(count) = counts.get_mut(SECONDS.saturating_sub(1).wrapping_sub(place)) {
+                *count = count.saturating_add(1);
+            }
+        }
+        Ok(counts)
     }
 
     /// Notes the state of a member's desk.

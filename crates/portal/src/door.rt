@@ -157,6 +157,17 @@ fn respond(alloc: Global, response: &mut Response, answer: Answer) -> Option<Opt
     }
 }
 
+/// Returns the request for the stream of events, unless only its head is asked for.
+fn followed(
+    request: &Request<Bytes>,
+    follow: Option<Option<Position>>,
+) -> Option<Option<Position>> {
+    match request.method().as_str() {
+        "HEAD" => None,
+        _ => follow,
+    }
+}
+
 /// Returns the later of two requests for the stream of events, if there is one.
 fn later(
     one: Option<Option<Position>>,
@@ -235,7 +246,7 @@ impl<'a, C: Cluster> Service for Door<'a, C> {
         response: &mut Response,
     ) -> Result<(), AllocError> {
         let follow = self.serve(request, response);
-        self.follow = later(self.follow, follow);
+        self.follow = later(self.follow, followed(request, follow));
         Ok(())
     }
 }

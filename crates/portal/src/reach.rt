@@ -73,7 +73,7 @@ impl<'a, R: Speaker> Reach<'a, R> {
             to,
             after: book.position(self.it.life),
         };
-        questions_answer(self.it.alloc, &book, &moment)
+        questions_answer(self.it.alloc, &book, &moment, time_now(self.rt))
     }
 
     /// Returns the answer to a transcript that a member sent.

@@ -39,14 +39,16 @@ fn other_answer(alloc: Global) -> Result<Answer, AllocError>
     answer_of(alloc, status_of(refusal), Kind::Json, text.as_bytes())
 }
 
-/// Returns the answer about these questions at this moment.
+/// Returns the answer about these questions at this moment, with the milliseconds since 1970.
 pub(crate) fn questions_answer(
     alloc: Global,
     book: &Book,
     moment: &Moment,
+    time: u64,
 ) -> Result<Answer, AllocError> {
     let standings = book.standings(moment.from, moment.to)?;
-    let body = questions_text(alloc, moment, &standings)?;
+    let lately = book.lately(time)?;
+    let body = questions_text(alloc, moment, &lately, &standings)?;
     Ok(good_answer(Kind::Json, body))
 }
 
