@@ -1123,15 +1123,15 @@ def a_client_that_takes_nothing_is_closed(folder, port):
         # Segments and a window so small that replies have no room on the way.
         link.setsockopt(socket.IPPROTO_TCP, socket.TCP_MAXSEG, 88)
         link.setsockopt(socket.SOL_SOCKET, socket.SO_RCVBUF, 1024)
-        link.settimeout(45)
+        link.settimeout(58)
         link.connect(("127.0.0.1", port + 1))
         begun = time.monotonic()
         with contextlib.suppress(OSError):
             while True:
                 link.sendall(b"STATUS\n" * 4096)
         took = time.monotonic() - begun
-        # A write of which the system took a part before counts for itself.
-        return differs(f"it is closed ({took:.1f} s)", 8 < took < 40, True)
+        # Three times as long has been seen: a write of which the system took a part is made again for the rest.
+        return differs(f"it is closed ({took:.1f} s)", 8 < took < 55, True)
 
 
 def block_term():
@@ -1407,7 +1407,7 @@ def a_peer_that_takes_nothing(folder, port):
                     line.readline()
         await_one(desks[0], lines[0], 1023)
         count, begun = len(welcomed), time.monotonic()
-        again = soon(lambda: len(welcomed) >= count + 3, 40)
+        again = soon(lambda: len(welcomed) >= count + 3, 48)
         took = time.monotonic() - begun
     return differs(f"each of three members dials it again ({took:.1f} s)", (again, took > 4), (True, True))
 
