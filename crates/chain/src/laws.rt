@@ -15,8 +15,9 @@ pub fn each_has_one()
     ensures epoch { HasOneEpoch }
 {}
 
-/// No two decisions of correct members on a slot differ, whatever runs the epochs of the chain had, and whoever lied in each of
-/// them, at most t members (agreement, after Bracha 1987: each epoch is a cluster, and a slot is a question of one epoch alone).
+/// No two decisions of correct members on a slot differ, whatever runs the epochs of the chain had,
+/// and whoever lied in each of them, at most t members (agreement, after Bracha 1987: each epoch is
+/// a cluster, and a slot is a question of one epoch alone).
 pub fn agreement()
     ensures { AgreeOnSlots }
 {
@@ -24,9 +25,10 @@ pub fn agreement()
     each_has_one();
 }
 
-/// Liars open no epoch by themselves: at most t members lie, and past the one in front of its newest proposal a correct member
-/// opens only what more than t members opened before. Then each epoch that a correct member opened is at most one past the newest
-/// in which some correct member has a proposal.
+/// Liars open no epoch by themselves: at most t members lie, and past the one in front of its
+/// newest proposal a correct member opens only what more than t members opened before. Then each
+/// epoch that a correct member opened is at most one past the newest in which some correct member
+/// has a proposal.
 pub fn opened_for_proposals()
     ensures { IsOpenedForProposals }
 {}

@@ -21,8 +21,8 @@ pub struct Ask {
 pub struct Known<'a> {
     /// The newest epoch in which this member has a proposal; 0 before the first.
     pub newest: u64,
-    /// The epochs that aren't done: a question of it was proposed here or by others and isn't decided here, or a member hasn't
-    /// heard all that this one said in it.
+    /// The epochs that aren't done: a question of it was proposed here or by others and isn't
+    /// decided here, or a member hasn't heard all that this one said in it.
     pub undone: &'a [u64],
     /// The members that ask for epochs.
     pub asks: &'a [Ask],
@@ -80,10 +80,10 @@ impl Chain {
         asking(asks, epoch, size.n()) > size.t()
     }
 
-    /// Returns `true` if the member runs this epoch: the newest in which it has a proposal, the one in front of it (so that a new
-    /// one is ready once it is needed), and those before them that aren't done or for which a member asks. Past these an epoch
-    /// is open only if more than t members ask for it, of whom one doesn't lie:
-    /// [`crate::laws::opened_for_proposals`].
+    /// Returns `true` if the member runs this epoch: the newest in which it has a proposal, the one
+    /// in front of it (so that a new one is ready once it is needed), and those before them that
+    /// aren't done or for which a member asks. Past these an epoch is open only if more than t
+    /// members ask for it, of whom one doesn't lie: [`crate::laws::opened_for_proposals`].
     pub fn is_open(&self, known: &Known<'_>, epoch: u64) -> bool
         ensures { IsTrue result ↔ IsOpen (chain_size self.now) known.now epoch }
     {
@@ -94,8 +94,8 @@ impl Chain {
         }
     }
 
-    /// Returns the epoch to whose member a greeting with this cluster number goes. `None` if it goes to nobody: no open epoch has
-    /// the number.
+    /// Returns the epoch to whose member a greeting with this cluster number goes. `None` if it
+    /// goes to nobody: no open epoch has the number.
     pub fn route(&self, known: &Known<'_>, cluster: u64) -> Option<u64>
         ensures some { IfSome result (λ epoch. HasCluster self.now epoch cluster) }
         ensures open { IfSome result (IsOpen (chain_size self.now) known.now) }

@@ -16,7 +16,8 @@ pub struct Slot {
     pub question: u16,
 }
 
-/// A chain of clusters of one size. Epoch e is the cluster whose number is that of the first plus e.
+/// A chain of clusters of one size. Epoch e is the cluster whose number is that of the first plus
+/// e.
 #[derive(Clone, Copy, Debug, PartialEq, Eq)]
 pub struct Chain {
     first: u64,
@@ -70,8 +71,8 @@ impl Chain {
         }
     }
 
-    /// Returns the number of a slot. `None` if its question isn't below the number of questions, or its number is past the last
-    /// one, 2^64 - 1.
+    /// Returns the number of a slot. `None` if its question isn't below the number of questions, or
+    /// its number is past the last one, 2^64 - 1.
     #[tactic(auto, unfolding(crate::specs::Slots::chain_size))]
     pub fn number_of(&self, slot: Slot) -> Option<u64>
         ensures some { IfSome result (λ number. IsSlot self.now number slot) }

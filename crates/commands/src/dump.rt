@@ -62,7 +62,7 @@ fn number_text(alloc: Global, records: &[Record]) -> Result<String, AllocError>
     format!(in alloc; "{}\n", records.len())
 }
 
-/// How a journal is printed: in lines, or as objects of JSON.
+/// The form of a printed journal: lines, or objects of JSON.
 #[derive(Clone, Copy, Debug, PartialEq, Eq)]
 enum Form {
     Lines,
@@ -134,7 +134,8 @@ fn gather(alloc: Global, batches: &mut Batches) -> Result<Vec<Record>, AllocErro
     }
 }
 
-/// Reads the records of the journal on the disk, if it is this header's. No byte of the file is changed.
+/// Reads the records of the journal on the disk, if it is this header's. No byte of the file is
+/// changed.
 pub(crate) fn read_records<D: Disk>(
     alloc: Global,
     disk: &mut D,
@@ -150,7 +151,8 @@ pub(crate) fn read_records<D: Disk>(
     Ok(gather(alloc, &mut batches)?)
 }
 
-/// Reads the header of the journal on the disk, and its batches. All of the file is looked at, and no byte is changed.
+/// Reads the header of the journal on the disk, and its batches. All of the file is looked at, and
+/// no byte is changed.
 fn look<D: Disk>(alloc: Global, disk: &mut D) -> Result<(Header, Batches), JournalFault>
     ensures held { IfOk result (λ seen. (records : List Record) × HasLeft seen.1 records
         × (D.keeps disk.new → Holds seen.0 records (D.state disk.old).seen)) }
@@ -166,8 +168,8 @@ fn look<D: Disk>(alloc: Global, disk: &mut D) -> Result<(Header, Batches), Journ
     }
 }
 
-/// Writes the journal that the disk has. All of its file is looked at before anything is written, and a batch of its records
-/// is in memory at a time.
+/// Writes the journal that the disk has. All of its file is looked at before anything is written,
+/// and a batch of its records is in memory at a time.
 fn print_records<D: Disk, W: Write>(
     alloc: Global,
     form: Form,
@@ -217,11 +219,12 @@ fn print_count<D: Disk, W: Write>(
     Ok(0)
 }
 
-/// Writes the records of the journal that the disk has as text: the line `cluster C n N t T questions Q me M`, and then a
-/// line for each record, `KIND QUESTION ORIGIN ROUND STEP VALUE` or `decided QUESTION ROUND BIT`. The status is 0.
+/// Writes the records of the journal that the disk has as text: the line `cluster C n N t T
+/// questions Q me M`, and then a line for each record, `KIND QUESTION ORIGIN ROUND STEP VALUE` or
+/// `decided QUESTION ROUND BIT`. The status is 0.
 ///
-/// [`DumpFault::Journal`]: the file holds no journal, or the disk failed; nothing was written. [`DumpFault::Stream`] and
-/// [`DumpFault::Memory`]: the write or a growth failed.
+/// [`DumpFault::Journal`]: the file holds no journal, or the disk failed; nothing was written.
+/// [`DumpFault::Stream`] and [`DumpFault::Memory`]: the write or a growth failed.
 pub fn dump_lines<D: Disk, W: Write>(
     alloc: Global,
     disk: &mut D,
@@ -240,8 +243,8 @@ pub fn dump_lines<D: Disk, W: Write>(
     print_records(alloc, Form::Lines, disk, output)
 }
 
-/// Writes how many records the journal that the disk has has: one decimal number in a line. The status is 0. The faults
-/// are those of [`dump_lines`], and come when its own do.
+/// Writes how many records the journal that the disk has has: one decimal number in a line. The
+/// status is 0. The faults are those of [`dump_lines`], and come when its own do.
 pub fn dump_count<D: Disk, W: Write>(
     alloc: Global,
     disk: &mut D,
@@ -260,8 +263,9 @@ pub fn dump_count<D: Disk, W: Write>(
     print_count(alloc, Form::Lines, disk, output)
 }
 
-/// Writes the journal that the disk has as objects of JSON: that of its header, and one for each record, each in a line. The
-/// status is 0. The faults are those of [`dump_lines`], and come when its own do.
+/// Writes the journal that the disk has as objects of JSON: that of its header, and one for each
+/// record, each in a line. The status is 0. The faults are those of [`dump_lines`], and come when
+/// its own do.
 pub fn dump_objects<D: Disk, W: Write>(
     alloc: Global,
     disk: &mut D,
@@ -280,8 +284,8 @@ pub fn dump_objects<D: Disk, W: Write>(
     print_records(alloc, Form::Objects, disk, output)
 }
 
-/// Writes how many records the journal that the disk has has: one object of JSON in a line. The status is 0. The faults
-/// are those of [`dump_lines`], and come when its own do.
+/// Writes how many records the journal that the disk has has: one object of JSON in a line. The
+/// status is 0. The faults are those of [`dump_lines`], and come when its own do.
 pub fn dump_count_object<D: Disk, W: Write>(
     alloc: Global,
     disk: &mut D,

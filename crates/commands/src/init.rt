@@ -10,10 +10,11 @@ use crate::fault::InitFault;
 use disk::Disk;
 use settings::Settings;
 
-/// Writes a journal of no records, with the settings' header, into an empty file. The status is 0. It takes no memory.
+/// Writes a journal of no records, with the settings' header, into an empty file. The status is 0.
+/// It takes no memory.
 ///
-/// [`InitFault::NotEmpty`]: the file has bytes already, and nothing was written. [`InitFault::Device`]: the disk failed,
-/// and the file may have any of the bytes.
+/// [`InitFault::NotEmpty`]: the file has bytes already, and nothing was written.
+/// [`InitFault::Device`]: the disk failed, and the file may have any of the bytes.
 pub fn init_disk<D: Disk>(disk: &mut D, settings: &Settings) -> Result<u8, InitFault>
     ensures status { IfOk result (λ status. status ≡ 0) }
     ensures file { D.keeps disk.new → OnOk result (D.state disk.new ≡ at_rest (header_text settings.now.header ++ 0 ∷ [])) }

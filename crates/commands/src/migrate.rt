@@ -55,13 +55,16 @@ fn print_migrated<W: Write>(alloc: Global, count: u64, output: &mut W) -> Result
     Ok(())
 }
 
-/// Brings the records of the old file, a journal of version 1, over into the new one, which is empty and becomes a journal,
-/// and writes how many they are: `migrated C` in a line. The old file is never written. Gives the new disk back: its file
-/// holds just these records, in whatever a crash can leave of it.
+/// Brings the records of the old file, a journal of version 1, over into the new one, which is
+/// empty and becomes a journal, and writes how many they are: `migrated C` in a line. The old file
+/// is never written. Gives the new disk back: its file holds just these records, in whatever a
+/// crash can leave of it.
 ///
 /// A fault hands the new disk back too:
-/// - [`MigrationFault::Migrate`]: it wasn't brought over, and nothing was printed; the new file is to be thrown away.
-/// - [`MigrationFault::Stream`]: the new file is whole, as after no fault, but a write of the line failed.
+/// - [`MigrationFault::Migrate`]: it wasn't brought over, and nothing was printed; the new file is
+///   to be thrown away.
+/// - [`MigrationFault::Stream`]: the new file is whole, as after no fault, but a write of the line
+///   failed.
 pub fn migrate_disks<D: Disk, E: Disk, W: Write>(
     alloc: Global,
     old: &mut D,

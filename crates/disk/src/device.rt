@@ -11,28 +11,31 @@ pub struct DeviceFault;
 
 /// One file, reached by calls that may fail.
 ///
-/// A fault is answered just in a call in which the count of failures rose. That holds of every disk. What a call says of
-/// bytes, moments and crashes holds if the disk kept the model until the call's end.
+/// A fault is answered just in a call in which the count of failures rose. That holds of every
+/// disk. What a call says of bytes, moments and crashes holds if the disk kept the model until the
+/// call's end.
 pub trait Disk {
-    /// So far the disk kept the model. This is a fact of the past: a call may end it, and once it is false it stays so.
+    /// So far the disk kept the model. This is a fact of the past: a call may end it, and once it
+    /// is false it stays so.
     ghost keeps: { Self → Type 0 };
 
     /// The file with which the disk began, before its first call.
     ghost begun: { Self → List ℕ };
 
-    /// What reads give, and what a crash may leave.
+    /// The bytes that reads give, and those that a crash may leave.
     ghost state: { Self → State };
 
-    /// How many calls there were.
+    /// The number of calls.
     ghost moment: { Self → ℕ };
 
-    /// The files that a crash at some moment from that one on might have left, during a call or between two.
+    /// The files that a crash at some moment from that one on might have left, during a call or
+    /// between two.
     ghost since: { Self → ℕ → List ℕ → Type 0 };
 
-    /// How often the disk has failed.
+    /// The number of the disk's failures.
     ghost failures: { Self → ℕ };
 
-    /// How many bytes the file has. A fault changes nothing.
+    /// Returns how many bytes the file has. A fault changes nothing.
     fn len(&mut self) -> Result<usize, DeviceFault>
         ensures answer { keeps self.new → IfOk result (λ n. n ≡ length (state self.old).seen) }
         ensures same { keeps self.new → state self.new ≡ state self.old }
@@ -42,8 +45,8 @@ pub trait Disk {
         ensures begun { begun self.new ≡ begun self.old }
         ensures cause { CountsFailures (failures self.old) (failures self.new) result };
 
-    /// Fills the buffer with the bytes from `at` on. The caller keeps within the length. A fault changes nothing of the
-    /// file, and may leave anything in the buffer.
+    /// Fills the buffer with the bytes from `at` on. The caller keeps within the length. A fault
+    /// changes nothing of the file, and may leave anything in the buffer.
     fn read_at(&mut self, at: usize, buf: &mut [u8]) -> Result<(), DeviceFault>
         requires { keeps self.old → at + length buf.old ≤ length (state self.old).seen }
         ensures answer { keeps self.new →
@@ -55,9 +58,10 @@ pub trait Disk {
         ensures begun { begun self.new ≡ begun self.old }
         ensures cause { CountsFailures (failures self.old) (failures self.new) result };
 
-    /// Writes the bytes at `at`, over what is there and past the end. The caller keeps `at` not past the length. Until a
-    /// sync succeeds a crash may leave any bytes in the range, also where the write failed. After a fault reads may
-    /// give other bytes there, and past the length of the last sync that succeeded.
+    /// Writes the bytes at `at`, over what is there and past the end. The caller keeps `at` not
+    /// past the length. Until a sync succeeds a crash may leave any bytes in the range, also where
+    /// the write failed. After a fault reads may give other bytes there, and past the length of the
+    /// last sync that succeeded.
     fn write_at(&mut self, at: usize, bytes: &[u8]) -> Result<(), DeviceFault>
         requires { keeps self.old → at ≤ length (state self.old).seen }
         ensures written { keeps self.new →
@@ -70,7 +74,8 @@ pub trait Disk {
         ensures begun { begun self.new ≡ begun self.old }
         ensures cause { CountsFailures (failures self.old) (failures self.new) result };
 
-    /// Puts on the disk what reads give. A fault changes nothing: a crash may leave what it might have left before.
+    /// Puts on the disk what reads give. A fault changes nothing: a crash may leave what it might
+    /// have left before.
     fn sync(&mut self) -> Result<(), DeviceFault>
         ensures synced { keeps self.new → OnOk result (state self.new ≡ at_rest (state self.old).seen) }
         ensures failed { keeps self.new → OnErr result (state self.new ≡ state self.old) }

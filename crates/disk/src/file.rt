@@ -21,8 +21,8 @@ use std::sync::Arc;
 
 /// Premise of a [`FileDisk`]: what is supposed of its file.
 ///
-/// Nobody knows the bytes of a file before they are read. So a program is generic over its premises, and is called at
-/// `Brand`: what is proved of it is proved of every file.
+/// Nobody knows the bytes of a file before they are read. So a program is generic over its
+/// premises, and is called at `Brand`: what is proved of it is proved of every file.
 pub trait Premise {
     ghost use Rattle.disk.specs.Supposed.{FileModel};
 
@@ -36,14 +36,16 @@ impl Premise for Brand {
     ghost file = { record { start = []; torn = λ _. [] } };
 }
 
-/// An open file of the operating system. One process at a time has it open: it holds the file's lock for as long as it
-/// lives.
+/// An open file of the operating system. One process at a time has it open: it holds the file's
+/// lock for as long as it lives.
 ///
-/// The disk keeps the model while each length and each read were those of the file that is supposed, written by its own calls
-/// alone. Example: the file begins with 24 bytes, and the first length is 25. From then on nothing is said of its bytes.
+/// The disk keeps the model while each length and each read were those of the file that is
+/// supposed, written by its own calls alone. Example: the file begins with 24 bytes, and the first
+/// length is 25. From then on nothing is said of its bytes.
 ///
-/// A read or a write that the system answers in part is continued, and a call that a signal interrupts is made again.
-/// The first sync that succeeds also puts the folder on the disk, so that the file is found there after a crash.
+/// A read or a write that the system answers in part is continued, and a call that a signal
+/// interrupts is made again. The first sync that succeeds also puts the folder on the disk, so that
+/// the file is found there after a crash.
 #[derive(Drop)]
 pub struct FileDisk<P: Premise> {
     named: NamedFile<RealFile>,
@@ -56,8 +58,8 @@ impl<P: Premise> FileDisk<P> {
 
     /// Opens a file for reading and writing. A missing one is made, empty, where `make` says so.
     ///
-    /// An error is the system's: the file or its folder is missing, isn't to be read or written, isn't a file, or another
-    /// disk has it open. Where it is about the folder no file was made.
+    /// An error is the system's: the file or its folder is missing, isn't to be read or written,
+    /// isn't a file, or another disk has it open. Where it is about the folder no file was made.
     pub fn open(rt: &impl Files<File = File>, path: &str, make: bool) -> io::Result<FileDisk<P>>
         ensures failures { IfOk result (λ disk. file_failures disk ≡ 0) }
         ensures unnamed { IfOk result (λ disk. is_named disk ≡ false) }
@@ -76,7 +78,7 @@ impl<P: Premise> FileDisk<P> {
         })
     }
 
-    /// From now on the system's error at the first call that fails is kept in what this gives.
+    /// Keeps the system's error at the first call that fails from now on, in what this returns.
     ///
     /// An error is that memory was refused: nothing is kept then.
     pub fn keep_first_error(&mut self, alloc: Global) -> Result<Arc<FirstError>, AllocError>

@@ -11,10 +11,11 @@ use crate::{DeviceFault, Disk, Pick};
 use ghost_record::GhostRecord;
 use std::alloc::{AllocError, Global};
 
-/// A disk in memory, which keeps the model. A call fails where its fuse stops it, and a write also where memory is
-/// refused: no other call takes any.
+/// A disk in memory, which keeps the model. A call fails where its fuse stops it, and a write also
+/// where memory is refused: no other call takes any.
 ///
-/// It holds the file's bytes, and what lay under those that were written since the last sync that succeeded.
+/// It holds the file's bytes, and what lay under those that were written since the last sync that
+/// succeeded.
 #[derive(Drop)]
 pub struct MemDisk {
     log: LoggedFile,
@@ -35,30 +36,32 @@ impl MemDisk {
         MemDisk::of_log(LoggedFile::empty(alloc))
     }
 
-    /// The next calls of the device pass, as many as this, and all after them fail. None takes the fuse out. This is no
-    /// call of the device, and takes no memory.
+    /// The next calls of the device pass, as many as this, and all after them fail. None takes the
+    /// fuse out. This is no call of the device, and takes no memory.
     pub fn fuse(&mut self, calls: Option<u64>)
         ensures { self.new ≡ with_fuse self.old calls }
     {
         self.fuse = calls;
     }
 
-    /// Whether a fuse is in, also one that lets no call pass any more.
+    /// Returns `true` if a fuse is in, also one that lets no call pass any more.
     pub fn is_fused(&self) -> bool
         ensures { result ≡ is_some (fuse_left self.now) }
     {
         self.fuse.is_some()
     }
 
-    /// Whether its file is empty: reads give no byte. This is no call of the device, and takes no memory.
+    /// Returns `true` if its file is empty: reads give no byte. This is no call of the device, and
+    /// takes no memory.
     pub fn is_empty(&self) -> bool
         ensures { IsTrue result ↔ (length (memory_state self.now).seen ≡ 0) }
     {
         self.log.seen().is_empty()
     }
 
-    /// The disk after a crash, which leaves one of the files that it may: the one that the pick names. All of it is on
-    /// the disk, no call was made of it, and the fuse is out. It takes no memory, and is always Ok.
+    /// The disk after a crash, which leaves one of the files that it may: the one that the pick
+    /// names. All of it is on the disk, no call was made of it, and the fuse is out. It takes no
+    /// memory, and is always Ok.
     pub fn crash(mut self, pick: Pick) -> Result<MemDisk, AllocError>
         ensures state { IfOk result (λ disk. memory_state disk ≡ at_rest (left (memory_state self) pick)) }
         ensures may_leave { IfOk result (λ disk. MayLeave (memory_state self) (memory_state disk).seen) }
@@ -85,7 +88,7 @@ impl MemDisk {
         }
     }
 
-    /// Whether the fuse lets the next call pass.
+    /// Returns `true` if the fuse lets the next call pass.
     fn passes(&self) -> bool
         ensures { result ≡ lets_pass (fuse_left self.now) }
     {

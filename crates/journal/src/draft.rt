@@ -16,11 +16,11 @@ use disk::{DeviceFault, Disk};
 use std::alloc::Global;
 use terms::{Header, Record};
 
-/// What a journal's file begins with.
+/// The first byte of a journal's file.
 const FIRST: u8 = b'B';
 
-/// A journal's file but for its first byte, which is 0. Batches are added to it as to a journal. Opening refuses the file
-/// until [`complete`](Draft::complete) has written that byte.
+/// A journal's file but for its first byte, which is 0. Batches are added to it as to a journal.
+/// Opening refuses the file until [`complete`](Draft::complete) has written that byte.
 #[derive(Drop)]
 pub struct Draft<D: Disk> {
     header: Header,
@@ -28,7 +28,8 @@ pub struct Draft<D: Disk> {
 }
 
 impl<D: Disk> Draft<D> {
-    /// Begins one in an empty file, by three calls of the device: `len`, one write of 25 bytes, and `sync`.
+    /// Begins one in an empty file, by three calls of the device: `len`, one write of 25 bytes, and
+    /// `sync`.
     ///
     /// A fault hands the disk back:
     /// - `NotEmpty`: the file has bytes already. Nothing was written.
@@ -47,8 +48,8 @@ impl<D: Disk> Draft<D> {
         }
     }
 
-    /// Adds a batch, by four calls of the device as a journal does it. A crash at any moment of them leaves a file that
-    /// opening refuses.
+    /// Adds a batch, by four calls of the device as a journal does it. A crash at any moment of
+    /// them leaves a file that opening refuses.
     ///
     /// The records are 1 to 65,535, and well formed for the header: the caller sees to it.
     ///
@@ -83,9 +84,9 @@ impl<D: Disk> Draft<D> {
         Ok(())
     }
 
-    /// Makes it a journal, by two calls of the device: a write of the first byte, and `sync`. From then on each file that
-    /// a crash can leave holds its records. A crash at any moment of the calls leaves one that does, or one that opening
-    /// refuses.
+    /// Makes it a journal, by two calls of the device: a write of the first byte, and `sync`. From
+    /// then on each file that a crash can leave holds its records. A crash at any moment of the
+    /// calls leaves one that does, or one that opening refuses.
     ///
     /// [`DeviceFault`]: the disk failed, and is handed back.
     #[tactic(auto, unfolding(crate::specs::Drafts::draft_disk, crate::specs::Drafts::draft_header, crate::specs::Drafts::draft_gate, crate::specs::Readers::journal_disk, crate::specs::Readers::journal_header, crate::specs::Readers::journal_gate, crate::specs::Readers::journal_is_stopped))]
@@ -104,7 +105,7 @@ impl<D: Disk> Draft<D> {
         }
     }
 
-    /// For whose journal it is.
+    /// Returns the header of the journal.
     #[tactic(auto, unfolding(crate::specs::Drafts::draft_header))]
     pub fn header(&self) -> Header
         ensures { result ≡ draft_header self.now }

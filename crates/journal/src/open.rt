@@ -15,8 +15,8 @@ use disk::Disk;
 use std::alloc::Global;
 use terms::{Header, Record};
 
-/// Writes a journal of no records into an empty file, by three calls of the device: `len`, one write of 25 bytes, and
-/// `sync`. It takes no memory.
+/// Writes a journal of no records into an empty file, by three calls of the device: `len`, one
+/// write of 25 bytes, and `sync`. It takes no memory.
 ///
 /// - `NotEmpty`: the file has bytes already. Nothing was written.
 /// - `Device`: the disk failed. The file may have any of the bytes.
@@ -26,7 +26,8 @@ pub fn create<D: Disk>(disk: &mut D, header: &Header) -> Result<(), JournalFault
     ensures durable { D.keeps disk.new → OnOk result (
         (file : List ℕ) → MayLeave (D.state disk.new) file → Holds header.now [] file) }
 
-    // A crash at any moment leaves nothing but what it might have left before, or might leave after the one write.
+    // A crash at any moment leaves nothing but what it might have left before, or might leave after
+    // the one write.
     ensures any_moment { D.keeps disk.new → LeavesOnly D.moment D.since disk.old disk.new
         (MayLeave (after_write (D.state disk.old) 0 (header_text header.now ++ 0 ∷ []))) }
     ensures three_calls { D.keeps disk.new → OnOk result (D.moment disk.new ≡ D.moment disk.old + 3) }
@@ -44,7 +45,8 @@ pub fn create<D: Disk>(disk: &mut D, header: &Header) -> Result<(), JournalFault
     Ok(())
 }
 
-/// Writes these bytes into an empty file, by three calls of the device: `len`, one write, and `sync`.
+/// Writes these bytes into an empty file, by three calls of the device: `len`, one write, and
+/// `sync`.
 pub(crate) fn write_new<D: Disk>(disk: &mut D, bytes: &[u8]) -> Result<(), JournalFault>
     ensures file { D.keeps disk.new → OnOk result (D.state disk.new ≡ at_rest bytes.now) }
     ensures any_moment { D.keeps disk.new → LeavesOnly D.moment D.since disk.old disk.new
@@ -68,8 +70,8 @@ pub(crate) fn write_new<D: Disk>(disk: &mut D, bytes: &[u8]) -> Result<(), Journ
     Ok(disk.sync()?)
 }
 
-/// The header that a file begins with, by two calls of the device: `len`, and one read of the first 24 bytes, or of all
-/// where there are fewer. It takes no memory, and changes no byte.
+/// The header that a file begins with, by two calls of the device: `len`, and one read of the first
+/// 24 bytes, or of all where there are fewer. It takes no memory, and changes no byte.
 ///
 /// - `BadHeader`: the file begins with no header, and isn't of version 1.
 /// - `OldVersion`: the file is of version 1.
@@ -102,7 +104,8 @@ pub fn peek<D: Disk>(disk: &mut D) -> Result<Header, JournalFault>
     }
 }
 
-/// The place of the closed gate, and the records before it, of a file all of which is on the disk from then on.
+/// The place of the closed gate, and the records before it, of a file all of which is on the disk
+/// from then on.
 pub(crate) fn load<D: Disk>(
     alloc: Global,
     disk: &mut D,
@@ -147,13 +150,14 @@ pub(crate) fn behind_header<'a>(header: &Header, bytes: &'a [u8]) -> Result<&'a 
     }
 }
 
-/// Reads a journal's bytes, as a file of it has them: the place of its closed gate, and the records before it, oldest
-/// first. A disk is no part of it, so it is for who keeps a journal's bytes elsewhere; [`Journal::adopt`](crate::Journal::adopt)
-/// reads one from a disk.
+/// Reads a journal's bytes, as a file of it has them: the place of its closed gate, and the records
+/// before it, oldest first. A disk is no part of it, so it is for who keeps a journal's bytes
+/// elsewhere; [`Journal::adopt`](crate::Journal::adopt) reads one from a disk.
 ///
-/// Refused with the first fault in the file: [`JournalFault::BadHeader`], where it begins as no journal does, and
-/// [`JournalFault::OldVersion`], where as one of version 1; [`JournalFault::OtherHeader`], where it is another member's;
-/// [`JournalFault::CutShort`] and [`JournalFault::BadRecord`]. [`JournalFault::Memory`]: there was none for the records.
+/// Refused with the first fault in the file: [`JournalFault::BadHeader`], where it begins as no
+/// journal does, and [`JournalFault::OldVersion`], where as one of version 1;
+/// [`JournalFault::OtherHeader`], where it is another member's; [`JournalFault::CutShort`] and
+/// [`JournalFault::BadRecord`]. [`JournalFault::Memory`]: there was none for the records.
 pub fn read_file(
     alloc: Global,
     header: &Header,

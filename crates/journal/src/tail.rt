@@ -26,7 +26,7 @@ pub(crate) struct Tail<D: Disk> {
 }
 
 impl<D: Disk> Tail<D> {
-    /// Of this disk and this place. It takes no memory.
+    /// Returns the tail of this disk at this place. It takes no memory.
     pub(crate) fn new(alloc: Global, disk: D, gate: usize) -> Tail<D>
         ensures disk { result.disk ≡ disk }
         ensures gate { result.gate ≡ gate }
@@ -39,8 +39,8 @@ impl<D: Disk> Tail<D> {
         }
     }
 
-    /// Adds a batch, by four calls of the device: a write of the count, the records and a closed gate behind the closed
-    /// gate that stands, `sync`, a write of 01 over that gate, and `sync`.
+    /// Adds a batch, by four calls of the device: a write of the count, the records and a closed
+    /// gate behind the closed gate that stands, `sync`, a write of 01 over that gate, and `sync`.
     ///
     /// - `Full`: the closed gate behind the batch would stand past byte 2^31. Nothing was written.
     /// - `Memory`: there was none for the bytes. Nothing was written.

@@ -21,8 +21,8 @@ mod record;
 use header::{HEADER, header_of};
 use read::read;
 
-/// The header that a file of version 1 begins with, by two calls of the device: `len`, and one read of the first
-/// 24 bytes, or of all where there are fewer. It takes no memory, and changes no byte.
+/// The header that a file of version 1 begins with, by two calls of the device: `len`, and one read
+/// of the first 24 bytes, or of all where there are fewer. It takes no memory, and changes no byte.
 ///
 /// - `NotOld`: the file begins with no header of that version.
 /// - `OldDevice`: the disk failed.
@@ -51,7 +51,8 @@ pub fn peek_old<D: Disk>(disk: &mut D) -> Result<Header, MigrateFault>
     }
 }
 
-/// The records that the file holds, by three calls of the device: `sync`, `len` and one read of all bytes.
+/// The records that the file holds, by three calls of the device: `sync`, `len` and one read of all
+/// bytes.
 pub(crate) fn load<D: Disk>(
     alloc: Global,
     disk: &mut D,

@@ -3,3 +3,4 @@ mod Weakening
 pub mod Heads
 pub mod Numbers
 mod Adding
+mod Endings

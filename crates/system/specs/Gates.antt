@@ -17,21 +17,25 @@ IsTokenByte byte = (32 < byte) × (byte < 127)
 abbrev pub IsToken : List ℕ → Type 0
 IsToken bytes = (16 ≤ length bytes) × (length bytes ≤ 256) × All IsTokenByte bytes
 
--- the text is the token, or the token and the end of its line
+-- the text is this line, with its end or without
+abbrev pub IsLineOf : List ℕ → List ℕ → Type 0
+IsLineOf text line = (text ≡ line) ⊎ (text ≡ line ++ codes "\n")
+
+-- the text is a token
 abbrev pub HasToken : List ℕ → List ℕ → Type 0
-HasToken text token = IsToken token × ((text ≡ token) ⊎ (text ≡ token ++ codes "\n"))
+HasToken text token = IsToken token × IsLineOf text token
 
 -- others than the owner and its group may read or write a file of this mode
 abbrev pub is_open_mode : ℕ → Bool
 is_open_mode mode = not (bit_and mode 6 == 0)
 
 -- the gateway is that of the client's cluster, and has this address and this token
-pub record Opens (client : ClientSettings) (listen : SocketAddr) (token : List ℕ) (opening : Opening) : Type 0 where
+pub record Opens (client : ClientSettings) (address : SocketAddr) (secret : List ℕ) (opening : Opening) : Type 0 where
   pub cluster : opening.cluster ≡ client.cluster
   pub size : opening.size ≡ client.size
   pub desks : AreSocketsOf client.desks.items opening.desks.items
-  pub listen : opening.listen ≡ listen
-  pub token : opening.token.items ≡ token
+  pub listen : opening.listen ≡ address
+  pub token : opening.token.items ≡ secret
 
 -- why one doesn't start
 abbrev pub IsUnopened : Fault → Type 0

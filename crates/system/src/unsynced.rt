@@ -1,8 +1,9 @@
 //! The mark of a sync that failed, and the disk that leaves it.
 //!
-//! After a write-back that failed Linux takes the pages for clean, so that reads give what no disk has, and the next sync says
-//! that all is well. A file of which a sync failed is therefore not to be trusted until the machine has started anew. The mark
-//! is a symbolic link beside the journal whose target is the boot's id: it takes no block of the disk.
+//! After a write-back that failed Linux takes the pages for clean, so that reads give what no disk
+//! has, and the next sync says that all is well. A file of which a sync failed is therefore not to
+//! be trusted until the machine has started anew. The mark is a symbolic link beside the journal
+//! whose target is the boot's id: it takes no block of the disk.
 
 ghost use Rattle.std.specs.Prelude.{◌≡◌, ◌↔◌, ◌++◌, Some, None, codes, slice_get, string_bytes, IfErr, IfOk, IfSome, IsTrue};
 ghost use Rattle.disk.specs.File.{file_failures};
@@ -24,7 +25,7 @@ use std::{fs, io};
 /// The file of the system that has the boot's id.
 const BOOT: &str = "/proc/sys/kernel/random/boot_id";
 
-/// What is told of a journal with a mark of this boot.
+/// The words on a journal with a mark of this boot.
 const CAUSE: &str =
     "a sync of this journal failed since the machine started: restart the machine, or copy the file past the cache to another disk (see OPERATING)";
 
@@ -48,14 +49,14 @@ fn mark_path(alloc: Global, journal: &str) -> Result<String, AllocError>
     format!(in alloc; "{journal}.unsynced")
 }
 
-/// Whether a mark with this target was left in the boot of this id.
+/// Returns `true` if a mark with this target was left in the boot of this id.
 fn is_of(target: &str, boot: &str) -> bool
     ensures { IsTrue result ↔ (target.now ≡ boot.now) }
 {
     target == boot
 }
 
-/// Where the mark of a journal stands, and what it says in this boot.
+/// The place of a journal's mark, and what it says in this boot.
 #[derive(Drop)]
 struct Mark {
     path: String,
@@ -79,7 +80,7 @@ impl Mark {
         Ok(Some(Mark { path, boot }))
     }
 
-    /// Whether the mark is there, and of which boot: this one, or another.
+    /// Returns if the mark is there, and of which boot: `true` for this one, `false` for another.
     fn found(&self, host: &HostRuntime) -> Result<Option<bool>, AllocError> {
         match fs::read_link(host, self.path.as_str()) {
             Ok(target) => Ok(Some(is_of(target.as_str(), self.boot.as_str()))),
@@ -128,8 +129,8 @@ pub fn remove_old_mark(host: &HostRuntime, journal: &str) {
     }
 }
 
-/// The disk in a journal's file, which leaves a mark beside it before it answers that a sync failed. What is said of the disk of
-/// a file holds of it.
+/// The disk in a journal's file, which leaves a mark beside it before it answers that a sync
+/// failed. What is said of the disk of a file holds of it.
 #[derive(Drop)]
 pub struct MarkedDisk<P: Premise> {
     disk: FileDisk<P>,

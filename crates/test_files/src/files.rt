@@ -1,4 +1,5 @@
-//! Files of the system as disks: what was written is read, what is no open file is refused, and a file has one disk at a time.
+//! Files of the system as disks: what was written is read, what is no open file is refused, and a
+//! file has one disk at a time.
 
 use disk::{DeviceFault, Disk, FileDisk};
 use std::fs;
@@ -46,7 +47,8 @@ fn clean(rt: &HostRuntime) {
 /// The seven bytes that the tests write.
 const WRITTEN: [u8; 7] = *b"AbcdXYZ";
 
-/// Whether the disk has the bytes that were written, from the first on and from a later one, and no more.
+/// Whether the disk has the bytes that were written, from the first on and from a later one, and no
+/// more.
 fn has_written(disk: &mut FileDisk<Brand>) -> Result<bool, DeviceFault> {
     let mut all = [0; 7];
     let mut some = [0; 3];
@@ -69,7 +71,7 @@ fn fill(disk: &mut FileDisk<Brand>) -> bool {
     .all(|(step, length)| device(disk, *step).is_ok() && disk.len() == Ok(*length))
 }
 
-/// Whether there is no file of that name, and a disk that isn't to make one makes none.
+/// Returns `true` if there is no file of that name, and a disk that isn't to make one makes none.
 fn stays_missing(rt: &HostRuntime, path: &str) -> bool {
     FileDisk::<Brand>::open(rt, path, false).is_err() && fs::metadata(rt, path).is_err()
 }
@@ -100,7 +102,7 @@ const CLOSED: &str = "disk_tests_closed";
 
 const CLOSED_FILE: &str = "disk_tests_closed/file";
 
-/// Whether no disk is had at the path, whether it is to be made or not.
+/// Returns `true` if no disk is had at the path, whether it is to be made or not.
 fn is_refused(rt: &HostRuntime, path: &str) -> bool {
     FileDisk::<Brand>::open(rt, path, false).is_err()
         && FileDisk::<Brand>::open(rt, path, true).is_err()
@@ -127,7 +129,8 @@ fn refuses_what_is_no_file(rt: &HostRuntime) -> Result<bool, Fail> {
     Ok(all)
 }
 
-/// The length of a file at whose disk two others were refused, and its length as another disk then has it.
+/// The length of a file at whose disk two others were refused, and its length as another disk then
+/// has it.
 fn lengths(rt: &HostRuntime, path: &str) -> Result<[usize; 2], Fail> {
     let mut first = FileDisk::<Brand>::open(rt, path, true)?;
     first.write_at(0, b"ab")?;

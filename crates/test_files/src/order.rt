@@ -1,7 +1,8 @@
-//! The folder of a file is looked at before the file is made, whoever asks: a process that may open one file more opens the
-//! folder, and makes no file.
+//! The folder of a file is looked at before the file is made, whoever asks: a process that may open
+//! one file more opens the folder, and makes no file.
 //!
-//! The program of the tests starts itself by the name of the test [`a_process`], which may have few files open.
+//! The program of the tests starts itself by the name of the test [`a_process`], which may have few
+//! files open.
 
 use disk::FileDisk;
 use std::fs::File;

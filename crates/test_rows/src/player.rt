@@ -71,7 +71,8 @@ impl Player {
         }
     }
 
-    /// Does what a row says, and gives what is answered: none where it says nothing that can be done.
+    /// Does what a row says, and gives what is answered: none where it says nothing that can be
+    /// done.
     pub fn told<R: Wait + Clock>(&mut self, rt: &R, action: &str) -> Option<String> {
         match self {
             Player::Audits(audit) => audit.told(action),

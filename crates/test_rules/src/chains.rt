@@ -1,9 +1,11 @@
 //! Slots of a chain, the epochs that a member runs, and their seeds.
 //!
-//! `slot FIRST QUESTIONS NUMBER` answers the slot's epoch, its question, the cluster's number or `none`, and the slot's number
-//! again; `number QUESTIONS EPOCH QUESTION` the number of that slot, or `none`; `epoch FIRST CLUSTER` the epoch, or `none`.
-//! `route N T NEWEST UNDONE ASKS CLUSTER` answers the open epoch with that cluster number in a chain from 7 on, or `nobody`: UNDONE
-//! lists epochs and ASKS pairs `MEMBER:EPOCH`, with commas between them, or is `-`. `seed HEX EPOCH` answers the epoch's seed.
+//! `slot FIRST QUESTIONS NUMBER` answers the slot's epoch, its question, the cluster's number or
+//! `none`, and the slot's number again; `number QUESTIONS EPOCH QUESTION` the number of that slot,
+//! or `none`; `epoch FIRST CLUSTER` the epoch, or `none`. `route N T NEWEST UNDONE ASKS CLUSTER`
+//! answers the open epoch with that cluster number in a chain from 7 on, or `nobody`: UNDONE lists
+//! epochs and ASKS pairs `MEMBER:EPOCH`, with commas between them, or is `-`. `seed HEX EPOCH`
+//! answers the epoch's seed.
 
 use chain::{Ask, Chain, Known, Slot, seed_of};
 use std::alloc::Global;

@@ -1,4 +1,5 @@
-//! Players of rows on numbers, frames and the rules of one member. The head of each module says what its rows are.
+//! Players of rows on numbers, frames and the rules of one member. The head of each module says
+//! what its rows are.
 #![tactic(auto)]
 
 mod audits;
