@@ -7,8 +7,8 @@
 # The second makes a package of the C library in its place, libbracha-dev_VERSION_ARCH.deb: header, static and shared library, and
 # bracha.pc. LIBRARY is the folder that packaging/library.sh made, by default out/library. PROGRAM is crates/bracha/out/bracha, which `rt run` makes in crates/bracha; FOLDER, where the package goes, is this one.
 #
-# The package has the program, its man page, completions of three shells and the unit bracha@.service, which it doesn't start:
-# `systemctl enable --now bracha@3` starts the member of /etc/bracha/3.toml. At its installation it makes the system's user
+# The package has the program, its man page, completions of three shells and the units bracha@.service and bracha-gateway.service,
+# which it doesn't start: `systemctl enable --now bracha@3` starts the member of /etc/bracha/3.toml. At its installation it makes the system's user
 # bracha, /etc/bracha for settings (which only root and that user can read) and /var/lib/bracha for journals (that user's own).
 # Its removal, also with --purge, leaves settings, journals and the user: a member whose journal is lost may never run again.
 set -euo pipefail
@@ -82,6 +82,9 @@ put 644 packaging/completions/_bracha usr/share/zsh/vendor-completions/_bracha
 put 644 packaging/completions/bracha.fish usr/share/fish/vendor_completions.d/bracha.fish
 sed -e 's#/usr/local/bin/bracha#/usr/bin/bracha#' -e '/^#   useradd/d' -e '/^#   install -d/d' packaging/bracha@.service >"$room/unit"
 put 644 "$room/unit" usr/lib/systemd/system/bracha@.service
+sed -e 's#/usr/local/bin/bracha#/usr/bin/bracha#' -e '/^#   useradd/d' packaging/bracha-gateway.service >"$room/unit"
+put 644 "$room/unit" usr/lib/systemd/system/bracha-gateway.service
+put 644 packaging/grafana.json usr/share/doc/bracha/grafana.json
 put 644 LICENSE usr/share/doc/bracha/copyright
 zipped CHANGELOG.md usr/share/doc/bracha/changelog.gz
 mkdir -p "$room/tree/etc/bracha" "$room/tree/var/lib/bracha" "$room/tree/DEBIAN"
@@ -117,7 +120,7 @@ SCRIPT
 cat >"$room/tree/DEBIAN/prerm" <<'SCRIPT'
 #!/bin/sh
 set -e
-if [ "$1" = remove ] && [ -d /run/systemd/system ]; then systemctl stop 'bracha@*.service' || true; fi
+if [ "$1" = remove ] && [ -d /run/systemd/system ]; then systemctl stop 'bracha@*.service' bracha-gateway.service || true; fi
 SCRIPT
 cat >"$room/tree/DEBIAN/postrm" <<'SCRIPT'
 #!/bin/sh

@@ -42,6 +42,7 @@ does 'a member runs, decides and ends' 'cd /var/lib/bracha
     setpriv --reuid bracha --regid bracha --init-groups env --block-signal=TERM,INT bracha run --stay --log /etc/bracha/0.toml >/tmp/out 2>/tmp/log & member=$!
     for _ in {1..100}; do grep -qs ready /tmp/out && break; sleep 0.1; done
     bracha propose 127.0.0.1:7110 2 1 && bracha ask --wait --timeout 30 127.0.0.1:7110 2 | grep -x "DECIDED 1" && kill "$member" && wait "$member" && grep " end$" /tmp/log'
+does 'the unit of the gateway runs what is installed' 'grep -q "INT /usr/bin/bracha gateway --listen 127.0.0.1:7180 --token" /usr/lib/systemd/system/bracha-gateway.service'
 does 'removed' 'dpkg -r bracha && ! command -v bracha && [ ! -e /usr/lib/systemd/system/bracha@.service ] && [ ! -e /usr/share/man/man1/bracha.1.gz ]'
 does 'settings, journal and user stay' 'ls /etc/bracha/0.toml /var/lib/bracha/member-0.journal && getent passwd bracha'
 does 'purged, and they stay' 'dpkg -P bracha && ls /etc/bracha/0.toml /var/lib/bracha/member-0.journal && getent passwd bracha'

@@ -47,11 +47,19 @@ run() {
     echo "$1 isn't ready: $(cat "log-$1")"
 }
 
-# Ends the member that was started at this place, if it runs still: its status is in `ended`.
+# Ends the member that was started at this place, if it runs still: its status is in `ended`. It has twenty seconds.
 end_of() {
     ended=0
     kill "${started[$1]}" 2>/dev/null || true
-    wait "${started[$1]}" || ended=$?
+    for _ in {1..200}; do
+        if ! kill -0 "${started[$1]}" 2>/dev/null; then break; fi
+        sleep 0.1
+    done
+    if kill -9 "${started[$1]}" 2>/dev/null; then
+        echo "member $1 goes on for twenty seconds behind its end"
+        failed=$((failed + 1))
+    fi
+    wait "${started[$1]}" 2>/dev/null || ended=$?
 }
 
 # The lines of a log without their times.
@@ -89,9 +97,10 @@ done
 # the proposal that waited.
 run member-0
 says 'a proposal while it listens' 1 'bracha: no answer' "$program" --quiet propose --timeout 1 127.0.0.1:7110 9 1
-says 'a status while it listens' 0 'UP 0 0' "$program" status 127.0.0.1:7110
+says 'a status while it listens' 0 'UP 0 0' "$program" status --timeout 1 127.0.0.1:7110
 says 'links while it listens' 0 'LINKS 1 1 4 3' "$program" status --links 127.0.0.1:7110
 says 'not ready while it listens' 1 'LINKS 1 1 4 3' "$program" status --ready 127.0.0.1:7110
+says 'a second life beside it' 1 $'bracha: file\nmember-0.journal: open: another process has it' timeout 20 "$program" run --stay member-0.toml
 sleep 3
 says 'a proposal that waited' 0 'HAVE 1' "$program" propose 127.0.0.1:7110 9 0
 says 'who is not there' 0 "$(printf 'link-to %s unreachable: refused\n' 1 2 3)" bash -c 'grep -o "link-to.*" log-member-0 | sort'
@@ -221,6 +230,7 @@ says 'a host name' 1 $'bracha: address\nexample.org:7110: must be unix:PATH, or 
     "$program" status example.org:7110
 says 'keys that are ignored' 0 $'strays.toml:1: desc: no key of the settings, ignored\nstrays.toml:N: listen: stands in a table, ignored\nlisten 127.0.0.1:7101\ndesk-socket a desk' bash -c '
     (printf "desc = \"tls\"\nlisten = \"127.0.0.1:7101\"\ndesk-socket = \"a desk\"\n"; cat member-1.toml; printf "[tls]\nlisten = 1\n") >strays.toml
+    "$0" check strays.toml 2>/dev/null | grep ignored
     "$0" check strays.toml 2>&1 | grep -e ignored -e ^listen -e ^desk- | sed "s/:$(wc -l <strays.toml):/:N:/"' "$program"
 says 'a word that is no bit' 2 $'error: invalid value \'yes\' for \'<V>\': invalid digit found in string\n\nFor more information, try \'--help\'.\nV: must be 0 or 1' \
     "$program" propose 127.0.0.1:7110 0 yes
@@ -234,6 +244,7 @@ says 'a word that is no port' 2 $'error: invalid value \'70000\' for \'--port <F
     "$program" new-cluster --n 4 --t 1 --questions 1 --cluster 7 --port 70000 nowhere
 says 'a word that is no bit, in short' 2 $'error: invalid value \'yes\' for \'<V>\': invalid digit found in string\n\nFor more information, try \'--help\'.' \
     env BRACHA_QUIET=1 "$program" propose 127.0.0.1:7110 0 yes
+says 'a second line unless less is asked for' 2 $'bracha: words\nV: must be 0 or 1' env BRACHA_QUIET=0 "$program" decide --all client.toml 11 2
 form='localhost or four numbers with points between them, a colon and a port from 1 to 65535: no host names, no IPv6'
 for word in '[::1]:7110' tcp://127.0.0.1:7110 127.0.0.1:0 '127.0.0.1 :7110' 127.0.0.1 unix:; do
     says "the address $word" 1 "bracha: address
@@ -264,7 +275,8 @@ says 'a reader that goes' 0 $'1 propose 0 0 1: done: initial 0 0 1 1 one\nbracha
     bash -c '"$0" simulate --trace - "$1" 2>said | head -n 1; cat said' "$program" "$script"
 says 'a chart that is too long' 0 $'bracha: long.svg: a chart of 100000 events is too long for most viewers: choose rows by --from, --to, --member or --question\nevents 100000 skipped 0' bash -c '
     { printf "n 4\nt 1\nquestions 1\nliars 3\nseed 1\n"; yes "fuse 0 off" | head -n 100000; } >long.script
-    "$0" simulate --chart long.svg long.script 2>&1' "$program"
+    "$0" simulate --chart long.svg long.script 2>errors >output
+    cat errors && grep -v ^bracha: output' "$program"
 says 'a part of it' 0 'events 100000 skipped 0' "$program" simulate --chart part.svg --from 5 --to 30 long.script
 
 # How many rounds decisions take. What is decided when is by tests/reference/rounds.py.
@@ -284,8 +296,12 @@ says 'progress of rounds' 0 'bracha: some' bash -c 'timeout 4 "$0" rounds --n 7 
 says 'no progress of rounds' 124 '' timeout 3 "$program" rounds --quiet --n 7 --t 2 --order adversary --seeds 1000000
 
 # Drawn scripts, for ten seconds. A finding would be printed with its script.
-says 'random scripts' 0 'seed 1 scripts N events N decisions N' bash -c '"$0" simulate --forever --seed 1 --seconds 10 --quiet | sed -E "s/(scripts|events|decisions) [1-9][0-9]*/\1 N/g"' "$program"
-says 'progress of random scripts' 0 $'seed 7 scripts\nseed 7 scripts' bash -c '"$0" simulate --forever --seed 7 --seconds 3 2>&1 | cut -d " " -f 1-3' "$program"
+says 'random scripts' 0 'seed 1 scripts N events N decisions N' bash -c '
+    "$0" simulate --forever --seed 1 --seconds 10 --quiet >scripts.txt && sed -E "s/(scripts|events|decisions) [1-9][0-9]*/\1 N/g" scripts.txt' "$program"
+says 'random scripts that differ' 0 '' awk '$6 % $4 == 0 && $8 % $4 == 0 { print "each has as many events and decisions" }' scripts.txt
+says 'progress of random scripts' 0 $'seed 7 scripts\n1 output' bash -c '
+    "$0" simulate --forever --seed 7 --seconds 3 2>errors >output
+    head -n 1 errors | cut -d " " -f 1-3 && wc -l <output | sed "s/$/ output/"' "$program"
 says 'random scripts by the time' 0 'seed N scripts' bash -c '"$0" simulate --forever --seconds 0 2>&1 | cut -d " " -f 1-3 | sed -E "s/ [1-9][0-9]{9} / N /"' "$program"
 truncate -s 1G sparse
 says 'a large file' 1 "bracha: journal BadHeader
@@ -322,6 +338,7 @@ mistake 'a run of a note' $'journal BadHeader\nmistaken.journal: no journal of b
 printf BRACHA >mistaken.journal
 mistake 'a run of a part of a header' $'journal BadHeader\nmistaken.journal: no journal of bracha: bytes 42 52 41 43 48 41' run mistaken.toml
 echo 'a note' >mistaken.journal
+says 'a migration onto itself' 2 'bracha: same file ./mistaken.journal' "$program" migrate mistaken.journal ./mistaken.journal
 mistake 'a migration of a note' $'migrate NotOld\nmistaken.journal: no journal of version 1' migrate mistaken.journal new.journal
 mistake 'a migration of version 2' $'migrate NotOld\nmember-0.journal: is version 2 already, and needs no migration' migrate member-0.journal new.journal
 printf 'BRACHAJ1%b' '\0\0\0\0\0\0\0\x07\x04\x01\0\x40\0\0\0\0\0' >mistaken.journal
@@ -330,6 +347,12 @@ mistake 'a migration of a record that is none' $'migrate BadRecord\ndamaged.jour
 truncate -s 30 damaged.journal
 mistake 'a migration of a part of a batch' $'migrate CutShort\ndamaged.journal: byte 24: bytes 01 00 02 02 00 00: migrate CutShort' migrate damaged.journal new.journal
 old='a journal of version 1: `bracha migrate OLD NEW` brings it over into a new file'
+cp mistaken.journal kept.journal
+says 'a migration with closed streams' 1 'bracha: stream' bash -c '
+    status=0
+    "$0" --quiet migrate mistaken.journal closed.journal <&- >&- || status=$?
+    cmp mistaken.journal kept.journal
+    exit "$status"' "$program"
 mistake 'a run of version 1' $'journal OldVersion\nmistaken.journal: '"$old" run mistaken.toml
 truncate -s 1G mistaken.journal
 says 'a migration that is refused memory' 1 'bracha: memory' bash -c 'ulimit -v 500000; exec "$0" migrate mistaken.journal new.journal' "$program"
@@ -446,7 +469,11 @@ run elsewhere
 says 'a desk that was left behind' 0 'DECIDED 1' "$program" ask --timeout 60 unix:alone.desk 41
 end_of 4
 says 'a desk that is gone' 1 '' bash -c '[ -e alone.desk ]'
+run elsewhere
+rm alone.desk
 echo 'a note' >alone.desk
+end_of 5
+says 'a note that came in its place' 0 'a note' cat alone.desk
 says 'a note at its path' 1 $'bracha: listen\nalone.desk: listen: a file is there that is no socket' "$program" run --stay elsewhere.toml
 
 says 'no files to speak of' 1 $'bracha: file\nopen files: 12 are too few: this member wants 17 at least, and 2 for each client (`ulimit -n`)' \
@@ -490,7 +517,7 @@ print("paced" if reaches(8192) < 11000 else "not paced")
 print("all heard" if reaches(len(said)) == len(said) else "more than was said")
 END
 says 'a liar ahead of all' 0 $'paced\nall heard' timeout 90 python3 early.py
-end_of 5
+end_of 6
 
 # A journal that is too long to go through is told whose it is all the same.
 truncate -s 20M alone.journal

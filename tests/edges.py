@@ -3,11 +3,13 @@
 
 Looks at the edges of the built program for what a user would suffer from and no contract says: how long a client waits, which
 statuses commands end with, whose links a member takes, what it opens and says more often than it should, what a command leaves
-behind. PROGRAM is crates/bracha/out/bracha unless another is named. It takes the ports 27700 to 28219 and a minute, with
-all checks side by side. Prints what is wrong, and in its last line `N passed, M failed`; the status is 1 where M isn't 0.
+behind. PROGRAM is crates/bracha/out/bracha unless another is named. It takes the ports 28400 to 29239, a C
+compiler and a minute, with all checks side by side. Prints what is wrong, and in its last line `N passed, M failed`; the status is 1 where M isn't 0.
 """
 import concurrent.futures
 import contextlib
+import ctypes
+import errno
 import json
 import multiprocessing
 import os
@@ -34,14 +36,21 @@ def check(function):
     return function
 
 
-def say(words, folder, **more):
-    """What the program says on both streams, and its status."""
+def say(words, folder, limit=12, **more):
+    """What the program says on both streams, and its status; it has so many seconds."""
     try:
         ran = subprocess.run([PROGRAM, *words], cwd=folder, stdin=subprocess.DEVNULL, stdout=subprocess.PIPE, stderr=subprocess.STDOUT,
-                             text=True, timeout=12, **more)
+                             text=True, timeout=limit, **more)
     except subprocess.TimeoutExpired:
-        return "goes on for 12 seconds", None
+        return f"goes on for {limit} seconds", None
     return ran.stdout, ran.returncode
+
+
+def apart(words, folder, **more):
+    """What the program says on its standard output, what on its standard error, and its status."""
+    ran = subprocess.run([PROGRAM, *words], cwd=folder, stdin=subprocess.DEVNULL, stdout=subprocess.PIPE, stderr=subprocess.PIPE, text=True,
+                         timeout=20, check=False, **more)
+    return ran.stdout, ran.stderr, ran.returncode
 
 
 def differs(what, is_so, should):
@@ -57,13 +66,13 @@ def settings(folder, me, peers, desk, n, t, questions=64, cluster=7, more=""):
 
 
 @contextlib.contextmanager
-def running(path, *options, new=True, **more):
-    """A member that runs until a signal."""
+def running(path, *options, new=True, stays=True, **more):
+    """A member that runs until a signal, or until its input ends."""
     if new:
         subprocess.run([PROGRAM, "init", path], check=True)
+    words, given = (["--stay"], subprocess.DEVNULL) if stays else ([], subprocess.PIPE)
     with open(f"{path}.log", "ab") as log:
-        process = subprocess.Popen([PROGRAM, "run", "--stay", *options, path], stdin=subprocess.DEVNULL, stdout=subprocess.PIPE,
-                                   stderr=log, **more)
+        process = subprocess.Popen([PROGRAM, "run", *words, *options, path], stdin=given, stdout=subprocess.PIPE, stderr=log, **more)
     try:
         assert b"ready" in process.stdout.readline(), f"{path} isn't ready"
         yield process
@@ -94,9 +103,9 @@ def is_welcomed(port, me, to, host="127.0.0.1", **size):
     return None
 
 
-def soon(tries):
-    """What comes of one of some tries in three seconds, if anything does."""
-    for _ in range(30):
+def soon(tries, seconds=3):
+    """What comes of one of some tries in so many seconds, if anything does."""
+    for _ in range(10 * seconds):
         found = tries()
         if found:
             return found
@@ -104,10 +113,26 @@ def soon(tries):
     return None
 
 
+def await_one(desk, replies, question):
+    """Asks a desk until it has decided 1 on a question, for twenty seconds at most."""
+    end = time.monotonic() + 20
+    while time.monotonic() < end:
+        desk.sendall(b"ASK %d\n" % question)
+        if replies.readline() == b"DECIDED 1\n":
+            return
+        time.sleep(0.002)
+    raise TimeoutError(f"question {question} is undecided for 20 seconds")
+
+
 @contextlib.contextmanager
-def serving(port, answer):
-    """Has a thread answer each connection to the port."""
-    listener = socket.create_server(("127.0.0.1", port), backlog=64)
+def serving(port, answer, listener=None):
+    """Has a thread answer each connection to the port, by this socket where one is given."""
+    if listener:
+        listener.setsockopt(socket.SOL_SOCKET, socket.SO_REUSEADDR, 1)
+        listener.bind(("127.0.0.1", port))
+        listener.listen(64)
+    else:
+        listener = socket.create_server(("127.0.0.1", port), backlog=64)
 
     def accepts():
         while True:
@@ -139,7 +164,8 @@ def client_file(folder, ports):
 
 @check
 def clients_give_up(folder, port):
-    """Each command that speaks to a desk ends with its time, whether the desk is silent or can't be connected to."""
+    """Each command that speaks to a desk ends with its time, whether the desk is silent, at an address or a path, or can't be connected
+    to."""
     full = socket.socket()
     full.bind(("127.0.0.1", port + 1))
     full.listen(0)
@@ -154,21 +180,24 @@ def clients_give_up(folder, port):
         took = time.monotonic() - begun
         return differs(" ".join(words), (said, status, took < 3), ("bracha: no answer\n", 1, True))
 
+    local = socket.socket(socket.AF_UNIX)
+    local.bind(f"{folder}/desk")
+    local.listen(16)
     with serving(port, lambda link: time.sleep(20)), concurrent.futures.ThreadPoolExecutor(32) as pool:
         found = []
-        for at in (port, port + 1):
-            desk = f"127.0.0.1:{at}"
+        for desk in (f"127.0.0.1:{port}", f"127.0.0.1:{port + 1}", "unix:desk"):
             found += [pool.submit(late, words) for words in (
                 ["ask", "--timeout", "1", desk, "0"], ["propose", "--timeout", "1", desk, "0", "1"],
                 ["status", "--timeout", "1", desk], ["status", "--links", "--timeout", "1", desk],
-                ["status", "--ready", "--timeout", "1", desk], ["transcript", "--timeout", "1", desk, "0"])]
+                ["status", "--ready", "--timeout", "1", desk], ["status", "--question", "0", "--timeout", "1", desk],
+                ["transcript", "--timeout", "1", desk, "0"])]
         result = [wrong for it in found for wrong in it.result()]
         begun = time.monotonic()
         path = client_file(folder, [port, port + 1, port + 2])
         said, status = say(["--quiet", "propose", "--all", "--timeout", "1", path, "0", "1"], folder)
         took = time.monotonic() - begun
         result += differs("propose --all", (status, took < 3, said.count("no answer")), (1, True, 3))
-    for it in (full, *fillers):
+    for it in (full, local, *fillers):
         it.close()
     return result
 
@@ -227,7 +256,7 @@ def one_of_all_is_down(folder, port):
 
 @check
 def a_new_journal_outlives_its_count(folder, port):
-    """A migration whose count can't be printed leaves the new journal, which is whole by then."""
+    """A migration whose count can't be printed leaves the new journal, which is whole by then; one that fails takes only its own file away."""
     old = b"BRACHAJ1\0\0\0\0\0\0\0\x07\x04\x01\0\x01\x01\0\0\0\x01\0\x01\x02\0\0\0\x01\x01\x01\0"
     with open(f"{folder}/old", "wb") as file:
         file.write(old)
@@ -235,7 +264,15 @@ def a_new_journal_outlives_its_count(folder, port):
         ran = subprocess.run([PROGRAM, "--quiet", "migrate", "old", "new"], cwd=folder, stdout=full, stderr=subprocess.PIPE, text=True)
     found = differs("migrate >/dev/full", (ran.returncode, ran.stderr), (1, "bracha: stream\n"))
     said, status = say(["dump", "new"], folder)
-    return found + differs("the new journal", (said.splitlines()[1:], status), (["echo 0 0 1 1 one"], 0))
+    found += differs("the new journal", (said.splitlines()[1:], status), (["echo 0 0 1 1 one"], 0))
+    with open(f"{folder}/damaged", "wb") as file:
+        file.write(old[:-2])
+    with open(f"{folder}/there", "wb"):
+        pass
+    for new in ("there", "not-there"):
+        found += differs(f"a damaged journal into {new}", say(["--quiet", "migrate", "damaged", new], folder), ("bracha: migrate CutShort\n", 1))
+    left = [os.path.exists(f"{folder}/{new}") for new in ("there", "not-there")]
+    return found + differs("the file that was there, and the one that wasn't, are left", left, [True, False])
 
 
 @check
@@ -250,6 +287,8 @@ def new_clusters(folder, port):
     quarters = {seed[at:at + 16] for seed in seeds for at in range(0, 64, 16)}
     found += differs("quarters of 16 seeds", (len(seeds), len(quarters)), (16, 64))
     found += differs("next steps", (status, "bracha init" in said, "bracha run" in said), (0, True, True))
+    listens = [f"many/member-{it}.toml: member {it} at 127.0.0.1:{7100 + it}" for it in range(16)]
+    found += differs("where the members listen", said.splitlines()[:16], listens)
 
     def no_room():
         signal.signal(signal.SIGXFSZ, signal.SIG_IGN)
@@ -265,7 +304,12 @@ def checks_of_settings(folder, port):
     """`check` has one status with --json and without, and knows a journal past 16 MiB."""
     peers = [f"127.0.0.1:{port + it}" for it in (0, 1, 2, 1)]
     path = settings(folder, 0, peers, f"127.0.0.1:{port + 5}", 4, 1)
-    found = [wrong for more in ([], ["--json"]) for wrong in differs("two members at one address", say(["check", *more, path], folder)[1], 1)]
+    subprocess.run([PROGRAM, "init", path], check=True)
+    words = f"bracha: listen\n127.0.0.1:{port + 1}: listen: members 1 and 3 have this address\n"
+    found = []
+    for more in ([], ["--json"]):
+        said, status = say(["check", *more, path], folder)
+        found += differs("two members at one address", (said.endswith(words), status), (True, 1))
     path = settings(folder, 2, [f"127.0.0.1:{port + it}" for it in range(2)] + ["203.0.113.9:7100"], f"127.0.0.1:{port + 5}", 3, 0)
     subprocess.run([PROGRAM, "init", path], check=True)
     found += [wrong for more in ([], ["--json"]) for wrong in differs("an own address of no host", say(["check", *more, path], folder)[1], 1)]
@@ -280,14 +324,20 @@ def checks_of_settings(folder, port):
 
 @check
 def a_folder_for_an_input(folder, port):
-    """A run whose input can't be read ends with that fault."""
+    """A run whose input can't be read ends with that fault, and so does what can't print all that it has to say."""
     path = settings(folder, 0, [f"127.0.0.1:{port}"], f"127.0.0.1:{port + 1}", 1, 0)
     subprocess.run([PROGRAM, "init", path], check=True)
     descriptor = os.open("/", os.O_RDONLY)
     ran = subprocess.run([PROGRAM, "--quiet", "run", path], stdin=descriptor, stdout=subprocess.PIPE, stderr=subprocess.STDOUT, text=True,
                          timeout=20)
     os.close(descriptor)
-    return differs("run </", (ran.returncode, ran.stdout), (1, "member 0 ready\nbracha: stream\n"))
+    found = differs("run </", (ran.returncode, ran.stdout), (1, "member 0 ready\nbracha: stream\n"))
+    with open("/dev/full", "w", encoding="ascii") as full:
+        for words in (["--quiet", "run", "--stay", path], ["--quiet", "new-cluster", "--n", "4", "--t", "1", "--questions", "1", "--cluster", "7", "many"]):
+            ran = subprocess.run([PROGRAM, *words], cwd=folder, stdin=subprocess.DEVNULL, stdout=full, stderr=subprocess.PIPE, text=True, timeout=20,
+                                 check=False)
+            found += differs(f"{words[1]} >/dev/full", (ran.returncode, ran.stderr), (1, "bracha: stream\n"))
+    return found + differs("the files of the cluster", len(os.listdir(f"{folder}/many")), 5)
 
 
 @check
@@ -312,11 +362,7 @@ def a_proof_of_more_liars(folder, port):
             for line in lines:
                 line.readline()
             for link, line in zip(links, lines):
-                while True:
-                    link.sendall(b"ASK %d\n" % question)
-                    if line.readline() == b"DECIDED 1\n":
-                        break
-                    time.sleep(0.002)
+                await_one(link, line, question)
             took.append(time.monotonic() - begun)
             for link in links:
                 link.close()
@@ -328,13 +374,43 @@ def a_proof_of_more_liars(folder, port):
     return found
 
 
+def lines_of(path):
+    """The lines that the member of these settings has logged so far, without their times."""
+    with open(f"{path}.log", encoding="utf-8") as log:
+        return [line.split("Z ", 1)[-1].rstrip("\n") for line in log]
+
+
+def lacks(path, heads):
+    """Those of these beginnings with which no line of the member's log begins."""
+    return sorted(head for head in heads if not any(line.startswith(head) for line in lines_of(path)))
+
+
+def follows_another(port):
+    """The link of a member that is welcomed though its Hello came a moment before the end of the one before."""
+    before = soon(lambda: is_welcomed(port, 1, 0, "127.0.0.2"))
+    link = dial(port, "127.0.0.2")
+    link.sendall(hello(1, 0))
+    time.sleep(0.1)
+    if before:
+        before.close()
+    with contextlib.suppress(OSError):
+        if len(link.recv(11, socket.MSG_WAITALL)) == 11:
+            link.close()
+            return link
+    link.close()
+    return None
+
+
 @check
 def links_of_a_member(folder, port):
     """Whose links are taken, with a log too; that a link which was lost is taken again, and greetings are given back."""
     peers = [f"127.0.0.1:{port}", f"127.0.0.2:{port + 1}", f"127.0.0.3:{port + 1}", f"127.0.0.3:{port + 2}"]
     path = settings(folder, 0, peers, f"127.0.0.1:{port + 9}", 4, 1)
     found = []
-    with running(path, "--log"):
+    with running(path, "--log") as process:
+        descriptors = lambda: len(os.listdir(f"/proc/{process.pid}/fd"))
+        time.sleep(0.5)
+        before = descriptors()
         foreign = is_welcomed(port, 1, 0, "127.0.0.4")
         found += differs("a link from a host that is no member's", foreign, None)
         other = is_welcomed(port, 1, 0, "127.0.0.3")
@@ -346,6 +422,7 @@ def links_of_a_member(folder, port):
                 break
             link.setsockopt(socket.SOL_SOCKET, socket.SO_LINGER, struct.pack("ii", 1, 0))
             link.close()
+        found += differs("a link that greets while the one before ends is welcomed", soon(lambda: follows_another(port)) is not None, True)
         strangers = [dial(port, "127.0.0.9") for _ in range(70)]
         first, link = soon(lambda: is_welcomed(port, 1, 0, "127.0.0.2")), soon(lambda: is_welcomed(port, 2, 0, "127.0.0.3"))
         found += differs("members beside 70 silent strangers are welcomed", (first is not None, link is not None), (True, True))
@@ -358,7 +435,11 @@ def links_of_a_member(folder, port):
         for it in (first, link, again, *silent):
             if it:
                 it.close()
-    return found
+        found += differs("descriptors come down", soon(lambda: descriptors() <= before + 4), True)
+        wanted = ("link-up from 1", "link-down from 1 lost", "refused from 127.0.0.4 stranger", "refused from 127.0.0.3 stranger: member 1 from another host")
+        found += differs("lines that the log lacks", soon(lambda: not lacks(path, wanted)) or lacks(path, wanted), True)
+    own = [it for it in lines_of(path) if it.startswith("link") and (it.endswith(" 0") or " 0 " in it)]
+    return found + differs("what is told of its own links", own, [])
 
 
 @check
@@ -409,8 +490,7 @@ def idles_of_a_writer(folder, port):
                 desk.sendall(b"PROPOSE %d 1\n" % question)
             for desk, line in zip(desks, lines):
                 line.readline()
-                while desk.sendall(b"ASK %d\n" % question) or line.readline() == b"UNDECIDED\n":
-                    time.sleep(0.002)
+                await_one(desk, line, question)
         count, took = len(idles) - before, time.monotonic() - begun
     return differs(f"{count} idles on three links in {took:.1f} seconds are few", count <= 3 * took + 6, True)
 
@@ -506,7 +586,7 @@ def followed(port, number, lines, stop):
 
 @check
 def who_follows_misses_nothing(folder, port):
-    """A follower is told each decision once, in the order of the member's journal, over a kill of the member, and an empty line
+    """A follower is told each decision once, in the order of the member's journal, over kills of the member, and an empty line
     where there is none for a while."""
     with clusters(folder, port) as (desks, members, again):
         stop, lines, later = threading.Event(), [], []
@@ -527,7 +607,11 @@ def who_follows_misses_nothing(folder, port):
             soon(lambda: sum(1 for it in lines if it) == len(order))
             late.append(time.monotonic() - begun)
         found = differs(f"half of them told at once ({sorted(late)[4]:.2f} s)", sorted(late)[4] < 0.3, True)
-        time.sleep(6)
+        # By now its journal has some four hundred records.
+        again(1)
+        before = len(lines)
+        found += differs("a member that is started with all its records", told(desks[1], "AWAIT 38")[0], "DECIDED 0")
+        soon(lambda: "" in lines[before:], 9)
         members[1].send_signal(signal.SIGKILL)
         stop.set()
         members[1].wait()
@@ -538,7 +622,7 @@ def who_follows_misses_nothing(folder, port):
         found += differs("the follower and the journal", heard, journal)
         found += differs("all questions", sorted(int(it.split()[1]) for it in heard), sorted(order))
         found += differs("the follower from number 3 on", [it for it in later if it], heard[3:])
-        return found + differs("an empty line", "" in lines, True)
+        return found + differs("an empty line", "" in lines[before:], True)
 
 
 def answer(reply):
@@ -581,9 +665,9 @@ def cluster_file(folder, name, ports, t=1):
     return path
 
 
-def timed(words, folder):
+def timed(words, folder, limit=12):
     begun = time.monotonic()
-    said, status = say(words, folder)
+    said, status = say(words, folder, limit)
     return said, status, time.monotonic() - begun
 
 
@@ -600,13 +684,16 @@ def beside_faults(folder, ports, words, should, within):
     return found
 
 
-def unanswered(port, threads, times):
-    """How many of these connections were closed with no answer to their one line: so many times in each of so many threads."""
+def unanswered(port, threads, times, end):
+    """How many of these connections had no answer to their one line before they were closed or this time came: so many times in each of
+    so many threads."""
     def ask():
         missing = 0
-        for _ in range(times):
+        for number in range(times):
+            if time.time() > end:
+                return missing + times - number
             try:
-                with dial(port, timeout=30.0) as link:
+                with dial(port, timeout=15.0) as link:
                     link.sendall(b"ASK 0\n")
                     missing += link.recv(64) != b"UNDECIDED\n"
             except OSError:
@@ -619,11 +706,13 @@ def unanswered(port, threads, times):
 
 @check
 def twice_as_many_clients_as_places(folder, port):
-    """64 clients come again and again, with a line each: each waits for a place in turn, and none is closed unanswered."""
+    """64 clients come again and again, with a line each: each waits for a place in turn, none is closed unanswered, and they don't wait
+    long."""
     path = settings(folder, 0, [f"127.0.0.1:{port}"], f"127.0.0.1:{port + 1}", 1, 0)
     with running(path), concurrent.futures.ProcessPoolExecutor(4, multiprocessing.get_context("spawn")) as pool:
-        waiting = [pool.submit(unanswered, port + 1, 16, 200) for _ in range(4)]
-        return differs("closed unanswered, of 12,800", sum(it.result() for it in waiting), 0)
+        end = time.time() + 45
+        waiting = [pool.submit(unanswered, port + 1, 16, 200, end) for _ in range(4)]
+        return differs("unanswered in 45 seconds, of 12,800", sum(it.result() for it in waiting), 0)
 
 
 def is_open(link):
@@ -641,12 +730,14 @@ def who_is_silent_for_long_gives_its_place(folder, port):
     seconds. Which is closed then the log says. Who speaks or is told something keeps its place."""
     path = settings(folder, 0, [f"127.0.0.1:{port}"], f"127.0.0.1:{port + 1}", 1, 0, more=f'desk-socket = "{folder}/desk"\n')
     with running(path, "--log"), contextlib.ExitStack() as stack:
+        # Each has its place before the next one, at another door, comes. Who came first isn't silent.
+        first = stack.enter_context(dial(port + 1, timeout=20.0))
+        is_open(first)
         local = stack.enter_context(socket.socket(socket.AF_UNIX))
         local.settimeout(5)
         local.connect(f"{folder}/desk")
-        # It has the first place before the others, at another door, come.
         is_open(local)
-        places = [local, *(stack.enter_context(dial(port + 1, timeout=20.0)) for _ in range(31))]
+        places = [first, local, *(stack.enter_context(dial(port + 1, timeout=20.0)) for _ in range(30))]
         begun = time.monotonic()
         found = differs("32 clients", [is_open(it) for it in places], [True] * 32)
         leaves = stack.enter_context(dial(port + 1))
@@ -655,16 +746,16 @@ def who_is_silent_for_long_gives_its_place(folder, port):
         waits = stack.enter_context(dial(port + 1, timeout=20.0))
         waits.sendall(b"STATUS\n")
         time.sleep(max(0.0, begun + 5 - time.monotonic()))
-        found += differs("those that speak", [is_open(it) for it in places[2:31]], [True] * 29)
+        found += differs("those that speak", [is_open(it) for it in [first, *places[3:31]]], [True] * 29)
         found += differs("one more", waits.recv(64)[:3], b"UP ")
         found += differs("after ten seconds", 9.5 < time.monotonic() - begun < 13.5, True)
         found += differs("who was silent longest", local.recv(1), b"")
-        found += differs("all others", [is_open(it) for it in [*places[1:31], leaves]], [True] * 31)
+        found += differs("all others", [is_open(it) for it in [first, *places[2:31], leaves]], [True] * 31)
         def said():
             with open(f"{path}.log", encoding="utf-8") as log:
                 return [line.split(" ", 1)[1].strip() for line in log if "closed for another" in line]
 
-        return found + differs("the log", soon(said), ["client at place 0 closed for another: silent for 11 s"])
+        return found + differs("the log", soon(said), ["client at place 1 closed for another: silent for 11 s"])
 
 
 def takes_transcripts(port, clients, seconds):
@@ -738,6 +829,8 @@ def a_client_believes_more_than_t(folder, port):
         json_one = pool.submit(timed, ["ask", "--all", "--json", cluster_file(folder, "json", [port, port + 1, liar, port + 2]), "5"], folder)
         past = pool.submit(timed, ["--quiet", "ask", "--all", cluster_file(folder, "past", [port, port + 1, port + 2, liar]), "64"], folder)
         found += differs("one alone", alone.result()[:2], ("UNDECIDED\nbracha: member 1 says 1\n", 1))
+        both = apart(["ask", "--all", cluster_file(folder, "apart", [port, liar, port + 10, port + 11]), "5"], folder)
+        found += differs("its two streams", both, ("UNDECIDED\n", "bracha: member 0 says 1\nbracha: member 1 says 0\n", 1))
         found += differs("one of each", split.result()[:2], ("UNDECIDED\nbracha: member 0 says 1\nbracha: member 1 says 0\n", 1))
         found += differs("one is stopped", stopped.result()[:2], ("DECIDED 1\nbracha: member 0 has another reply\n", 0))
         said, status, took = silent.result()
@@ -747,6 +840,12 @@ def a_client_believes_more_than_t(folder, port):
         found += differs("JSON", json_one.result()[:2], ('{"decided":1}\nbracha: member 2 says 0\n', 0))
         found += differs("past the last question", past.result()[:2], ("bracha: question\n", 2))
     return found
+
+
+def states(link):
+    """A desk at which question 7 is open, and no other was proposed."""
+    for line in link.makefile("rb"):
+        link.sendall(b"OPEN 2 3\n" if line == b"STATE 7\n" else b"UNPROPOSED\n")
 
 
 @check
@@ -770,6 +869,13 @@ def all_are_spoken_to_at_once(folder, port):
         path = cluster_file(folder, "json", [port + 10, port + 11, port + 12, port + 18])
         should = "".join(f'{{"member":{it},"reply":{{"up":true,"statements":5,"decided":1}}}}\n' for it in range(3)) + '{"member":3,"reply":null}\n'
         found += differs("JSON", say(["status", "--all", "--json", path], folder), (should, 1))
+    with serving(port + 18, states), serving(port + 19, states):
+        path = cluster_file(folder, "states", [port + 18, port + 19], 0)
+        found += differs("a question", say(["status", "--all", "--question", "7", path], folder), ("member 0 OPEN 2 3\nmember 1 OPEN 2 3\n", 0))
+        should = "".join(f'{{"member":{it},"reply":{{"open":true,"round":2,"step":3}}}}\n' for it in (0, 1))
+        found += differs("its JSON", say(["status", "--all", "--question", "7", "--json", path], folder), (should, 0))
+        should = '{"open":true,"round":2,"step":3}\n'
+        found += differs("its JSON, of one", say(["status", "--question", "7", "--json", f"127.0.0.1:{port + 18}"], folder), (should, 0))
     return found
 
 
@@ -833,9 +939,13 @@ def proofs_of_more_than_t_are_wanted(folder, port):
             path = cluster_file(folder, f"one-{name}", [port + 8, at, port + 14, port + 14 + 1])
             said, status, took = timed(["audit", "--all", "--timeout", "2", path, "5"], folder)
             found += differs(f"one proves, one {name} ({said})", ("no\n" in said, says in said, status, took < 4), (True, True, 1, True))
-        path = cluster_file(folder, "nobody", [port + 19, port + 14, port + 15, port + 16])
+        path = cluster_file(folder, "nobody", [port + 19, port + 12, port + 15, port + 16])
         said, status, took = timed(["transcript", "--all", "--timeout", "2", path, "5"], folder)
-        found += differs(f"nobody has one ({said})", ("member 0 sends no transcript: THIN" in said, status, took < 4), (True, 1, True))
+        found += differs("an output without a transcript", apart(["transcript", "--all", "--timeout", "1", path, "5"], folder)[0], "")
+        path = cluster_file(folder, "one-of-them", [port + 8, port + 12, port + 15, port + 16])
+        found += differs("a proof alone", apart(["audit", "--all", "--timeout", "1", path, "5"], folder)[::2], ("no\n", 1))
+        words = ["member 0 sends no transcript: THIN", *(f"member {it} doesn't answer" for it in (1, 2, 3))]
+        found += differs(f"nobody has one ({said})", ([it in said for it in words], status, took < 4), ([True] * 4, 1, True))
     return found
 
 
@@ -941,6 +1051,433 @@ def all_are_asked_while_they_decide(folder, port):
         return found + differs("behind the proposals", waiting.result(), ("DECIDED 0\nbracha: member 2 doesn't answer\n", 0))
 
 
+def welcomes(link, until=None):
+    """A peer that welcomes the link to it and reads it, until this event where one is given."""
+    if (until and until.is_set()) or len(link.recv(18, socket.MSG_WAITALL)) < 18:
+        return
+    # A Welcome: all of it is to come.
+    link.sendall(struct.pack(">HBQ", 9, 2, 0))
+    link.settimeout(0.2)
+    while not until or not until.is_set():
+        with contextlib.suppress(TimeoutError):
+            if not link.recv(4096):
+                return
+
+
+def is_closed(link, seconds):
+    """Whether the other side closes the connection within this time, whatever it says before."""
+    link.settimeout(seconds)
+    try:
+        while link.recv(4096):
+            pass
+    except TimeoutError:
+        return False
+    except OSError:
+        pass
+    return True
+
+
+@check
+def silence_has_an_end(folder, port):
+    """Connections that are slow to greet are closed in ten seconds, and their places are free then; a link that falls silent is closed
+    in three, and one that isn't welcomed is dialled again in five."""
+    dialled = []
+
+    def says_nothing(link):
+        dialled.append(time.monotonic())
+        time.sleep(30)
+
+    peers = [f"127.0.0.1:{port}", f"127.0.0.2:{port + 1}", f"127.0.0.1:{port + 2}", f"127.0.0.1:{port + 3}"]
+    path = settings(folder, 0, peers, f"127.0.0.1:{port + 9}", 4, 1)
+    with serving(port + 2, says_nothing), running(path):
+        begun = time.monotonic()
+        slow = [dial(port, "127.0.0.2") for _ in range(40)]
+        time.sleep(0.5)
+        found = differs("a link beside as many as its host has places", is_welcomed(port, 1, 0, "127.0.0.2"), None)
+        link, said = None, -1
+        while not link and time.monotonic() < begun + 16:
+            said += 1
+            for it in slow:
+                with contextlib.suppress(OSError):
+                    it.sendall(hello(1, 0)[said:said + 1])
+            time.sleep(1)
+            link = is_welcomed(port, 1, 0, "127.0.0.2")
+        took = time.monotonic() - begun
+        found += differs(f"a link once they are closed ({took:.1f} s)", link is not None and 8.5 < took < 16, True)
+        if link:
+            begun = time.monotonic()
+            is_closed(link, 9)
+            took = time.monotonic() - begun
+            found += differs(f"a link that falls silent is closed ({took:.1f} s)", 2 < took < 6, True)
+        for it in slow:
+            it.close()
+    gaps = [later - it for it, later in zip(dialled, dialled[1:])]
+    return found + differs(f"a peer that doesn't welcome is dialled again ({gaps})", bool(gaps) and min(gaps) < 8, True)
+
+
+@check
+def a_client_that_takes_nothing_is_closed(folder, port):
+    """A client that asks on and reads no reply is closed in ten seconds."""
+    path = settings(folder, 0, [f"127.0.0.1:{port}"], f"127.0.0.1:{port + 1}", 1, 0)
+    with running(path), socket.socket() as link:
+        # Segments and a window so small that replies have no room on the way.
+        link.setsockopt(socket.IPPROTO_TCP, socket.TCP_MAXSEG, 88)
+        link.setsockopt(socket.SOL_SOCKET, socket.SO_RCVBUF, 1024)
+        link.settimeout(25)
+        link.connect(("127.0.0.1", port + 1))
+        begun = time.monotonic()
+        with contextlib.suppress(OSError):
+            while True:
+                link.sendall(b"STATUS\n" * 4096)
+        took = time.monotonic() - begun
+        return differs(f"it is closed in ten seconds ({took:.1f} s)", 8 < took < 20, True)
+
+
+def block_term():
+    """Has SIGTERM wait, for a process that is to look for it."""
+    signal.pthread_sigmask(signal.SIG_BLOCK, {signal.SIGTERM})
+
+
+def waits_for_more(process):
+    """The number of a process's TCP connections that wait before they send what is short; 0 where the system shows none."""
+    libc, count = ctypes.CDLL(None, use_errno=True), 0
+    whose = os.pidfd_open(process.pid)
+    for number in os.listdir(f"/proc/{process.pid}/fd"):
+        # pidfd_getfd: a copy of the descriptor, if it is there still.
+        copy = libc.syscall(438, whose, int(number), 0)
+        if copy < 0:
+            continue
+        if not os.readlink(f"/proc/self/fd/{copy}").startswith("socket:"):
+            os.close(copy)
+            continue
+        with socket.socket(fileno=copy) as link:
+            if link.family == socket.AF_INET and not link.getsockopt(socket.SOL_SOCKET, socket.SO_ACCEPTCONN):
+                count += link.getsockopt(socket.IPPROTO_TCP, socket.TCP_NODELAY) == 0
+    os.close(whose)
+    return count
+
+
+@check
+def the_end_closes_all(folder, port):
+    """A member that is ended ends in two seconds and with status 0, whoever is connected, and closes each connection. On each of them
+    it sends at once what it says."""
+    peers = [f"127.0.0.1:{port + it}" for it in range(4)]
+    path = settings(folder, 0, peers, f"127.0.0.1:{port + 9}", 4, 1, more=f'desk-socket = "{folder}/desk"\n')
+    with serving(port + 1, welcomes), serving(port + 2, welcomes), running(path, preexec_fn=block_term) as process, \
+            contextlib.ExitStack() as stack:
+        local = stack.enter_context(socket.socket(socket.AF_UNIX))
+        local.connect(f"{folder}/desk")
+        found = differs("PROPOSE", told(port + 9, "PROPOSE 3 1")[0], "OK")
+        links = {"a link": soon(lambda: is_welcomed(port, 3, 0)), "one that doesn't greet": dial(port), "a client": dial(port + 9), "one at the path": local}
+        for name, line in (("one that waits", b"AWAIT 3\n"), ("one that follows", b"FOLLOW 0\n"), ("one that says half a line", b"STAT")):
+            links[name] = dial(port + 9)
+            links[name].sendall(line)
+        time.sleep(0.5)
+        found += differs("connections on which it waits before it sends", waits_for_more(process), 0)
+        begun = time.monotonic()
+        process.send_signal(signal.SIGTERM)
+        try:
+            found += differs("its status", process.wait(8), 0)
+        except subprocess.TimeoutExpired:
+            found.append("it goes on for eight seconds")
+        took = time.monotonic() - begun
+        found += differs(f"its end comes at once ({took:.1f} s)", took < 4, True)
+        for name, link in links.items():
+            found += differs(f"{name} is closed", link is not None and is_closed(link, 1), True)
+            if link:
+                link.close()
+    os.mkdir(f"{folder}/alone")
+    path = settings(f"{folder}/alone", 0, [f"127.0.0.1:{port + 10 + it}" for it in range(4)], f"127.0.0.1:{port + 14}", 4, 1)
+    with running(path, "--log", preexec_fn=block_term) as process:
+        process.send_signal(signal.SIGTERM)
+        found += differs("the status of one that listens still", process.wait(8), 0)
+    return found + differs("what it tells of itself", [it for it in lines_of(path) if not it.startswith("link")], ["ready member 0", "end"])
+
+
+@check
+def the_last_lines_of_a_log(folder, port):
+    """A log ends with what happened last: the decisions that a client was told right before the end, and the refusals that were counted
+    and not told."""
+    path = settings(folder, 0, [f"127.0.0.1:{port}"], f"127.0.0.1:{port + 1}", 1, 0)
+    with running(path, "--log", stays=False) as process:
+        for _ in range(3):
+            is_closed(dial(port, "127.0.0.9"), 3)
+        found = []
+        for question in (5, 6):
+            told(port + 1, f"PROPOSE {question} 1")
+            found += differs("a decision", told(port + 1, f"AWAIT {question}")[0], "DECIDED 1")
+        process.stdin.close()
+        process.wait(8)
+    lines = lines_of(path)
+    found += differs("the end", lines[-1:], ["end"])
+    found += differs("decisions", [it for it in lines if it.startswith("decided")], ["decided 5 1", "decided 6 1"])
+    return found + differs("refusals", [it for it in lines if it.startswith("refused")], ["refused from 127.0.0.9 stranger", "refused from 127.0.0.9 stranger, x2"])
+
+
+@check
+def who_welcomes_a_member_counts(folder, port):
+    """A member speaks at once where n - t members with itself welcome it, and listens for three seconds where fewer do; it counts the
+    links that come and go, and no link that has ended."""
+    few = settings(folder, 0, [f"127.0.0.1:{port + it}" for it in range(4)], f"127.0.0.1:{port + 4}", 4, 1)
+    os.mkdir(f"{folder}/more")
+    more = settings(f"{folder}/more", 0, [f"127.0.0.1:{port + 5 + it}" for it in range(4)], f"127.0.0.1:{port + 9}", 4, 1)
+    over = threading.Event()
+    peer = lambda link: welcomes(link, over)
+    with serving(port + 1, peer), serving(port + 6, peer), serving(port + 7, peer), running(few), running(more, "--log"), \
+            concurrent.futures.ThreadPoolExecutor(2) as pool:
+        replies = [pool.submit(told, it, "PROPOSE 0 1") for it in (port + 4, port + 9)]
+        (reply, took), (other, less) = [it.result() for it in replies]
+        found = differs(f"one welcomes it ({took:.1f} s)", (reply, took > 1.5), ("OK", True))
+        found += differs(f"two welcome it ({less:.1f} s)", (other, less < 1.5), ("OK", True))
+        links = lambda wanted: soon(lambda: told(port + 9, "LINKS")[0] == wanted)
+        found += differs("links to three are up, and its own from itself", links("LINKS 1 3 4 3"), True)
+        link = is_welcomed(port + 5, 3, 0)
+        found += differs("one comes in", link is not None and told(port + 9, "LINKS")[0], "LINKS 2 3 4 3")
+        if link:
+            link.close()
+        over.set()
+        found += differs("links that have ended don't count", links("LINKS 1 1 4 3"), True)
+        wanted = {f"link-{way}" for way in ("up from 3", "down from 3", "up to 1", "up to 2", "down to 1", "down to 2")}
+        return found + differs("lines that the log lacks", soon(lambda: not lacks(more, wanted)) or lacks(more, wanted), True)
+
+
+@check
+def any_host_and_another_address(folder, port):
+    """With --any-host a link from any host is taken, which is warned of; with `listen` a member listens there and nowhere else."""
+    peers = [f"127.0.0.1:{port + it}" for it in range(4)]
+    path = settings(folder, 0, peers, f"127.0.0.1:{port + 9}", 4, 1, more=f'listen = "0.0.0.0:{port + 5}"\n')
+    with running(path, "--any-host", "--log"):
+        with socket.create_connection(("127.0.0.2", port + 5), timeout=5, source_address=("127.0.0.9", 0)) as link:
+            link.sendall(hello(1, 0))
+            found = differs("a link from any host, to any address of this one", len(link.recv(11, socket.MSG_WAITALL)), 11)
+        with socket.socket() as other:
+            found += differs("its entry of the peers", other.connect_ex(("127.0.0.1", port)), errno.ECONNREFUSED)
+    return found + differs("the warning", lines_of(path)[:1], ["bracha: --any-host is unsafe: any host may speak for any member"])
+
+
+@check
+def desks_that_flood_and_hang_up(folder, port):
+    """A desk that sends without an end is given up once it has sent more than any transcript has, and one that hangs up is asked a few
+    times a second."""
+    asked = []
+
+    def floods(link):
+        link.recv(64)
+        link.sendall(b"transcript 5 bit 1 count 4000000000\n")
+        while True:
+            link.sendall(b"0 01000500010100\n" * 8192)
+
+    with serving(port, floods), serving(port + 1, lambda link: asked.append(time.monotonic())):
+        said, status, took = timed(["transcript", "--all", "--timeout", "30", cluster_file(folder, "floods", [port], 0), "5"], folder, 40)
+        found = differs(f"a flood ({took:.1f} s)", (said, status, took < 25), ("bracha: member 0 doesn't answer\n", 1, True))
+        say(["decide", "--all", "--timeout", "2", cluster_file(folder, "hangs-up", [port + 1], 0), "5", "1"], folder)
+        return found + differs(f"asked {len(asked)} times in two seconds", 2 < len(asked) < 16, True)
+
+
+@check
+def a_stopped_member_takes_no_link(folder, port):
+    """A member whose disk is full says so to clients and refuses links until its input ends."""
+    def no_room():
+        signal.signal(signal.SIGXFSZ, signal.SIG_IGN)
+        resource.setrlimit(resource.RLIMIT_FSIZE, (0, 0))
+
+    path = settings(folder, 0, [f"127.0.0.1:{port}", f"127.0.0.1:{port + 1}"], f"127.0.0.1:{port + 2}", 2, 0)
+    subprocess.run([PROGRAM, "init", path], check=True)
+    with serving(port + 1, welcomes), running(path, "--quiet", new=False, stays=False, preexec_fn=no_room) as process:
+        link = soon(lambda: is_welcomed(port, 1, 0, n=2, t=0))
+        found = differs("a link before", link is not None, True)
+        found += differs("PROPOSE", told(port + 2, "PROPOSE 0 1")[0], "STOPPED")
+        if link:
+            link.close()
+        time.sleep(0.3)
+        found += differs("a link to a stopped member", is_welcomed(port, 1, 0, n=2, t=0), None)
+        found += differs("what clients are told", [told(port + 2, line)[0] for line in ("STATUS", "LINKS", "AWAIT 1")], ["STOPPED"] * 3)
+        process.stdin.close()
+        return found + differs("its status", process.wait(8), 1)
+
+
+@check
+def a_disk_that_stalls(folder, port):
+    """While a sync takes six seconds, a member answers who asks for its state or for a decision, and no link goes down."""
+    library = f"{folder}/stall.so"
+    subprocess.run([os.environ.get("CC", "cc"), "-O2", "-shared", "-fPIC", "-o", library, f"{TOP}/tests/stall.c", "-ldl"], check=True)
+    peers = [f"127.0.0.1:{port + it}" for it in range(4)]
+    paths = [settings(folder, it, peers, f"127.0.0.1:{port + 4 + it}", 4, 1) for it in range(4)]
+    stalls = {**os.environ, "LD_PRELOAD": library, "STALL_AT": "8", "STALL_SECONDS": "6"}
+    with contextlib.ExitStack() as stack, concurrent.futures.ThreadPoolExecutor(4) as pool:
+        for me, path in enumerate(paths):
+            stack.enter_context(running(path, "--log", **({"env": stalls} if me == 0 else {})))
+        for question in (0, 1):
+            waits = [pool.submit(told, port + 4 + it, f"PROPOSE {question} 1") for it in range(4)]
+            late = pool.submit(told, port + 4, f"AWAIT {question}")
+            if question == 0:
+                continue
+        begun = time.monotonic()
+        slowest = 0.0
+        while time.monotonic() < begun + 4:
+            for line in ("STATUS", "LINKS", "ASK 9"):
+                slowest = max(slowest, told(port + 4, line)[1])
+            time.sleep(0.1)
+        for it in (*waits, late):
+            it.result()
+        took = time.monotonic() - begun
+        found = differs(f"a sync has stalled ({took:.1f} s)", took > 4.5, True)
+        found += differs(f"the slowest reply meanwhile ({slowest:.2f} s)", slowest < 1, True)
+        downs = [f"member {me}: {line}" for me, path in enumerate(paths) for line in lines_of(path) if line.startswith("link-down")]
+        return found + differs("links that went down", downs, [])
+
+
+@check
+def threads_that_are_refused(folder, port):
+    """While the system gives no thread, connections are closed, and none of their places is lost. It wants root."""
+    if os.geteuid() != 0:
+        return []
+
+    def as_nobody():
+        os.setgroups([])
+        os.setgid(65534)
+        os.setuid(65534)
+
+    program = shutil.copy(PROGRAM, f"{folder}/bracha")
+    path = settings(folder, 0, [f"127.0.0.1:{port}", f"127.0.0.1:{port + 1}"], f"127.0.0.1:{port + 2}", 2, 0)
+    subprocess.run([PROGRAM, "init", path], check=True)
+    os.chmod(os.path.dirname(folder), 0o755)
+    os.chown(f"{folder}/member-0.journal", 65534, 65534)
+    with serving(port + 1, welcomes), running(path, "--log", new=False, executable=program, preexec_fn=as_nobody) as process:
+        limit = lambda words: subprocess.run(["prlimit", f"--pid={process.pid}", words], check=True, preexec_fn=as_nobody)
+        found = differs("a client before", told(port + 2, "STATUS")[0], "UP 0 0")
+        # Of its user's threads there are more than one already.
+        limit("--nproc=1:")
+        kept = next((it for it in range(160) if not is_closed(dial((port, port + 2)[it % 2]), 3)), None)
+        found += differs("the first of 160 connections that isn't closed", kept, None)
+        limit("--nproc=4096:")
+        link = soon(lambda: is_welcomed(port, 1, 0, n=2, t=0))
+        found += differs("a link behind them", link is not None, True)
+        with dial(port + 2) as client:
+            client.settimeout(4)
+            found += differs("a client behind them", is_open(client), True)
+        if link:
+            link.close()
+        return found + differs("the log", any(it.startswith("thread refused") for it in lines_of(path)), True)
+
+
+@check
+def a_peer_that_does_not_answer(folder, port):
+    """A dial that nobody answers is given up in a second, which the log says."""
+    with socket.socket() as full, contextlib.ExitStack() as stack:
+        full.bind(("127.0.0.1", port + 1))
+        full.listen(0)
+        for _ in range(4):
+            filler = stack.enter_context(socket.socket())
+            filler.setblocking(False)
+            filler.connect_ex(("127.0.0.1", port + 1))
+        path = settings(folder, 0, [f"127.0.0.1:{port}", f"127.0.0.1:{port + 1}"], f"127.0.0.1:{port + 2}", 2, 0)
+        with running(path, "--log"):
+            return differs("the log", soon(lambda: "link-to 1 unreachable: no answer" in lines_of(path)), True)
+
+
+@check
+def a_peer_that_takes_nothing(folder, port):
+    """A link whose peer welcomes it and takes nothing more is closed in ten seconds, and dialled again."""
+    welcomed = []
+
+    def takes_nothing(link):
+        welcomed.append(time.monotonic())
+        link.recv(18, socket.MSG_WAITALL)
+        link.sendall(struct.pack(">HBQ", 9, 2, 0))
+        time.sleep(40)
+
+    peers = [f"127.0.0.1:{port + it}" for it in range(4)]
+    with contextlib.ExitStack() as stack:
+        small = stack.enter_context(socket.socket())
+        # Segments and a window so small that statements have no room on the way.
+        small.setsockopt(socket.IPPROTO_TCP, socket.TCP_MAXSEG, 88)
+        small.setsockopt(socket.SOL_SOCKET, socket.SO_RCVBUF, 1024)
+        stack.enter_context(serving(port + 3, takes_nothing, small))
+        for me in range(3):
+            stack.enter_context(running(settings(folder, me, peers, f"127.0.0.1:{port + 4 + me}", 4, 1, questions=1024)))
+        desks = [stack.enter_context(dial(port + 4 + me, timeout=20.0)) for me in range(3)]
+        lines = [desk.makefile("rb") for desk in desks]
+        for first in range(0, 1024, 64):
+            for desk in desks:
+                desk.sendall(b"".join(b"PROPOSE %d 1\n" % it for it in range(first, first + 64)))
+            for line in lines:
+                for _ in range(64):
+                    line.readline()
+        await_one(desks[0], lines[0], 1023)
+        count, begun = len(welcomed), time.monotonic()
+        again = soon(lambda: len(welcomed) >= count + 3, 20)
+        took = time.monotonic() - begun
+    return differs(f"each of three members dials it again ({took:.1f} s)", (again, took > 4), (True, True))
+
+
+@check
+def a_link_to_an_earlier_life(folder, port):
+    """A member whose peer comes back dials it again, though the connection to the peer's earlier life looks alive."""
+    dialled = []
+
+    def forgets(link):
+        dialled.append(time.monotonic())
+        link.recv(18, socket.MSG_WAITALL)
+        link.sendall(struct.pack(">HBQ", 9, 2, 0))
+        time.sleep(20)
+
+    path = settings(folder, 0, [f"127.0.0.1:{port}", f"127.0.0.1:{port + 1}"], f"127.0.0.1:{port + 2}", 2, 0)
+    with serving(port + 1, forgets), running(path):
+        time.sleep(4)
+        found = differs("dials before", len(dialled), 1)
+        link = is_welcomed(port, 1, 0, n=2, t=0)
+        found += differs("a dial once it is back", soon(lambda: len(dialled) > 1, 2), True)
+        if link:
+            link.close()
+        return found
+
+
+@check
+def connections_without_files(folder, port):
+    """A member that has no file left for connections takes hardly any time of a processor, and goes on once they leave."""
+    path = settings(folder, 0, [f"127.0.0.1:{port}"], f"127.0.0.1:{port + 1}", 1, 0)
+    with running(path, preexec_fn=lambda: resource.setrlimit(resource.RLIMIT_NOFILE, (20, 20))) as process:
+        silent = [dial(port) for _ in range(40)]
+        time.sleep(0.5)
+        begun = processor_time(process)
+        time.sleep(3)
+        took = processor_time(process) - begun
+        found = differs(f"seconds of a processor in three ({took:.2f})", took < 0.6, True)
+        for it in silent:
+            it.close()
+        return found + differs("a client behind them", soon(lambda: told(port + 1, "STATUS")[0].startswith("UP")), True)
+
+
+@check
+def refusals_are_told_each_minute(folder, port):
+    """Refusals of one kind are told at once, and then once a minute with their number."""
+    path = settings(folder, 0, [f"127.0.0.1:{port}"], f"127.0.0.1:{port + 1}", 1, 0)
+    with running(path, "--log"):
+        for _ in range(3):
+            is_closed(dial(port, "127.0.0.9"), 3)
+        found = differs("the first", soon(lambda: "refused from 127.0.0.9 stranger" in lines_of(path)), True)
+        begun = time.monotonic()
+        while "refused from 127.0.0.9 stranger, x2" not in lines_of(path) and time.monotonic() < begun + 80:
+            time.sleep(0.25)
+        took = time.monotonic() - begun
+        return found + differs(f"the others ({took:.0f} s)", 55 < took < 75, True)
+
+
+@check
+def followers_that_leave_give_their_places(folder, port):
+    """As many clients as may follow, and more, that leave before they are told anything take no place from the next one."""
+    path = settings(folder, 0, [f"127.0.0.1:{port}"], f"127.0.0.1:{port + 1}", 1, 0)
+    with running(path):
+        told(port + 1, "PROPOSE 0 1")
+        found = differs("a decision", told(port + 1, "AWAIT 0")[0], "DECIDED 1")
+        for _ in range(3000):
+            with dial(port + 1) as link:
+                link.setsockopt(socket.SOL_SOCKET, socket.SO_LINGER, struct.pack("ii", 1, 0))
+                link.sendall(b"FOLLOW 0\n")
+        return found + differs("the next one", soon(lambda: told(port + 1, "FOLLOW 0")[0] == "DECIDED 0 1"), True)
+
+
 def main():
     resource.setrlimit(resource.RLIMIT_NOFILE, (4096, resource.getrlimit(resource.RLIMIT_NOFILE)[1]))
     room = tempfile.mkdtemp(prefix="bracha-edges-")
@@ -950,7 +1487,7 @@ def main():
         folder = f"{room}/{function.__name__}"
         os.makedirs(folder)
         try:
-            return function(folder, 27700 + 20 * number)
+            return function(folder, 28400 + 20 * number)
         except Exception as error:  # pylint: disable=broad-except
             return [f"{type(error).__name__}: {error}"]
 

@@ -1,6 +1,6 @@
 /* A library to be loaded before a program: the FAIL_SYNC_ATth sync of a file whose path ends in FAIL_SYNC_OF, counted from 1,
    fails once with EIO, as after a write-back that failed. The next one succeeds, although nothing was written then, as Linux
-   has it. */
+   has it. A file whose path ends in FAIL_UNLINK_OF isn't removed: EACCES. */
 #define _GNU_SOURCE
 #include <dlfcn.h>
 #include <errno.h>
@@ -14,17 +14,21 @@
 
 static atomic_long calls;
 
+/* Whether the path is one that the environment means. */
+static int ends(const char *path, const char *variable)
+{
+    const char *end = getenv(variable);
+    return end && strlen(path) >= strlen(end) && strcmp(path + strlen(path) - strlen(end), end) == 0;
+}
+
 /* Whether the file is the one that is meant. */
 static int is_meant(int file)
 {
-    const char *end = getenv("FAIL_SYNC_OF");
     char name[64], path[PATH_MAX];
     snprintf(name, sizeof name, "/proc/self/fd/%d", file);
     ssize_t length = readlink(name, path, sizeof path - 1);
-    if (!end || length < (ssize_t)strlen(end))
-        return 0;
-    path[length] = 0;
-    return strcmp(path + length - strlen(end), end) == 0;
+    path[length < 0 ? 0 : length] = 0;
+    return ends(path, "FAIL_SYNC_OF");
 }
 
 static int fails(int file)
@@ -53,4 +57,13 @@ int sync_file_range(int file, off64_t from, off64_t length, unsigned int flags)
     int (*real)(int, off64_t, off64_t, unsigned int) =
         (int (*)(int, off64_t, off64_t, unsigned int))dlsym(RTLD_NEXT, "sync_file_range");
     return fails(file) ? -1 : real(file, from, length, flags);
+}
+
+int unlink(const char *path)
+{
+    int (*real)(const char *) = (int (*)(const char *))dlsym(RTLD_NEXT, "unlink");
+    if (!ends(path, "FAIL_UNLINK_OF"))
+        return real(path);
+    errno = EACCES;
+    return -1;
 }

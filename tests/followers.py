@@ -85,6 +85,13 @@ def descriptors(member):
     return len(os.listdir(f"/proc/{member.pid}/fd"))
 
 
+def processor_time(member):
+    """The seconds of a processor that a member has taken."""
+    with open(f"/proc/{member.pid}/stat", encoding="ascii") as stat:
+        user, system = stat.read().rsplit(")", 1)[1].split()[11:13]
+    return (int(user) + int(system)) / os.sysconf("SC_CLK_TCK")
+
+
 def threads(member):
     return len(os.listdir(f"/proc/{member.pid}/task"))
 
@@ -228,8 +235,10 @@ def who_takes_nothing_is_closed(folder, port):
         found += differs("another follower has all meanwhile", soon(lambda: other.have(4096), 3), True)
         found += differs("others are served meanwhile", are_served(desks[0], 31), 31)
         found += differs("they are there still", soon(lambda: descriptors(members[0]) == files + 9, 3), True)
+        taken = processor_time(members[0])
         found += differs("they are closed", soon(lambda: descriptors(members[0]) == files + 1, 20), True)
-        took = time.monotonic() - begun
+        taken, took = processor_time(members[0]) - taken, time.monotonic() - begun
+        found += differs(f"the seconds of a processor that they take are few ({taken:.2f})", taken < 1, True)
         found += differs(f"in ten seconds ({took:.1f} s)", 8 < took < 15, True)
         found += differs("it is told", soon(lambda: "follower from 127.0.0.1 closed: took nothing for 10 s" in log_of(folder), 3), True)
         found += differs("the other follower goes on", other.ended, set())

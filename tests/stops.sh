@@ -1,7 +1,8 @@
 #!/usr/bin/env bash
 # Tries the stops that have to last: a sync that failed, a journal that was lost and made anew, and one that is deleted or
-# replaced under its member. Each is tried with the built program, and with a supervisor that starts it again. It takes the
-# ports 7100 to 7113, a C compiler and some forty seconds. Its last line is `N passed, M failed`; its status is 1 where M isn't 0.
+# replaced under its member; and a new file that can't be removed. Each is tried with the built program, and with a supervisor
+# that starts it again. It takes the ports 7100 to 7113, a C compiler and some forty seconds. Its last line is
+# `N passed, M failed`; its status is 1 where M isn't 0.
 #
 #   tests/stops.sh [PROGRAM]   by default crates/bracha/out/bracha, which `rt run` makes in crates/bracha
 set -euo pipefail
@@ -80,6 +81,7 @@ says 'a start in the same boot' 1 "$marked" timeout 20 "$program" run --stay alo
 says 'a check in the same boot' 1 "$marked" bash -c '"$0" check alone.toml >/dev/null' "$program"
 says 'init in the same boot' 1 "$marked" "$program" init alone.toml
 says 'migrate in the same boot' 1 "$marked" "$program" migrate alone.journal other.journal
+says 'migrate onto it' 1 "$marked" "$program" migrate other.journal alone.journal
 says 'a dump in the same boot' 0 0 "$program" dump --count alone.journal
 ln -sfn 00000000-0000-0000-0000-000000000000 alone.journal.unsynced
 says 'a check in the next boot' 0 'records 0' bash -c '"$0" check alone.toml | tail -n 1' "$program"
@@ -94,6 +96,19 @@ says 'a sync of the opening that failed' 1 $'bracha: journal Device\nalone.journ
     env LD_PRELOAD="$room/fail_sync.so" FAIL_SYNC_OF=/alone.journal FAIL_SYNC_AT=1 timeout 20 "$program" run --stay alone.toml
 says 'its mark again' 0 "$boot" readlink alone.journal.unsynced
 rm alone.journal.unsynced
+
+# The same as a journal is made.
+sed s/alone.journal/fresh.journal/ alone.toml >fresh.toml
+ln -s 00000000-0000-0000-0000-000000000000 fresh.journal.unsynced
+says 'a sync of a new journal that failed' 1 $'bracha: journal Device\nfresh.journal: Input/output error (os error 5)' \
+    env LD_PRELOAD="$room/fail_sync.so" FAIL_SYNC_OF=/fresh.journal FAIL_SYNC_AT=1 "$program" init fresh.toml
+says 'the mark of a new journal' 0 "$boot" readlink fresh.journal.unsynced
+
+# A file that a migration has made in vain, and that can't be removed, is told of.
+printf 'BRACHAJ1%b' '\0\0\0\0\0\0\0\x07\x04\x01\0\x40\0\0\0\0\1\0\2\2\0\0' >old.journal
+says 'a new file that cannot be removed' 1 $'bracha: migrate CutShort\nnew.journal: is no journal: remove it' \
+    env LD_PRELOAD="$room/fail_sync.so" FAIL_UNLINK_OF=new.journal "$program" migrate old.journal new.journal
+rm new.journal
 
 # A write that failed leaves no mark.
 says 'a write that failed' 1 $'member 0 ready\nstopped device: File too large (os error 27)\nbracha: stopped\nalone.journal: File too large (os error 27)' \

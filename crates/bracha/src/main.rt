@@ -10,6 +10,7 @@ use clap::error::ErrorKind;
 use command_line::{Task, command};
 use std::convert::AsStr;
 use std::io;
+use std::marker::Brand;
 use std::net::{TcpListener, TcpStream};
 use std::process::ExitCode;
 use system::{
@@ -176,7 +177,7 @@ fn work<R: Caller>(rt: &R, host: &HostRuntime, task: Task, quiet: bool) -> Resul
                 },
             )
         }
-        Task::Init { settings } => init_file(host, settings),
+        Task::Init { settings } => init_file::<Brand>(host, settings),
         Task::Check { settings, json } => check_file(host, settings, json),
         Task::Run {
             settings,
@@ -184,7 +185,7 @@ fn work<R: Caller>(rt: &R, host: &HostRuntime, task: Task, quiet: bool) -> Resul
             log,
             log_json,
             any_host,
-        } => run_file(rt, host, settings, stay, log_form(log, log_json), any_host),
+        } => run_file::<R, Brand>(rt, host, settings, stay, log_form(log, log_json), any_host),
         Task::Propose {
             address,
             question,
@@ -305,8 +306,8 @@ fn work<R: Caller>(rt: &R, host: &HostRuntime, task: Task, quiet: bool) -> Resul
             journal,
             count,
             json,
-        } => dump_file(host, journal, count, json),
-        Task::Migrate { old, new } => migrate_file(host, old, new),
+        } => dump_file::<Brand>(host, journal, count, json),
+        Task::Migrate { old, new } => migrate_file::<Brand, Brand>(host, old, new),
         Task::Simulate {
             script,
             trace,
@@ -342,8 +343,8 @@ fn work<R: Caller>(rt: &R, host: &HostRuntime, task: Task, quiet: bool) -> Resul
     }
 }
 
-/// The status to end with where the words ask for nothing to be done: 0 for the help and the version, 2 for a fault of
-/// the words.
+/// The status to end with where the words ask for nothing to be done: 0 for the help and the
+/// version, 2 for a fault of the words.
 fn status_of(error: &clap::Error) -> u8
     ensures shown { (kind_of error.now ≡ DisplayHelp) ⊎ (kind_of error.now ≡ DisplayVersion) → result ≡ 0 }
     ensures fault { kind_of error.now ≢ DisplayHelp → kind_of error.now ≢ DisplayVersion → result ≡ 2 }
@@ -351,7 +352,8 @@ fn status_of(error: &clap::Error) -> u8
     error.exit_code() as u8
 }
 
-/// Prints what a number of the words has to be, if the error is about one and the environment doesn't ask for less.
+/// Prints what a number of the words has to be, if the error is about one and the environment
+/// doesn't ask for less.
 fn print_number(host: &HostRuntime, error: &clap::Error) -> io::Result<()> {
     if error.kind() != ErrorKind::ValueValidation || wants_quiet(host) {
         return Ok(());
@@ -365,9 +367,10 @@ fn print_number(host: &HostRuntime, error: &clap::Error) -> io::Result<()> {
     }
 }
 
-/// Does what the words ask for, the program's name first among them, while no file can get the number of a standard stream.
-/// Help, the version and faults of the words are printed here. What can be told of a failure is told, but where the words or
-/// the environment ask for its first line alone.
+/// Does what the words ask for, the program's name first among them, while no file can get the
+/// number of a standard stream. Help, the version and faults of the words are printed here. What
+/// can be told of a failure is told, but where the words or the environment ask for its first line
+/// alone.
 fn run<R: Caller, S: AsStr>(
     rt: &R,
     host: &HostRuntime,
@@ -406,7 +409,8 @@ fn print_failure(rt: &HostRuntime, failure: &Failure) -> io::Result<()> {
     }
 }
 
-/// Prints what is wrong, if anything is, and gives the code to end with: the status of what was done, or of the fault.
+/// Prints what is wrong, if anything is, and gives the code to end with: the status of what was
+/// done, or of the fault.
 fn end(rt: &HostRuntime, ended: Result<u8, Failure>) -> io::Result<ExitCode>
     ensures { IfOk result (IsCodeOf ended) }
 {
@@ -419,7 +423,8 @@ fn end(rt: &HostRuntime, ended: Result<u8, Failure>) -> io::Result<ExitCode>
     }
 }
 
-/// No sockets. The check of a function that takes the runtime as one with sockets wants it to name their types.
+/// No sockets. The check of a function that takes the runtime as one with sockets wants it to name
+/// their types.
 fn no_sockets() -> (Option<TcpListener>, Option<TcpStream>) {
     (None, None)
 }

@@ -15,7 +15,8 @@ const SCRIPT: &str = "bracha_tests_script";
 
 const NOWHERE: &str = "bracha_tests_missing/page";
 
-/// A script of nothing, one of two proposals of which one has no member, and one whose only member lies.
+/// A script of nothing, one of two proposals of which one has no member, and one whose only member
+/// lies.
 const NOTHING: &str = "n 1\nt 0\nquestions 1\nliars\nseed 1\n";
 
 const PROPOSALS: &str = "n 1\nt 0\nquestions 1\nliars\nseed 1\npropose 0 0 1\npropose 1 0 0\n";

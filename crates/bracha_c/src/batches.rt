@@ -36,7 +36,8 @@ pub extern "C" fn bracha_batch_head(
     }
 }
 
-/// Writes the batch of 1 to 65,535 records, seven bytes each, behind a closed gate, and how many bytes it has to `*written`.
+/// Writes the batch of 1 to 65,535 records, seven bytes each, behind a closed gate, and how many
+/// bytes it has to `*written`.
 #[unsafe(no_mangle)]
 pub extern "C" fn bracha_batch_encode(
     alloc: Global,
@@ -68,8 +69,8 @@ fn deliver(bytes: &[u8], out: &mut [u8], written: &mut usize) -> i32
     0
 }
 
-/// Writes the records of a journal's file, seven bytes each, how many bytes they have to `*written`, and to `*end` the place
-/// of the closed gate.
+/// Writes the records of a journal's file, seven bytes each, how many bytes they have to
+/// `*written`, and to `*end` the place of the closed gate.
 #[unsafe(no_mangle)]
 pub extern "C" fn bracha_batch_read(
     alloc: Global,

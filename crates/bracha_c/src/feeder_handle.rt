@@ -9,8 +9,9 @@ use engine::Inbox;
 use std::alloc::Global;
 use std::marker::Model;
 
-/// A handle, which owns what lies behind its pointer, as [`Handle`](crate::handle::Handle) does. C has each from
-/// `bracha_feeder_open`, gives it to one call at a time, and gives it up with `bracha_feeder_close`.
+/// A handle, which owns what lies behind its pointer, as [`Handle`](crate::handle::Handle) does. C
+/// has each from `bracha_feeder_open`, gives it to one call at a time, and gives it up with
+/// `bracha_feeder_close`.
 #[repr(C)]
 pub struct FeederHandle {
     at: *mut Hidden,

@@ -68,7 +68,8 @@ fn status_of_fed(fed: Fed) -> i32
     }
 }
 
-/// Takes out the message that has waited longest: its type, what stands behind it, and how many statements it has.
+/// Takes out the message that has waited longest: its type, what stands behind it, and how many
+/// statements it has.
 #[unsafe(no_mangle)]
 pub extern "C" fn bracha_feeder_next(
     feeder: &mut FeederHandle,

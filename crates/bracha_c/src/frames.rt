@@ -78,7 +78,8 @@ pub extern "C" fn bracha_encode_statement(statement: &[u8; 7], frame: &mut [u8; 
     }
 }
 
-/// Writes the frame of 1 to 99 statements, seven bytes each, and how many bytes it has to `*written`.
+/// Writes the frame of 1 to 99 statements, seven bytes each, and how many bytes it has to
+/// `*written`.
 #[unsafe(no_mangle)]
 pub extern "C" fn bracha_encode_statements(
     alloc: Global,

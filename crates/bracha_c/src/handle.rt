@@ -7,16 +7,17 @@ use engine::Engine;
 use std::alloc::Global;
 use std::marker::Model;
 
-/// The target of a handle's pointer, as C sees it. An export may name no type that holds a `Vec` or a `Box`, not even behind a
-/// pointer, so the pointer's type is this one.
+/// The target of a handle's pointer, as C sees it. An export may name no type that holds a `Vec` or
+/// a `Box`, not even behind a pointer, so the pointer's type is this one.
 #[repr(C)]
 #[derive(Drop)]
 pub struct Hidden {
     pub hidden: u8,
 }
 
-/// A handle, which owns the engine behind its pointer: what a `Box` of it owns. In C it is one pointer. C has each from
-/// `bracha_core_open`, gives it to one call at a time, and gives it up with `bracha_core_close`.
+/// A handle, which owns the engine behind its pointer: what a `Box` of it owns. In C it is one
+/// pointer. C has each from `bracha_core_open`, gives it to one call at a time, and gives it up
+/// with `bracha_core_close`.
 #[repr(C)]
 pub struct Handle {
     at: *mut Hidden,

@@ -1,4 +1,5 @@
-//! The engine as a C library. `include/bracha.h` declares these functions, and says what C owes them.
+//! The engine as a C library. `include/bracha.h` declares these functions, and says what C owes
+//! them.
 #![tactic(auto)]
 
 ghost use Rattle.std.specs.Prelude.{◌≡◌, ◌≢◌, ◌⊎◌, ◌*◌, ◌<◌, ◌≤◌, ℕ, List, None, true, pos, IfOk, IfErr};
@@ -51,8 +52,8 @@ pub struct Decision {
     pub bit: u8,
 }
 
-/// Opens the core of member `me`, with the records that it saved in earlier lives, seven bytes each. `*core` is written
-/// only if the answer is 0.
+/// Opens the core of member `me`, with the records that it saved in earlier lives, seven bytes
+/// each. `*core` is written only if the answer is 0.
 #[unsafe(no_mangle)]
 pub extern "C" fn bracha_core_open(
     alloc: Global,
@@ -101,8 +102,8 @@ pub extern "C" fn bracha_core_close(core: Handle) {
     drop(core.into_box());
 }
 
-/// Hears the seven bytes of a statement from the member `from`, and writes the records that are due to the front of
-/// `records`, and how many there are to `*count`.
+/// Hears the seven bytes of a statement from the member `from`, and writes the records that are due
+/// to the front of `records`, and how many there are to `*count`.
 #[unsafe(no_mangle)]
 pub extern "C" fn bracha_core_hear(
     core: &mut Handle,
@@ -127,7 +128,8 @@ pub extern "C" fn bracha_core_hear(
     }
 }
 
-/// Takes a bit that is proposed for the question, and writes the records that are due as `bracha_core_hear` does.
+/// Takes a bit that is proposed for the question, and writes the records that are due as
+/// `bracha_core_hear` does.
 #[unsafe(no_mangle)]
 pub extern "C" fn bracha_core_propose(
     core: &mut Handle,
@@ -152,7 +154,8 @@ pub extern "C" fn bracha_core_propose(
     }
 }
 
-/// The first decision of the question, if there is one: whether `*decision` was written. The core is as it was.
+/// The first decision of the question, if there is one: whether `*decision` was written. The core
+/// is as it was.
 #[unsafe(no_mangle)]
 pub extern "C" fn bracha_core_verdict(
     core: &mut Handle,
@@ -187,7 +190,8 @@ fn tell(known: Option<(u8, bool)>, decision: &mut Decision) -> bool
     }
 }
 
-/// Tells if senders and statements, eight bytes each, are proof of the bit: 1 or 0, or why there is no answer.
+/// Tells if senders and statements, eight bytes each, are proof of the bit: 1 or 0, or why there is
+/// no answer.
 #[unsafe(no_mangle)]
 pub extern "C" fn bracha_audit(
     alloc: Global,

@@ -9,8 +9,9 @@ use engine::Tosses;
 use std::alloc::Global;
 use std::marker::Model;
 
-/// A handle, which owns what lies behind its pointer, as [`Handle`](crate::handle::Handle) does. C has each from
-/// `bracha_toss_open`, gives it to one call at a time, and gives it up with `bracha_toss_close`.
+/// A handle, which owns what lies behind its pointer, as [`Handle`](crate::handle::Handle) does. C
+/// has each from `bracha_toss_open`, gives it to one call at a time, and gives it up with
+/// `bracha_toss_close`.
 #[repr(C)]
 pub struct TossHandle {
     at: *mut Hidden,

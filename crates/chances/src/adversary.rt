@@ -1,5 +1,5 @@
-//! Deliveries that an adversary chooses. It brings a step to its end before it begins the next; what it brings to whom and in
-//! which order is the rule of [`crate::strategy`].
+//! Deliveries that an adversary chooses. It brings a step to its end before it begins the next;
+//! what it brings to whom and in which order is the rule of [`crate::strategy`].
 
 ghost use Rattle.std.specs.Prelude.{◌≤◌, length};
 
@@ -107,8 +107,9 @@ fn bring_initial(
     Ok(())
 }
 
-/// Brings the Echos or the Readys of the origin's broadcast to the receiver: all of them; if links keep their order, those of
-/// the liars and as many others as make the next statement or the acceptance due, by the shortest ways.
+/// Brings the Echos or the Readys of the origin's broadcast to the receiver: all of them; if links
+/// keep their order, those of the liars and as many others as make the next statement or the
+/// acceptance due, by the shortest ways.
 fn bring(
     table: &mut Table,
     alloc: Global,
@@ -157,7 +158,8 @@ fn is_ahead(statement: &Statement, step: Step) -> bool {
     statement.kind() == Kind::Initial && at >= step.0
 }
 
-/// Delivers what is on the link before its sender's Initial of the step. Returns `true` if there was something.
+/// Delivers what is on the link before its sender's Initial of the step. Returns `true` if there
+/// was something.
 fn drain(table: &mut Table, from: u8, to: u8, step: Step) -> Result<bool, PlayFault> {
     let mut came = false;
     for _ in 0..table.links().queue(from, to).len() {

@@ -60,7 +60,8 @@ fn last_round(verdicts: &[Option<(u8, bool)>]) -> u8
     last
 }
 
-/// Returns how a question ended of which the correct members have these decisions, each with its round and bit.
+/// Returns how a question ended of which the correct members have these decisions, each with its
+/// round and bit.
 pub fn end_of(verdicts: &[Option<(u8, bool)>]) -> End
     ensures { result ≡ end_of verdicts.now }
 {

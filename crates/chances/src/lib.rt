@@ -1,8 +1,10 @@
-//! The rounds that a question takes: plays one question among members in memory, in an order of deliveries that is drawn or
-//! that an adversary chooses, and counts the rounds in which questions were decided.
+//! The rounds that a question takes: plays one question among members in memory, in an order of
+//! deliveries that is drawn or that an adversary chooses, and counts the rounds in which questions
+//! were decided.
 //!
-//! Each correct member is a [`questions::Core`]; there is no disk and no frame. What a member says stands in a queue for each
-//! receiver until it is delivered. [`play`] plays one question; begin there. The adversary's rule is in [`strategy`].
+//! Each correct member is a [`questions::Core`]; there is no disk and no frame. What a member says
+//! stands in a queue for each receiver until it is delivered. [`play`] plays one question; begin
+//! there. The adversary's rule is in [`strategy`].
 #![tactic(auto)]
 
 mod adversary;

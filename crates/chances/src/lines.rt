@@ -62,8 +62,8 @@ fn sum_lines(alloc: Global, ends: &[End]) -> Result<String, AllocError>
     format!(in alloc; "open: {open}\nquestions: {questions}\n")
 }
 
-/// Returns the table of these ends: for each round up to the last in which one was decided, `round R: K`; then `open: K` and
-/// `questions: K`.
+/// Returns the table of these ends: for each round up to the last in which one was decided, `round
+/// R: K`; then `open: K` and `questions: K`.
 pub fn table_text(alloc: Global, ends: &[End]) -> Result<String, AllocError>
     ensures { IfOk result (λ text. string_bytes text ≡ table_text ends.now) }
 {

@@ -6,8 +6,9 @@ ghost use Rattle.chances.specs.Links.{queue_of, queue_to, TakesOut};
 use std::alloc::{AllocError, Global};
 use terms::Statement;
 
-/// The links from each sender to each correct member. A link is the queue of what its sender said and its receiver hasn't got,
-/// oldest first. What is taken off a queue is gone, so each statement is delivered once.
+/// The links from each sender to each correct member. A link is the queue of what its sender said
+/// and its receiver hasn't got, oldest first. What is taken off a queue is gone, so each statement
+/// is delivered once.
 #[derive(Drop)]
 pub struct Links {
     /// The queues by sender, then by receiver.

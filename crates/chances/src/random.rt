@@ -82,8 +82,8 @@ fn lie_all(table: &mut Table, alloc: Global, step: Step) -> Result<(), PlayFault
     Ok(())
 }
 
-/// Delivers in a drawn order until each correct member has decided, or nothing is left. The liars speak of a step as soon as
-/// each correct member has said its Initial of it.
+/// Delivers in a drawn order until each correct member has decided, or nothing is left. The liars
+/// speak of a step as soon as each correct member has said its Initial of it.
 pub fn deliver_drawn(table: &mut Table, alloc: Global, seed: u64) -> Result<(), PlayFault> {
     let mut draw = ChaChaTosser::from_seed(seed_bytes(seed), 1);
     let mut next = Step(0);

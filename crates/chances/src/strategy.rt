@@ -1,6 +1,7 @@
 //! The adversary's rule: pure functions of what was said in a step.
 //!
-//! `values` are the values of the step's Initials by origin, those of correct members as they were said, `None` where none was.
+//! `values` are the values of the step's Initials by origin, those of correct members as they were
+//! said, `None` where none was.
 
 ghost use Rattle.std.specs.Prelude.{◌≡◌, ◌≤◌, ◌<◌, ◌^◌, IfOk, length};
 ghost use Rattle.terms_prelude.specs.Terms.{FitsStep, IsPlain, value_is};
@@ -41,7 +42,8 @@ fn count_of(values: &[Option<Value>], value: Value) -> usize
     values.iter().filter(|said| is_value(**said, value)).count()
 }
 
-/// Returns the value that lacks more to a majority among n - t values, of which Zero needs half, and One more than half.
+/// Returns the value that lacks more to a majority among n - t values, of which Zero needs half,
+/// and One more than half.
 fn rarer(size: Size, zeros: usize, ones: usize) -> Value
     requires zeros { zeros < 2 ^ 63 }
     requires ones { ones < 2 ^ 63 }
@@ -56,8 +58,8 @@ fn rarer(size: Size, zeros: usize, ones: usize) -> Value
     }
 }
 
-/// Returns the value of a liar's Initial: Unsure in step 3; else the one that lacks more to a majority, and Zero if both lack as
-/// much.
+/// Returns the value of a liar's Initial: Unsure in step 3; else the one that lacks more to a
+/// majority, and Zero if both lack as much.
 pub fn lie(size: Size, step: u8, values: &[Option<Value>]) -> Value
     requires { (1 ≤ step) × (step ≤ 3) }
     ensures value { result ≡ rule.lie size step values.now }
@@ -74,8 +76,8 @@ pub fn lie(size: Size, step: u8, values: &[Option<Value>]) -> Value
     )
 }
 
-/// Returns the order for a first step: a member of an even number gets all Zeros before all Ones, the others the reverse. So
-/// half of the members count more Zeros, and half more Ones.
+/// Returns the order for a first step: a member of an even number gets all Zeros before all Ones,
+/// the others the reverse. So half of the members count more Zeros, and half more Ones.
 fn split_order(alloc: Global, values: &[Option<Value>], receiver: u8) -> Result<Vec<u8>, AllocError>
     requires { length values.now ≤ 64 }
     ensures { IfOk result (λ order. order.items ≡ rule.split_order values.now receiver) }
@@ -97,8 +99,8 @@ struct Balance {
     ones: usize,
 }
 
-/// Returns the numbers that come first of so many Zeros and Ones: together n - t if there are as many, and of neither more than
-/// half of all members.
+/// Returns the numbers that come first of so many Zeros and Ones: together n - t if there are as
+/// many, and of neither more than half of all members.
 fn balanced(size: Size, zeros: usize, ones: usize) -> Balance
     ensures zeros { result.zeros ≡ rule.first_zeros size zeros ones }
     ensures ones { result.ones ≡ rule.first_ones size zeros ones }
@@ -111,8 +113,8 @@ fn balanced(size: Size, zeros: usize, ones: usize) -> Balance
     Balance { zeros, ones }
 }
 
-/// Returns the order for a second step, the same for all: as many Zeros and Ones first as leave neither more than half of all
-/// members, then the rest.
+/// Returns the order for a second step, the same for all: as many Zeros and Ones first as leave
+/// neither more than half of all members, then the rest.
 fn even_order(alloc: Global, size: Size, values: &[Option<Value>]) -> Result<Vec<u8>, AllocError>
     requires { length values.now ≤ 64 }
     ensures { IfOk result (λ order. order.items ≡ rule.even_order size values.now) }
@@ -128,7 +130,8 @@ fn even_order(alloc: Global, size: Size, values: &[Option<Value>]) -> Result<Vec
     Ok(order)
 }
 
-/// Returns the order for a third step, the same for all: those that are unsure, then those that are sure.
+/// Returns the order for a third step, the same for all: those that are unsure, then those that are
+/// sure.
 fn unsure_order(alloc: Global, values: &[Option<Value>]) -> Result<Vec<u8>, AllocError>
     requires { length values.now ≤ 64 }
     ensures { IfOk result (λ order. order.items ≡ rule.unsure_order values.now) }
@@ -139,7 +142,8 @@ fn unsure_order(alloc: Global, values: &[Option<Value>]) -> Result<Vec<u8>, Allo
     Ok(order)
 }
 
-/// Returns the order in which the broadcasts of a step, 1 to 3, are brought to this receiver, by origin.
+/// Returns the order in which the broadcasts of a step, 1 to 3, are brought to this receiver, by
+/// origin.
 pub fn order(
     alloc: Global,
     size: Size,

@@ -14,7 +14,8 @@ use terms::{Kind, Record, Size, Statement, Value};
 /// The question that is played.
 const QUESTION: u16 = 0;
 
-/// Returns the seed of 32 bytes: the number's eight, the greatest first, and 24 zeros, as a script's seed.
+/// Returns the seed of 32 bytes: the number's eight, the greatest first, and 24 zeros, as a
+/// script's seed.
 pub fn seed_bytes(seed: u64) -> [u8; 32] {
     let s = seed.to_be_bytes();
     [
@@ -23,7 +24,8 @@ pub fn seed_bytes(seed: u64) -> [u8; 32] {
     ]
 }
 
-/// The correct members, which have the lowest numbers, what is on their links, and what each said of its own.
+/// The correct members, which have the lowest numbers, what is on their links, and what each said
+/// of its own.
 #[derive(Drop)]
 pub struct Table {
     size: Size,
@@ -102,7 +104,8 @@ impl Table {
         self.initials.iter().all(|said| said.len() > step.0)
     }
 
-    /// Returns the values of the correct members' Initials in the step, by member, `None` where none was said.
+    /// Returns the values of the correct members' Initials in the step, by member, `None` where
+    /// none was said.
     pub fn said(&self, alloc: Global, step: Step) -> Result<Vec<Option<Value>>, AllocError> {
         let mut values = Vec::new(alloc);
         for said in &self.initials {
@@ -114,7 +117,8 @@ impl Table {
         Ok(values)
     }
 
-    /// Returns the values of all Initials in the step, by member: those of the correct members, and the liars'.
+    /// Returns the values of all Initials in the step, by member: those of the correct members, and
+    /// the liars'.
     pub fn values(&self, alloc: Global, step: Step) -> Result<Vec<Option<Value>>, AllocError> {
         let mut values = self.said(alloc, step)?;
         for _ in self.correct()..self.size.n() {
@@ -170,7 +174,8 @@ impl Table {
         self.note_all(to, &answer)
     }
 
-    /// Delivers the statement at this place of the link's queue, from 0. Returns `false` if there is none.
+    /// Delivers the statement at this place of the link's queue, from 0. Returns `false` if there
+    /// is none.
     pub fn deliver(&mut self, from: u8, to: u8, place: usize) -> Result<bool, PlayFault> {
         match self.links.take(from, to, place) {
             Some(statement) => {
@@ -198,7 +203,8 @@ impl Table {
         Ok(())
     }
 
-    /// Returns the decisions of the correct members, by member: the round and the bit, or `None` where there is none.
+    /// Returns the decisions of the correct members, by member: the round and the bit, or `None`
+    /// where there is none.
     pub fn verdicts(&self, alloc: Global) -> Result<Vec<Option<(u8, bool)>>, AllocError> {
         let mut verdicts = Vec::new(alloc);
         for core in &self.cores {

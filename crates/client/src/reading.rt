@@ -36,8 +36,9 @@ impl Reading {
         }
     }
 
-    /// Takes what a member told: that it decided the question for the bit. Of each member the first word counts; one that told
-    /// another bit later lies. False where there is no such member, and then nothing changed.
+    /// Takes what a member told: that it decided the question for the bit. Of each member the first
+    /// word counts; one that told another bit later lies. False where there is no such member, and
+    /// then nothing changed.
     #[tactic(auto, unfolding(crate::specs::Readings::Reads, crate::specs::Readings::size_of))]
     pub fn take(&mut self, member: u8, bit: bool) -> bool
         ensures taken { IsTrue result ↔ member < (size_of self.old).n }
@@ -56,8 +57,9 @@ impl Reading {
         true
     }
 
-    /// The first bit that more than t members told, if there is one. Where at most t members lie, it is the decision of each
-    /// correct member that has one: [`crate::laws::what_is_read_is_decided`].
+    /// The first bit that more than t members told, if there is one. Where at most t members lie,
+    /// it is the decision of each correct member that has one:
+    /// [`crate::laws::what_is_read_is_decided`].
     #[tactic(auto, unfolding(crate::specs::Readings::Reads, crate::specs::Readings::size_of))]
     pub fn decision(&self) -> Option<bool>
         ensures { (words : List (ℕ × Bool)) → Reads self.now words → DecidesBy (size_of self.now) words result }
@@ -65,8 +67,8 @@ impl Reading {
         self.decision
     }
 
-    /// The bit that the member told first, if it told one. It needs the decision's: who told another one lies, where at most
-    /// t members do.
+    /// The bit that the member told first, if it told one. It needs the decision's: who told
+    /// another one lies, where at most t members do.
     #[tactic(auto, unfolding(crate::specs::Readings::Reads))]
     pub fn word_of(&self, member: u8) -> Option<bool>
         ensures { (words : List (ℕ × Bool)) → Reads self.now words → member < 64 → result ≡ first_word words member }

@@ -11,10 +11,11 @@ use clap::{Arg, ArgAction, ArgMatches, Error, value_parser};
 use std::alloc::{AllocError, Global};
 use std::convert::AsStr;
 
-/// What the program is asked to do. With `json` what is printed are objects of JSON, one a line.
+/// A task of the program. With `json` what is printed are objects of JSON, one a line.
 #[derive(Clone, Copy, Debug, PartialEq, Eq)]
 pub enum Task<'a> {
-    /// Reads pieces of streams and prints the broadcasts' answers, as member `me` of a cluster of that size.
+    /// Reads pieces of streams and prints the broadcasts' answers, as member `me` of a cluster of
+    /// that size.
     Hear {
         n: u16,
         t: u16,
@@ -25,14 +26,16 @@ pub enum Task<'a> {
     Init {
         settings: &'a str,
     },
-    /// Says what the settings in this file say, and whether a member would start on them and on its journal.
+    /// Says what the settings in this file say, and whether a member would start on them and on its
+    /// journal.
     Check {
         settings: &'a str,
         json: bool,
     },
-    /// Runs the member of the settings in this file, until the standard input ends, or for good if it is to stay. Its
-    /// events are told on the standard error if a log is wanted, as lines or, with `log_json`, as objects of JSON. Links are
-    /// taken from their members' own hosts alone, unless any host may speak for any member.
+    /// Runs the member of the settings in this file, until the standard input ends, or for good if
+    /// it is to stay. Its events are told on the standard error if a log is wanted, as lines or,
+    /// with `log_json`, as objects of JSON. Links are taken from their members' own hosts alone,
+    /// unless any host may speak for any member.
     Run {
         settings: &'a str,
         stay: bool,
@@ -40,8 +43,9 @@ pub enum Task<'a> {
         log_json: bool,
         any_host: bool,
     },
-    /// Writes the settings of each member of a new cluster, and a client's, into files of this folder. Its members listen to one
-    /// another at these hosts, with commas between them, at the ports from this one on; and to their clients at that host.
+    /// Writes the settings of each member of a new cluster, and a client's, into files of this
+    /// folder. Its members listen to one another at these hosts, with commas between them, at the
+    /// ports from this one on; and to their clients at that host.
     NewCluster {
         n: u16,
         t: u16,
@@ -52,8 +56,9 @@ pub enum Task<'a> {
         port: Option<u16>,
         desk: Option<&'a str>,
     },
-    /// Proposes a bit on a question to the member whose desk is at this address; or to all members of the cluster of the
-    /// client's settings in this file. Each is waited for as long as this text says.
+    /// Proposes a bit on a question to the member whose desk is at this address; or to all members
+    /// of the cluster of the client's settings in this file. Each is waited for as long as this
+    /// text says.
     Propose {
         address: &'a str,
         question: u16,
@@ -61,8 +66,9 @@ pub enum Task<'a> {
         all: bool,
         timeout: Option<&'a str>,
     },
-    /// Asks the member whose desk is at this address for its decision of a question, once or until there is one; or all members
-    /// of the cluster of the client's settings in this file. Each is waited for as long as this text says.
+    /// Asks the member whose desk is at this address for its decision of a question, once or until
+    /// there is one; or all members of the cluster of the client's settings in this file. Each is
+    /// waited for as long as this text says.
     Ask {
         address: &'a str,
         question: u16,
@@ -71,8 +77,8 @@ pub enum Task<'a> {
         json: bool,
         timeout: Option<&'a str>,
     },
-    /// Proposes a bit on a question to all members of the cluster of the client's settings in this file, and waits for the
-    /// decision as long as this text says.
+    /// Proposes a bit on a question to all members of the cluster of the client's settings in this
+    /// file, and waits for the decision as long as this text says.
     Decide {
         file: &'a str,
         question: u16,
@@ -80,9 +86,10 @@ pub enum Task<'a> {
         json: bool,
         timeout: Option<&'a str>,
     },
-    /// Asks the member whose desk is at this address whether it is up; or how many links come and go, or also whether these are
-    /// as many as are needed, or how this question stands there; or all members of the cluster of the client's settings in
-    /// this file. Waits as long as this text says.
+    /// Asks the member whose desk is at this address whether it is up; or how many links come and
+    /// go, or also whether these are as many as are needed, or how this question stands there; or
+    /// all members of the cluster of the client's settings in this file. Waits as long as this text
+    /// says.
     Status {
         address: &'a str,
         all: bool,
@@ -92,17 +99,19 @@ pub enum Task<'a> {
         timeout: Option<&'a str>,
         question: Option<u16>,
     },
-    /// Asks the member whose desk is at this address for what it heard of a question that is decided; or the members of the
-    /// cluster of the client's settings in this file, until one tells it. Waits as long as this text says.
+    /// Asks the member whose desk is at this address for what it heard of a question that is
+    /// decided; or the members of the cluster of the client's settings in this file, until one
+    /// tells it. Waits as long as this text says.
     Transcript {
         address: &'a str,
         question: u16,
         all: bool,
         timeout: Option<&'a str>,
     },
-    /// Says whether the transcript in this file is proof of its decision, for a cluster of that size; or, of all members of the
-    /// cluster of the client's settings in this file, whether the transcripts of this question that they tell are. Each form
-    /// wants values that the other one doesn't take: any of them may be missing here.
+    /// Says whether the transcript in this file is proof of its decision, for a cluster of that
+    /// size; or, of all members of the cluster of the client's settings in this file, whether the
+    /// transcripts of this question that they tell are. Each form wants values that the other one
+    /// doesn't take: any of them may be missing here.
     Audit {
         file: &'a str,
         question: Option<u16>,
@@ -112,16 +121,17 @@ pub enum Task<'a> {
         questions: Option<u16>,
         timeout: Option<&'a str>,
     },
-    /// Serves the cluster of the client's settings in this file to browsers and other clients of HTTP, at this address. Proposals
-    /// must show the token in that file.
+    /// Serves the cluster of the client's settings in this file to browsers and other clients of
+    /// HTTP, at this address. Proposals must show the token in that file.
     Gateway {
         file: &'a str,
         listen: Option<&'a str>,
         token: Option<&'a str>,
     },
-    /// Runs the script in this file, and writes a trace, a chart and a page of the run into those files. The chart has the events of
-    /// this question and this member alone, from that number to that one. Or runs random scripts from this seed on, for so many
-    /// seconds or for good. Each form wants values that the other one doesn't take: any of them may be missing here.
+    /// Runs the script in this file, and writes a trace, a chart and a page of the run into those
+    /// files. The chart has the events of this question and this member alone, from that number to
+    /// that one. Or runs random scripts from this seed on, for so many seconds or for good. Each
+    /// form wants values that the other one doesn't take: any of them may be missing here.
     Simulate {
         script: Option<&'a str>,
         trace: Option<&'a str>,
@@ -135,8 +145,9 @@ pub enum Task<'a> {
         seed: Option<u32>,
         seconds: Option<u32>,
     },
-    /// Measures how many rounds a decision takes in a cluster of `n` members that tolerates `t` liars, while so many lie: once
-    /// for each of so many seeds, with messages delivered in this order. Draws a chart of it into that file.
+    /// Measures how many rounds a decision takes in a cluster of `n` members that tolerates `t`
+    /// liars, while so many lie: once for each of so many seeds, with messages delivered in this
+    /// order. Draws a chart of it into that file.
     Rounds {
         n: u16,
         t: u16,
@@ -158,7 +169,7 @@ pub enum Task<'a> {
     },
 }
 
-/// What the words of the command line ask for.
+/// A request: the words of the command line, read.
 #[derive(Clone, Copy, Debug, PartialEq, Eq)]
 pub struct Request<'a> {
     pub task: Task<'a>,
@@ -243,8 +254,8 @@ fn quiet<'a>(alloc: Global) -> Arg<'a>
     flag(alloc, "quiet", help)
 }
 
-/// The option `--verbose`, which asked for the second line when that wasn't the rule. It is taken where it stood then, and
-/// changes nothing.
+/// The option `--verbose`, which asked for the second line when that wasn't the rule. It is taken
+/// where it stood then, and changes nothing.
 fn verbose<'a>(alloc: Global) -> Arg<'a>
     ensures { rule_of result ≡ verbose_rule }
 {
@@ -272,8 +283,8 @@ fn of_u8(arg: Arg<'_>) -> Arg<'_>
     arg.value_parser(value_parser!(u8))
 }
 
-/// A command that is being built, or want of memory for it. It is handed on as it is, so that no builder has a way out of
-/// its own at each step.
+/// A command that is being built, or want of memory for it. It is handed on as it is, so that no
+/// builder has a way out of its own at each step.
 type Built<'a> = Result<clap::Command<'a>, AllocError>;
 
 /// A command of that name.
@@ -763,7 +774,7 @@ fn u8_of(options: &ArgMatches<'_>, id: &str) -> Option<u8>
     options.get_one::<u8>(id)
 }
 
-/// Whether the flag was given.
+/// Returns `true` if the flag was given.
 fn flag_of(options: &ArgMatches<'_>, id: &str) -> bool
     ensures { HasFlag id.now (rows_in options.now) result }
 {
@@ -1038,7 +1049,7 @@ fn task_of<'a>(matches: &ArgMatches<'a>) -> Option<Task<'a>>
     named_task(name, options)
 }
 
-/// Whether `--quiet` was given behind the command.
+/// Returns `true` if `--quiet` was given behind the command.
 fn is_quiet_below(matches: &ArgMatches<'_>) -> bool
     ensures { IsTrue result ↔ SaysQuiet (subcommand_rows_of matches.now) }
 {
@@ -1048,15 +1059,15 @@ fn is_quiet_below(matches: &ArgMatches<'_>) -> bool
     }
 }
 
-/// Whether `--quiet` was given, before the command or behind it.
+/// Returns `true` if `--quiet` was given, before the command or behind it.
 fn is_quiet(matches: &ArgMatches<'_>) -> bool
     ensures { IsQuiet (rows_in matches.now) (subcommand_rows_of matches.now) result }
 {
     flag_of(matches, "quiet") || is_quiet_below(matches)
 }
 
-/// What the words ask for, the program's name first among them. An `Err` is to be printed: it is a fault of the words,
-/// the help or the version.
+/// Returns what the words ask for, the program's name first among them. An `Err` is to be printed:
+/// it is a fault of the words, the help or the version.
 pub fn command<'a, S: AsStr>(alloc: Global, words: &'a [S]) -> Result<Request<'a>, Error>
     ensures asks { IfOk result (λ order. AskFor (map S.text words.entry.now) order.task) }
     ensures quiet { IfOk result (λ order. AreQuiet (map S.text words.entry.now) order.quiet) }

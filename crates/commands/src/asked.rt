@@ -1,4 +1,5 @@
-//! What is asked of the value of a key of the settings, in words. No value is told, since one is a secret.
+//! The values that the keys of the settings may have, in words. No value is told, since one is a
+//! secret.
 
 ghost use Rattle.std.specs.Prelude.{◌≡◌, false, true, IfOk, IfSome, IsNone, MatchOption, None, Some, length, string_bytes, ℕ};
 ghost use Rattle.std.specs.List.{position_from};
@@ -15,7 +16,7 @@ use settings::{Address, Key};
 use std::alloc::{AllocError, Global};
 use toml::{Table, Value};
 
-/// What the value of a key has to be.
+/// Returns what the value of a key has to be.
 fn asked(key: Key) -> &'static str
     ensures { result.now ≡ asked_text key }
 {
@@ -42,14 +43,14 @@ pub fn asked_words(alloc: Global, key: Key) -> Result<String, AllocError>
     format!(in alloc; "{}: must be {}", key.text(), asked(key))
 }
 
-/// What is said of a key that isn't there.
+/// Returns what is said of a key that isn't there.
 fn missing_words(alloc: Global, key: Key) -> Result<String, AllocError>
     ensures { IfOk result (λ text. string_bytes text ≡ missing_words key) }
 {
     format!(in alloc; "{}: is missing", key.text())
 }
 
-/// What is said of a key that is there, but in a table of the document.
+/// Returns what is said of a key that is there, but in a table of the document.
 fn below_words(alloc: Global, key: Key) -> Result<String, AllocError>
     ensures { IfOk result (λ text. string_bytes text ≡ below_words key) }
 {
@@ -76,7 +77,7 @@ fn address_in(value: &Value) -> Option<Address>
     Address::parse(value.as_str()?)
 }
 
-/// Whether an entry names an address.
+/// Returns `true` if an entry names an address.
 fn names_one(value: &Value) -> bool
     ensures yes { result ≡ true → NamesOne value.now }
     ensures no { result ≡ false → NamesNone value.now }
@@ -99,7 +100,7 @@ fn first_none(values: &[Value]) -> Option<usize>
     None
 }
 
-/// What an entry has to be.
+/// Returns what an entry has to be.
 fn entry_words(alloc: Global, key: Key, entry: usize) -> Result<String, AllocError>
     ensures { IfOk result (λ text. string_bytes text ≡ entry_words key entry) }
 {
@@ -110,7 +111,7 @@ fn entry_words(alloc: Global, key: Key, entry: usize) -> Result<String, AllocErr
     )
 }
 
-/// How many entries there are, and how many there have to be.
+/// Returns how many entries there are, and how many there have to be.
 fn count_words(alloc: Global, key: Key, count: usize, n: u16) -> Result<String, AllocError>
     ensures { IfOk result (λ text. string_bytes text ≡ count_words key count n) }
 {
@@ -120,7 +121,7 @@ fn count_words(alloc: Global, key: Key, count: usize, n: u16) -> Result<String, 
     )
 }
 
-/// How many members the table says that there are.
+/// Returns how many members the table says that there are.
 fn members_of(table: &Table) -> Option<u16>
     ensures some { IfSome result (HasSmall (table_view table.now) N) }
     ensures none { IsNone result → (n : ℕ) → HasSmall (table_view table.now) N n → ⊥ }
@@ -138,7 +139,8 @@ fn array_of(table: &Table, key: Key) -> Option<&[Value]>
     Some(value_at(table, key)?.as_array()?.as_slice())
 }
 
-/// What is said of an array of addresses: the first entry that is wrong; or where none is, how many there are and have to be.
+/// Returns what is said of an array of addresses: the first entry that is wrong; or where none is,
+/// how many there are and have to be.
 fn array_words(alloc: Global, table: &Table, key: Key) -> Result<String, AllocError>
     ensures { IfOk result (λ text. IsArrayWords key (table_view table.now) (string_bytes text)) }
 {
@@ -161,7 +163,7 @@ fn first_other(digits: &[u8]) -> Option<usize>
     digits.iter().position(|byte| !byte.is_ascii_hexdigit())
 }
 
-/// How many digits of a seed there are, or bytes, and which of them is no digit.
+/// Returns how many digits of a seed there are, or bytes, and which of them is no digit.
 fn digits_words(alloc: Global, digits: &[u8]) -> Result<String, AllocError>
     ensures { IfOk result (λ text. string_bytes text ≡ digits_words (length digits.now) (position_from is_other 0 digits.now)) }
 {
@@ -182,7 +184,8 @@ fn seed_of(table: &Table) -> Option<&str>
     value_at(table, Key::Seed)?.as_str()
 }
 
-/// What is said of the seed: how many digits there are, and which byte is none; but not what they are.
+/// Returns what is said of the seed: how many digits there are, and which byte is none; but not
+/// what they are.
 fn seed_words(alloc: Global, table: &Table) -> Result<String, AllocError>
     ensures { IfOk result (λ text. IsSeedWords (table_view table.now) (string_bytes text)) }
 {
@@ -192,7 +195,8 @@ fn seed_words(alloc: Global, table: &Table) -> Result<String, AllocError>
     }
 }
 
-/// What is said of a key that the table of this text lacks: it is missing, or a line of the text says it below a table.
+/// Returns what is said of a key that the table of this text lacks: it is missing, or a line of the
+/// text says it below a table.
 fn lack_words(alloc: Global, text: &str, key: Key) -> Result<String, AllocError>
     ensures { IfOk result (λ words. IsLackWords key text.now (string_bytes words)) }
 {
@@ -202,7 +206,7 @@ fn lack_words(alloc: Global, text: &str, key: Key) -> Result<String, AllocError>
     }
 }
 
-/// What is said of a value that the table has at the key, and that is wrong.
+/// Returns what is said of a value that the table has at the key, and that is wrong.
 fn value_words(alloc: Global, table: &Table, key: Key) -> Result<String, AllocError>
     ensures { IfOk result (λ words. IsValueWords key (table_view table.now) (string_bytes words)) }
 {
@@ -214,7 +218,7 @@ fn value_words(alloc: Global, table: &Table, key: Key) -> Result<String, AllocEr
     }
 }
 
-/// What is said of the key in the table of this text.
+/// Returns what is said of the key in the table of this text.
 fn table_words(alloc: Global, text: &str, table: &Table, key: Key) -> Result<String, AllocError>
     ensures { IfOk result (λ words. IsTableWords key text.now (table_view table.now) (string_bytes words)) }
 {
@@ -224,9 +228,10 @@ fn table_words(alloc: Global, text: &str, table: &Table, key: Key) -> Result<Str
     }
 }
 
-/// What is said of a key of the settings that is wrong in this text, which is TOML: that it is missing, or stands below a table;
-/// else what its value has to be: of peers and desks the first entry that is wrong, or how many there are and have to be; of the
-/// seed how many digits there are.
+/// Returns what is said of a key of the settings that is wrong in this text, which is TOML: that it
+/// is missing, or stands below a table; else what its value has to be: of peers and desks the first
+/// entry that is wrong, or how many there are and have to be; of the seed how many digits there
+/// are.
 pub fn key_words(alloc: Global, text: &str, key: Key) -> Result<String, AllocError>
     ensures { IfOk result (λ words. IsSaidOfKey key text.now (string_bytes words)) }
 {

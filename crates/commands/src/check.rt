@@ -69,7 +69,7 @@ fn options_lines(alloc: Global, settings: &Settings) -> Result<String, AllocErro
     format!(in alloc; "{listen}{socket}")
 }
 
-/// What the settings say, but for the seed.
+/// Returns what the settings say, but for the seed.
 fn settings_text(alloc: Global, settings: &Settings) -> Result<String, AllocError>
     ensures { IfOk result (λ text. string_bytes text ≡ settings_text settings.now) }
 {
@@ -83,8 +83,9 @@ fn settings_text(alloc: Global, settings: &Settings) -> Result<String, AllocErro
     )
 }
 
-/// Writes what the settings say: the line of `dump` for whose journal it is, the journal's path, the address of each
-/// member, in order, that of the desk, and `listen` and `desk-socket` if they are given. The seed is secret and not written.
+/// Writes what the settings say: the line of `dump` for whose journal it is, the journal's path,
+/// the address of each member, in order, that of the desk, and `listen` and `desk-socket` if they
+/// are given. The seed is secret and not written.
 ///
 /// [`DumpFault::Stream`] and [`DumpFault::Memory`]: the write or a growth failed.
 pub fn print_settings<W: Write>(
@@ -108,11 +109,11 @@ fn records_line(alloc: Global, count: usize) -> Result<String, AllocError>
     format!(in alloc; "records {count}\n")
 }
 
-/// Writes how many records the journal that the disk has holds, `records N`, if a member of this header can run on it. The
-/// status is 0.
+/// Writes how many records the journal that the disk has holds, `records N`, if a member of this
+/// header can run on it. The status is 0.
 ///
-/// [`DumpFault::Journal`]: it can't, or the disk failed; nothing was written. [`DumpFault::Stream`] and
-/// [`DumpFault::Memory`]: the write or a growth failed.
+/// [`DumpFault::Journal`]: it can't, or the disk failed; nothing was written. [`DumpFault::Stream`]
+/// and [`DumpFault::Memory`]: the write or a growth failed.
 pub fn check_journal<D: Disk, W: Write>(
     alloc: Global,
     header: &Header,
@@ -120,10 +121,10 @@ pub fn check_journal<D: Disk, W: Write>(
     output: &mut W,
 ) -> Result<u8, DumpFault>
     ensures status { IfOk result (λ status. status ≡ 0) }
-    ensures all { D.keeps disk.old → OnOk result ((records : List Record)
+    ensures all { D.keeps disk.new → OnOk result ((records : List Record)
         × Holds header.now records (D.state disk.old).seen
         × Appends (W.contents output.old) (W.contents output.new) (records_line (length records))) }
-    ensures fault { D.keeps disk.old → (fault : JournalFault) → result ≡ Err (DumpFault.Journal fault) → IsOfFile fault → RefusesFile header.now fault (D.state disk.old).seen }
+    ensures fault { D.keeps disk.new → (fault : JournalFault) → result ≡ Err (DumpFault.Journal fault) → IsOfFile fault → RefusesFile header.now fault (D.state disk.old).seen }
     ensures nothing { (fault : JournalFault) → result ≡ Err (DumpFault.Journal fault) → output.new ≡ output.old }
     ensures only { IfErr result IsOfDump }
     ensures untouched { IsUntouched D.Disk disk.old disk.new }
@@ -135,8 +136,9 @@ pub fn check_journal<D: Disk, W: Write>(
     Ok(0)
 }
 
-/// Writes what the settings say, but for the seed, and how many records the journal that the disk has holds, if a member of
-/// these settings can run on it: one object of JSON in a line. The status is 0. The faults are those of [`check_journal`].
+/// Writes what the settings say, but for the seed, and how many records the journal that the disk
+/// has holds, if a member of these settings can run on it: one object of JSON in a line. The status
+/// is 0. The faults are those of [`check_journal`].
 pub fn print_check<D: Disk, W: Write>(
     alloc: Global,
     settings: &Settings,
@@ -144,10 +146,10 @@ pub fn print_check<D: Disk, W: Write>(
     output: &mut W,
 ) -> Result<u8, DumpFault>
     ensures status { IfOk result (λ status. status ≡ 0) }
-    ensures all { D.keeps disk.old → OnOk result ((records : List Record)
+    ensures all { D.keeps disk.new → OnOk result ((records : List Record)
         × Holds settings.now.header records (D.state disk.old).seen
         × Appends (W.contents output.old) (W.contents output.new) (check_object settings.now (length records))) }
-    ensures fault { D.keeps disk.old → (fault : JournalFault) → result ≡ Err (DumpFault.Journal fault) → IsOfFile fault → RefusesFile settings.now.header fault (D.state disk.old).seen }
+    ensures fault { D.keeps disk.new → (fault : JournalFault) → result ≡ Err (DumpFault.Journal fault) → IsOfFile fault → RefusesFile settings.now.header fault (D.state disk.old).seen }
     ensures nothing { (fault : JournalFault) → result ≡ Err (DumpFault.Journal fault) → output.new ≡ output.old }
     ensures only { IfErr result IsOfDump }
     ensures untouched { IsUntouched D.Disk disk.old disk.new }

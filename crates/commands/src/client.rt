@@ -1,4 +1,5 @@
-//! The commands `propose`, `ask` and `status`: one line to the desk of a member that runs, and its reply.
+//! The commands `propose`, `ask` and `status`: one line to the desk of a member that runs, and its
+//! reply.
 
 ghost use Rattle.std.specs.Prelude.{ℕ, List, [], ◌≡◌, ◌∷◌, ◌++◌, ◌↔◌, IsTrue, IfOk, IfErr, IfSome, ◌≢◌, string_bytes, codes, Err};
 ghost use Rattle.std.specs.Io.KnownBytes.{Appends, Consumes};
@@ -14,10 +15,11 @@ use numerals::is;
 use std::alloc::{AllocError, Global};
 use std::io::{Read, Write};
 
-/// How many bytes a reply has at most.
+/// The most bytes of a reply.
 const LONGEST_REPLY: usize = 64;
 
-/// The line that proposes a bit on a question. Another number than 0 and 1 is no bit, which the desk says.
+/// The line that proposes a bit on a question. Another number than 0 and 1 is no bit, which the
+/// desk says.
 pub fn propose_line(alloc: Global, question: u16, bit: u8) -> Result<String, AllocError>
     ensures { IfOk result (λ text. string_bytes text ≡ propose_line question bit) }
 {
@@ -59,21 +61,22 @@ pub fn links_line() -> &'static str
     "LINKS\n"
 }
 
-/// Whether the reply says that the member is up.
+/// Returns `true` if the reply says that the member is up.
 fn is_up(reply: &[u8]) -> bool
     ensures { IsTrue result ↔ IsUp reply.now }
 {
     counts(reply).is_some()
 }
 
-/// Tells if the reply says how far the member is, how many of its links are up, or how a question stands there.
+/// Tells if the reply says how far the member is, how many of its links are up, or how a question
+/// stands there.
 fn says_standing(reply: &[u8]) -> bool
     ensures { IsTrue result ↔ SaysStanding reply.now }
 {
     is_up(reply) || has_links(reply) || is_stage(reply)
 }
 
-/// Whether the reply says that the member did as it was asked.
+/// Returns `true` if the reply says that the member did as it was asked.
 fn is_good(reply: &[u8]) -> bool
     ensures { IsTrue result ↔ IsGood reply.now }
 {
@@ -93,8 +96,8 @@ fn status_of(reply: &[u8]) -> u8
     if is_good(reply) { 0 } else { 1 }
 }
 
-/// Returns the status for the reply of a member that is to be ready: 0 if it is `LINKS i o n w` with w links at least that come
-/// in and that go out, and 1 else.
+/// Returns the status for the reply of a member that is to be ready: 0 if it is `LINKS i o n w`
+/// with w links at least that come in and that go out, and 1 else.
 pub fn ready_status(reply: &[u8]) -> u8
     ensures { HasReadyStatus reply.now result }
 {
@@ -143,10 +146,11 @@ pub(crate) fn send<W: Write>(line: &str, connection: &mut W) -> Result<(), TalkF
     }
 }
 
-/// Sends the line over a connection to a member's desk, and reads one reply, which is given without its end.
+/// Sends the line over a connection to a member's desk, and reads one reply, which is given without
+/// its end.
 ///
-/// [`TalkFault::NoAnswer`]: the connection failed or ended before a whole line came, or the line is no reply of a desk.
-/// [`TalkFault::Memory`]: memory was refused.
+/// [`TalkFault::NoAnswer`]: the connection failed or ended before a whole line came, or the line is
+/// no reply of a desk. [`TalkFault::Memory`]: memory was refused.
 pub fn exchange<R: Read, S: Write>(
     alloc: Global,
     line: &str,
@@ -166,8 +170,8 @@ pub fn exchange<R: Read, S: Write>(
     }
 }
 
-/// Writes a reply with its end. The status is 0 for `OK`, `HAVE b`, `DECIDED b`, `UNDECIDED`, `UP m d`, `LINKS i o n w`, `OPEN r s`, `SPENT` and `UNPROPOSED`, and 1 for any other
-/// reply.
+/// Writes a reply with its end. The status is 0 for `OK`, `HAVE b`, `DECIDED b`, `UNDECIDED`, `UP m
+/// d`, `LINKS i o n w`, `OPEN r s`, `SPENT` and `UNPROPOSED`, and 1 for any other reply.
 ///
 /// [`TalkFault::Stream`]: the write failed. [`TalkFault::Memory`]: memory was refused.
 pub fn tell<W: Write>(mut reply: Vec<u8>, output: &mut W) -> Result<u8, TalkFault>
@@ -181,10 +185,11 @@ pub fn tell<W: Write>(mut reply: Vec<u8>, output: &mut W) -> Result<u8, TalkFaul
     Ok(status)
 }
 
-/// Writes the object of JSON that says the same as a reply, in a line. The status is that of the reply.
+/// Writes the object of JSON that says the same as a reply, in a line. The status is that of the
+/// reply.
 ///
-/// [`TalkFault::NoAnswer`]: it is no reply of a desk. [`TalkFault::Stream`]: the write failed. [`TalkFault::Memory`]: memory
-/// was refused.
+/// [`TalkFault::NoAnswer`]: it is no reply of a desk. [`TalkFault::Stream`]: the write failed.
+/// [`TalkFault::Memory`]: memory was refused.
 pub fn tell_object<W: Write>(alloc: Global, reply: &[u8], output: &mut W) -> Result<u8, TalkFault>
     ensures all { IfOk result (λ status. (object : List ℕ) × SaysSame reply.now object
         × Appends (W.contents output.old) (W.contents output.new) (object ++ 10 ∷ [])
@@ -256,7 +261,8 @@ fn null_line(alloc: Global, member: u8, _reply: &[u8]) -> Result<String, AllocEr
     object_line(alloc, member, "null")
 }
 
-/// The line of a member's number and of the object that says the same as its reply; `null` for no reply of a desk.
+/// The line of a member's number and of the object that says the same as its reply; `null` for no
+/// reply of a desk.
 fn member_object(alloc: Global, member: u8, reply: &[u8]) -> Result<String, AllocError>
     ensures { IfOk result (λ text. IsMemberObject member reply.now (string_bytes text)) }
 {
@@ -266,7 +272,8 @@ fn member_object(alloc: Global, member: u8, reply: &[u8]) -> Result<String, Allo
     }
 }
 
-/// Writes the object of JSON that says the same as a member's reply, in a line. The status is that of the reply.
+/// Writes the object of JSON that says the same as a member's reply, in a line. The status is that
+/// of the reply.
 ///
 /// [`TalkFault::Stream`]: the write failed. [`TalkFault::Memory`]: memory was refused.
 pub fn tell_object_of<W: Write>(
@@ -315,18 +322,20 @@ pub fn decision_reply(decision: Option<bool>) -> &'static str
     }
 }
 
-/// Whether the reply says that there is no decision yet.
+/// Returns `true` if the reply says that there is no decision yet.
 pub fn is_undecided(reply: &[u8]) -> bool
     ensures { IsTrue result ↔ (reply.now ≡ codes "UNDECIDED") }
 {
     is(reply, "UNDECIDED")
 }
 
-/// Sends the line over a connection to a member's desk, reads one reply, and writes it with its end. The status is 0 for
-/// `OK`, `HAVE b`, `DECIDED b`, `UNDECIDED`, `UP m d`, `LINKS i o n w`, `OPEN r s`, `SPENT` and `UNPROPOSED`, and 1 for any other reply.
+/// Sends the line over a connection to a member's desk, reads one reply, and writes it with its
+/// end. The status is 0 for `OK`, `HAVE b`, `DECIDED b`, `UNDECIDED`, `UP m d`, `LINKS i o n w`,
+/// `OPEN r s`, `SPENT` and `UNPROPOSED`, and 1 for any other reply.
 ///
-/// [`TalkFault::NoAnswer`]: the connection failed or ended before a whole line came, or the line is no reply of a desk, and
-/// nothing was written. [`TalkFault::Stream`]: the write failed. [`TalkFault::Memory`]: memory was refused.
+/// [`TalkFault::NoAnswer`]: the connection failed or ended before a whole line came, or the line is
+/// no reply of a desk, and nothing was written. [`TalkFault::Stream`]: the write failed.
+/// [`TalkFault::Memory`]: memory was refused.
 pub fn talk<R: Read, S: Write, W: Write>(
     alloc: Global,
     line: &str,

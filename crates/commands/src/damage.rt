@@ -1,4 +1,4 @@
-//! Where the bytes of a journal go wrong, and which stand there.
+//! The place in a journal at which its bytes go wrong, and the bytes there.
 
 ghost use Rattle.std.specs.Prelude.{◌≡◌, ◌<◌, ◌++◌, ◌∷◌, [], ℕ, drop, take, false, true, length, IfOk, IfSome, IsNone, List, string_bytes};
 ghost use Rattle.disk.specs.Memory.{memory_state};
@@ -23,7 +23,7 @@ pub(crate) const HEAD: usize = 3;
 /// The length of a record.
 const RECORD: usize = 6;
 
-/// How many bytes are shown.
+/// The number of bytes that are shown.
 const SHOWN: usize = 16;
 
 /// A disk in memory whose file has these bytes.
@@ -51,8 +51,8 @@ pub(crate) fn header_of(alloc: Global, file: &[u8]) -> Result<Option<Header>, Me
     }
 }
 
-/// The bytes that are a batch by its gate and its count, if these begin so, and what stands behind them: there is an open
-/// gate, and no byte is missing up to the next gate.
+/// The bytes that are a batch by its gate and its count, if these begin so, and what stands behind
+/// them: there is an open gate, and no byte is missing up to the next gate.
 fn split_batch(bytes: &[u8]) -> Option<(&[u8], &[u8])>
     ensures some { IfSome result (λ parts. IsChunk parts.0.now × (bytes.now ≡ parts.0.now ++ parts.1.now) × (length parts.1.now < length bytes.now) × (0 < length parts.1.now)) }
     ensures none { IsNone result → NoChunk bytes.now }
@@ -81,7 +81,7 @@ pub(crate) fn file_of(alloc: Global, front: &[u8], bytes: &[u8]) -> Result<Vec<u
     Ok(file)
 }
 
-/// Whether the file of this header's bytes, these and a closed gate is a journal.
+/// Returns `true` if the file of this header's bytes, these and a closed gate is a journal.
 fn is_journal(alloc: Global, header: &Header, front: &[u8], bytes: &[u8]) -> Result<bool, Memory>
     ensures yes { IfOk result (λ is. is ≡ true → (records : List Record) × Holds header.now records (front.now ++ bytes.now ++ 0 ∷ [])) }
     ensures no { IfOk result (λ is. is ≡ false → (fault : JournalFault) × RefusesFile header.now fault (front.now ++ bytes.now ++ 0 ∷ [])) }
@@ -95,7 +95,8 @@ fn is_journal(alloc: Global, header: &Header, front: &[u8], bytes: &[u8]) -> Res
     }
 }
 
-/// What stands behind the batch with which these bytes begin, if they begin with one that has a gate behind it.
+/// Returns what stands behind the batch with which these bytes begin, if they begin with one that
+/// has a gate behind it.
 fn behind_batch<'a>(
     alloc: Global,
     header: &Header,
@@ -118,7 +119,7 @@ fn behind_batch<'a>(
     }
 }
 
-/// What stands behind the batches with which these bytes begin.
+/// Returns what stands behind the batches with which these bytes begin.
 fn behind_batches<'a>(
     alloc: Global,
     header: &Header,
@@ -136,7 +137,8 @@ fn behind_batches<'a>(
     Ok(rest)
 }
 
-/// How many bytes of a journal's file, from its start, are its header and whole batches. 0 where it begins with no header.
+/// Returns how many bytes of a journal's file, from its start, are its header and whole batches. 0
+/// where it begins with no header.
 fn good_length(alloc: Global, file: &[u8]) -> Result<usize, Memory>
     ensures good { IfOk result (λ place. (header : Header) → HasHeader header file.now → IsGoodUpTo header place file.now) }
     ensures none { IfOk result (λ place. ((header : Header) → HasHeader header file.now → ⊥) → place ≡ 0) }
@@ -159,7 +161,7 @@ pub(crate) fn batch_of(alloc: Global, bytes: &[u8]) -> Result<Vec<u8>, AllocErro
     Ok(batch)
 }
 
-/// Whether a batch of these bytes alone is refused.
+/// Returns `true` if a batch of these bytes alone is refused.
 fn is_bad_alone(alloc: Global, header: &Header, front: &[u8], bytes: &[u8]) -> Result<bool, Memory>
     ensures { IfOk result (λ bad. bad ≡ true → IsBadAlone header.now front.now bytes.now) }
 {
@@ -179,7 +181,7 @@ fn record_at(file: &[u8], place: usize) -> Option<&[u8]>
     Some(&behind[..RECORD])
 }
 
-/// How many records the batch has that begins at that place, by its count.
+/// Returns how many records the batch has that begins at that place, by its count.
 pub(crate) fn count_at(file: &[u8], place: usize) -> usize
     ensures { result < 65536 }
 {
@@ -211,7 +213,8 @@ fn bad_record(
     Ok(None)
 }
 
-/// The place behind the whole batches of a file, or of the first record behind it that is refused alone.
+/// The place behind the whole batches of a file, or of the first record behind it that is refused
+/// alone.
 fn bad_place(alloc: Global, file: &[u8]) -> Result<usize, Memory>
     ensures { IfOk result (IsBadPlace file.now) }
 {
@@ -225,9 +228,10 @@ fn bad_place(alloc: Global, file: &[u8]) -> Result<usize, Memory>
     }
 }
 
-/// The place of the byte, counted from 0, at which a journal's file goes wrong by this fault: its start for the faults of
-/// the header and a file that should have been empty; for those of a batch the place behind the last whole batch, or, where a
-/// record isn't well formed, that of the first such record. None for a fault that isn't the file's.
+/// The place of the byte, counted from 0, at which a journal's file goes wrong by this fault: its
+/// start for the faults of the header and a file that should have been empty; for those of a batch
+/// the place behind the last whole batch, or, where a record isn't well formed, that of the first
+/// such record. None for a fault that isn't the file's.
 ///
 /// [`Memory`]: memory was refused.
 pub fn fault_place(alloc: Global, fault: JournalFault, file: &[u8]) -> Result<Option<usize>, Memory>
@@ -263,8 +267,8 @@ fn hex_words(alloc: Global, bytes: &[u8]) -> Result<String, AllocError>
     Ok(text)
 }
 
-/// The bytes at a place of a file, for people: `bytes 01 00 01`, with ` ..` behind the sixteenth where there are more, or
-/// `end of file`.
+/// The bytes at a place of a file, for people: `bytes 01 00 01`, with ` ..` behind the sixteenth
+/// where there are more, or `end of file`.
 pub fn bytes_at(alloc: Global, file: &[u8], place: usize) -> Result<String, AllocError>
     ensures { IfOk result (λ text. string_bytes text ≡ shown_bytes (drop place file.now)) }
 {

@@ -62,7 +62,7 @@ fn number_text(alloc: Global, records: &[Record]) -> Result<String, AllocError>
     format!(in alloc; "{}\n", records.len())
 }
 
-/// How a journal is printed: in lines, or as objects of JSON.
+/// The form of a printed journal: lines, or objects of JSON.
 #[derive(Clone, Copy, Debug, PartialEq, Eq)]
 enum Form {
     Lines,
@@ -134,14 +134,15 @@ fn gather(alloc: Global, batches: &mut Batches) -> Result<Vec<Record>, AllocErro
     }
 }
 
-/// Reads the records of the journal on the disk, if it is this header's. No byte of the file is changed.
+/// Reads the records of the journal on the disk, if it is this header's. No byte of the file is
+/// changed.
 pub(crate) fn read_records<D: Disk>(
     alloc: Global,
     disk: &mut D,
     header: &Header,
 ) -> Result<Vec<Record>, JournalFault>
-    ensures held { D.keeps disk.old → IfOk result (λ records. Holds header.now records.items (D.state disk.old).seen) }
-    ensures fault { D.keeps disk.old → IfErr result (λ fault. IsOfFile fault → RefusesFile header.now fault (D.state disk.old).seen) }
+    ensures held { D.keeps disk.new → IfOk result (λ records. Holds header.now records.items (D.state disk.old).seen) }
+    ensures fault { D.keeps disk.new → IfErr result (λ fault. IsOfFile fault → RefusesFile header.now fault (D.state disk.old).seen) }
     ensures device { IsErrOf result Device → D.failures disk.old < D.failures disk.new }
     ensures only { IfErr result IsFaultOfOpening }
     ensures untouched { IsUntouched D.Disk disk.old disk.new }
@@ -150,11 +151,12 @@ pub(crate) fn read_records<D: Disk>(
     Ok(gather(alloc, &mut batches)?)
 }
 
-/// Reads the header of the journal on the disk, and its batches. All of the file is looked at, and no byte is changed.
+/// Reads the header of the journal on the disk, and its batches. All of the file is looked at, and
+/// no byte is changed.
 fn look<D: Disk>(alloc: Global, disk: &mut D) -> Result<(Header, Batches), JournalFault>
     ensures held { IfOk result (λ seen. (records : List Record) × HasLeft seen.1 records
-        × (D.keeps disk.old → Holds seen.0 records (D.state disk.old).seen)) }
-    ensures fault { D.keeps disk.old → IfErr result (λ fault. (fault ≡ Memory) ⊎ IsUnreadable fault (D.state disk.old).seen) }
+        × (D.keeps disk.new → Holds seen.0 records (D.state disk.old).seen)) }
+    ensures fault { D.keeps disk.new → IfErr result (λ fault. (fault ≡ Memory) ⊎ IsUnreadable fault (D.state disk.old).seen) }
     ensures device { IsErrOf result Device → D.failures disk.old < D.failures disk.new }
     ensures only { IfErr result IsFaultOfOpening }
     ensures untouched { IsUntouched D.Disk disk.old disk.new }
@@ -166,8 +168,8 @@ fn look<D: Disk>(alloc: Global, disk: &mut D) -> Result<(Header, Batches), Journ
     }
 }
 
-/// Writes the journal that the disk has. All of its file is looked at before anything is written, and a batch of its records
-/// is in memory at a time.
+/// Writes the journal that the disk has. All of its file is looked at before anything is written,
+/// and a batch of its records is in memory at a time.
 fn print_records<D: Disk, W: Write>(
     alloc: Global,
     form: Form,
@@ -175,10 +177,10 @@ fn print_records<D: Disk, W: Write>(
     output: &mut W,
 ) -> Result<u8, DumpFault>
     ensures status { IfOk result (λ status. status ≡ 0) }
-    ensures all { D.keeps disk.old → OnOk result ((header : Header) × (records : List Record)
+    ensures all { D.keeps disk.new → OnOk result ((header : Header) × (records : List Record)
         × Holds header records (D.state disk.old).seen
         × Appends (W.contents output.old) (W.contents output.new) (head_text form header ++ records_text form records)) }
-    ensures fault { D.keeps disk.old → (fault : JournalFault) → result ≡ Err (DumpFault.Journal fault) → IsUnreadable fault (D.state disk.old).seen }
+    ensures fault { D.keeps disk.new → (fault : JournalFault) → result ≡ Err (DumpFault.Journal fault) → IsUnreadable fault (D.state disk.old).seen }
     ensures nothing { (fault : JournalFault) → result ≡ Err (DumpFault.Journal fault) → output.new ≡ output.old }
     ensures device { result ≡ Err (DumpFault.Journal Device) → D.failures disk.old < D.failures disk.new }
     ensures untouched { IsUntouched D.Disk disk.old disk.new }
@@ -200,10 +202,10 @@ fn print_count<D: Disk, W: Write>(
     output: &mut W,
 ) -> Result<u8, DumpFault>
     ensures status { IfOk result (λ status. status ≡ 0) }
-    ensures all { D.keeps disk.old → OnOk result ((header : Header) × (records : List Record)
+    ensures all { D.keeps disk.new → OnOk result ((header : Header) × (records : List Record)
         × Holds header records (D.state disk.old).seen
         × Appends (W.contents output.old) (W.contents output.new) (count_text form records)) }
-    ensures fault { D.keeps disk.old → (fault : JournalFault) → result ≡ Err (DumpFault.Journal fault) → IsUnreadable fault (D.state disk.old).seen }
+    ensures fault { D.keeps disk.new → (fault : JournalFault) → result ≡ Err (DumpFault.Journal fault) → IsUnreadable fault (D.state disk.old).seen }
     ensures nothing { (fault : JournalFault) → result ≡ Err (DumpFault.Journal fault) → output.new ≡ output.old }
     ensures device { result ≡ Err (DumpFault.Journal Device) → D.failures disk.old < D.failures disk.new }
     ensures untouched { IsUntouched D.Disk disk.old disk.new }
@@ -217,21 +219,22 @@ fn print_count<D: Disk, W: Write>(
     Ok(0)
 }
 
-/// Writes the records of the journal that the disk has as text: the line `cluster C n N t T questions Q me M`, and then a
-/// line for each record, `KIND QUESTION ORIGIN ROUND STEP VALUE` or `decided QUESTION ROUND BIT`. The status is 0.
+/// Writes the records of the journal that the disk has as text: the line `cluster C n N t T
+/// questions Q me M`, and then a line for each record, `KIND QUESTION ORIGIN ROUND STEP VALUE` or
+/// `decided QUESTION ROUND BIT`. The status is 0.
 ///
-/// [`DumpFault::Journal`]: the file holds no journal, or the disk failed; nothing was written. [`DumpFault::Stream`] and
-/// [`DumpFault::Memory`]: the write or a growth failed.
+/// [`DumpFault::Journal`]: the file holds no journal, or the disk failed; nothing was written.
+/// [`DumpFault::Stream`] and [`DumpFault::Memory`]: the write or a growth failed.
 pub fn dump_lines<D: Disk, W: Write>(
     alloc: Global,
     disk: &mut D,
     output: &mut W,
 ) -> Result<u8, DumpFault>
     ensures status { IfOk result (λ status. status ≡ 0) }
-    ensures all { D.keeps disk.old → OnOk result ((header : Header) × (records : List Record)
+    ensures all { D.keeps disk.new → OnOk result ((header : Header) × (records : List Record)
         × Holds header records (D.state disk.old).seen
         × Appends (W.contents output.old) (W.contents output.new) (dump_text header records)) }
-    ensures fault { D.keeps disk.old → (fault : JournalFault) → result ≡ Err (DumpFault.Journal fault) → IsUnreadable fault (D.state disk.old).seen }
+    ensures fault { D.keeps disk.new → (fault : JournalFault) → result ≡ Err (DumpFault.Journal fault) → IsUnreadable fault (D.state disk.old).seen }
     ensures nothing { (fault : JournalFault) → result ≡ Err (DumpFault.Journal fault) → output.new ≡ output.old }
     ensures device { result ≡ Err (DumpFault.Journal Device) → D.failures disk.old < D.failures disk.new }
     ensures untouched { IsUntouched D.Disk disk.old disk.new }
@@ -240,18 +243,18 @@ pub fn dump_lines<D: Disk, W: Write>(
     print_records(alloc, Form::Lines, disk, output)
 }
 
-/// Writes how many records the journal that the disk has has: one decimal number in a line. The status is 0. The faults
-/// are those of [`dump_lines`], and come when its own do.
+/// Writes how many records the journal that the disk has has: one decimal number in a line. The
+/// status is 0. The faults are those of [`dump_lines`], and come when its own do.
 pub fn dump_count<D: Disk, W: Write>(
     alloc: Global,
     disk: &mut D,
     output: &mut W,
 ) -> Result<u8, DumpFault>
     ensures status { IfOk result (λ status. status ≡ 0) }
-    ensures all { D.keeps disk.old → OnOk result ((header : Header) × (records : List Record)
+    ensures all { D.keeps disk.new → OnOk result ((header : Header) × (records : List Record)
         × Holds header records (D.state disk.old).seen
         × Appends (W.contents output.old) (W.contents output.new) (number_text records)) }
-    ensures fault { D.keeps disk.old → (fault : JournalFault) → result ≡ Err (DumpFault.Journal fault) → IsUnreadable fault (D.state disk.old).seen }
+    ensures fault { D.keeps disk.new → (fault : JournalFault) → result ≡ Err (DumpFault.Journal fault) → IsUnreadable fault (D.state disk.old).seen }
     ensures nothing { (fault : JournalFault) → result ≡ Err (DumpFault.Journal fault) → output.new ≡ output.old }
     ensures device { result ≡ Err (DumpFault.Journal Device) → D.failures disk.old < D.failures disk.new }
     ensures untouched { IsUntouched D.Disk disk.old disk.new }
@@ -260,18 +263,19 @@ pub fn dump_count<D: Disk, W: Write>(
     print_count(alloc, Form::Lines, disk, output)
 }
 
-/// Writes the journal that the disk has as objects of JSON: that of its header, and one for each record, each in a line. The
-/// status is 0. The faults are those of [`dump_lines`], and come when its own do.
+/// Writes the journal that the disk has as objects of JSON: that of its header, and one for each
+/// record, each in a line. The status is 0. The faults are those of [`dump_lines`], and come when
+/// its own do.
 pub fn dump_objects<D: Disk, W: Write>(
     alloc: Global,
     disk: &mut D,
     output: &mut W,
 ) -> Result<u8, DumpFault>
     ensures status { IfOk result (λ status. status ≡ 0) }
-    ensures all { D.keeps disk.old → OnOk result ((header : Header) × (records : List Record)
+    ensures all { D.keeps disk.new → OnOk result ((header : Header) × (records : List Record)
         × Holds header records (D.state disk.old).seen
         × Appends (W.contents output.old) (W.contents output.new) (objects_text header records)) }
-    ensures fault { D.keeps disk.old → (fault : JournalFault) → result ≡ Err (DumpFault.Journal fault) → IsUnreadable fault (D.state disk.old).seen }
+    ensures fault { D.keeps disk.new → (fault : JournalFault) → result ≡ Err (DumpFault.Journal fault) → IsUnreadable fault (D.state disk.old).seen }
     ensures nothing { (fault : JournalFault) → result ≡ Err (DumpFault.Journal fault) → output.new ≡ output.old }
     ensures device { result ≡ Err (DumpFault.Journal Device) → D.failures disk.old < D.failures disk.new }
     ensures untouched { IsUntouched D.Disk disk.old disk.new }
@@ -280,18 +284,18 @@ pub fn dump_objects<D: Disk, W: Write>(
     print_records(alloc, Form::Objects, disk, output)
 }
 
-/// Writes how many records the journal that the disk has has: one object of JSON in a line. The status is 0. The faults
-/// are those of [`dump_lines`], and come when its own do.
+/// Writes how many records the journal that the disk has has: one object of JSON in a line. The
+/// status is 0. The faults are those of [`dump_lines`], and come when its own do.
 pub fn dump_count_object<D: Disk, W: Write>(
     alloc: Global,
     disk: &mut D,
     output: &mut W,
 ) -> Result<u8, DumpFault>
     ensures status { IfOk result (λ status. status ≡ 0) }
-    ensures all { D.keeps disk.old → OnOk result ((header : Header) × (records : List Record)
+    ensures all { D.keeps disk.new → OnOk result ((header : Header) × (records : List Record)
         × Holds header records (D.state disk.old).seen
         × Appends (W.contents output.old) (W.contents output.new) (count_object (length records))) }
-    ensures fault { D.keeps disk.old → (fault : JournalFault) → result ≡ Err (DumpFault.Journal fault) → IsUnreadable fault (D.state disk.old).seen }
+    ensures fault { D.keeps disk.new → (fault : JournalFault) → result ≡ Err (DumpFault.Journal fault) → IsUnreadable fault (D.state disk.old).seen }
     ensures nothing { (fault : JournalFault) → result ≡ Err (DumpFault.Journal fault) → output.new ≡ output.old }
     ensures device { result ≡ Err (DumpFault.Journal Device) → D.failures disk.old < D.failures disk.new }
     ensures untouched { IsUntouched D.Disk disk.old disk.new }

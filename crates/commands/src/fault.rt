@@ -1,4 +1,5 @@
-//! What ends a command. The program prints the text of a fault after `bracha: ` and ends with status 1.
+//! The faults that end a command. The program prints the text of a fault after `bracha: ` and ends
+//! with status 1.
 
 ghost use Rattle.std.specs.Prelude.{◌≡◌};
 ghost use Rattle.commands.specs.declared.fault.DumpFault.TheVariants as dump;
@@ -136,7 +137,7 @@ pub enum SimulateFault {
     /// Its numbers make no size.
     #[error("size {0}")]
     Size(SizeFault),
-    /// It can't be run.
+    /// The script can't be run.
     #[error("sim {0}")]
     Sim(SimFault),
     /// A write of the output failed.

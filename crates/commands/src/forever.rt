@@ -43,7 +43,8 @@ fn try_trial(alloc: Global, trial: Trial) -> Result<Tried, SimulateFault>
     })
 }
 
-/// Plays the script of this number that the seed draws, and judges the trace that `simulate` prints of it.
+/// Plays the script of this number that the seed draws, and judges the trace that `simulate` prints
+/// of it.
 ///
 /// # Errors
 ///

@@ -1,4 +1,4 @@
-//! What the commands of the program do, over any disk, reader and writer.
+//! The commands of the program, over any disk, reader and writer.
 #![tactic(auto)]
 
 mod asked;

@@ -25,7 +25,7 @@ fn bring_over<D: Disk, E: Disk>(
     old: &mut D,
     new: E,
 ) -> Result<(E, u64), (MigrateFault, E)>
-    ensures migrated { IfOk result (λ done. HasMigrated D.Disk E.Disk old.old new done.1 done.0) }
+    ensures migrated { IfOk result (λ done. HasMigrated D.Disk E.Disk old.old old.new new done.1 done.0) }
     ensures fault { IfErr result (λ refused. HasNotMigrated D.Disk E.Disk old.old old.new new refused.0 refused.1) }
     ensures untouched { IsUntouched D.Disk old.old old.new }
 {
@@ -55,23 +55,26 @@ fn print_migrated<W: Write>(alloc: Global, count: u64, output: &mut W) -> Result
     Ok(())
 }
 
-/// Brings the records of the old file, a journal of version 1, over into the new one, which is empty and becomes a journal,
-/// and writes how many they are: `migrated C` in a line. The old file is never written. Gives the new disk back: its file
-/// holds just these records, in whatever a crash can leave of it.
+/// Brings the records of the old file, a journal of version 1, over into the new one, which is
+/// empty and becomes a journal, and writes how many they are: `migrated C` in a line. The old file
+/// is never written. Gives the new disk back: its file holds just these records, in whatever a
+/// crash can leave of it.
 ///
 /// A fault hands the new disk back too:
-/// - [`MigrationFault::Migrate`]: it wasn't brought over, and nothing was printed; the new file is to be thrown away.
-/// - [`MigrationFault::Stream`]: the new file is whole, as after no fault, but a write of the line failed.
+/// - [`MigrationFault::Migrate`]: it wasn't brought over, and nothing was printed; the new file is
+///   to be thrown away.
+/// - [`MigrationFault::Stream`]: the new file is whole, as after no fault, but a write of the line
+///   failed.
 pub fn migrate_disks<D: Disk, E: Disk, W: Write>(
     alloc: Global,
     old: &mut D,
     new: E,
     output: &mut W,
 ) -> Result<E, (MigrationFault, E)>
-    ensures migrated { IfOk result (λ disk. (count : ℕ) × HasMigrated D.Disk E.Disk old.old new count disk
+    ensures migrated { IfOk result (λ disk. (count : ℕ) × HasMigrated D.Disk E.Disk old.old old.new new count disk
         × Appends (W.contents output.old) (W.contents output.new) (migrated_text count)) }
     ensures whole_at_stream { IfErr result (λ refused. refused.0 ≡ MigrationFault.Stream →
-        (count : ℕ) × HasMigrated D.Disk E.Disk old.old new count refused.1) }
+        (count : ℕ) × HasMigrated D.Disk E.Disk old.old old.new new count refused.1) }
     ensures fault { IfErr result (λ refused. (why : MigrateFault) → refused.0 ≡ MigrationFault.Migrate why →
         HasNotMigrated D.Disk E.Disk old.old old.new new why refused.1) }
     ensures nothing { IfErr result (λ refused. (why : MigrateFault) → refused.0 ≡ MigrationFault.Migrate why →

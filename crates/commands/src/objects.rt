@@ -171,7 +171,7 @@ fn peer_items(alloc: Global, peers: &[Address]) -> Result<String, AllocError>
     Ok(text)
 }
 
-/// What stands before the peers: the header and the journal's path.
+/// Returns what stands before the peers: the header and the journal's path.
 fn check_front(alloc: Global, settings: &Settings) -> Result<Vec<u8>, AllocError>
     ensures { IfOk result (λ bytes. bytes.items ≡ check_front settings.now) }
 {
@@ -187,7 +187,8 @@ fn check_front(alloc: Global, settings: &Settings) -> Result<Vec<u8>, AllocError
     Ok(bytes)
 }
 
-/// What stands behind the peers: the desk, and the address that is listened at, if there is one.
+/// Returns what stands behind the peers: the desk, and the address that is listened at, if there is
+/// one.
 fn check_doors(
     alloc: Global,
     desk: &Address,
@@ -220,14 +221,14 @@ fn socket_field(alloc: Global, socket: &Option<String>) -> Result<Vec<u8>, Alloc
     Ok(bytes)
 }
 
-/// What stands at the end: the number of records.
+/// Returns what stands at the end: the number of records.
 fn check_end(alloc: Global, count: usize) -> Result<String, AllocError>
     ensures { IfOk result (λ text. string_bytes text ≡ check_end count) }
 {
     format!(in alloc; ",\"records\":{count}}}\n")
 }
 
-/// What stands behind the peers: where the member listens, and the number of records.
+/// Returns what stands behind the peers: where the member listens, and the number of records.
 fn check_rest(alloc: Global, settings: &Settings, count: usize) -> Result<Vec<u8>, AllocError>
     ensures { IfOk result (λ bytes. bytes.items ≡ check_rest settings.now count) }
 {
@@ -241,7 +242,7 @@ fn check_rest(alloc: Global, settings: &Settings, count: usize) -> Result<Vec<u8
     Ok(bytes)
 }
 
-/// What stands behind the first byte.
+/// Returns what stands behind the first byte.
 fn behind_first(bytes: &[u8]) -> &[u8]
     ensures { result.now ≡ drop 1 bytes.now }
 {

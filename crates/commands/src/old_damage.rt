@@ -27,8 +27,8 @@ fn header_of(alloc: Global, file: &[u8]) -> Result<Option<Header>, Memory>
     }
 }
 
-/// Splits off the bytes that are a batch by its gate and its count, if there are such: the gate is open, and no byte is
-/// missing up to the next gate.
+/// Splits off the bytes that are a batch by its gate and its count, if there are such: the gate is
+/// open, and no byte is missing up to the next gate.
 fn split_batch(bytes: &[u8]) -> Option<(&[u8], &[u8])>
     ensures some { IfSome result (λ parts. IsOldChunk parts.0.now × (bytes.now ≡ parts.0.now ++ parts.1.now) × (length parts.1.now < length bytes.now) × (0 < length parts.1.now)) }
     ensures none { IsNone result → NoOldChunk bytes.now }
@@ -46,7 +46,8 @@ fn split_batch(bytes: &[u8]) -> Option<(&[u8], &[u8])>
     Some(bytes.split_at(HEAD + records))
 }
 
-/// Checks whether the file of this header's bytes, these and a closed gate is a journal of version 1.
+/// Checks whether the file of this header's bytes, these and a closed gate is a journal of version
+/// 1.
 fn is_journal(alloc: Global, header: &Header, front: &[u8], bytes: &[u8]) -> Result<bool, Memory>
     ensures yes { IfOk result (λ is. is ≡ true → (records : List Record) × HoldsOld header.now records (front.now ++ bytes.now ++ 0 ∷ [])) }
     ensures no { IfOk result (λ is. is ≡ false → (fault : MigrateFault) × RefusesOld header.now fault (front.now ++ bytes.now ++ 0 ∷ [])) }
@@ -100,7 +101,8 @@ fn behind_batches<'a>(
     Ok(rest)
 }
 
-/// Counts the bytes of the file that are its header and whole batches. Returns 0 if it begins with no header.
+/// Counts the bytes of the file that are its header and whole batches. Returns 0 if it begins with
+/// no header.
 fn good_length(alloc: Global, file: &[u8]) -> Result<usize, Memory>
     ensures good { IfOk result (λ place. (header : Header) → HasOldHeader header file.now → IsOldGoodUpTo header place file.now) }
     ensures none { IfOk result (λ place. ((header : Header) → HasOldHeader header file.now → ⊥) → place ≡ 0) }
@@ -155,7 +157,8 @@ fn bad_record(
     Ok(None)
 }
 
-/// Finds the place behind the whole batches of the file, or that of the first record behind it that is refused alone.
+/// Finds the place behind the whole batches of the file, or that of the first record behind it that
+/// is refused alone.
 fn bad_place(alloc: Global, file: &[u8]) -> Result<usize, Memory>
     ensures { IfOk result (IsOldBadPlace file.now) }
 {
@@ -169,9 +172,10 @@ fn bad_place(alloc: Global, file: &[u8]) -> Result<usize, Memory>
     }
 }
 
-/// Finds the byte, counted from 0, at which the file of a journal of version 1 goes wrong by this fault: its start for the
-/// faults of the header; for those of a batch the place behind the last whole batch, or, if a record isn't well formed, that of
-/// the first such record. Returns None for a fault that isn't the old file's.
+/// Finds the byte, counted from 0, at which the file of a journal of version 1 goes wrong by this
+/// fault: its start for the faults of the header; for those of a batch the place behind the last
+/// whole batch, or, if a record isn't well formed, that of the first such record. Returns None for
+/// a fault that isn't the old file's.
 ///
 /// [`Memory`]: memory was refused.
 pub fn old_fault_place(

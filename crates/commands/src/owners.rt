@@ -1,4 +1,4 @@
-//! Whose journal a file is, in words.
+//! The owner of a journal's file, in words.
 
 ghost use Rattle.std.specs.Prelude.{◌≡◌, ◌==◌, IfOk, IfSome, IsNone, codes, string_bytes};
 ghost use Rattle.commands.specs.Owners.{IsHeadless, IsJournalOf, IsLongOwner, IsNoJournal, IsOtherOwner, IsOwner, IsRefused, differences, header_words, long_words, other_words, owner_words, unless};
@@ -45,7 +45,7 @@ fn differences(alloc: Global, one: &Header, other: &Header) -> Result<String, Al
     )
 }
 
-/// That a journal is of the one header and not of the other.
+/// Returns the words for a journal that is of the one header and not of the other.
 fn other_words(alloc: Global, found: &Header, asked: &Header) -> Result<String, AllocError>
     ensures { IfOk result (λ text. string_bytes text ≡ other_words found.now asked.now) }
 {
@@ -57,9 +57,9 @@ fn other_words(alloc: Global, found: &Header, asked: &Header) -> Result<String, 
     )
 }
 
-/// Whose journal the file is, where the one of this header was asked for, and in what they differ:
-/// `of cluster 7 n 4 t 1 questions 1 member 1, and not of cluster 8 n 4 t 1 questions 1 member 1: cluster`. None where the
-/// file begins with no header.
+/// Returns whose journal the file is, where the one of this header was asked for, and in what they
+/// differ: `of cluster 7 n 4 t 1 questions 1 member 1, and not of cluster 8 n 4 t 1 questions 1
+/// member 1: cluster`. None where the file begins with no header.
 ///
 /// [`Memory`]: memory was refused.
 pub fn other_owner(alloc: Global, file: &[u8], asked: &Header) -> Result<Option<String>, Memory>
@@ -72,7 +72,7 @@ pub fn other_owner(alloc: Global, file: &[u8], asked: &Header) -> Result<Option<
     Ok(Some(other_words(alloc, &found, asked)?))
 }
 
-/// Whose journal it is, and of how many records.
+/// Returns whose journal it is, and of how many records.
 fn owner_words(alloc: Global, header: &Header, count: usize) -> Result<String, AllocError>
     ensures { IfOk result (λ text. string_bytes text ≡ owner_words header.now count) }
 {
@@ -85,7 +85,7 @@ fn owner_words(alloc: Global, header: &Header, count: usize) -> Result<String, A
     )
 }
 
-/// How many records the journal in the file has, if it is one of that header.
+/// Returns how many records the journal in the file has, if it is one of that header.
 fn count_in(alloc: Global, header: &Header, file: &[u8]) -> Result<Option<usize>, Memory>
     ensures some { IfOk result (λ found. IfSome found (IsJournalOf file.now header.now)) }
     ensures none { IfOk result (λ found. IsNone found → IsRefused file.now header.now) }
@@ -98,8 +98,8 @@ fn count_in(alloc: Global, header: &Header, file: &[u8]) -> Result<Option<usize>
     }
 }
 
-/// Whose journal the file is, and of how many records: `the journal of member 1 of cluster 7 with 3 records`. None where it
-/// is none.
+/// Returns whose journal the file is, and of how many records: `the journal of member 1 of cluster
+/// 7 with 3 records`. None where it is none.
 ///
 /// [`Memory`]: memory was refused.
 pub fn owner(alloc: Global, file: &[u8]) -> Result<Option<String>, Memory>
@@ -115,7 +115,7 @@ pub fn owner(alloc: Global, file: &[u8]) -> Result<Option<String>, Memory>
     Ok(Some(owner_words(alloc, &header, count)?))
 }
 
-/// Whose journal a file of that many bytes begins as.
+/// Returns whose journal a file of that many bytes begins as.
 fn long_words(alloc: Global, header: &Header, length: u64) -> Result<String, AllocError>
     ensures { IfOk result (λ text. string_bytes text ≡ long_words header.now length) }
 {
@@ -127,8 +127,9 @@ fn long_words(alloc: Global, header: &Header, length: u64) -> Result<String, All
     )
 }
 
-/// Whose journal a file of that many bytes is, by these first ones of it, where it is too long for its records to be counted:
-/// `begins as the journal of member 1 of cluster 7 and has 20000025 bytes`. None where they begin with no header.
+/// Returns whose journal a file of that many bytes is, by these first ones of it, where it is too
+/// long for its records to be counted: `begins as the journal of member 1 of cluster 7 and has
+/// 20000025 bytes`. None where they begin with no header.
 ///
 /// [`Memory`]: memory was refused.
 pub fn long_owner(alloc: Global, front: &[u8], length: u64) -> Result<Option<String>, Memory>

@@ -1,4 +1,4 @@
-//! How long a client waits, as its words say it.
+//! The time that a client waits, as its words say it.
 
 ghost use Rattle.std.specs.Prelude.{◌≡◌, ◌≤◌, ◌++◌, ◌∷◌, [], IfSome};
 ghost use Rattle.commands.specs.Patience.{IsPart, IsPatience, IsSeconds};
@@ -19,14 +19,14 @@ fn part(digits: &str) -> Option<u32>
     }
 }
 
-/// What stands before and behind the first point.
+/// Returns what stands before and behind the first point.
 fn parts_of(text: &str) -> Option<(&str, &str)>
     ensures { IfSome result (λ parts. text.now ≡ parts.0.now ++ 46 ∷ parts.1.now) }
 {
     text.split_once('.')
 }
 
-/// What stands before an `s` that ends the text.
+/// Returns what stands before an `s` that ends the text.
 fn before_unit(text: &str) -> Option<&str>
     ensures { IfSome result (λ front. text.now ≡ front.now ++ 115 ∷ []) }
 {
@@ -53,9 +53,9 @@ fn seconds(text: &str) -> Option<u32>
     }
 }
 
-/// Returns the milliseconds that a text of seconds writes, such as `5`, `0.5`, `2.125` or `5s`: decimal digits up to 65535, and
-/// behind a point one to three digits more, and then an `s` or nothing. `None` if the text isn't one. A text of no time at all
-/// is one, too.
+/// Returns the milliseconds that a text of seconds writes, such as `5`, `0.5`, `2.125` or `5s`:
+/// decimal digits up to 65535, and behind a point one to three digits more, and then an `s` or
+/// nothing. `None` if the text isn't one. A text of no time at all is one, too.
 pub fn milliseconds(text: &str) -> Option<u32>
     ensures { IfSome result (IsPatience text.now) }
 {

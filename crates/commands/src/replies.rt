@@ -50,13 +50,13 @@ pub fn counts(reply: &[u8]) -> Option<(u64, u64)>
 /// The links of a member, as the reply to `LINKS` says them.
 #[derive(Clone, Copy, Debug, PartialEq, Eq)]
 pub struct Links {
-    /// How many links come in.
+    /// The number of links that come in.
     pub coming: u64,
-    /// How many go out and are welcomed.
+    /// The number of links that go out and are welcomed.
     pub going: u64,
-    /// How many members there are.
+    /// The number of members.
     pub members: u64,
-    /// How many links have to come in and to go out for the member to decide: n - t.
+    /// The number of links that have to come in and to go out for the member to decide: n - t.
     pub needed: u64,
 }
 
@@ -97,21 +97,21 @@ pub(crate) fn links_of(reply: &[u8]) -> Option<Links>
     }
 }
 
-/// Whether the reply is `LINKS i o n w`.
+/// Returns `true` if the reply is `LINKS i o n w`.
 pub(crate) fn has_links(reply: &[u8]) -> bool
     ensures { IsTrue result ↔ IsLinks reply.now }
 {
     links_of(reply).is_some()
 }
 
-/// Whether as many links come in and go out as are needed.
+/// Returns `true` if as many links come in and go out as are needed.
 fn are_enough(links: &Links) -> bool
     ensures { IsTrue result ↔ ((links.now.needed ≤ links.now.coming) × (links.now.needed ≤ links.now.going)) }
 {
     links.needed <= links.coming && links.needed <= links.going
 }
 
-/// Whether the reply says that as many links come in and go out as are needed.
+/// Returns `true` if the reply says that as many links come in and go out as are needed.
 pub fn is_ready(reply: &[u8]) -> bool
     ensures { IsTrue result ↔ IsReady reply.now }
 {
@@ -183,7 +183,8 @@ fn up_object(alloc: Global, statements: u64, decided: u64) -> Result<String, All
     format!(in alloc; "{{\"up\":true,\"statements\":{statements},\"decided\":{decided}}}")
 }
 
-/// The object that says the same as a reply that isn't of links and none to `STATE`; none where the line is no such reply.
+/// The object that says the same as a reply that isn't of links and none to `STATE`; none where the
+/// line is no such reply.
 fn plain_object(alloc: Global, reply: &[u8]) -> Result<Option<String>, AllocError>
     ensures some { IfOk result (λ found. IfSome found (λ text. SaysPlain reply.now (string_bytes text))) }
     ensures none { IfOk result (λ found. IsNone found → IsPlainReply reply.now → ⊥) }
@@ -210,7 +211,8 @@ fn links_object(alloc: Global, links: &Links) -> Result<String, AllocError>
     )
 }
 
-/// The object that says the same as a reply that isn't of links; none where the line is no such reply.
+/// The object that says the same as a reply that isn't of links; none where the line is no such
+/// reply.
 fn unlinked_object(alloc: Global, reply: &[u8]) -> Result<Option<String>, AllocError>
     ensures some { IfOk result (λ found. IfSome found (λ text. SaysUnlinked reply.now (string_bytes text))) }
     ensures none { IfOk result (λ found. IsNone found → IsUnlinked reply.now → ⊥) }
@@ -248,7 +250,7 @@ fn is_unlinked(line: &[u8]) -> bool
     is_plain_reply(line) || is_stage(line)
 }
 
-/// Whether the line is a reply of a desk.
+/// Returns `true` if the line is a reply of a desk.
 pub fn is_reply(line: &[u8]) -> bool
     ensures { IsTrue result ↔ IsReply line.now }
 {

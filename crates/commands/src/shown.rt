@@ -1,4 +1,5 @@
-//! The command `simulate` as the program runs it: the pages are put somewhere, and then the verdicts are printed.
+//! The command `simulate` as the program runs it: the pages are put somewhere, and then the
+//! verdicts are printed.
 
 ghost use Rattle.std.specs.Prelude.{◌≡◌, ◌≢◌, ◌↔◌, true, IfOk, IsTrue, OnOk, Err, string_bytes};
 ghost use Rattle.std.specs.Io.KnownBytes.{Appends};
@@ -16,7 +17,7 @@ use crate::simulate::{Simulation, counted_text, is_output, print_verdicts};
 use std::alloc::Global;
 use std::io::Write;
 
-/// Where the pages of a simulation go.
+/// A place for the pages of a simulation.
 pub trait Shelf {
     ghost use Rattle.std.specs.Prelude.{OnOk};
     ghost use Rattle.commands.specs.declared.simulate.Simulation.{Simulation};
@@ -24,7 +25,8 @@ pub trait Shelf {
     /// Why a page couldn't be put.
     type Fault;
 
-    /// What a shelf has on which the pages of a simulation were put. One that says nothing of it may have anything.
+    /// The pages of a simulation that were put on the shelf. One that says nothing of it may have
+    /// anything.
     ghost has: { Simulation → Self → Type 0 } = { λ _ _. Unit {0} };
 
     /// Puts the pages of a simulation, those of them that are wanted.
@@ -68,7 +70,8 @@ fn takes_any(paths: &PagePaths<'_>) -> bool
     is_output(paths.trace) || is_output(paths.chart) || is_output(paths.play)
 }
 
-/// Runs the script over empty disks in memory, and puts its pages on the shelf. The text of its outcome comes out.
+/// Runs the script over empty disks in memory, and puts its pages on the shelf. The text of its
+/// outcome comes out.
 fn put_pages<S: Shelf>(
     alloc: Global,
     text: &[u8],
@@ -94,8 +97,8 @@ fn put_pages<S: Shelf>(
     }
 }
 
-/// The text of a simulation's outcome, once its pages are put where any is wanted. Where none is, the events are played as
-/// they are read, and nothing of them is kept but their counts.
+/// The text of a simulation's outcome, once its pages are put where any is wanted. Where none is,
+/// the events are played as they are read, and nothing of them is kept but their counts.
 fn play<S: Shelf>(
     alloc: Global,
     text: &[u8],
@@ -118,8 +121,9 @@ fn play<S: Shelf>(
     }
 }
 
-/// Runs the script over empty disks in memory, puts its pages on the shelf if one has a path, and only then prints its outcome as
-/// [`crate::simulate_text`] does: to the output, or aside, where the path of a page is `-`. The status is 0.
+/// Runs the script over empty disks in memory, puts its pages on the shelf if one has a path, and
+/// only then prints its outcome as [`crate::simulate_text`] does: to the output, or aside, where
+/// the path of a page is `-`. The status is 0.
 pub fn show_simulation<S: Shelf, W: Write, E: Write>(
     alloc: Global,
     text: &[u8],
@@ -129,7 +133,8 @@ pub fn show_simulation<S: Shelf, W: Write, E: Write>(
     errors: &mut E,
 ) -> Result<u8, SimulationEnd<S::Fault>>
     ensures status { IfOk result (λ status. status ≡ 0) }
-    // What was put and is printed is of a simulation of the script that the text says, which is a run of the world.
+    // What was put and is printed is of a simulation of the script that the text says, which is a
+    // run of the world.
     ensures all { OnOk result ((simulation : Simulation)
         × IsScript text.now simulation.script × IsOutcome simulation.script simulation.outcome
         × (wants_pages paths.now ≡ true → S.has simulation shelf.new) × AreSaid paths.now
@@ -138,7 +143,8 @@ pub fn show_simulation<S: Shelf, W: Write, E: Write>(
     // The other writer is left alone.
     ensures no_output { TakesOutput paths.now → output.new ≡ output.old }
     ensures no_errors { (TakesOutput paths.now → ⊥) → errors.new ≡ errors.old }
-    // A fault of the script comes before anything is put or printed, and one of a page before anything is printed.
+    // A fault of the script comes before anything is put or printed, and one of a page before
+    // anything is printed.
     ensures script { (fault : SimulateFault) → result ≡ Err (ends.Script fault) → IsOfSimulate text.now fault }
     ensures unput { (fault : SimulateFault) → result ≡ Err (ends.Script fault) → shelf.new ≡ shelf.old }
     ensures unprinted { (fault : SimulateFault) → result ≡ Err (ends.Script fault) → (output.new ≡ output.old) × (errors.new ≡ errors.old) }

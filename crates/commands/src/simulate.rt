@@ -28,7 +28,7 @@ use std::alloc::{AllocError, Global};
 use std::io::{self, Write};
 use terms::{Memory, Size};
 
-/// How many events were played, and how many of them were skipped.
+/// The numbers of events that were played, and that were skipped.
 #[derive(Clone, Copy)]
 struct EventCounts {
     events: usize,
@@ -46,7 +46,7 @@ fn verdict_line(alloc: Global, verdict: &(u8, u16, u8, bool)) -> Result<String, 
     )
 }
 
-/// How many of the marks are of events that were skipped.
+/// Returns how many of the marks are of events that were skipped.
 fn skipped(marks: &[Mark]) -> usize
     ensures { result ≡ skipped marks.now }
 {
@@ -133,7 +133,8 @@ fn play_batch(
     })
 }
 
-/// Plays a script's events as they are made, and counts them. It keeps no more of them than the source has at a time.
+/// Plays a script's events as they are made, and counts them. It keeps no more of them than the
+/// source has at a time.
 fn play_all(
     alloc: Global,
     source: &mut Source,
@@ -155,8 +156,8 @@ fn play_all(
     Ok(counts)
 }
 
-/// Plays the script over empty disks in memory, keeps nothing of its events but their counts, and makes the text of its
-/// outcome. The faults are those of [`Simulation::run`].
+/// Plays the script over empty disks in memory, keeps nothing of its events but their counts, and
+/// makes the text of its outcome. The faults are those of [`Simulation::run`].
 pub(crate) fn counted_text(alloc: Global, text: &[u8]) -> Result<String, SimulateFault>
     ensures all { IfOk result (λ made. (script : Script) × (outcome : Outcome)
         × IsScript text.now script × IsOutcome script outcome × (string_bytes made ≡ simulation_text outcome)) }
@@ -175,7 +176,7 @@ pub(crate) fn counted_text(alloc: Global, text: &[u8]) -> Result<String, Simulat
 pub struct Simulation {
     /// The script.
     pub script: Script,
-    /// What became of its events, what was saved because of each, and the verdicts.
+    /// The outcome: of each event what became of it and what was saved, and the verdicts.
     pub outcome: Outcome,
 }
 
@@ -190,8 +191,9 @@ impl Simulation {
 
     /// Reads the script, and runs it over empty disks in memory.
     ///
-    /// [`SimulateFault::Line`], [`SimulateFault::Size`] and [`SimulateFault::Events`] for a text that is no script, [`SimulateFault::Sim`] for a
-    /// script that can't be run, [`SimulateFault::Memory`] where a growth failed.
+    /// [`SimulateFault::Line`], [`SimulateFault::Size`] and [`SimulateFault::Events`] for a text
+    /// that is no script, [`SimulateFault::Sim`] for a script that can't be run,
+    /// [`SimulateFault::Memory`] where a growth failed.
     pub fn run(alloc: Global, text: &[u8]) -> Result<Simulation, SimulateFault>
         ensures says { IfOk result (λ ran. IsScript text.now ran.script) }
         ensures few { IfOk result (λ ran. length ran.script.events.items ≤ MOST_EVENTS) }
@@ -204,8 +206,8 @@ impl Simulation {
         Ok(Simulation { script, outcome })
     }
 
-    /// The text of its outcome: for each verdict, by member and then by question, `member M question Q round R bit B`, and
-    /// last `events E skipped S`.
+    /// The text of its outcome: for each verdict, by member and then by question, `member M
+    /// question Q round R bit B`, and last `events E skipped S`.
     pub fn verdicts(&self, alloc: Global) -> Result<String, AllocError>
         ensures { IfOk result (λ text. string_bytes text ≡ simulation_text self.now.outcome) }
     {
@@ -216,7 +218,8 @@ impl Simulation {
         outcome_text(alloc, &self.outcome.verdicts, counts)
     }
 
-    /// Writes its trace, a line for each event, as it is made. The errors are those of [`write_trace`].
+    /// Writes its trace, a line for each event, as it is made. The errors are those of
+    /// [`write_trace`].
     pub fn write_trace<W: Write>(&self, alloc: Global, output: &mut W) -> io::Result<()>
         ensures { OnOk result (Appends (W.contents output.old) (W.contents output.new) (trace_of self.now)) }
     {
@@ -229,8 +232,8 @@ impl Simulation {
         )
     }
 
-    /// Writes its chart with the events that are chosen, a picture in SVG, as it is made, and returns how many rows the chart has.
-    /// The errors are those of [`write_chart`].
+    /// Writes its chart with the events that are chosen, a picture in SVG, as it is made, and
+    /// returns how many rows the chart has. The errors are those of [`write_chart`].
     pub fn write_chart<W: Write>(
         &self,
         alloc: Global,
@@ -250,8 +253,8 @@ impl Simulation {
         write_chart(alloc, &run, choice, output)
     }
 
-    /// Writes the page that plays it, between the parts of the template and with this name, as it is made. The errors are those of
-    /// [`write_page`].
+    /// Writes the page that plays it, between the parts of the template and with this name, as it
+    /// is made. The errors are those of [`write_page`].
     pub fn write_page<W: Write>(
         &self,
         alloc: Global,
@@ -273,7 +276,8 @@ impl Simulation {
     }
 }
 
-/// Writes the text. The status is 0. [`SimulateFault::Stream`] and [`SimulateFault::Memory`]: the write failed.
+/// Writes the text. The status is 0. [`SimulateFault::Stream`] and [`SimulateFault::Memory`]: the
+/// write failed.
 pub fn print<W: Write>(text: &str, output: &mut W) -> Result<u8, SimulateFault>
     ensures status { IfOk result (λ status. status ≡ 0) }
     ensures all { OnOk result (Appends (W.contents output.old) (W.contents output.new) text.now) }
@@ -284,18 +288,21 @@ pub fn print<W: Write>(text: &str, output: &mut W) -> Result<u8, SimulateFault>
     Ok(0)
 }
 
-/// Runs the script over empty disks in memory, and writes its outcome: for each verdict, by member and then by question,
-/// `member M question Q round R bit B`, and last `events E skipped S`. The status is 0.
+/// Runs the script over empty disks in memory, and writes its outcome: for each verdict, by member
+/// and then by question, `member M question Q round R bit B`, and last `events E skipped S`. The
+/// status is 0.
 ///
-/// [`SimulateFault::Line`], [`SimulateFault::Size`] and [`SimulateFault::Events`] for a text that is no script, [`SimulateFault::Sim`] for a script that
-/// can't be run: nothing was written. [`SimulateFault::Stream`] and [`SimulateFault::Memory`]: the write or a growth failed.
+/// [`SimulateFault::Line`], [`SimulateFault::Size`] and [`SimulateFault::Events`] for a text that
+/// is no script, [`SimulateFault::Sim`] for a script that can't be run: nothing was written.
+/// [`SimulateFault::Stream`] and [`SimulateFault::Memory`]: the write or a growth failed.
 pub fn simulate_text<W: Write>(
     alloc: Global,
     text: &[u8],
     output: &mut W,
 ) -> Result<u8, SimulateFault>
     ensures status { IfOk result (λ status. status ≡ 0) }
-    // What is written is the text of a simulation of the script that the text says, which is a run of the world.
+    // What is written is the text of a simulation of the script that the text says, which is a run
+    // of the world.
     ensures all { OnOk result ((script : Script) × (outcome : Outcome)
         × IsScript text.now script × IsOutcome script outcome
         × Appends (W.contents output.old) (W.contents output.new) (simulation_text outcome)) }
@@ -307,7 +314,7 @@ pub fn simulate_text<W: Write>(
     print(verdicts.as_str(), output)
 }
 
-/// Whether the path is `-`, which stands for the standard output.
+/// Returns `true` if the path is `-`, which stands for the standard output.
 pub(crate) fn is_output(path: Option<&str>) -> bool
     ensures { IsTrue result ↔ (option_map (λ text. text.now) path.entry ≡ Some (codes "-")) }
 {
@@ -317,15 +324,16 @@ pub(crate) fn is_output(path: Option<&str>) -> bool
     }
 }
 
-/// Whether a page takes the standard output: the path of one is `-`.
+/// Returns `true` if a page takes the standard output: the path of one is `-`.
 pub fn takes_output(trace: Option<&str>, chart: Option<&str>) -> bool
     ensures { IsTrue result ↔ ((option_map (λ text. text.now) trace.entry ≡ Some (codes "-")) ⊎ (option_map (λ text. text.now) chart.entry ≡ Some (codes "-"))) }
 {
     is_output(trace) || is_output(chart)
 }
 
-/// Writes the verdicts to the output, or aside, where a page takes the output. The status is 0, and the other writer is
-/// left alone. [`SimulateFault::Stream`] and [`SimulateFault::Memory`]: the write failed.
+/// Writes the verdicts to the output, or aside, where a page takes the output. The status is 0, and
+/// the other writer is left alone. [`SimulateFault::Stream`] and [`SimulateFault::Memory`]: the
+/// write failed.
 pub fn print_verdicts<W: Write, E: Write>(
     aside: bool,
     verdicts: &str,

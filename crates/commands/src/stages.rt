@@ -97,7 +97,8 @@ fn stage_object(alloc: Global, stage: Stage) -> Result<String, AllocError>
     }
 }
 
-/// Returns the object that says the same as a reply to `STATE` without a decision; none for any other reply.
+/// Returns the object that says the same as a reply to `STATE` without a decision; none for any
+/// other reply.
 pub(crate) fn stage_object_of(alloc: Global, reply: &[u8]) -> Result<Option<String>, AllocError>
     ensures some { IfOk result (λ found. IfSome found (λ text. SaysStageSame reply.now (string_bytes text))) }
     ensures none { IfOk result (λ found. IsNone found → IsStage reply.now → ⊥) }

@@ -64,7 +64,8 @@ pub fn word_of(reply: &[u8]) -> Word
     }
 }
 
-/// Returns a member's word once it said another one: a decision that it told stays, since of each member its first counts.
+/// Returns a member's word once it said another one: a decision that it told stays, since of each
+/// member its first counts.
 pub fn later_word(word: Word, other: Word) -> Word
     ensures { result ≡ later_word word other }
 {
@@ -74,15 +75,16 @@ pub fn later_word(word: Word, other: Word) -> Word
     }
 }
 
-/// The line after another reply: the one that waits, if the first line got it, since a member that is stopped still tells what it
-/// decided.
+/// The line after another reply: the one that waits, if the first line got it, since a member that
+/// is stopped still tells what it decided.
 fn next_of_other(first: bool) -> Next
     ensures { result ≡ next_of_other first }
 {
     if first { Next::Wait } else { Next::Begin }
 }
 
-/// Returns the line that a member is sent after its word, which is its reply to the first line or to the one that waits.
+/// Returns the line that a member is sent after its word, which is its reply to the first line or
+/// to the one that waits.
 pub fn next_of(word: Word, first: bool) -> Next
     ensures { result ≡ next_of word first }
 {
@@ -147,8 +149,8 @@ fn remark(
     }
 }
 
-/// Returns the lines that tell people which members, by number, said something else than the decision that is printed, or
-/// nothing.
+/// Returns the lines that tell people which members, by number, said something else than the
+/// decision that is printed, or nothing.
 pub fn remarks(alloc: Global, words: &[Word], decision: Option<bool>) -> Result<String, AllocError>
     ensures { IfOk result (λ text. string_bytes text ≡ remarks_from 0 words.now decision) }
 {
@@ -187,8 +189,8 @@ fn tell_either<W: Write>(
     tell(reply, output)
 }
 
-/// Writes the decision that may be believed, or that there is none, as a line or as an object of JSON. The status is 0 for a
-/// decision, and 1 else.
+/// Writes the decision that may be believed, or that there is none, as a line or as an object of
+/// JSON. The status is 0 for a decision, and 1 else.
 ///
 /// [`TalkFault::Stream`]: the write failed. [`TalkFault::Memory`]: memory was refused.
 pub fn tell_decision<W: Write>(

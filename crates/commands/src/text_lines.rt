@@ -1,4 +1,4 @@
-//! Where in a text a fault is.
+//! The place of a fault in a text.
 
 ghost use Rattle.std.specs.Prelude.{◌≡◌, ◌-◌, ◌<◌, ◌≤◌, ◌↔◌, IfOk, IfSome, IsNone, IsSome, IsSomeAnd, IsTrue, None, length, option_map, slice_get, take};
 ghost use Rattle.settings.specs.Keys.{key_text};
@@ -9,7 +9,7 @@ use numerals::is;
 use settings::Key;
 use std::alloc::{AllocError, Global};
 
-/// What stands before, between and behind the bytes 10 of the text.
+/// Returns what stands before, between and behind the bytes 10 of the text.
 pub fn lines_in(alloc: Global, text: &[u8]) -> Result<Vec<&[u8]>, AllocError>
     ensures { IfOk result (λ lines. texts lines.items ≡ lines_in text.now) }
 {
@@ -28,14 +28,15 @@ pub fn line_at<'a>(
     Ok(lines.get(number.saturating_sub(1)).copied())
 }
 
-/// Whether the byte may stand behind a key.
+/// Returns `true` if the byte may stand behind a key.
 fn ends_key(byte: u8) -> bool
     ensures { IsTrue result ↔ EndsKey byte }
 {
     byte == b' ' || byte == b'='
 }
 
-/// Whether the line gives the key of that name a value: it begins with the name, and a blank or `=` behind it.
+/// Returns `true` if the line gives the key of that name a value: it begins with the name, and a
+/// blank or `=` behind it.
 fn says(line: &[u8], name: &str) -> bool
     ensures { IsTrue result ↔ SaysKey name.now line.now }
 {
@@ -46,7 +47,8 @@ fn says(line: &[u8], name: &str) -> bool
     }
 }
 
-/// The number of the first line, counted from 1, that gives the key of that name a value; none where no line does.
+/// The number of the first line, counted from 1, that gives the key of that name a value; none
+/// where no line does.
 fn first_line(lines: &[&[u8]], name: &str) -> Option<usize>
     ensures { IsFirstLine (SaysKey name.now) (texts lines.now) result }
 {
@@ -58,8 +60,8 @@ fn first_line(lines: &[&[u8]], name: &str) -> Option<usize>
     None
 }
 
-/// The number of a line, counted from 1, that gives the key a value at its beginning; the first, where there are several,
-/// and none where no line does.
+/// The number of a line, counted from 1, that gives the key a value at its beginning; the first,
+/// where there are several, and none where no line does.
 pub fn line_of_key(alloc: Global, text: &[u8], key: Key) -> Result<Option<usize>, AllocError>
     ensures { IfOk result (IsFirstLine (SaysKey (key_text key)) (lines_in text.now)) }
 {
@@ -67,7 +69,8 @@ pub fn line_of_key(alloc: Global, text: &[u8], key: Key) -> Result<Option<usize>
     Ok(first_line(&lines, key.text()))
 }
 
-/// The number of the first line, counted from 1, that gives a key of that name a value at its beginning; none where no line does.
+/// The number of the first line, counted from 1, that gives a key of that name a value at its
+/// beginning; none where no line does.
 pub fn line_of_name(alloc: Global, text: &[u8], name: &str) -> Result<Option<usize>, AllocError>
     ensures { IfOk result (IsFirstLine (SaysKey name.now) (lines_in text.now)) }
 {
@@ -75,7 +78,7 @@ pub fn line_of_name(alloc: Global, text: &[u8], name: &str) -> Result<Option<usi
     Ok(first_line(&lines, name))
 }
 
-/// Whether a table begins at the line.
+/// Returns `true` if a table begins at the line.
 fn is_head(line: &[u8]) -> bool
     ensures { IsTrue result ↔ IsHead line.now }
 {
@@ -97,7 +100,8 @@ fn first_head(lines: &[&[u8]]) -> Option<usize>
     None
 }
 
-/// Whether the line at this index stands behind that place, or at it, and gives the key of that name a value.
+/// Returns `true` if the line at this index stands behind that place, or at it, and gives the key
+/// of that name a value.
 fn is_behind(index: usize, place: usize, line: &[u8], name: &str) -> bool
     ensures place { IsTrue result → place ≤ index }
     ensures says { IsTrue result → SaysKey name.now line.now }
@@ -105,7 +109,8 @@ fn is_behind(index: usize, place: usize, line: &[u8], name: &str) -> bool
     index >= place && says(line, name)
 }
 
-/// The number of the first line behind that place, counted from 1, that gives the key of that name a value.
+/// The number of the first line behind that place, counted from 1, that gives the key of that name
+/// a value.
 fn line_behind(lines: &[&[u8]], name: &str, place: usize) -> Option<usize>
     ensures { IfSome result (λ number. (place < number) × IsSomeAnd (slice_get (texts lines.now) (number - 1)) (SaysKey name.now)) }
 {
@@ -118,8 +123,8 @@ fn line_behind(lines: &[&[u8]], name: &str, place: usize) -> Option<usize>
     None
 }
 
-/// The number of the first line below the head of a table, counted from 1, that gives a key of that name a value; none where no
-/// line does.
+/// The number of the first line below the head of a table, counted from 1, that gives a key of that
+/// name a value; none where no line does.
 pub fn line_in_table(alloc: Global, text: &[u8], name: &str) -> Result<Option<usize>, AllocError>
     ensures { IfOk result (λ found. IfSome found (IsLineInTable name.now (lines_in text.now))) }
 {
@@ -138,7 +143,8 @@ pub fn line_of_byte(alloc: Global, text: &[u8], place: usize) -> Result<usize, A
     Ok(lines_in(alloc, front)?.len())
 }
 
-/// The line of a text, counted from 1, at which the reader of TOML fails, and why it does; none where the text is TOML.
+/// The line of a text, counted from 1, at which the reader of TOML fails, and why it does; none
+/// where the text is TOML.
 pub fn text_fault(alloc: Global, text: &str) -> Result<Option<(usize, String)>, AllocError>
     ensures none { IfOk result (λ found. IsNone found → IsSome (parse_document text.now)) }
     ensures some { IfOk result (λ found. IfSome found (λ found. (parse_document text.now ≡ None) × IsLineIn text.now found.0)) }

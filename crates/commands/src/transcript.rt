@@ -60,13 +60,13 @@ fn whole_reply<R: Read>(alloc: Global, from: &mut R) -> Result<(Vec<u8>, u8), Ta
     }
 }
 
-/// Sends the line over a connection to a member's desk, reads one reply, and writes it. Where its first line begins a
-/// transcript, as many lines belong to it as that counts, and the status is 0; else it is that line alone, and the status
-/// is 1.
+/// Sends the line over a connection to a member's desk, reads one reply, and writes it. Where its
+/// first line begins a transcript, as many lines belong to it as that counts, and the status is 0;
+/// else it is that line alone, and the status is 1.
 ///
-/// [`TalkFault::NoAnswer`]: the connection failed or ended before a whole reply came, or what came is none, and nothing was
-/// written.
-/// [`TalkFault::Stream`]: the write failed. [`TalkFault::Memory`]: memory was refused.
+/// [`TalkFault::NoAnswer`]: the connection failed or ended before a whole reply came, or what came
+/// is none, and nothing was written. [`TalkFault::Stream`]: the write failed.
+/// [`TalkFault::Memory`]: memory was refused.
 pub fn fetch_transcript<R: Read, S: Write, W: Write>(
     alloc: Global,
     line: &str,

@@ -16,7 +16,7 @@ use questions::Answer;
 use rounds::Toss;
 use terms::Size;
 
-/// What a book alone counts of links.
+/// The links that a book alone counts.
 const NO_LINKS: LinkCount = LinkCount {
     incoming: 0,
     outgoing: 0,
@@ -90,14 +90,15 @@ pub(crate) fn standing_reply(status: Option<(u64, u16)>) -> Reply
     }
 }
 
-/// How far the member is.
+/// Returns how far the member is.
 fn status<D: Disk, J: Naming>(book: &Book<D, J>) -> Reply
     ensures { result ≡ status_reply book.now }
 {
     standing_reply(book.status())
 }
 
-/// The reply that so many links of a member of a cluster of that size are up, if the member is, of which is told how far it is.
+/// The reply that so many links of a member of a cluster of that size are up, if the member is, of
+/// which is told how far it is.
 pub(crate) fn standing_links(status: Option<(u64, u16)>, count: LinkCount, size: Size) -> Reply
     ensures { result ≡ standing_links status count size }
 {
@@ -107,7 +108,7 @@ pub(crate) fn standing_links(status: Option<(u64, u16)>, count: LinkCount, size:
     }
 }
 
-/// That so many links are up, if the member is.
+/// Returns the reply that so many links are up, if the member is.
 fn links_reply<D: Disk, J: Naming>(book: &Book<D, J>, count: LinkCount) -> Reply
     ensures { result ≡ links_reply book.now count }
 {
@@ -139,7 +140,7 @@ fn state<D: Disk, J: Naming>(book: &Book<D, J>, question: u16) -> Reply
     }
 }
 
-/// What a transcript of a question is made of, or the reply where there is none.
+/// Returns what a transcript of a question is made of, or the reply where there is none.
 pub(crate) fn dossier_of<D: Disk, J: Naming>(
     book: &Book<D, J>,
     question: u16,
@@ -162,7 +163,7 @@ pub(crate) fn dossier_of<D: Disk, J: Naming>(
     }
 }
 
-/// What was heard of a question, if it shows the decision.
+/// Returns what was heard of a question, if it shows the decision.
 pub(crate) fn transcript_reply(dossier: Dossier) -> Reply
     ensures { IsDossierReply dossier result }
 {
@@ -190,7 +191,7 @@ pub(crate) fn reply_of(asked: Result<Dossier, Reply>) -> Reply
     }
 }
 
-/// What was heard of a question, if it shows the decision.
+/// Returns what was heard of a question, if it shows the decision.
 fn transcribe<D: Disk, J: Naming>(book: &Book<D, J>, question: u16) -> Reply
     ensures { IsTranscriptReply book.now question result }
 {
@@ -202,17 +203,21 @@ fn transcribe<D: Disk, J: Naming>(book: &Book<D, J>, question: u16) -> Reply
 
 /// Does a command on a book, with this toss, and gives the reply. It waits for nobody.
 ///
-/// A proposal is answered [`Reply::Taken`] or [`Reply::Have`] as the book answers it. It is answered
+/// A proposal is answered [`Reply::Taken`] or [`Reply::Have`] as the book answers it. It is
+/// answered
 ///
-/// - [`Reply::Stopped`] where the member is stopped, or is so from this call on because its disk failed or its journal is
-///   full;
-/// - [`Reply::Memory`] where memory was refused: the disk is as it was, and the member is stopped from now on;
+/// - [`Reply::Stopped`] where the member is stopped, or is so from this call on because its disk
+///   failed or its journal is full;
+/// - [`Reply::Memory`] where memory was refused: the disk is as it was, and the member is stopped
+///   from now on;
 /// - [`Reply::BadQuestion`] where there is no such question, which changes nothing.
 ///
-/// The other commands change nothing. Who awaits a decision is answered as who asks for it: [`crate::serve`] waits. A book
-/// knows no links, so by it none is up: [`crate::serve`] counts them. A stopped member still answers [`Command::Ask`] from what
-/// it saved, and [`Command::Transcript`] with [`Reply::Stopped`]. A transcript takes memory for what was heard of its question and for the
-/// audit of it; where that is refused, the reply is [`Reply::Memory`], and the member goes on.
+/// The other commands change nothing. Who awaits a decision is answered as who asks for it:
+/// [`crate::serve`] waits. A book knows no links, so by it none is up: [`crate::serve`] counts
+/// them. A stopped member still answers [`Command::Ask`] from what it saved, and
+/// [`Command::Transcript`] with [`Reply::Stopped`]. A transcript takes memory for what was heard of
+/// its question and for the audit of it; where that is refused, the reply is [`Reply::Memory`], and
+/// the member goes on.
 pub fn answer<D: Disk, J: Naming>(book: &mut Book<D, J>, command: &Command, toss: Toss) -> Reply
     ensures propose { (question : ℕ) (bit : Bool) → command.now ≡ Propose question bit →
         Proposes book.old question bit toss.0 result book.new }

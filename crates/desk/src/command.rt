@@ -1,4 +1,4 @@
-//! What a client asks for.
+//! The requests of clients.
 
 ghost use Rattle.std.specs.Prelude.{◌≡◌, nat_lt, Ok, Err, if◌then◌else◌};
 ghost use Rattle.desk.specs.Lines.{LineAsks};
@@ -10,12 +10,13 @@ use crate::line::{LineRequest, read};
 use crate::reply::Reply;
 use terms::Size;
 
-/// What a client asks for, one variant for each line.
+/// A client's request, one variant for each line.
 #[derive(Clone, Copy, Debug, PartialEq, Eq)]
 pub enum Command {
     /// To propose a bit for a question.
     Propose {
-        /// The question, counted from 0. One that [`parse`] gives is there; [`crate::answer`] refuses one that isn't.
+        /// The question, counted from 0. One that [`parse`] gives is there; [`crate::answer`]
+        /// refuses one that isn't.
         question: u16,
         /// The bit.
         bit: bool,
@@ -30,14 +31,14 @@ pub enum Command {
         /// The question, counted from 0, as in a proposal.
         question: u16,
     },
-    /// How many statements are in the member's outbox, and how many questions it has decided.
+    /// The number of statements in the member's outbox, and of questions it has decided.
     Status,
-    /// What was heard of a question that is decided.
+    /// The statements that were heard of a question that is decided.
     Transcript {
         /// The question, counted from 0, as in a proposal.
         question: u16,
     },
-    /// How many of the member's links are up.
+    /// The number of the member's links that are up.
     Links,
     /// To be told how a question stands at the member.
     State {
@@ -90,13 +91,15 @@ fn command_for(asked: LineRequest, questions: u16) -> Result<Command, Reply>
     }
 }
 
-/// The command that a line is, for a cluster of that size. The line is what stood before the byte 10 that ended it, or
-/// before the end of the input; one byte 13 at its end is dropped. It takes no memory.
+/// The command that a line is, for a cluster of that size. The line is what stood before the byte
+/// 10 that ended it, or before the end of the input; one byte 13 at its end is dropped. It takes no
+/// memory.
 ///
-/// Refused with the first that holds: [`Reply::BadLine`], where the line has more than 4,096 bytes or is none of
-/// `PROPOSE q v`, `ASK q`, `AWAIT q`, `STATE q`, `STATUS`, `TRANSCRIPT q` and `LINKS`, with one space between two words and one
-/// to five decimal digits for q;
-/// [`Reply::BadQuestion`], where there is no such question; [`Reply::BadBit`], where v is neither `0` nor `1`.
+/// Refused with the first that holds: [`Reply::BadLine`], where the line has more than 4,096 bytes
+/// or is none of `PROPOSE q v`, `ASK q`, `AWAIT q`, `STATE q`, `STATUS`, `TRANSCRIPT q` and
+/// `LINKS`, with one space between two words and one to five decimal digits for q;
+/// [`Reply::BadQuestion`], where there is no such question; [`Reply::BadBit`], where v is neither
+/// `0` nor `1`.
 pub fn parse(line: &[u8], size: Size) -> Result<Command, Reply>
     ensures asked { (asked : LineRequest) → LineAsks line.now asked → result ≡ command_for size.questions asked }
     ensures none { AsksNothing line.now → result ≡ Err BadLine }

@@ -260,8 +260,8 @@ impl Follower {
     /// The follower's session has ended:
     ///
     /// - [`FollowEnd::Ended`] if it was told all, and the member is stopped or comes to its end;
-    /// - [`FollowEnd::Left`] if it was told all, and its client closed its side, for which the stream is
-    ///   asked once a second;
+    /// - [`FollowEnd::Left`] if it was told all, and its client closed its side, for which the
+    ///   stream is asked once a second;
     /// - [`FollowEnd::Lost`] if the write failed;
     /// - [`FollowEnd::Stalled`] if its client took nothing for ten seconds of what it is owed.
     pub fn tell<D: Disk, J: Naming, S: Outlet, R: Wait>(

@@ -7,8 +7,8 @@ ghost use Rattle.desk.specs.declared.line.TheConstants.{LONGEST};
 use crate::line::LONGEST;
 use std::marker::Model;
 
-/// The bytes of a line so far, at most 4,096. Contracts see these bytes, so that a line is the same in whatever pieces it
-/// came. It takes no memory.
+/// The bytes of a line so far, at most 4,096. Contracts see these bytes, so that a line is the same
+/// in whatever pieces it came. It takes no memory.
 #[derive(Drop)]
 pub(crate) struct HeldLine {
     bytes: [u8; LONGEST],
@@ -24,14 +24,14 @@ impl Model for HeldLine {
     ghost view = { λ held. take held.length held.bytes };
 }
 
-/// What a byte does to the line.
+/// The effect of a byte on the line.
 #[derive(Clone, Copy, Debug, PartialEq, Eq)]
 pub(crate) enum LineStep {
-    /// It belongs to the line.
+    /// The byte belongs to the line.
     More,
-    /// It ends the line.
+    /// The byte ends the line.
     Ends,
-    /// It would be the 4,097th.
+    /// The byte would be the 4,097th.
     TooLong,
 }
 

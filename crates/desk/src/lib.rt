@@ -10,15 +10,18 @@
 //! | `LINKS` | `LINKS i o n w`: links come in from i of n members, o go out, w = n - t are needed each way; or `STOPPED` |
 //! | `TRANSCRIPT q` | `STOPPED`, `UNDECIDED`, `THIN`, or `transcript q bit b count c` and c lines, each a sender and a frame |
 //!
-//! `FOLLOW k` is the last line of its session: from then on a line `DECIDED q b` comes for each decision that the member has
-//! saved, from number k on (0 is the first), in the order of its journal, and an empty line where none came for five seconds.
+//! `FOLLOW k` is the last line of its session: from then on a line `DECIDED q b` comes for each
+//! decision that the member has saved, from number k on (0 is the first), in the order of its
+//! journal, and an empty line where none came for five seconds.
 //!
-//! Refusals, the first that holds: `ERR 1 line`, `ERR 2 question`, `ERR 3 bit`; `ERR 4 memory` where memory is refused.
+//! Refusals, the first that holds: `ERR 1 line`, `ERR 2 question`, `ERR 3 bit`; `ERR 4 memory`
+//! where memory is refused.
 //!
-//! [`parse`] and [`answer`] wait for nobody, and their contracts are exact. [`serve`] is a client's session over any
-//! reader and writer; what it hands to these two, it cuts by one byte after the other, so that the pieces in which lines
-//! come don't matter. It ends at `FOLLOW k`: a [`Follower`] over an [`Outlet`] is told decisions then, and waits for nobody, so
-//! that one thread can tell many.
+//! [`parse`] and [`answer`] wait for nobody, and their contracts are exact. [`serve`] is a client's
+//! session over any reader and writer; what it hands to these two, it cuts by one byte after the
+//! other, so that the pieces in which lines come don't matter. It ends at `FOLLOW k`: a
+//! [`Follower`] over an [`Outlet`] is told decisions then, and waits for nobody, so that one thread
+//! can tell many.
 #![tactic(auto)]
 
 mod answering;

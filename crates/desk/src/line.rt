@@ -1,4 +1,4 @@
-//! What a line asks, whether or not there is such a question.
+//! The request of a line, whether or not there is such a question.
 
 ghost use Rattle.std.specs.Prelude.{ℕ, ◌≡◌, ◌-◌, ◌<◌, ◌↔◌, ◌∷◌, ◌++◌, List, Bool, Option, Some, length, slice_get, IfSome, IfNone, IsTrue, MatchOption};
 ghost use Rattle.desk.specs.Lines.{IsQuestion, IsWord, IsBitWord, IsProposal, IsPropose, Asks, AsksLast, AsksLonger, AsksToFollow, LineAsks, is_return, trimmed};
@@ -9,7 +9,7 @@ use numerals::{behind, first_space, is, number, split_at_space};
 /// The most bytes of a line before the byte 10 that ends it.
 pub(crate) const LONGEST: usize = 4096;
 
-/// What a line asks.
+/// The request of a line.
 #[derive(Clone, Copy, Debug, PartialEq, Eq)]
 pub(crate) enum LineRequest {
     /// A proposal. The bit is none where another word stands in its place.
@@ -18,11 +18,11 @@ pub(crate) enum LineRequest {
     Ask { question: u64 },
     /// The same, once it is there.
     Await { question: u64 },
-    /// How far the member is.
+    /// The member's progress.
     Status,
-    /// What was heard of a question that is decided.
+    /// The statements that were heard of a question that is decided.
     Transcript { question: u64 },
-    /// How many links are up.
+    /// The number of links that are up.
     Links,
     /// To be told how a question stands.
     State { question: u64 },
@@ -56,7 +56,7 @@ fn bit(word: &[u8]) -> Option<bool>
     }
 }
 
-/// Whether the text is one word.
+/// Returns `true` if the text is one word.
 fn is_word(text: &[u8]) -> bool
     ensures { IsTrue result ↔ IsWord text.now }
 {
@@ -87,7 +87,7 @@ fn proposal(text: &[u8]) -> Option<(u64, Option<bool>)>
     }
 }
 
-/// What the text proposes.
+/// Returns what the text proposes.
 fn proposed(text: &[u8]) -> Option<LineRequest>
     ensures some { IfSome result (λ asked. IsPropose asked × Asks text.now asked) }
     ensures exact { (asked : LineRequest) → IsPropose asked → Asks text.now asked → result ≡ Some asked }
@@ -115,7 +115,7 @@ fn asked_last(text: &[u8]) -> Option<LineRequest>
     }
 }
 
-/// What the text asks.
+/// Returns what the text asks.
 fn asked(text: &[u8]) -> Option<LineRequest>
     ensures some { IfSome result (Asks text.now) }
     ensures exact { (asked : LineRequest) → Asks text.now asked → result ≡ Some asked }
@@ -155,7 +155,7 @@ fn asked_longer(text: &[u8]) -> Option<LineRequest>
     }
 }
 
-/// Whether the line ends in a byte 13.
+/// Returns `true` if the line ends in a byte 13.
 fn ends_in_return(line: &[u8]) -> bool
     ensures { result ≡ is_return (slice_get line.now (length line.now - 1)) }
 {
@@ -176,7 +176,7 @@ pub(crate) fn trimmed(line: &[u8]) -> &[u8]
     }
 }
 
-/// What a line of a client asks.
+/// Returns what a line of a client asks.
 pub(crate) fn read(line: &[u8]) -> Option<LineRequest>
     ensures some { IfSome result (LineAsks line.now) }
     ensures exact { (asked : LineRequest) → LineAsks line.now asked → result ≡ Some asked }

@@ -22,28 +22,31 @@ pub enum Reply {
     Undecided,
     /// The member goes on.
     Up {
-        /// How many statements are in its outbox.
+        /// The number of statements in its outbox.
         statements: u64,
-        /// How many questions it has decided.
+        /// The number of questions it has decided.
         decided: u16,
     },
-    /// What was heard of a question, which is proof of its decision. It is the only reply of several lines.
+    /// The statements that were heard of a question, which are proof of its decision. It is the
+    /// only reply of several lines.
     Transcript {
         /// The question.
         question: u16,
         /// Its decision, and what was heard of it.
         transcript: Transcript,
     },
-    /// How many of the member's links are up, the one to itself among them.
+    /// The number of the member's links that are up, the one to itself among them.
     Links {
-        /// How many of them.
+        /// Their number.
         count: LinkCount,
-        /// The size of the cluster: there are n links each way, and n - t of them are needed to decide.
+        /// The size of the cluster: there are n links each way, and n - t of them are needed to
+        /// decide.
         size: Size,
     },
     /// The question stands so at the member.
     State(QuestionState),
-    /// The question was decided in an earlier life, and what was heard since then is no proof of the decision.
+    /// The question was decided in an earlier life, and what was heard since then is no proof of
+    /// the decision.
     Thin,
     /// 1: there is no such line.
     BadLine,
@@ -51,11 +54,12 @@ pub enum Reply {
     BadQuestion,
     /// 3: it isn't a bit.
     BadBit,
-    /// 4: memory was refused in this call. Where it was refused to the member, that is stopped from now on.
+    /// 4: memory was refused in this call. Where it was refused to the member, that is stopped from
+    /// now on.
     Memory,
 }
 
-/// How many links each way a member of a cluster of that size needs to decide.
+/// Returns how many links each way a member of a cluster of that size needs to decide.
 pub(crate) fn needed(size: Size) -> u8
     ensures { result ≡ size.n - size.t }
 {

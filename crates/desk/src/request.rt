@@ -6,10 +6,10 @@ ghost use Rattle.desk.specs.Lines.{IsRequest};
 use crate::line::trimmed;
 use numerals::is;
 
-/// How many bytes ` HTTP/1.` and the one behind it are.
+/// The number of bytes of ` HTTP/1.` and the one behind it.
 const VERSION: usize = 9;
 
-/// Whether the line is the first one of a request of HTTP.
+/// Returns `true` if the line is the first one of a request of HTTP.
 pub(crate) fn is_request(line: &[u8]) -> bool
     ensures { IsTrue result ↔ IsRequest line.now }
 {

@@ -37,11 +37,11 @@ pub enum DeskEnd {
     Lost,
     /// A line had more than 4,096 bytes, which was answered by [`Reply::BadLine`].
     TooLong,
-    /// A line was the first one of a request of HTTP, which was answered by [`Reply::BadLine`]: a page in a browser sends it
-    /// before lines of its own, and these are not read.
+    /// A line was the first one of a request of HTTP, which was answered by [`Reply::BadLine`]: a
+    /// page in a browser sends it before lines of its own, and these are not read.
     Request,
-    /// A line asked to follow decisions from this number on. Nothing was written for it: a [`Follower`](crate::Follower) is told
-    /// them from now on, and no line behind it is answered.
+    /// A line asked to follow decisions from this number on. Nothing was written for it: a
+    /// [`Follower`](crate::Follower) is told them from now on, and no line behind it is answered.
     Follows(u64),
 }
 
@@ -79,7 +79,8 @@ fn refuse<S: Stream>(stream: &mut S, why: DeskEnd) -> DeskEnd
     }
 }
 
-/// The things that the clients of a member share: its hub, and the turns in which transcripts are made.
+/// The things that the clients of a member share: its hub, and the turns in which transcripts are
+/// made.
 #[derive(Drop)]
 pub struct Desk<'a, D: Disk, J: Naming> {
     /// The hub of the member.
@@ -88,7 +89,8 @@ pub struct Desk<'a, D: Disk, J: Naming> {
     pub turns: &'a Turns,
 }
 
-/// What answers a client: the hub of the member, the turns, and by what it waits for the locks.
+/// A server of clients: the hub of the member, the turns, and the runtime by which it waits for the
+/// locks.
 #[derive(Drop)]
 struct Server<'a, D: Disk, J: Naming, R> {
     rt: &'a R,
@@ -97,8 +99,8 @@ struct Server<'a, D: Disk, J: Naming, R> {
 }
 
 impl<D: Disk, J: Naming, R: Wait + Clock> Server<'_, D, J, R> {
-    /// Waits for the turn to have a transcript made, and until the rest behind the one before is over. A hub that is shut makes
-    /// nobody rest.
+    /// Waits for the turn to have a transcript made, and until the rest behind the one before is
+    /// over. A hub that is shut makes nobody rest.
     fn turn_to_transcribe(&self) -> Turn<'_> {
         let turn = self.turns.take(self.rt);
         for _ in self.rt.forever() {
@@ -109,8 +111,9 @@ impl<D: Disk, J: Naming, R: Wait + Clock> Server<'_, D, J, R> {
         unreachable!()
     }
 
-    /// What was heard of a question, if it shows the decision. The lock is held until it is known where it stands, and not while
-    /// the turn is waited for, nor while it is gone through and written.
+    /// Returns what was heard of a question, if it shows the decision. The lock is held until it is
+    /// known where it stands, and not while the turn is waited for, nor while it is gone through
+    /// and written.
     fn transcript_of(&self, question: u16) -> Reply
         ensures { (book : BookView D) × IsTranscriptReply book question result }
     {
@@ -124,7 +127,8 @@ impl<D: Disk, J: Naming, R: Wait + Clock> Server<'_, D, J, R> {
         reply
     }
 
-    /// Proposes a bit, once the member speaks. What comes of it is shown to others before the book is given back.
+    /// Proposes a bit, once the member speaks. What comes of it is shown to others before the book
+    /// is given back.
     fn propose<T: Tosser>(&self, tosser: &mut T, question: u16, bit: bool) -> Reply
         ensures { IsProposalReply D T.may_toss tosser.old question bit result tosser.new }
     {
@@ -136,7 +140,8 @@ impl<D: Disk, J: Naming, R: Wait + Clock> Server<'_, D, J, R> {
         reply
     }
 
-    /// The reply to who waits since that second for a decision that isn't there; none where it is to wait on.
+    /// The reply to who waits since that second for a decision that isn't there; none where it is
+    /// to wait on.
     fn without_decision(&self, begun: u64) -> Option<Reply>
         ensures { IfSome result (IsAwaitReply D None) }
     {
@@ -149,8 +154,8 @@ impl<D: Disk, J: Naming, R: Wait + Clock> Server<'_, D, J, R> {
         None
     }
 
-    /// The decision of a question once the board has it; or that there is none, after ten seconds or at the member's end; or that
-    /// the member is stopped. It takes no lock while it waits.
+    /// The decision of a question once the board has it; or that there is none, after ten seconds
+    /// or at the member's end; or that the member is stopped. It takes no lock while it waits.
     fn await_decision(&self, pass: &mut Pass, question: u16) -> Reply
         requires { pass.old.cells ≡ J.names.cells }
         ensures cells { pass.new.cells ≡ J.names.cells }
@@ -173,7 +178,8 @@ impl<D: Disk, J: Naming, R: Wait + Clock> Server<'_, D, J, R> {
         unreachable!()
     }
 
-    /// How far the member is, by what the hub shows of it. A toss is drawn, as for a proposal.
+    /// Returns how far the member is, by what the hub shows of it. A toss is drawn, as for a
+    /// proposal.
     fn status<T: Tosser>(&self, tosser: &mut T) -> Reply
         ensures { IsStatusReply D T.may_toss tosser.old result tosser.new }
     {
@@ -188,7 +194,7 @@ impl<D: Disk, J: Naming, R: Wait + Clock> Server<'_, D, J, R> {
         state_reply(self.hub.state(self.rt, question))
     }
 
-    /// How many links are up, if the member is, by what the hub shows of it.
+    /// Returns how many links are up, if the member is, by what the hub shows of it.
     fn links(&self) -> Reply
         ensures { IsLinksReply D result }
     {
@@ -346,18 +352,20 @@ impl<D: Disk, J: Naming, R: Wait + Clock> Server<'_, D, J, R> {
     }
 }
 
-/// Answers the lines of a client in turn, until its input ends, a line is too long or begins a request of HTTP, one asks to
-/// follow decisions, or the stream fails.
+/// Answers the lines of a client in turn, until its input ends, a line is too long or begins a
+/// request of HTTP, one asks to follow decisions, or the stream fails.
 ///
-/// A line ends at the byte 10, and bytes behind the last one are a line too. `ASK` and `AWAIT` go by the board; `ASK` takes no
-/// lock, and `AWAIT` only that of what the hub shows, and not while it waits;
-/// `PROPOSE`, which waits until the member speaks, `STATE`, and `TRANSCRIPT`, which waits for its turn, take the book's; `STATUS`
-/// and `LINKS` only that of what the hub shows, behind which nobody waits for a disk. `PROPOSE` and `STATUS` take a toss each. What comes of a proposal is shown
-/// before its reply is written, so a `STATUS` behind it counts it. Replies are written without memory, and no lock is held while
-/// they are. The pass is of the hub's board, and knows each decision that was written, so a decision that was told is told again.
+/// A line ends at the byte 10, and bytes behind the last one are a line too. `ASK` and `AWAIT` go
+/// by the board; `ASK` takes no lock, and `AWAIT` only that of what the hub shows, and not while it
+/// waits; `PROPOSE`, which waits until the member speaks, `STATE`, and `TRANSCRIPT`, which waits
+/// for its turn, take the book's; `STATUS` and `LINKS` only that of what the hub shows, behind
+/// which nobody waits for a disk. `PROPOSE` and `STATUS` take a toss each. What comes of a proposal
+/// is shown before its reply is written, so a `STATUS` behind it counts it. Replies are written
+/// without memory, and no lock is held while they are. The pass is of the hub's board, and knows
+/// each decision that was written, so a decision that was told is told again.
 ///
-/// Transcripts are made one at a time, and after each the desk rests 15 times as long as that took, so that all of them take a
-/// sixteenth of a processor at most.
+/// Transcripts are made one at a time, and after each the desk rests 15 times as long as that took,
+/// so that all of them take a sixteenth of a processor at most.
 ///
 /// It may wait for the stream and for the lock. The stream stays open.
 pub fn serve<D: Disk, J: Naming, S: Stream, T: Tosser, R: Wait + Clock>(
@@ -369,7 +377,8 @@ pub fn serve<D: Disk, J: Naming, S: Stream, T: Tosser, R: Wait + Clock>(
 ) -> DeskEnd
     requires { pass.old.cells ≡ J.names.cells }
     ensures cells { pass.new.cells ≡ J.names.cells }
-    // Each reply is that to its line, by what the pass knows then and with the tosses of the tosser, one a command.
+    // Each reply is that to its line, by what the pass knows then and with the tosses of the
+    // tosser, one a command.
     ensures serves { Serves (AnswersLine D T.may_toss desk.entry.hub.now.size.questions) (sitting pass.old.known tosser.old)
         (sitting pass.new.known tosser.new) (S.told stream.old) (S.told stream.new) result }
 {

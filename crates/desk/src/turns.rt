@@ -36,8 +36,8 @@ impl Rest {
         }
     }
 
-    /// Returns the rest behind a transcript that was made between these times: 15 times as long as that took. There is none if the
-    /// clock can't show its end.
+    /// Returns the rest behind a transcript that was made between these times: 15 times as long as
+    /// that took. There is none if the clock can't show its end.
     pub fn behind(began: Instant, ended: Instant) -> Rest
         ensures { IsRestBehind began ended result }
     {
@@ -50,7 +50,8 @@ impl Rest {
     }
 }
 
-/// The turns in which a member's clients have transcripts made: one at a time, and a rest behind each.
+/// The turns in which a member's clients have transcripts made: one at a time, and a rest behind
+/// each.
 #[derive(Drop)]
 pub struct Turns {
     rest: Mutex<Rest>,

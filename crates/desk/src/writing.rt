@@ -98,7 +98,7 @@ fn write_state<S: Stream>(stream: &mut S, state: QuestionState) -> Result<(), De
     }
 }
 
-/// Where the block has no room for a line more, writes it out and empties it.
+/// Writes the block out and empties it, if it has no room for a line more.
 fn make_room<S: Stream>(stream: &mut S, block: &mut Block) -> Result<(), DeskEnd>
     ensures out { OnOk result ((written : List ℕ) × (S.told stream.new ≡ has_written (S.told stream.old) written)
         × (written ++ block.new.items ≡ block.old.items)) }

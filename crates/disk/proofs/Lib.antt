@@ -5,5 +5,6 @@ mod Listed
 pub mod Moments
 pub mod Outcomes
 mod Placing
+mod Supposed
 mod Torn
 mod Under

@@ -5,7 +5,7 @@ use Rattle.std.proofs.lemmas.Bool.Decides.{nat_tests}
 use Rattle.std.proofs.lemmas.List.{places}
 use Rattle.disk.specs.Model.{State, MayLeave, at_rest, is_touched, overwritten}
 use Rattle.disk.specs.Replay.{Call, after_call, replay, LeftSince}
-use Rattle.disk.specs.Replay.Call.{Still, Wrote, Failed, Synced}
+use Rattle.disk.specs.Replay.Call.{Still, Wrote, Failed, Torn, Synced}
 
 -- a place outside these ranges and one more is outside each
 pub untouched_push : (k : ℕ) (ranges : List (ℕ × ℕ)) (at n : ℕ) → is_touched k (ranges ++ (at, n) ∷ []) ≡ false → (is_touched k ranges ≡ false) × ((k < at) ⊎ (at + n ≤ k))
@@ -34,6 +34,11 @@ pub put_elsewhere : (file : List ℕ) (at : ℕ) (bytes : List ℕ) (k : ℕ) �
 put_elsewhere file at bytes k within (inl before) = grind (arith, places)
 put_elsewhere file at bytes k within (inr past) = grind (arith, places)
 
+-- what is outside a range is outside a part of it
+pub outside_part : (k at n : ℕ) (bytes : List ℕ) → (k < at) ⊎ (at + n ≤ k) → (k < at) ⊎ (at + length (take n bytes) ≤ k)
+outside_part k at n bytes (inl before) = inl before
+outside_part k at n bytes (inr past) = inr (omega (arith, past, length-take n bytes))
+
 -- what reads give after a call is one of the files that a crash may leave
 after_call_may_leave : (s : State) (call : Call) → MayLeave s s.seen → MayLeave (after_call s call) (after_call s call).seen
 after_call_may_leave s Still may = may
@@ -46,6 +51,12 @@ after_call_may_leave s (Wrote at bytes) may = record {
 after_call_may_leave s (Failed at n) may = record {
   no_shorter = may.no_shorter;
   same_outside = λ k within outside. may.same_outside k within (untouched_push k s.written at n outside).0;
+}
+after_call_may_leave s (Torn at n bytes) may = record {
+  no_shorter = omega (arith, may.no_shorter, length_put s.seen at (take n bytes));
+  same_outside = λ k within outside.
+      let parts = untouched_push k s.written at n outside in
+      put_elsewhere s.seen at (take n bytes) k (omega (arith, may.no_shorter)) (outside_part k at n bytes parts.1) ∙ may.same_outside k within parts.0;
 }
 after_call_may_leave s Synced may = record { no_shorter = omega arith; same_outside = λ k within outside. refl }
 

@@ -10,5 +10,8 @@ pub mod Memory
 pub mod Model
 pub mod Real
 pub mod Replay
+pub mod Replies
+pub mod Supposed
+pub mod Suppositions
 pub mod System
 pub mod Under

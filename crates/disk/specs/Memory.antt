@@ -8,6 +8,10 @@ use Rattle.disk.specs.declared.memory.MemDisk.{MemDisk}
 abbrev pub memory_state : MemDisk → State
 memory_state disk = replay (at_rest disk.log.start) disk.log.calls
 
+-- the file with which it began
+abbrev pub memory_begun : MemDisk → List ℕ
+memory_begun disk = disk.log.start
+
 -- how many calls it has answered
 abbrev pub memory_moment : MemDisk → ℕ
 memory_moment disk = length disk.log.calls

@@ -1,8 +1,8 @@
-//! What was done with a file of the system, to be recorded for clauses alone.
+//! The calls that were made on a file of the system, recorded for clauses alone.
 use ghost_record::{Change, Recorded};
 use std::marker::Model;
 
-/// What the system's calls did so far.
+/// The calls of the system so far.
 #[derive(Drop)]
 pub(crate) struct Account {}
 
@@ -20,16 +20,16 @@ impl Recorded for Account {
     ghost begun = { nothing_done };
 }
 
-/// What one call of the system did.
+/// A call of the system.
 #[derive(Clone, Copy, Drop)]
 pub(crate) enum SystemCall<'a> {
-    /// It told this length.
+    /// The call told this length.
     Told(usize),
-    /// It read these bytes from that place on.
+    /// The call read these bytes from that place on.
     Read(usize, &'a [u8]),
-    /// It wrote these bytes from that place on.
+    /// The call wrote these bytes from that place on.
     Wrote(usize, &'a [u8]),
-    /// It put the file on the disk.
+    /// The call put the file on the disk.
     Synced,
 }
 

@@ -11,16 +11,17 @@ use crate::Pick;
 use crate::crash::fill;
 use std::alloc::{AllocError, Global};
 
-/// A file, written in place. Beside its bytes it keeps what lay under those that were written since the last sync that
-/// succeeded, and where; a sync forgets both.
+/// A file, written in place. Beside its bytes it keeps what lay under those that were written since
+/// the last sync that succeeded, and where; a sync forgets both.
 #[derive(Drop)]
 pub(crate) struct Content {
     seen: Vec<u8>,
-    /// How many bytes it had at the last sync that succeeded.
+    /// The number of bytes it had at the last sync that succeeded.
     synced: usize,
     /// The place and the length of each write since then, also of one that failed.
     written: Vec<(usize, usize)>,
-    /// What each of these writes found within that length, byte by byte with its place, the last write last.
+    /// The bytes that each of these writes found within that length, each with its place, the last
+    /// write last.
     under: Vec<(usize, u8)>,
     ghost within: { synced ≤ length seen.items },
 }
@@ -40,7 +41,7 @@ impl Content {
         }
     }
 
-    /// What a read gives.
+    /// Returns what a read gives.
     pub(crate) fn seen(&self) -> &[u8]
         ensures { result.now ≡ (content_state self.now).seen }
     {
@@ -56,7 +57,8 @@ impl Content {
         buf.copy_from_slice(&self.seen[at..end]);
     }
 
-    /// Writes the bytes at a place, over what is there and past the end. Where memory is refused nothing changes.
+    /// Writes the bytes at a place, over what is there and past the end. Where memory is refused
+    /// nothing changes.
     pub(crate) fn write(&mut self, at: usize, bytes: &[u8]) -> Result<(), AllocError>
         requires { at ≤ length (content_state self.old).seen }
         ensures ok { OnOk result (content_state self.new ≡ after_write (content_state self.old) at bytes.now) }
@@ -74,7 +76,8 @@ impl Content {
         Ok(())
     }
 
-    /// A write of that length at a place that fails: the bytes stay. Where memory is refused nothing changes.
+    /// A write of that length at a place that fails: the bytes stay. Where memory is refused
+    /// nothing changes.
     pub(crate) fn fail_write(&mut self, at: usize, len: usize) -> Result<(), AllocError>
         ensures ok { OnOk result (content_state self.new ≡ after_failed_write (content_state self.old) at len) }
         ensures err { OnErr result (content_state self.new ≡ content_state self.old) }

@@ -1,17 +1,18 @@
-//! What a crash makes of a file in memory.
+//! The files that a crash makes of a file in memory.
 ghost use Rattle.std.specs.Prelude.{◌≡◌, ◌≤◌, ◌<◌, ◌||◌, ℕ, false, nat_le, if◌then◌else◌};
 ghost use Rattle.disk.specs.Model.{is_touched};
 ghost use Rattle.disk.specs.Crash.{filled_from};
 
-/// Which of the files that a crash may leave it leaves.
+/// A choice among the files that a crash may leave.
 #[derive(Clone, Copy, Debug, PartialEq, Eq)]
 pub enum Pick {
-    /// What reads gave.
+    /// The bytes that reads gave.
     Kept,
-    /// What reads gave at the last sync that succeeded.
+    /// The bytes that reads gave at the last sync that succeeded.
     Lost,
-    /// What reads gave, with this byte in each place that a write since the last sync that succeeded covered, also one
-    /// that failed, and in each place past the end that the file had then.
+    /// The bytes that reads gave, with this byte in each place that a write since the last sync
+    /// that succeeded covered, also one that failed, and in each place past the end that the file
+    /// had then.
     Fill(u8),
 }
 
@@ -36,7 +37,7 @@ fn first_place(synced: usize, written: &[(usize, usize)]) -> usize
     first
 }
 
-/// What is left at a place, where the file had this length at the last sync.
+/// Returns what is left at a place, where the file had this length at the last sync.
 fn left_at(place: usize, kept: u8, synced: usize, written: &[(usize, usize)], byte: u8) -> u8
     ensures { result ≡ (if nat_le synced place || is_touched place written.now then byte else kept) }
 {
@@ -47,7 +48,7 @@ fn left_at(place: usize, kept: u8, synced: usize, written: &[(usize, usize)], by
     }
 }
 
-/// Whether one of the ranges has this place.
+/// Returns `true` if one of the ranges has this place.
 fn is_touched(place: usize, ranges: &[(usize, usize)]) -> bool
     ensures { result ≡ is_touched place ranges.now }
 {

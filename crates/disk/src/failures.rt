@@ -1,8 +1,9 @@
-//! A count of failures, to be recorded for clauses alone: no word holds it, so it has no greatest value.
+//! A count of failures, to be recorded for clauses alone: no word holds it, so it has no greatest
+//! value.
 use ghost_record::{Change, Recorded};
 use std::marker::Model;
 
-/// How often something has failed.
+/// A count of failures.
 #[derive(Drop)]
 pub struct Failures {}
 

@@ -22,10 +22,10 @@ impl Recorded for History {
     ghost begun = { past_begun [] };
 }
 
-/// What happened to the file.
+/// An event in the life of a file.
 #[derive(Clone, Copy, Drop)]
 pub(crate) enum Deed<'a> {
-    /// It began anew with these bytes, all on the disk.
+    /// The file began anew with these bytes, all on the disk.
     Began(&'a [u8]),
     /// A call looked at it, or was a sync that failed, and changed nothing.
     Looked,

@@ -13,6 +13,7 @@ pub mod laws;
 mod log;
 mod memory;
 mod named;
+mod reply;
 mod system;
 #[cfg(test)]
 mod tests;
@@ -20,6 +21,6 @@ mod whole;
 
 pub use crash::Pick;
 pub use device::{DeviceFault, Disk};
-pub use file::FileDisk;
+pub use file::{FileDisk, Premise};
 pub use first_error::FirstError;
 pub use memory::MemDisk;

@@ -42,7 +42,7 @@ impl LoggedFile {
         }
     }
 
-    /// What a read gives.
+    /// Returns what a read gives.
     pub(crate) fn seen(&self) -> &[u8]
         ensures { result.now ≡ (state_of self.now).seen }
     {

@@ -11,10 +11,11 @@ use crate::{DeviceFault, Disk, Pick};
 use ghost_record::GhostRecord;
 use std::alloc::{AllocError, Global};
 
-/// A disk in memory, which keeps the model. A call fails where its fuse stops it, and a write also where memory is
-/// refused: no other call takes any.
+/// A disk in memory, which keeps the model. A call fails where its fuse stops it, and a write also
+/// where memory is refused: no other call takes any.
 ///
-/// It holds the file's bytes, and what lay under those that were written since the last sync that succeeded.
+/// It holds the file's bytes, and what lay under those that were written since the last sync that
+/// succeeded.
 #[derive(Drop)]
 pub struct MemDisk {
     log: LoggedFile,
@@ -23,7 +24,7 @@ pub struct MemDisk {
 }
 
 impl MemDisk {
-    ghost use Rattle.disk.specs.Memory.{memory_state, memory_moment, memory_failures, fuse_left, with_fuse};
+    ghost use Rattle.disk.specs.Memory.{memory_begun, memory_state, memory_moment, memory_failures, fuse_left, with_fuse};
 
     /// An empty file, with no fuse in. It takes no memory.
     pub fn new(alloc: Global) -> MemDisk
@@ -35,33 +36,36 @@ impl MemDisk {
         MemDisk::of_log(LoggedFile::empty(alloc))
     }
 
-    /// The next calls of the device pass, as many as this, and all after them fail. None takes the fuse out. This is no
-    /// call of the device, and takes no memory.
+    /// The next calls of the device pass, as many as this, and all after them fail. None takes the
+    /// fuse out. This is no call of the device, and takes no memory.
     pub fn fuse(&mut self, calls: Option<u64>)
         ensures { self.new ≡ with_fuse self.old calls }
     {
         self.fuse = calls;
     }
 
-    /// Whether a fuse is in, also one that lets no call pass any more.
+    /// Returns `true` if a fuse is in, also one that lets no call pass any more.
     pub fn is_fused(&self) -> bool
         ensures { result ≡ is_some (fuse_left self.now) }
     {
         self.fuse.is_some()
     }
 
-    /// Whether its file is empty: reads give no byte. This is no call of the device, and takes no memory.
+    /// Returns `true` if its file is empty: reads give no byte. This is no call of the device, and
+    /// takes no memory.
     pub fn is_empty(&self) -> bool
         ensures { IsTrue result ↔ (length (memory_state self.now).seen ≡ 0) }
     {
         self.log.seen().is_empty()
     }
 
-    /// The disk after a crash, which leaves one of the files that it may: the one that the pick names. All of it is on
-    /// the disk, no call was made of it, and the fuse is out. It takes no memory, and is always Ok.
+    /// The disk after a crash, which leaves one of the files that it may: the one that the pick
+    /// names. All of it is on the disk, no call was made of it, and the fuse is out. It takes no
+    /// memory, and is always Ok.
     pub fn crash(mut self, pick: Pick) -> Result<MemDisk, AllocError>
         ensures state { IfOk result (λ disk. memory_state disk ≡ at_rest (left (memory_state self) pick)) }
         ensures may_leave { IfOk result (λ disk. MayLeave (memory_state self) (memory_state disk).seen) }
+        ensures as_it_began { IfOk result (λ disk. memory_state disk ≡ at_rest (memory_begun disk)) }
         ensures moment { IfOk result (λ disk. memory_moment disk ≡ 0) }
         ensures failures { IfOk result (λ disk. memory_failures disk ≡ 0) }
         ensures fuse { IfOk result (λ disk. fuse_left disk ≡ None) }
@@ -84,7 +88,7 @@ impl MemDisk {
         }
     }
 
-    /// Whether the fuse lets the next call pass.
+    /// Returns `true` if the fuse lets the next call pass.
     fn passes(&self) -> bool
         ensures { result ≡ lets_pass (fuse_left self.now) }
     {
@@ -130,9 +134,11 @@ impl Disk for MemDisk {
     ghost use Rattle.std.specs.Prelude.{◌⊎◌, ◌+◌, ◌≤◌, take, drop};
     ghost use Rattle.disk.specs.Model.{Elapses, FailedWrite, after_write};
     ghost use Rattle.disk.specs.Fuse.{Burns};
-    ghost use Rattle.disk.specs.Memory.{memory_state, memory_moment, memory_since, memory_failures, fuse_left};
+    ghost use Rattle.disk.specs.Memory.{memory_state, memory_moment, memory_since, memory_failures, memory_begun, fuse_left};
 
     ghost keeps = { λ _. Unit {0} };
+
+    ghost begun = { memory_begun };
 
     ghost state = { memory_state };
 
@@ -156,6 +162,7 @@ impl Disk for MemDisk {
         ensures listed { memory_moment self.new ≡ memory_moment self.old + 1 }
         ensures fuse { Burns (memory_moment self.old) (memory_moment self.new)
             (fuse_left self.old) (fuse_left self.new) result }
+        ensures begun { memory_begun self.new ≡ memory_begun self.old }
         ensures cause { CountsFailures (memory_failures self.old) (memory_failures self.new) result }
         ensures counted { CountsFault (memory_failures self.old) (memory_failures self.new) result }
     {
@@ -173,6 +180,7 @@ impl Disk for MemDisk {
         ensures listed { memory_moment self.new ≡ memory_moment self.old + 1 }
         ensures fuse { Burns (memory_moment self.old) (memory_moment self.new)
             (fuse_left self.old) (fuse_left self.new) result }
+        ensures begun { memory_begun self.new ≡ memory_begun self.old }
         ensures cause { CountsFailures (memory_failures self.old) (memory_failures self.new) result }
         ensures counted { CountsFault (memory_failures self.old) (memory_failures self.new) result }
     {
@@ -192,6 +200,7 @@ impl Disk for MemDisk {
             (memory_since self.old) (memory_since self.new) (memory_state self.old) (memory_state self.new) result }
         ensures fuse { Burns (memory_moment self.old) (memory_moment self.new)
             (fuse_left self.old) (fuse_left self.new) result }
+        ensures begun { memory_begun self.new ≡ memory_begun self.old }
         ensures cause { CountsFailures (memory_failures self.old) (memory_failures self.new) result }
         ensures counted { CountsFault (memory_failures self.old) (memory_failures self.new) result }
     {
@@ -210,6 +219,7 @@ impl Disk for MemDisk {
         ensures listed { memory_moment self.new ≡ memory_moment self.old + 1 }
         ensures fuse { Burns (memory_moment self.old) (memory_moment self.new)
             (fuse_left self.old) (fuse_left self.new) result }
+        ensures begun { memory_begun self.new ≡ memory_begun self.old }
         ensures cause { CountsFailures (memory_failures self.old) (memory_failures self.new) result }
         ensures counted { CountsFault (memory_failures self.old) (memory_failures self.new) result }
     {

@@ -18,10 +18,10 @@ use std::sync::Arc;
 pub(crate) struct NamedFile<F: SystemFile> {
     pub(crate) file: F,
     pub(crate) folder: F,
-    /// Whether a sync has put the folder on the disk, and so the file's name.
+    /// Set if a sync has put the folder on the disk, and so the file's name.
     pub(crate) named: bool,
     pub(crate) failures: GhostRecord<Failures>,
-    /// Where the first error of the system is kept, if somebody wants to know it.
+    /// The place for the first error of the system, if somebody wants to know it.
     pub(crate) first: Option<Arc<FirstError>>,
 }
 
@@ -62,7 +62,7 @@ impl<F: SystemFile> NamedFile<F> {
         }
     }
 
-    /// From now on the system's error at the first call that fails is kept in what this gives.
+    /// Keeps the system's error at the first call that fails from now on, in what this returns.
     pub(crate) fn keep_first_error(&mut self, alloc: Global) -> Result<Arc<FirstError>, AllocError>
         ensures file { (self.new.file ≡ self.old.file) × (self.new.folder ≡ self.old.folder) }
         ensures named { self.new.named ≡ self.old.named }
@@ -73,7 +73,7 @@ impl<F: SystemFile> NamedFile<F> {
         Ok(ours)
     }
 
-    /// How many bytes the file has.
+    /// Returns how many bytes the file has.
     pub(crate) fn len(&mut self) -> Result<usize, DeviceFault>
         ensures told { IfOk result (λ n. F.done self.new.file ≡ with_told (F.done self.old.file) n) }
         ensures folder { (self.new.folder ≡ self.old.folder) × (self.new.named ≡ self.old.named) }

@@ -8,21 +8,22 @@ use std::fs::File;
 use std::io;
 use std::os::unix::fs::FileExt;
 
-/// An open file of the system, or a folder. A read or a write may move less than it is asked for, and each call may fail,
-/// also where a signal interrupts it.
+/// An open file of the system, or a folder. A read or a write may move less than it is asked for,
+/// and each call may fail, also where a signal interrupts it.
 ///
-/// It tells, for clauses alone, what its calls did. That a file holds what was written, and keeps it after a sync, is not
-/// said: that is the premise on a real file.
+/// It tells, for clauses alone, what its calls did. That a file holds what was written, and keeps
+/// it after a sync, is not said: that is the premise on a real file.
 pub(crate) trait SystemFile {
-    /// What its calls did so far.
+    /// The calls on it so far.
     ghost done: { Self → Done };
 
-    /// How many bytes it has.
+    /// Returns how many bytes it has.
     fn len(&mut self) -> io::Result<usize>
         ensures ok { IfOk result (λ n. done self.new ≡ with_told (done self.old) n) }
         ensures err { OnErr result (done self.new ≡ done self.old) };
 
-    /// Reads some bytes from a place on into the front of the buffer, and answers how many: 0 at the end.
+    /// Reads some bytes from a place on into the front of the buffer, and answers how many: 0 at
+    /// the end.
     fn read_at(&mut self, at: usize, buf: &mut [u8]) -> io::Result<usize>
         ensures within { IfOk result (λ n. n ≤ length buf.new) }
         ensures ok { IfOk result (λ n. done self.new ≡ with_read (done self.old) at (take n buf.new)) }

@@ -5,10 +5,10 @@ ghost use Rattle.disk.specs.System.{with_read, with_written, with_told, with_syn
 use crate::system::SystemFile;
 use std::io::{self, ErrorKind};
 
-/// How often a call that a signal interrupted is made again.
+/// The most times that a call is made again after a signal interrupted it.
 const TRIES: u32 = 1_000_000;
 
-/// Whether a signal interrupted the call.
+/// Returns `true` if a signal interrupted the call.
 fn is_interrupted<T>(done: &io::Result<T>) -> bool
     ensures { IfOk done.now (λ _. result ≡ false) }
 {
@@ -18,7 +18,7 @@ fn is_interrupted<T>(done: &io::Result<T>) -> bool
     }
 }
 
-/// How many bytes the file has.
+/// Returns how many bytes the file has.
 pub(crate) fn length_of<F: SystemFile>(file: &mut F) -> io::Result<usize>
     ensures ok { IfOk result (λ n. F.done file.new ≡ with_told (F.done file.old) n) }
     ensures err { OnErr result (F.done file.new ≡ F.done file.old) }

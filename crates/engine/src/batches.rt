@@ -23,8 +23,8 @@ const DECIDED: u8 = 4;
 /// The most records of a batch.
 const MOST_RECORDS: usize = 65_535;
 
-/// The file of a journal that has no records: the header, and the closed gate behind which the first batch is added, at
-/// byte 24.
+/// The file of a journal that has no records: the header, and the closed gate behind which the
+/// first batch is added, at byte 24.
 #[tactic(auto, unfolding(journal::specs::Texts::header_text))]
 pub fn batch_head(header: &Header) -> [u8; 25]
     ensures lawful { IsHeader header.now }
@@ -77,11 +77,12 @@ fn journal_statement(s: Statement) -> [u8; 6]
     ]
 }
 
-/// The first write of an append of 1 to 65,535 records, seven bytes each: the batch behind a closed gate, with another closed
-/// gate behind it. It is written over the closed gate at the journal's end, and synced; then the one byte 1 is written over
-/// its first, and synced.
+/// The first write of an append of 1 to 65,535 records, seven bytes each: the batch behind a closed
+/// gate, with another closed gate behind it. It is written over the closed gate at the journal's
+/// end, and synced; then the one byte 1 is written over its first, and synced.
 ///
-/// [`EngineFault::BadRecords`]: the bytes are no list of 1 to 65,535 records. [`EngineFault::Memory`]: there was none.
+/// [`EngineFault::BadRecords`]: the bytes are no list of 1 to 65,535 records.
+/// [`EngineFault::Memory`]: there was none.
 pub fn encode_batch(alloc: Global, bytes: &[u8]) -> Result<Vec<u8>, EngineFault>
     ensures batch { IfOk result (λ batch. IsShutBatchOf bytes.now batch.items) }
     ensures bad { IsErrOf result EngineFault.BadRecords → IsNoBatch bytes.now }
@@ -119,8 +120,8 @@ fn shut(alloc: Global, records: &[Record]) -> Result<Vec<u8>, AllocError>
     Ok(batch)
 }
 
-/// The content of a journal's file: the records, seven bytes each, oldest first, and the place of the closed gate where the next
-/// batch is added.
+/// The content of a journal's file: the records, seven bytes each, oldest first, and the place of
+/// the closed gate where the next batch is added.
 #[derive(Drop)]
 pub struct JournalRead {
     /// The bytes of the records.
@@ -131,8 +132,8 @@ pub struct JournalRead {
 
 /// Reads a journal's file.
 ///
-/// `BadHeader`, `OldVersion`, `OtherHeader`, `CutShort` or `BadRecord`: the first thing that is wrong with the file.
-/// `Memory`: there was none.
+/// `BadHeader`, `OldVersion`, `OtherHeader`, `CutShort` or `BadRecord`: the first thing that is
+/// wrong with the file. `Memory`: there was none.
 pub fn read_batches(
     alloc: Global,
     header: &Header,

@@ -36,7 +36,8 @@ pub fn idle_frame() -> [u8; 3]
     [0, 1, 0]
 }
 
-/// The frame of a hello. A feeder of the size reads it if `from` and `to` are below its number of members.
+/// The frame of a hello. A feeder of the size reads it if `from` and `to` are below its number of
+/// members.
 pub fn hello_frame(version: Version, cluster: u64, size: Size, from: u8, to: u8) -> [u8; 18]
     ensures { result ≡ frame_bytes (message.Hello version cluster size from to) }
 {
@@ -76,7 +77,8 @@ pub fn welcome_frame(next: u64) -> [u8; 11]
     [0, 9, 2, a, b, c, d, e, f, g, h]
 }
 
-/// The frame of the statement of seven bytes, if they are one's. It is one of both versions of the wire.
+/// The frame of the statement of seven bytes, if they are one's. It is one of both versions of the
+/// wire.
 pub fn statement_frame(bytes: &[u8; 7]) -> Option<[u8; 10]>
     ensures some { IfSome result (λ frame. (s : Statement) × IsStatement s × (bytes.now ≡ statement_bytes s)
         × (frame ≡ frame_bytes (message.Statement s))) }
@@ -88,11 +90,12 @@ pub fn statement_frame(bytes: &[u8; 7]) -> Option<[u8; 10]>
     }
 }
 
-/// Writes the frame of 1 to 99 statements, seven bytes each, to the front of `out`, and answers how many bytes it has. One
-/// statement has the frame of [`statement_frame`]; several have one of version 2 of the wire.
+/// Writes the frame of 1 to 99 statements, seven bytes each, to the front of `out`, and answers how
+/// many bytes it has. One statement has the frame of [`statement_frame`]; several have one of
+/// version 2 of the wire.
 ///
-/// [`EngineFault::BadStatement`]: the bytes are no list of 1 to 99 statements. [`EngineFault::Memory`]: there was none.
-/// Nothing was written.
+/// [`EngineFault::BadStatement`]: the bytes are no list of 1 to 99 statements.
+/// [`EngineFault::Memory`]: there was none. Nothing was written.
 pub fn statements_frame(alloc: Global, bytes: &[u8], out: &mut [u8]) -> Result<usize, EngineFault>
     requires { 697 ≤ length out.old }
     ensures written { IfOk result (λ count. IsFrameOf bytes.now count out.old out.new) }

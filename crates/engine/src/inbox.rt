@@ -37,8 +37,9 @@ impl Inbox {
         }
     }
 
-    /// Reads a piece: the messages whose frames end in it wait behind those that wait already. [`Fed::Broken`]: the bytes so
-    /// far are whole frames, and then bytes that begin none. The messages before them wait, and nothing more is read.
+    /// Reads a piece: the messages whose frames end in it wait behind those that wait already.
+    /// [`Fed::Broken`]: the bytes so far are whole frames, and then bytes that begin none. The
+    /// messages before them wait, and nothing more is read.
     ///
     /// [`Memory`]: there was none. Nothing changed, and the same call can be made again.
     pub fn feed(&mut self, piece: &[u8]) -> Result<Fed, Memory>
@@ -88,8 +89,8 @@ fn refill(read: &mut Vec<Message>, first: &mut Vec<Message>)
     first.reverse();
 }
 
-/// Writes what stands behind the message's type in its frame, and of statements the seven bytes of each, to the front of
-/// `out`, and answers how many bytes they are.
+/// Writes what stands behind the message's type in its frame, and of statements the seven bytes of
+/// each, to the front of `out`, and answers how many bytes they are.
 pub fn write_body(message: &Message, out: &mut [u8]) -> usize
     requires { 693 ≤ length out.old }
     ensures count { result ≡ length (body_of message.now) }

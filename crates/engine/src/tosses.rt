@@ -13,7 +13,8 @@ pub struct Tosses {
 }
 
 impl Tosses {
-    /// The tosses of a stream of the seed, from its first word on. The same seed and stream give the same tosses.
+    /// The tosses of a stream of the seed, from its first word on. The same seed and stream give
+    /// the same tosses.
     pub fn new(seed: [u8; 32], stream: u64) -> Tosses
         ensures { stream_now result ≡ stream_of seed stream }
     {

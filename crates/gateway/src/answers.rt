@@ -80,8 +80,8 @@ pub(crate) fn joined(
     Ok(bytes)
 }
 
-/// Returns the object of JSON of a question: its state, and what each member told. A decision in it is one that more than t
-/// members told; before there is one the state is that of the stage.
+/// Returns the object of JSON of a question: its state, and what each member told. A decision in it
+/// is one that more than t members told; before there is one the state is that of the stage.
 ///
 /// # Errors
 ///
@@ -107,7 +107,8 @@ pub fn question_text(
     )
 }
 
-/// Returns the object of JSON of a proposal: the question's state, how many members took the bit, and how many had one.
+/// Returns the object of JSON of a proposal: the question's state, how many members took the bit,
+/// and how many had one.
 ///
 /// # Errors
 ///
@@ -194,8 +195,8 @@ fn escaped(alloc: Global, text: &[u8]) -> Result<Vec<u8>, AllocError>
     Ok(bytes)
 }
 
-/// Returns the object of JSON of a transcript: its lines, and what an audit says of it. The lines have nothing but digits, letters
-/// and blanks.
+/// Returns the object of JSON of a transcript: its lines, and what an audit says of it. The lines
+/// have nothing but digits, letters and blanks.
 ///
 /// # Errors
 ///
@@ -264,8 +265,8 @@ fn states_front(alloc: Global, moment: &Moment, lately: &[u32]) -> Result<Vec<u8
     )
 }
 
-/// Returns the object of JSON of these questions: a letter for each, the number of decisions in each of the last seconds, and the
-/// position from which the stream goes on.
+/// Returns the object of JSON of these questions: a letter for each, the number of decisions in
+/// each of the last seconds, and the position from which the stream goes on.
 ///
 /// # Errors
 ///

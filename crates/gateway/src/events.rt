@@ -125,7 +125,8 @@ pub fn event_text(alloc: Global, at: Position, event: &Event) -> Result<String, 
     )
 }
 
-/// Returns the text that tells a follower to load everything anew, and the position from which it goes on.
+/// Returns the text that tells a follower to load everything anew, and the position from which it
+/// goes on.
 ///
 /// # Errors
 ///

@@ -42,7 +42,8 @@ fn is_bare_host(host: &[u8]) -> bool
     is(host, "127.0.0.1") || is(host, "localhost") || is(host, "[::1]")
 }
 
-/// Returns `true` if the host is one of this machine's own names alone, and the port is that of HTTP.
+/// Returns `true` if the host is one of this machine's own names alone, and the port is that of
+/// HTTP.
 fn is_bare_local_host(host: &[u8], port: u16) -> bool
     ensures { IsTrue result ↔ IsBareLocalHost port host.now }
 {
@@ -87,7 +88,8 @@ pub(crate) fn takes_proposals(policy: &Policy<'_>) -> bool
     policy.local || !policy.token.is_empty()
 }
 
-/// Returns `true` if the bytes are the same. Looks at every pair, so its time doesn't tell how many are.
+/// Returns `true` if the bytes are the same. Looks at every pair, so its time doesn't tell how many
+/// are.
 fn are_same(one: &[u8], other: &[u8]) -> bool
     ensures { IsTrue result ↔ (one.now ≡ other.now) }
 {

@@ -1,8 +1,8 @@
 //! A gateway to a cluster: what an HTTP request asks for and may ask for, and what is answered.
 //!
-//! Up to t members lie, so a [`Watch`] takes what members told and gives a decision only once more than t of them told it.
-//! [`task_of`] reads a request against a [`Policy`]; the functions of texts write JSON, events and metrics. Nothing here
-//! reads a socket or waits.
+//! Up to t members lie, so a [`Watch`] takes what members told and gives a decision only once more
+//! than t of them told it. [`task_of`] reads a request against a [`Policy`]; the functions of texts
+//! write JSON, events and metrics. Nothing here reads a socket or waits.
 #![tactic(auto)]
 
 mod answers;

@@ -51,7 +51,8 @@ fn timed(query: &[u8]) -> Option<u16>
     }
 }
 
-/// Returns the seconds that the request waits for a decision: 0 without a query, else as `wait=` says, 60 at most.
+/// Returns the seconds that the request waits for a decision: 0 without a query, else as `wait=`
+/// says, 60 at most.
 pub(crate) fn wait_of(query: &[u8]) -> Option<u16>
     ensures some { IfSome result (IsWait query.now) }
     ensures none { IsNone result → (wait : ℕ) → IsWait query.now wait → ⊥ }
@@ -136,7 +137,8 @@ fn named_range(questions: u16, query: &[u8]) -> Option<(u16, u16)>
     }
 }
 
-/// Returns the first question that is asked for and the one after the last: all without a query, else as `from=A&to=B` says.
+/// Returns the first question that is asked for and the one after the last: all without a query,
+/// else as `from=A&to=B` says.
 pub(crate) fn range_of(questions: u16, query: &[u8]) -> Option<(u16, u16)>
     ensures some { IfSome result (λ found. IsRange questions query.now found.0 found.1) }
     ensures none { IsNone result → (from to : ℕ) → IsRange questions query.now from to → ⊥ }
@@ -180,8 +182,8 @@ fn after_query(query: &[u8]) -> Option<Position>
     }
 }
 
-/// Returns the position from which a follower goes on: that of the last event that it saw, or else that of the query. `None`
-/// if they name none.
+/// Returns the position from which a follower goes on: that of the last event that it saw, or else
+/// that of the query. `None` if they name none.
 pub(crate) fn after_of(query: &[u8], last: &[u8]) -> Option<Position>
     ensures { IfSome result (IsAfter query.now last.now) }
 {

@@ -107,7 +107,8 @@ pub enum Refusal {
     Question,
     /// The query isn't one of this path.
     Query,
-    /// The gateway takes no proposals: it has no token, and listens at an address that isn't a loopback one.
+    /// The gateway takes no proposals: it has no token, and listens at an address that isn't a
+    /// loopback one.
     Closed,
     /// A page of another site sent the request.
     Origin,
@@ -367,7 +368,8 @@ fn routed_task(
     }
 }
 
-/// Returns what is to be done for a request to a gateway with this policy and a cluster of this size.
+/// Returns what is to be done for a request to a gateway with this policy and a cluster of this
+/// size.
 ///
 /// # Errors
 ///

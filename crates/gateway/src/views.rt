@@ -68,7 +68,8 @@ fn proposing_word(proposing: Proposing) -> &'static str
     }
 }
 
-/// Returns the item of a question on which a member contradicts the others, behind a comma; nothing if it doesn't.
+/// Returns the item of a question on which a member contradicts the others, behind a comma; nothing
+/// if it doesn't.
 fn contradiction_item(
     alloc: Global,
     question: usize,
@@ -221,7 +222,8 @@ fn has_links(size: Size, view: &MemberView) -> bool
     needed <= view.coming && needed <= view.going
 }
 
-/// Returns `true` if the member answers, and as many links come in and go out as it needs to decide.
+/// Returns `true` if the member answers, and as many links come in and go out as it needs to
+/// decide.
 pub fn is_linked(size: Size, view: &MemberView) -> bool
     ensures { IsTrue result ↔ IsLinked size view.now }
 {

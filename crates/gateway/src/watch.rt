@@ -62,8 +62,8 @@ impl Watch {
         self.size
     }
 
-    /// Takes a decision that a member told. Of each member the first word on a question counts. Returns `false` if there is no
-    /// such member or question, and then nothing changed.
+    /// Takes a decision that a member told. Of each member the first word on a question counts.
+    /// Returns `false` if there is no such member or question, and then nothing changed.
     #[tactic(auto, unfolding(crate::specs::Watches::Watches, crate::specs::Watches::watch_size))]
     pub fn take(&mut self, told: Told) -> bool
         ensures words { IsTrue result → (heard : List Told) → Watches self.old heard → Watches self.new (heard ++ told ∷ []) }
@@ -95,7 +95,8 @@ impl Watch {
         }
     }
 
-    /// Returns the bit that the member told first on the question, if it told one. A member that isn't below 64 told none.
+    /// Returns the bit that the member told first on the question, if it told one. A member that
+    /// isn't below 64 told none.
     #[tactic(auto, unfolding(crate::specs::Watches::Watches))]
     pub fn word_of(&self, question: u16, member: u8) -> Option<bool>
         ensures { (heard : List Told) → Watches self.now heard → member < 64 → result ≡ first_word (words_on question heard) member }
@@ -106,7 +107,8 @@ impl Watch {
         }
     }
 
-    /// Returns the bit that the member told first on the question, if more than t members told the other one.
+    /// Returns the bit that the member told first on the question, if more than t members told the
+    /// other one.
     pub fn contradiction(&self, question: u16, member: u8) -> Option<bool>
         ensures { (heard : List Told) → Watches self.now heard → member < 64 →
             Contradicts (watch_size self.now) heard member question result }
@@ -114,7 +116,8 @@ impl Watch {
         contradiction_in(self.decision(question), self.word_of(question, member))
     }
 
-    /// Returns for each question the bit that the member told first, if more than t members told the other one.
+    /// Returns for each question the bit that the member told first, if more than t members told
+    /// the other one.
     ///
     /// # Errors
     ///

@@ -8,17 +8,18 @@ use std::marker::{Model, PhantomData};
 
 /// A kind of value to be recorded. A value of it is never made: what it is stands in its `Model`.
 pub trait Recorded {
-    /// What it is before anything has happened.
+    /// The value before anything has happened.
     ghost begun: { Self };
 }
 
-/// What happens, as a change of a recorded value of the kind `V`.
+/// An event that changes a recorded value of the kind `V`.
 pub trait Change<V> {
-    /// What it makes of the value.
+    /// The value after the event.
     ghost after: { V → Self → V };
 }
 
-/// A record of the kind `V`: what all changes so far have made of its value. It takes no memory, and has no word at run time.
+/// A record of the kind `V`: what all changes so far have made of its value. It takes no memory,
+/// and has no word at run time.
 pub struct GhostRecord<V> {
     marker: PhantomData<V>,
     pub ghost value: { V },

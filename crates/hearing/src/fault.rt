@@ -1,4 +1,4 @@
-//! What ends `hear`.
+//! The faults that end `hear`.
 
 ghost use Rattle.std.specs.Prelude.{◌≡◌};
 ghost use Rattle.hearing.specs.declared.fault.HearFault.TheVariants as fault;

@@ -23,12 +23,13 @@ fn without_end(line: &[u8]) -> &[u8]
     }
 }
 
-/// Reads lines, each a piece of a sender's stream, and writes what member `me` of a cluster of that size answers by
-/// reliable broadcast (Bracha 1987, section 3), line by line as the input comes. The status is 0.
+/// Reads lines, each a piece of a sender's stream, and writes what member `me` of a cluster of that
+/// size answers by reliable broadcast (Bracha 1987, section 3), line by line as the input comes.
+/// The status is 0.
 ///
-/// [`HearFault::Me`]: `me` isn't below n; nothing was read or written. [`HearFault::Line`]: that line isn't one; the lines
-/// before it are answered. [`HearFault::Stream`] and [`HearFault::Memory`]: a read, a write or a growth failed; what was
-/// written before stands.
+/// [`HearFault::Me`]: `me` isn't below n; nothing was read or written. [`HearFault::Line`]: that
+/// line isn't one; the lines before it are answered. [`HearFault::Stream`] and
+/// [`HearFault::Memory`]: a read, a write or a growth failed; what was written before stands.
 pub fn hear_lines<R: BufRead, W: Write>(
     alloc: Global,
     size: Size,
@@ -36,7 +37,8 @@ pub fn hear_lines<R: BufRead, W: Write>(
     input: &mut R,
     output: &mut W,
 ) -> Result<u8, HearFault>
-    // Where the bytes of the streams are known, what is written is the answer to what is read, and nothing else.
+    // Where the bytes of the streams are known, what is written is the answer to what is read, and
+    // nothing else.
     ensures all { IfOk result (λ status. (status ≡ 0)
         × WritesReplies size me (R.remaining input.old) None (W.contents output.old) (W.contents output.new)) }
     ensures line { (number : ℕ) → result ≡ Err (HearFault.Line number) →

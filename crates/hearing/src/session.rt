@@ -1,4 +1,4 @@
-//! What `hear` keeps from line to line, and what it answers to each.
+//! The state of `hear` from line to line, and its answer to each.
 
 ghost use Rattle.std.specs.Prelude.{ℕ, ◌≡◌, ◌<◌, ◌++◌, OnOk, IfOk, IfErr, List, length, codes, true, false};
 ghost use Rattle.std.specs.Io.KnownBytes.{Appends};
@@ -64,7 +64,8 @@ fn say(
     }
 }
 
-/// Hears the statement, and adds a line for how it was taken and one for each frame that is then due.
+/// Hears the statement, and adds a line for how it was taken and one for each frame that is then
+/// due.
 fn hear(
     alloc: Global,
     broadcasts: &mut Broadcasts,
@@ -272,10 +273,11 @@ impl Session {
         }
     }
 
-    /// Answers a line of the input: a piece of a sender's stream is heard, and what it is answered is written. False
-    /// where the line isn't one: then nothing changed and nothing was written.
+    /// Answers a line of the input: a piece of a sender's stream is heard, and what it is answered
+    /// is written. False where the line isn't one: then nothing changed and nothing was written.
     ///
-    /// [`HearFault::Stream`] and [`HearFault::Memory`]: a write or a growth failed, and the session is not to be used again.
+    /// [`HearFault::Stream`] and [`HearFault::Memory`]: a write or a growth failed, and the session
+    /// is not to be used again.
     pub fn answer<W: Write>(&mut self, line: &[u8], output: &mut W) -> Result<bool, HearFault>
         requires { IsWhole self.old.size self.old }
         ensures answers { result ≡ Ok true → (h : Hearing) → SessionStandsFor self.old h →

@@ -1,5 +1,5 @@
 -- What an append leaves.
-use Rattle.std.proofs.Common.{◌≡◌, ◌≢◌, ◌⊎◌, ◌↔◌, inl, ℕ, ◌+◌, ◌*◌, ◌≤◌, false, refl, append-nil, List, [], ◌∷◌, ◌++◌, length, take, sym, ◌∙◌, ap, subst, arith}
+use Rattle.std.proofs.Common.{◌≡◌, ◌≢◌, ◌⊎◌, inl, ℕ, ◌+◌, ◌*◌, ◌≤◌, false, refl, append-nil, List, [], ◌∷◌, ◌++◌, length, take, sym, ◌∙◌, ap, subst, arith}
 use Rattle.terms_prelude.specs.Terms.{Record, Header}
 use Rattle.disk.specs.Model.{State, MayLeave, LeavesOnly, at_rest}
 use Rattle.disk.specs.declared.device.Disk.{Ghosts as DiskGhosts}
@@ -49,7 +49,7 @@ module _ {D : Type 0} (disk : DiskGhosts D) (old : Journal D) (batch : List Reco
     empty_is_no_call = λ empty. refl;
     header = refl;
     later = omega arith;
-    kept = (λ k. k, λ k. k);
+    kept = λ k. k;
   }
 
   -- a batch of no record is there already
@@ -71,8 +71,8 @@ module _ {D : Type 0} (disk : DiskGhosts D) (old : Journal D) (batch : List Reco
 
   -- where the batch's bytes were put behind the gate, however that ended
   pub all_or_nothing : 1 ≤ length batch → length batch ≤ 65535 → AreWellFormedFor (journal_header old) batch → (new : Journal D) → journal_header new ≡ journal_header old
-      → (disk.keeps (journal_disk old) → LeavesOnly disk.moment disk.since (journal_disk old) (journal_disk new) (IsCommit (take (journal_gate old) (disk.state (journal_disk old)).seen) (batch_body batch ++ 0 ∷ [])))
-      → disk.failures (journal_disk old) ≤ disk.failures (journal_disk new) → disk.keeps (journal_disk old) ↔ disk.keeps (journal_disk new)
+      → (disk.keeps (journal_disk new) → LeavesOnly disk.moment disk.since (journal_disk old) (journal_disk new) (IsCommit (take (journal_gate old) (disk.state (journal_disk old)).seen) (batch_body batch ++ 0 ∷ [])))
+      → disk.failures (journal_disk old) ≤ disk.failures (journal_disk new) → (disk.keeps (journal_disk new) → disk.keeps (journal_disk old))
       → AddsAllOrNothing disk old batch new
   all_or_nothing some few good new header_is leaves later kept = record {
     any_moment = λ keeps header all settled.

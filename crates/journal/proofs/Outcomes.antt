@@ -8,7 +8,7 @@ use Rattle.journal.proofs.Held.{held_holds, left_holds}
 
 -- what was read has a fault, or there was no memory for its records
 pub refused_after : {A D : Type 0} (disk : DiskGhosts D) (before after : D) (header : Header) (bytes : List ℕ) (result : Result A JournalFault) → WasRead disk before after
-    → (disk.keeps before → bytes ≡ (disk.state before).seen) → IfErr result (λ fault. IsOfFile fault → RefusesFile header fault bytes)
+    → (disk.keeps after → bytes ≡ (disk.state before).seen) → IfErr result (λ fault. IsOfFile fault → RefusesFile header fault bytes)
     → IfErr result (λ fault. IsOfFile fault ⊎ (fault ≡ Memory)) → IfErr result (λ fault. HandsBack disk before header fault after)
 refused_after disk before after header bytes (Ok a) read is refused only = tt
 refused_after disk before after header bytes (Err f) read is refused only = record {
@@ -42,20 +42,20 @@ refused_after disk before after header bytes (Err f) read is refused only = reco
 
 -- what was read is held
 pub held_after : {A : Type 0} {D : Type 0} (disk : DiskGhosts D) (before after : D) (header : Header) (bytes : List ℕ) (gate : A → ℕ) (records : A → List Record) (result : Result A JournalFault) → WasRead disk before after
-    → (disk.keeps before → bytes ≡ (disk.state before).seen) → IfOk result (λ held. IsHeld (at_rest bytes) header (gate held) (records held))
-    → disk.keeps before → IfOk result (λ held. IsHeld (disk.state after) header (gate held) (records held))
+    → (disk.keeps after → bytes ≡ (disk.state before).seen) → IfOk result (λ held. IsHeld (at_rest bytes) header (gate held) (records held))
+    → disk.keeps after → IfOk result (λ held. IsHeld (disk.state after) header (gate held) (records held))
 held_after disk before after header bytes gate records (Err f) read is held keeps = tt
 held_after disk before after header bytes gate records (Ok a) read is held keeps =
     subst (λ (s : State). IsHeld s header (gate a) (records a)) (ap at_rest (is keeps) ∙ sym (read.on_disk keeps)) held
 
 -- the disk that was read is a journal's now
 pub opened_with : {D : Type 0} (disk : DiskGhosts D) (before after : D) (header : Header) (gate : ℕ) (records : List Record) (journal : Journal D) → journal_disk journal ≡ after → journal_gate journal ≡ gate
-    → journal_header journal ≡ header → journal_is_stopped journal ≡ false → WasRead disk before after → (disk.keeps before → IsHeld (disk.state after) header gate records) → HasOpened disk before header records journal
+    → journal_header journal ≡ header → journal_is_stopped journal ≡ false → WasRead disk before after → (disk.keeps after → IsHeld (disk.state after) header gate records) → HasOpened disk before header records journal
 opened_with {D} disk before after header gate records journal disk_is gate_is header_is running was_read was_held =
     let read : WasRead disk before (journal_disk journal) = subst (λ (d : D). WasRead disk before d) (sym disk_is) was_read in
-    let held : disk.keeps before → IsHeld (disk.state (journal_disk journal)) header (journal_gate journal) records =
+    let held : disk.keeps (journal_disk journal) → IsHeld (disk.state (journal_disk journal)) header (journal_gate journal) records =
     λ keeps. subst (λ (d : D). IsHeld (disk.state d) header (journal_gate journal) records) (sym disk_is)
-    (subst (λ (n : ℕ). IsHeld (disk.state after) header n records) (sym gate_is) (was_held keeps)) in
+    (subst (λ (n : ℕ). IsHeld (disk.state after) header n records) (sym gate_is) (was_held (subst (λ (d : D). disk.keeps d) disk_is keeps))) in
     record {
       settled = λ keeps. record { running = running; header_is = header_is; held = held keeps };
       held = λ keeps.
@@ -69,5 +69,6 @@ opened_with {D} disk before after header gate records journal disk_is gate_is he
       header_is = header_is;
       quiet = read.quiet;
       later = omega (arith, read.quiet);
+      begun = read.begun;
       kept = read.kept;
     }

@@ -1,4 +1,5 @@
-//! Reading a journal's file a batch at a time, in the memory of its bytes and of one batch: begin at `Batches::read`.
+//! Reading a journal's file a batch at a time, in the memory of its bytes and of one batch: begin
+//! at `Batches::read`.
 ghost use Rattle.std.specs.Prelude.{◌≡◌, ◌⊎◌, ◌<◌, ◌∷◌, ◌++◌, true, false, ℕ, List, [], drop, IfOk, IfErr, OnOk};
 ghost use Rattle.terms_prelude.specs.Terms.{Record, Header};
 ghost use Rattle.journal.specs.declared.fault.JournalFault.TheVariants.{Memory};
@@ -21,16 +22,18 @@ use terms::{Header, Record};
 pub struct Batches {
     header: Header,
     bytes: Vec<u8>,
-    /// Where the next batch begins, or the closed gate behind the last.
+    /// The place at which the next batch begins, or the closed gate after the last.
     at: usize,
 }
 
 impl Batches {
-    /// Reads a journal's file, by three calls of the device: `sync`, `len` and one read of all bytes. All of it is looked at
-    /// before the first batch is given, so a file that holds no journal gives none.
+    /// Reads a journal's file, by three calls of the device: `sync`, `len` and one read of all
+    /// bytes. All of it is looked at before the first batch is given, so a file that holds no
+    /// journal gives none.
     ///
     /// No byte of the file was changed after a fault:
-    /// - `BadHeader`, `OldVersion`, `OtherHeader`, `CutShort` or `BadRecord`: the first thing that is wrong with the file.
+    /// - `BadHeader`, `OldVersion`, `OtherHeader`, `CutShort` or `BadRecord`: the first thing that
+    ///   is wrong with the file.
     /// - `Memory`: there was none for the bytes or for one batch.
     /// - `Device`: the disk failed.
     pub fn read<D: Disk>(
@@ -39,7 +42,7 @@ impl Batches {
         header: &Header,
     ) -> Result<Batches, JournalFault>
         ensures left { IfOk result (λ batches. (records : List Record) × HasLeft batches records
-            × (D.keeps disk.old → Holds header.now records (D.state disk.old).seen)) }
+            × (D.keeps disk.new → Holds header.now records (D.state disk.old).seen)) }
         ensures read { OnOk result (WasRead D.Disk disk.old disk.new) }
         ensures fault { IfErr result (λ fault. HandsBack D.Disk disk.old header.now fault disk.new) }
     {
@@ -52,9 +55,11 @@ impl Batches {
         })
     }
 
-    /// Puts the records of the next batch in place of those of the list, and tells whether there was one.
+    /// Puts the records of the next batch in place of those of the list, and tells whether there
+    /// was one.
     ///
-    /// `Memory`: there was none for the records. No other fault comes, since the file was looked at.
+    /// `Memory`: there was none for the records. No other fault comes, since the file was looked
+    /// at.
     #[tactic(auto, unfolding(crate::specs::Left::bytes_left))]
     pub fn next(&mut self, records: &mut Vec<Record>) -> Result<bool, JournalFault>
         ensures some { (left : List Record) → HasLeft self.old left → IfOk result (λ more. more ≡ true →

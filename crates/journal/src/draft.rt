@@ -16,11 +16,11 @@ use disk::{DeviceFault, Disk};
 use std::alloc::Global;
 use terms::{Header, Record};
 
-/// What a journal's file begins with.
+/// The first byte of a journal's file.
 const FIRST: u8 = b'B';
 
-/// A journal's file but for its first byte, which is 0. Batches are added to it as to a journal. Opening refuses the file
-/// until [`complete`](Draft::complete) has written that byte.
+/// A journal's file but for its first byte, which is 0. Batches are added to it as to a journal.
+/// Opening refuses the file until [`complete`](Draft::complete) has written that byte.
 #[derive(Drop)]
 pub struct Draft<D: Disk> {
     header: Header,
@@ -28,7 +28,8 @@ pub struct Draft<D: Disk> {
 }
 
 impl<D: Disk> Draft<D> {
-    /// Begins one in an empty file, by three calls of the device: `len`, one write of 25 bytes, and `sync`.
+    /// Begins one in an empty file, by three calls of the device: `len`, one write of 25 bytes, and
+    /// `sync`.
     ///
     /// A fault hands the disk back:
     /// - `NotEmpty`: the file has bytes already. Nothing was written.
@@ -47,8 +48,8 @@ impl<D: Disk> Draft<D> {
         }
     }
 
-    /// Adds a batch, by four calls of the device as a journal does it. A crash at any moment of them leaves a file that
-    /// opening refuses.
+    /// Adds a batch, by four calls of the device as a journal does it. A crash at any moment of
+    /// them leaves a file that opening refuses.
     ///
     /// The records are 1 to 65,535, and well formed for the header: the caller sees to it.
     ///
@@ -62,11 +63,11 @@ impl<D: Disk> Draft<D> {
         requires well_formed { AreWellFormedFor (draft_header self.old) records.now }
         requires drafted { D.keeps (draft_disk self.old) → (batches : List Batch) × IsDraftOf D.state batches self.old }
 
-        ensures added { D.keeps (draft_disk self.old) → OnOk result ((batches : List Batch) →
+        ensures added { D.keeps (draft_disk self.new) → OnOk result ((batches : List Batch) →
             IsDraftOf D.state batches self.old → IsDraftOf D.state (batches ++ new_batch records.now ∷ []) self.new) }
-        ensures any_moment { D.keeps (draft_disk self.old) →
+        ensures any_moment { D.keeps (draft_disk self.new) →
             LeavesOnly D.moment D.since (draft_disk self.old) (draft_disk self.new) IsNoJournal }
-        ensures four_calls { D.keeps (draft_disk self.old) → OnOk result (
+        ensures four_calls { D.keeps (draft_disk self.new) → OnOk result (
             D.moment (draft_disk self.new) ≡ D.moment (draft_disk self.old) + 4) }
         ensures gate { OnOk result (draft_gate self.new ≡ draft_gate self.old + 3 + 6 * length records.now) }
         ensures room { OnOk result (draft_gate self.old + 3 + 6 * length records.now ≤ 2 ^ 31) }
@@ -76,16 +77,16 @@ impl<D: Disk> Draft<D> {
         ensures full { IsErrOf result JournalFault.Full ↔ (2 ^ 31 < draft_gate self.old + 3 + 6 * length records.now) }
         ensures device { IsErrOf result JournalFault.Device → D.failures (draft_disk self.old) < D.failures (draft_disk self.new) }
         ensures later { D.failures (draft_disk self.old) ≤ D.failures (draft_disk self.new) }
-        ensures kept { D.keeps (draft_disk self.old) ↔ D.keeps (draft_disk self.new) }
+        ensures kept { D.keeps (draft_disk self.new) → D.keeps (draft_disk self.old) }
         ensures header { draft_header self.new ≡ draft_header self.old }
     {
         self.tail.add(records)?;
         Ok(())
     }
 
-    /// Makes it a journal, by two calls of the device: a write of the first byte, and `sync`. From then on each file that
-    /// a crash can leave holds its records. A crash at any moment of the calls leaves one that does, or one that opening
-    /// refuses.
+    /// Makes it a journal, by two calls of the device: a write of the first byte, and `sync`. From
+    /// then on each file that a crash can leave holds its records. A crash at any moment of the
+    /// calls leaves one that does, or one that opening refuses.
     ///
     /// [`DeviceFault`]: the disk failed, and is handed back.
     #[tactic(auto, unfolding(crate::specs::Drafts::draft_disk, crate::specs::Drafts::draft_header, crate::specs::Drafts::draft_gate, crate::specs::Readers::journal_disk, crate::specs::Readers::journal_header, crate::specs::Readers::journal_gate, crate::specs::Readers::journal_is_stopped))]
@@ -104,7 +105,7 @@ impl<D: Disk> Draft<D> {
         }
     }
 
-    /// For whose journal it is.
+    /// Returns the header of the journal.
     #[tactic(auto, unfolding(crate::specs::Drafts::draft_header))]
     pub fn header(&self) -> Header
         ensures { result ≡ draft_header self.now }
@@ -134,12 +135,12 @@ fn new_draft(header: &Header) -> [u8; 25]
 
 /// Writes the first byte of a journal over that of a file that is all on the disk.
 fn write_first<D: Disk>(disk: &mut D) -> Result<(), DeviceFault>
-    ensures done { D.keeps disk.old → OnOk result (
+    ensures done { D.keeps disk.new → OnOk result (
         D.state disk.new ≡ at_rest (overwritten (D.state disk.old).seen 0 (66 ∷ []))) }
-    ensures any_moment { D.keeps disk.old → LeavesOnly D.moment D.since disk.old disk.new
+    ensures any_moment { D.keeps disk.new → LeavesOnly D.moment D.since disk.old disk.new
         (MayLeave (after_write (D.state disk.old) 0 (66 ∷ []))) }
-    ensures two_calls { D.keeps disk.old → OnOk result (D.moment disk.new ≡ D.moment disk.old + 2) }
-    ensures kept { D.keeps disk.old ↔ D.keeps disk.new }
+    ensures two_calls { D.keeps disk.new → OnOk result (D.moment disk.new ≡ D.moment disk.old + 2) }
+    ensures kept { D.keeps disk.new → D.keeps disk.old }
     ensures cause { CountsFailures (D.failures disk.old) (D.failures disk.new) result }
 {
     disk.write_at(0, &[FIRST])?;

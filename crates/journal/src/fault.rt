@@ -6,14 +6,16 @@ use disk::DeviceFault;
 use std::alloc::{AllocError, AllocFailed};
 use thiserror::Error;
 
-/// Why a journal wasn't made, opened or added to. Of several faults in a file the first one is answered: batch by
-/// batch, and within a batch what is cut short comes before a bad record. The text of each is its name.
+/// Why a journal wasn't made, opened or added to. Of several faults in a file the first one is
+/// answered: batch by batch, and within a batch what is cut short comes before a bad record. The
+/// text of each is its name.
 #[derive(Clone, Copy, Debug, PartialEq, Eq, Error)]
 pub enum JournalFault {
     /// 1: the file has bytes already. Nothing was written.
     #[error("NotEmpty")]
     NotEmpty,
-    /// 2: the file has fewer than 24 bytes, or those are no header. One of version 1 is `OldVersion`.
+    /// 2: the file has fewer than 24 bytes, or those are no header. One of version 1 is
+    /// `OldVersion`.
     #[error("BadHeader")]
     BadHeader,
     /// 3: the file has the header of another cluster, size or member.
@@ -25,7 +27,8 @@ pub enum JournalFault {
     /// 5: the file ends where a gate, or what stands behind an open gate, should be.
     #[error("CutShort")]
     CutShort,
-    /// 6: the disk failed. A journal that answers it is stopped: what it was adding may be in the file, or not.
+    /// 6: the disk failed. A journal that answers it is stopped: what it was adding may be in the
+    /// file, or not.
     #[error("Device")]
     Device,
     /// 7: there was no memory. Nothing was written.
@@ -37,7 +40,8 @@ pub enum JournalFault {
     /// 9: the closed gate behind the batch would stand past byte 2^31. Nothing was written.
     #[error("Full")]
     Full,
-    /// 10: the file is of version 1: it has 24 bytes or more, and begins with `BRACHAJ1`. Nothing was written.
+    /// 10: the file is of version 1: it has 24 bytes or more, and begins with `BRACHAJ1`. Nothing
+    /// was written.
     #[error("OldVersion")]
     OldVersion,
 }

@@ -7,16 +7,16 @@ ghost use Rattle.journal.specs.WellFormed.{IsHeader};
 
 use terms::{Header, Size};
 
-/// How many bytes a header has.
+/// The number of bytes of a header.
 pub(crate) const HEADER: usize = 24;
 
-/// What each header begins with.
+/// The first bytes of each header.
 const MARK: [u8; 8] = *b"BRACHAJ2";
 
-/// What each header of version 1 begins with.
+/// The first bytes of each header of version 1.
 const OLD_MARK: [u8; 8] = *b"BRACHAJ1";
 
-/// What each header ends with.
+/// The last bytes of each header.
 const ZEROS: [u8; 3] = [0; 3];
 
 /// The file of a journal that has no records: the header, and a closed gate.
@@ -53,14 +53,14 @@ pub fn header_of(bytes: &[u8; 24]) -> Option<Header>
     }
 }
 
-/// Whether they begin and end as each header does.
+/// Returns `true` if they begin and end as each header does.
 fn is_marked(bytes: &[u8; 24]) -> bool
     ensures { IsTrue result ↔ (take 8 bytes.now ≡ codes "BRACHAJ2") × (take 3 (drop 21 bytes.now) ≡ 0 ∷ 0 ∷ 0 ∷ []) }
 {
     bytes[..8] == MARK[..] && bytes[21..] == ZEROS[..]
 }
 
-/// Whether they begin as each header of version 1 does.
+/// Returns `true` if they begin as each header of version 1 does.
 pub(crate) fn is_old(bytes: &[u8; 24]) -> bool
     ensures { IsTrue result ↔ (take 8 bytes.now ≡ codes "BRACHAJ1") }
 {

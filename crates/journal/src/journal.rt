@@ -22,17 +22,20 @@ pub struct Journal<D: Disk> {
 }
 
 impl<D: Disk> Journal<D> {
-    /// Adds a batch, by four calls of the device: a write of the count, the records and a closed gate behind the closed
-    /// gate that stands, `sync`, a write of 01 over that gate, and `sync`. An empty batch makes no call. At Ok each file
-    /// that a crash can leave from then on has the batch.
+    /// Adds a batch, by four calls of the device: a write of the count, the records and a closed
+    /// gate behind the closed gate that stands, `sync`, a write of 01 over that gate, and `sync`.
+    /// An empty batch makes no call. At Ok each file that a crash can leave from then on has the
+    /// batch.
     ///
-    /// The records are at most 65,535, and well formed for the journal's header: the caller sees to it.
+    /// The records are at most 65,535, and well formed for the journal's header: the caller sees to
+    /// it.
     ///
-    /// - `Stopped`: the journal answered `Device` before. This is looked at first. Nothing was written.
+    /// - `Stopped`: the journal answered `Device` before. This is looked at first. Nothing was
+    ///   written.
     /// - `Full`: the closed gate behind the batch would stand past byte 2^31. Nothing was written.
     /// - `Memory`: there was none for the bytes. Nothing was written, and the journal goes on.
-    /// - `Device`: the disk failed. A crash may leave the records from before, or those and the whole batch. The journal
-    ///   is stopped.
+    /// - `Device`: the disk failed. A crash may leave the records from before, or those and the
+    ///   whole batch. The journal is stopped.
     #[tactic(auto, unfolding(crate::specs::Readers::journal_disk, crate::specs::Readers::journal_header, crate::specs::Readers::journal_gate, crate::specs::Readers::journal_is_stopped))]
     pub fn append(&mut self, records: &[Record]) -> Result<(), JournalFault>
         requires count { length records.now ≤ 65535 }
@@ -59,8 +62,9 @@ impl<D: Disk> Journal<D> {
         }
     }
 
-    /// Opens a journal's file, which a crash may have left, and gives the records that it holds: [`adopt`](Journal::adopt)
-    /// where the disk isn't wanted back after a fault. The disk is gone then, so what a fault left of it is said there alone.
+    /// Opens a journal's file, which a crash may have left, and gives the records that it holds:
+    /// [`adopt`](Journal::adopt) where the disk isn't wanted back after a fault. The disk is gone
+    /// then, so what a fault left of it is said there alone.
     pub fn open(
         alloc: Global,
         disk: D,
@@ -69,7 +73,8 @@ impl<D: Disk> Journal<D> {
     where
         D: Drop,
         ensures opened { IfOk result (λ opened. HasOpened D.Disk disk header.now opened.1.items opened.0) }
-        // The disk that is gone: some disk that this one became, since a fault of a call is one of a disk.
+        // The disk that is gone: some disk that this one became, since a fault of a call is one of
+        // a disk.
         ensures fault { IfErr result (λ fault. (after : D) × HandsBack D.Disk disk header.now fault after) }
     {
         match Journal::adopt(alloc, disk, header) {
@@ -78,11 +83,13 @@ impl<D: Disk> Journal<D> {
         }
     }
 
-    /// Opens a journal's file, which a crash may have left, and gives the records that it holds, by three calls of the
-    /// device: `sync`, `len` and one read of all bytes. From then on each file that a crash can leave holds these.
+    /// Opens a journal's file, which a crash may have left, and gives the records that it holds, by
+    /// three calls of the device: `sync`, `len` and one read of all bytes. From then on each file
+    /// that a crash can leave holds these.
     ///
     /// A fault hands the disk back; no byte of its file was changed:
-    /// - `BadHeader`, `OldVersion`, `OtherHeader`, `CutShort` or `BadRecord`: the first thing that is wrong with the file.
+    /// - `BadHeader`, `OldVersion`, `OtherHeader`, `CutShort` or `BadRecord`: the first thing that
+    ///   is wrong with the file.
     /// - `Memory`: there was none for the bytes or the records.
     /// - `Device`: the disk failed.
     #[tactic(auto, unfolding(crate::specs::Readers::journal_disk, crate::specs::Readers::journal_header, crate::specs::Readers::journal_gate, crate::specs::Readers::journal_is_stopped))]
@@ -107,7 +114,7 @@ impl<D: Disk> Journal<D> {
         }
     }
 
-    /// Whose journal it is.
+    /// Returns whose journal it is.
     #[tactic(auto, unfolding(crate::specs::Readers::journal_header))]
     pub fn header(&self) -> Header
         ensures { result ≡ journal_header self.now }
@@ -115,7 +122,7 @@ impl<D: Disk> Journal<D> {
         self.header
     }
 
-    /// Whether a fault of the device stopped it: then each append answers `Stopped`.
+    /// Returns `true` if a fault of the device stopped it: then each append answers `Stopped`.
     #[tactic(auto, unfolding(crate::specs::Readers::journal_is_stopped))]
     pub fn is_stopped(&self) -> bool
         ensures { result ≡ journal_is_stopped self.now }
@@ -123,7 +130,8 @@ impl<D: Disk> Journal<D> {
         self.stopped
     }
 
-    /// The disk with its file, and the journal is closed. It takes no memory and makes no call of the device.
+    /// The disk with its file, and the journal is closed. It takes no memory and makes no call of
+    /// the device.
     #[tactic(auto, unfolding(crate::specs::Readers::journal_disk))]
     pub fn into_disk(self) -> D
         ensures { result ≡ journal_disk self }
@@ -138,8 +146,9 @@ impl<D: Disk> Journal<D> {
 }
 
 impl Journal<MemDisk> {
-    /// Sets the fuse of its disk, and changes nothing else: the next calls of the device pass, as many as this, and all
-    /// after them fail. None takes the fuse out. This is no call of the device, and takes no memory.
+    /// Sets the fuse of its disk, and changes nothing else: the next calls of the device pass, as
+    /// many as this, and all after them fail. None takes the fuse out. This is no call of the
+    /// device, and takes no memory.
     #[tactic(auto, unfolding(crate::specs::Readers::journal_disk, crate::specs::Readers::journal_header, crate::specs::Readers::journal_gate, crate::specs::Readers::journal_is_stopped))]
     pub fn fuse(&mut self, calls: Option<u64>)
         ensures disk { journal_disk self.new ≡ with_fuse (journal_disk self.old) calls }

@@ -1,8 +1,9 @@
 //! A member's journal: batches of records in one file, each whole on the disk or not there.
 //!
-//! A file begins with its version, which is the form of all that follows: which sizes a cluster may have, and how a record
-//! is spelled. This crate writes and reads version 2. A file of version 1 is not read: opening it answers `OldVersion`, and
-//! the crate `migration` brings its records over into a new file.
+//! A file begins with its version, which is the form of all that follows: which sizes a cluster may
+//! have, and how a record is spelled. This crate writes and reads version 2. A file of version 1 is
+//! not read: opening it answers `OldVersion`, and the crate `migration` brings its records over
+//! into a new file.
 //!
 //! Numbers take two or eight bytes, the high byte first.
 //!
@@ -29,9 +30,10 @@
 //! | 4 | the round, 1 to 32 | the round, 1 to 32 |
 //! | 5 | 16 times the step (1 to 3), plus the value: 0 Zero, 1 One; of step 3 2 SureZero, 3 SureOne, 4 Unsure | 0 or 1, the bit |
 //!
-//! The first batch stands behind the header, and a closed gate behind the last one. A batch is added behind the closed
-//! gate with another closed gate behind it, and once all of it is on the disk its gate is opened. So a crash leaves the
-//! records from before, or those and the whole batch. The module `laws` says what holds of every file.
+//! The first batch stands behind the header, and a closed gate behind the last one. A batch is
+//! added behind the closed gate with another closed gate behind it, and once all of it is on the
+//! disk its gate is opened. So a crash leaves the records from before, or those and the whole
+//! batch. The module `laws` says what holds of every file.
 #![tactic(auto)]
 
 mod batches;

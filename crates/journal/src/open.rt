@@ -1,5 +1,5 @@
 //! Making a journal's file, and reading it.
-ghost use Rattle.std.specs.Prelude.{◌≡◌, ◌≢◌, ◌↔◌, ◌⊎◌, ◌+◌, ◌<◌, ◌≤◌, ℕ, List, [], ◌∷◌, ◌++◌, drop, length, IsErr, IsErrOf, IfOk, IfErr, OnOk, OnErr};
+ghost use Rattle.std.specs.Prelude.{◌≡◌, ◌≢◌, ◌⊎◌, ◌+◌, ◌<◌, ◌≤◌, ℕ, List, [], ◌∷◌, ◌++◌, drop, length, IsErr, IsErrOf, IfOk, IfErr, OnOk, OnErr};
 ghost use Rattle.terms_prelude.specs.Terms.{Header};
 ghost use Rattle.disk.specs.Model.{State, MayLeave, LeavesOnly, at_rest, after_write};
 ghost use Rattle.journal.specs.Texts.{header_text};
@@ -15,51 +15,53 @@ use disk::Disk;
 use std::alloc::Global;
 use terms::{Header, Record};
 
-/// Writes a journal of no records into an empty file, by three calls of the device: `len`, one write of 25 bytes, and
-/// `sync`. It takes no memory.
+/// Writes a journal of no records into an empty file, by three calls of the device: `len`, one
+/// write of 25 bytes, and `sync`. It takes no memory.
 ///
 /// - `NotEmpty`: the file has bytes already. Nothing was written.
 /// - `Device`: the disk failed. The file may have any of the bytes.
 pub fn create<D: Disk>(disk: &mut D, header: &Header) -> Result<(), JournalFault>
-    ensures file { D.keeps disk.old → OnOk result (D.state disk.new ≡ at_rest (header_text header.now ++ 0 ∷ [])) }
-    ensures created { D.keeps disk.old → OnOk result (Holds header.now [] (D.state disk.new).seen) }
-    ensures durable { D.keeps disk.old → OnOk result (
+    ensures file { D.keeps disk.new → OnOk result (D.state disk.new ≡ at_rest (header_text header.now ++ 0 ∷ [])) }
+    ensures created { D.keeps disk.new → OnOk result (Holds header.now [] (D.state disk.new).seen) }
+    ensures durable { D.keeps disk.new → OnOk result (
         (file : List ℕ) → MayLeave (D.state disk.new) file → Holds header.now [] file) }
 
-    // A crash at any moment leaves nothing but what it might have left before, or might leave after the one write.
-    ensures any_moment { D.keeps disk.old → LeavesOnly D.moment D.since disk.old disk.new
+    // A crash at any moment leaves nothing but what it might have left before, or might leave after
+    // the one write.
+    ensures any_moment { D.keeps disk.new → LeavesOnly D.moment D.since disk.old disk.new
         (MayLeave (after_write (D.state disk.old) 0 (header_text header.now ++ 0 ∷ []))) }
-    ensures three_calls { D.keeps disk.old → OnOk result (D.moment disk.new ≡ D.moment disk.old + 3) }
+    ensures three_calls { D.keeps disk.new → OnOk result (D.moment disk.new ≡ D.moment disk.old + 3) }
 
-    ensures was_empty { D.keeps disk.old → OnOk result (length (D.state disk.old).seen ≡ 0) }
-    ensures not_empty { D.keeps disk.old → IsErrOf result JournalFault.NotEmpty → 0 < length (D.state disk.old).seen }
-    ensures not_empty_same { D.keeps disk.old → IsErrOf result JournalFault.NotEmpty →
+    ensures was_empty { D.keeps disk.new → OnOk result (length (D.state disk.old).seen ≡ 0) }
+    ensures not_empty { D.keeps disk.new → IsErrOf result JournalFault.NotEmpty → 0 < length (D.state disk.old).seen }
+    ensures not_empty_same { D.keeps disk.new → IsErrOf result JournalFault.NotEmpty →
         D.state disk.new ≡ D.state disk.old }
     ensures device { IsErrOf result JournalFault.Device → D.failures disk.old < D.failures disk.new }
     ensures only { IfErr result IsFaultOfCreate }
     ensures later { D.failures disk.old ≤ D.failures disk.new }
-    ensures kept { D.keeps disk.old ↔ D.keeps disk.new }
+    ensures kept { D.keeps disk.new → D.keeps disk.old }
 {
     write_new(disk, &new_file(header))?;
     Ok(())
 }
 
-/// Writes these bytes into an empty file, by three calls of the device: `len`, one write, and `sync`.
+/// Writes these bytes into an empty file, by three calls of the device: `len`, one write, and
+/// `sync`.
 pub(crate) fn write_new<D: Disk>(disk: &mut D, bytes: &[u8]) -> Result<(), JournalFault>
-    ensures file { D.keeps disk.old → OnOk result (D.state disk.new ≡ at_rest bytes.now) }
-    ensures any_moment { D.keeps disk.old → LeavesOnly D.moment D.since disk.old disk.new
+    ensures file { D.keeps disk.new → OnOk result (D.state disk.new ≡ at_rest bytes.now) }
+    ensures any_moment { D.keeps disk.new → LeavesOnly D.moment D.since disk.old disk.new
         (MayLeave (after_write (D.state disk.old) 0 bytes.now)) }
-    ensures three_calls { D.keeps disk.old → OnOk result (D.moment disk.new ≡ D.moment disk.old + 3) }
+    ensures three_calls { D.keeps disk.new → OnOk result (D.moment disk.new ≡ D.moment disk.old + 3) }
     ensures quiet { OnOk result (D.failures disk.new ≡ D.failures disk.old) }
 
-    ensures was_empty { D.keeps disk.old → OnOk result (length (D.state disk.old).seen ≡ 0) }
-    ensures not_empty { D.keeps disk.old → IsErrOf result JournalFault.NotEmpty → 0 < length (D.state disk.old).seen }
-    ensures not_empty_same { D.keeps disk.old → IsErrOf result JournalFault.NotEmpty →
+    ensures was_empty { D.keeps disk.new → OnOk result (length (D.state disk.old).seen ≡ 0) }
+    ensures not_empty { D.keeps disk.new → IsErrOf result JournalFault.NotEmpty → 0 < length (D.state disk.old).seen }
+    ensures not_empty_same { D.keeps disk.new → IsErrOf result JournalFault.NotEmpty →
         D.state disk.new ≡ D.state disk.old }
     ensures device { IsErrOf result JournalFault.Device → D.failures disk.old < D.failures disk.new }
     ensures only { IfErr result IsFaultOfCreate }
     ensures later { D.failures disk.old ≤ D.failures disk.new }
-    ensures kept { D.keeps disk.old ↔ D.keeps disk.new }
+    ensures kept { D.keeps disk.new → D.keeps disk.old }
 {
     if disk.len()? != 0 {
         return Err(JournalFault::NotEmpty);
@@ -68,26 +70,26 @@ pub(crate) fn write_new<D: Disk>(disk: &mut D, bytes: &[u8]) -> Result<(), Journ
     Ok(disk.sync()?)
 }
 
-/// The header that a file begins with, by two calls of the device: `len`, and one read of the first 24 bytes, or of all
-/// where there are fewer. It takes no memory, and changes no byte.
+/// The header that a file begins with, by two calls of the device: `len`, and one read of the first
+/// 24 bytes, or of all where there are fewer. It takes no memory, and changes no byte.
 ///
 /// - `BadHeader`: the file begins with no header, and isn't of version 1.
 /// - `OldVersion`: the file is of version 1.
 /// - `Device`: the disk failed.
 pub fn peek<D: Disk>(disk: &mut D) -> Result<Header, JournalFault>
-    ensures header { D.keeps disk.old → IfOk result (λ header. HasHeader header (D.state disk.old).seen) }
-    ensures bad_header { D.keeps disk.old → IsErrOf result JournalFault.BadHeader →
+    ensures header { D.keeps disk.new → IfOk result (λ header. HasHeader header (D.state disk.old).seen) }
+    ensures bad_header { D.keeps disk.new → IsErrOf result JournalFault.BadHeader →
         (header : Header) → HasHeader header (D.state disk.old).seen → ⊥ }
-    ensures not_old { D.keeps disk.old → IsErrOf result JournalFault.BadHeader → IsOldVersion (D.state disk.old).seen → ⊥ }
-    ensures old_version { D.keeps disk.old → IsErrOf result JournalFault.OldVersion → IsOldVersion (D.state disk.old).seen }
-    ensures same { D.keeps disk.old → D.state disk.new ≡ D.state disk.old }
-    ensures any_moment { D.keeps disk.old → LeavesOnly D.moment D.since disk.old disk.new (MayLeave (D.state disk.old)) }
-    ensures two_calls { D.keeps disk.old → IsErrOf result JournalFault.Device ⊎ (D.moment disk.new ≡ D.moment disk.old + 2) }
+    ensures not_old { D.keeps disk.new → IsErrOf result JournalFault.BadHeader → IsOldVersion (D.state disk.old).seen → ⊥ }
+    ensures old_version { D.keeps disk.new → IsErrOf result JournalFault.OldVersion → IsOldVersion (D.state disk.old).seen }
+    ensures same { D.keeps disk.new → D.state disk.new ≡ D.state disk.old }
+    ensures any_moment { D.keeps disk.new → LeavesOnly D.moment D.since disk.old disk.new (MayLeave (D.state disk.old)) }
+    ensures two_calls { D.keeps disk.new → IsErrOf result JournalFault.Device ⊎ (D.moment disk.new ≡ D.moment disk.old + 2) }
 
     ensures device { IsErrOf result JournalFault.Device → D.failures disk.old < D.failures disk.new }
     ensures only { IfErr result IsFaultOfPeek }
     ensures later { D.failures disk.old ≤ D.failures disk.new }
-    ensures kept { D.keeps disk.old ↔ D.keeps disk.new }
+    ensures kept { D.keeps disk.new → D.keeps disk.old }
 {
     let len = disk.len()?;
     let mut bytes = [0; HEADER];
@@ -102,13 +104,14 @@ pub fn peek<D: Disk>(disk: &mut D) -> Result<Header, JournalFault>
     }
 }
 
-/// The place of the closed gate, and the records before it, of a file all of which is on the disk from then on.
+/// The place of the closed gate, and the records before it, of a file all of which is on the disk
+/// from then on.
 pub(crate) fn load<D: Disk>(
     alloc: Global,
     disk: &mut D,
     header: &Header,
 ) -> Result<(usize, Vec<Record>), JournalFault>
-    ensures held { D.keeps disk.old → IfOk result (λ held. IsHeld (D.state disk.new) header.now held.0 held.1.items) }
+    ensures held { D.keeps disk.new → IfOk result (λ held. IsHeld (D.state disk.new) header.now held.0 held.1.items) }
     ensures read { OnOk result (WasRead D.Disk disk.old disk.new) }
     ensures fault { IfErr result (λ fault. HandsBack D.Disk disk.old header.now fault disk.new) }
 {
@@ -118,7 +121,7 @@ pub(crate) fn load<D: Disk>(
 
 /// All the bytes, once they are on the disk.
 pub(crate) fn fetch<D: Disk>(alloc: Global, disk: &mut D) -> Result<Vec<u8>, JournalFault>
-    ensures bytes { D.keeps disk.old → IfOk result (λ bytes. bytes.items ≡ (D.state disk.old).seen) }
+    ensures bytes { D.keeps disk.new → IfOk result (λ bytes. bytes.items ≡ (D.state disk.old).seen) }
     ensures read { OnOk result (WasRead D.Disk disk.old disk.new) }
     ensures fault { IfErr result (λ fault. (header : Header) → HandsBack D.Disk disk.old header fault disk.new) }
 {
@@ -147,13 +150,14 @@ pub(crate) fn behind_header<'a>(header: &Header, bytes: &'a [u8]) -> Result<&'a 
     }
 }
 
-/// Reads a journal's bytes, as a file of it has them: the place of its closed gate, and the records before it, oldest
-/// first. A disk is no part of it, so it is for who keeps a journal's bytes elsewhere; [`Journal::adopt`](crate::Journal::adopt)
-/// reads one from a disk.
+/// Reads a journal's bytes, as a file of it has them: the place of its closed gate, and the records
+/// before it, oldest first. A disk is no part of it, so it is for who keeps a journal's bytes
+/// elsewhere; [`Journal::adopt`](crate::Journal::adopt) reads one from a disk.
 ///
-/// Refused with the first fault in the file: [`JournalFault::BadHeader`], where it begins as no journal does, and
-/// [`JournalFault::OldVersion`], where as one of version 1; [`JournalFault::OtherHeader`], where it is another member's;
-/// [`JournalFault::CutShort`] and [`JournalFault::BadRecord`]. [`JournalFault::Memory`]: there was none for the records.
+/// Refused with the first fault in the file: [`JournalFault::BadHeader`], where it begins as no
+/// journal does, and [`JournalFault::OldVersion`], where as one of version 1;
+/// [`JournalFault::OtherHeader`], where it is another member's; [`JournalFault::CutShort`] and
+/// [`JournalFault::BadRecord`]. [`JournalFault::Memory`]: there was none for the records.
 pub fn read_file(
     alloc: Global,
     header: &Header,

@@ -8,10 +8,10 @@ ghost use Rattle.journal.specs.Reading.{HasBytes};
 use statement_codec::{byte_of_kind, byte_of_value, kind_of, value_of};
 use terms::{Header, Kind, LAST_ROUND, Place, Record, Statement};
 
-/// How many bytes a record has.
+/// The number of bytes of a record.
 pub(crate) const RECORD: usize = 6;
 
-/// What a decision begins with.
+/// The first byte of a decision.
 const DECIDED: u8 = 4;
 
 /// The bytes of a record.
@@ -115,7 +115,7 @@ fn decided_of(header: &Header, question: u16, round: u8, bit: u8) -> Option<Reco
     }
 }
 
-/// Whether the statement is one of the cluster, and an Initial is the member's own.
+/// Returns `true` if the statement is one of the cluster, and an Initial is the member's own.
 fn is_statement_for(header: &Header, s: Statement) -> bool
     ensures { IsTrue result ↔ IsStatementFor header.now s }
 {

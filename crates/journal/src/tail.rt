@@ -26,7 +26,7 @@ pub(crate) struct Tail<D: Disk> {
 }
 
 impl<D: Disk> Tail<D> {
-    /// Of this disk and this place. It takes no memory.
+    /// Returns the tail of this disk at this place. It takes no memory.
     pub(crate) fn new(alloc: Global, disk: D, gate: usize) -> Tail<D>
         ensures disk { result.disk ≡ disk }
         ensures gate { result.gate ≡ gate }
@@ -39,8 +39,8 @@ impl<D: Disk> Tail<D> {
         }
     }
 
-    /// Adds a batch, by four calls of the device: a write of the count, the records and a closed gate behind the closed
-    /// gate that stands, `sync`, a write of 01 over that gate, and `sync`.
+    /// Adds a batch, by four calls of the device: a write of the count, the records and a closed
+    /// gate behind the closed gate that stands, `sync`, a write of 01 over that gate, and `sync`.
     ///
     /// - `Full`: the closed gate behind the batch would stand past byte 2^31. Nothing was written.
     /// - `Memory`: there was none for the bytes. Nothing was written.
@@ -49,11 +49,11 @@ impl<D: Disk> Tail<D> {
         requires few { length records.now ≤ 65535 }
         requires shut { D.keeps self.old.disk → IsShut self.old.gate (D.state self.old.disk) }
 
-        ensures done { D.keeps self.old.disk → OnOk result (
+        ensures done { D.keeps self.new.disk → OnOk result (
             D.state self.new.disk ≡ at_rest (with_batch self.old.gate records.now (D.state self.old.disk).seen)) }
-        ensures any_moment { D.keeps self.old.disk → LeavesOnly D.moment D.since self.old.disk self.new.disk
+        ensures any_moment { D.keeps self.new.disk → LeavesOnly D.moment D.since self.old.disk self.new.disk
             (IsCommit (take self.old.gate (D.state self.old.disk).seen) (batch_body records.now ++ 0 ∷ [])) }
-        ensures four_calls { D.keeps self.old.disk → OnOk result (D.moment self.new.disk ≡ D.moment self.old.disk + 4) }
+        ensures four_calls { D.keeps self.new.disk → OnOk result (D.moment self.new.disk ≡ D.moment self.old.disk + 4) }
         ensures gate { OnOk result (self.new.gate ≡ self.old.gate + 3 + 6 * length records.now) }
         ensures room { OnOk result (self.old.gate + 3 + 6 * length records.now ≤ 2 ^ 31) }
         ensures quiet { OnOk result (D.failures self.new.disk ≡ D.failures self.old.disk) }
@@ -63,7 +63,7 @@ impl<D: Disk> Tail<D> {
         ensures device { IsErrOf result JournalFault.Device → D.failures self.old.disk < D.failures self.new.disk }
         ensures same { IfErr result (λ fault. fault ≢ JournalFault.Device → self.new ≡ self.old) }
         ensures later { D.failures self.old.disk ≤ D.failures self.new.disk }
-        ensures kept { D.keeps self.old.disk ↔ D.keeps self.new.disk }
+        ensures kept { D.keeps self.new.disk → D.keeps self.old.disk }
     {
         let len = 3 + RECORD * records.len();
         if self.gate > LAST_GATE - len {

@@ -28,8 +28,9 @@ const PIECE: usize = 512;
 /// The most statements of a group.
 const GROUP: usize = 256;
 
-/// A moment of a reader: round each group of statements that it hands in, while it doesn't hold the book's lock. The
-/// statements that a read gave are a group; of more than 256 each 256 are one. Where a read gave none there is no point.
+/// A moment of a reader: round each group of statements that it hands in, while it doesn't hold the
+/// book's lock. The statements that a read gave are a group; of more than 256 each 256 are one.
+/// Where a read gave none there is no point.
 #[derive(Clone, Copy, Debug, PartialEq, Eq)]
 pub enum Point {
     /// Before a group of statements of that peer, a number below n, is handed in.
@@ -38,7 +39,8 @@ pub enum Point {
     After(u8),
 }
 
-/// What a reader passes at each point. It may hold the reader up in a test, and returns at once in a program.
+/// The points that a reader passes. It may hold the reader up in a test, and returns at once in a
+/// program.
 pub trait Gate {
     /// Passes a point.
     fn pass(&self, point: Point);
@@ -52,7 +54,7 @@ impl Gate for Open {
     fn pass(&self, _point: Point) {}
 }
 
-/// How a session ends where the member refuses a group.
+/// Returns how a session ends where the member refuses a group.
 fn end_of(fault: MemberFault) -> LinkEnd
     ensures is { result ≡ end_of fault }
     ensures only { (result ≡ LinkEnd.Stopped) ⊎ (result ≡ LinkEnd.Memory) }
@@ -100,7 +102,8 @@ fn push_each<T: Tosser>(
     Ok(())
 }
 
-/// The statements of these messages up to one that is out of place, each with a toss, which are drawn in order.
+/// The statements of these messages up to one that is out of place, each with a toss, which are
+/// drawn in order.
 fn gather<T: Tosser>(
     alloc: Global,
     version: Version,
@@ -132,7 +135,8 @@ fn gather<T: Tosser>(
     Ok(events)
 }
 
-/// Whether no message is out of place: a Hello or a Welcome, and in version 1 several statements of one frame.
+/// Returns `true` if no message is out of place: a Hello or a Welcome, and in version 1 several
+/// statements of one frame.
 fn all_in_place(version: Version, messages: &[Message]) -> bool
     ensures { result ≡ all_in_place version messages.now }
 {
@@ -162,7 +166,8 @@ fn are_bytes(bytes: &[u8])
     ensures { AreBytes bytes.now }
 {}
 
-/// What a session of a reader goes by: its hub, the gate round its groups, its version, and by what it waits.
+/// A session of a reader: its hub, the gate round its groups, its version, and the runtime by which
+/// it waits.
 #[derive(Drop)]
 struct Reader<'a, D: Disk, J: Naming, G, R> {
     rt: &'a R,
@@ -173,7 +178,8 @@ struct Reader<'a, D: Disk, J: Naming, G, R> {
 }
 
 impl<D: Disk, J: Naming, G: Gate, R: Wait + Clock> Reader<'_, D, J, G, R> {
-    /// Hands in one group. When it returns the member has answered it, and what it says of it is on its way.
+    /// Hands in one group. When it returns the member has answered it, and what it says of it is on
+    /// its way.
     fn hand_in_group(&self, seat: &mut Seat<J>, group: &[(Statement, Toss)]) -> Result<(), LinkEnd>
         requires { length group.now ≤ 256 }
         ensures heard { OnOk result (0 < length group.now → WasHeard (heard_from seat.old.peer group.now) seat.new.log) }
@@ -245,7 +251,8 @@ impl<D: Disk, J: Naming, G: Gate, R: Wait + Clock> Reader<'_, D, J, G, R> {
         Ok(())
     }
 
-    /// Reads a piece, and hands in what it gives: `on` where the session goes on, `off` where it ended.
+    /// Reads a piece, and hands in what it gives: `on` where the session goes on, `off` where it
+    /// ended.
     fn turn<S: Stream, T: Tosser>(
         &self,
         seat: &mut Seat<J>,
@@ -309,22 +316,24 @@ impl<D: Disk, J: Naming, G: Gate, R: Wait + Clock> Reader<'_, D, J, G, R> {
     }
 }
 
-/// A session of the link from the seat's peer, whose Hello was read: writes the Welcome with the seat's next, and then
-/// hands in each statement that the stream gives, until the session ends. It gives the seat back, and the stream is
-/// closed.
+/// A session of the link from the seat's peer, whose Hello was read: writes the Welcome with the
+/// seat's next, and then hands in each statement that the stream gives, until the session ends. It
+/// gives the seat back, and the stream is closed.
 ///
-/// The statements of a read, which is of at most 512 bytes, are handed in as one group ([`node::Hub::hand_in`]), or as groups
-/// of 256 where there are more. A draw of the tosser goes with each statement, in order. The gate's points stand round each
-/// group, and it reads on once the group was answered.
+/// The statements of a read, which is of at most 512 bytes, are handed in as one group
+/// ([`node::Hub::hand_in`]), or as groups of 256 where there are more. A draw of the tosser goes
+/// with each statement, in order. The gate's points stand round each group, and it reads on once
+/// the group was answered.
 ///
 /// It ends:
 ///
 /// - `Ended`, `Lost`: the input ended, also within a frame; a read or a write failed.
-/// - `Broken`, `OutOfOrder`: behind what was handed in come bytes that begin no frame; a Hello or a Welcome, and in a
-///   session of version 1 several statements of one frame.
-/// - `Stopped`: the member, which is stopped, refused a group of what was read. The group and what was read behind it
-///   weren't handed in.
-/// - `Memory`: there was no memory, and a beginning of what was read was handed in, perhaps none of it.
+/// - `Broken`, `OutOfOrder`: behind what was handed in come bytes that begin no frame; a Hello or a
+///   Welcome, and in a session of version 1 several statements of one frame.
+/// - `Stopped`: the member, which is stopped, refused a group of what was read. The group and what
+///   was read behind it weren't handed in.
+/// - `Memory`: there was no memory, and a beginning of what was read was handed in, perhaps none of
+///   it.
 pub fn read_link<D: Disk, J: Naming, S: Stream, G: Gate, T: Tosser, R: Wait + Clock>(
     rt: &R,
     alloc: Global,
@@ -335,7 +344,8 @@ pub fn read_link<D: Disk, J: Naming, S: Stream, G: Gate, T: Tosser, R: Wait + Cl
     gate: &G,
     tosser: &mut T,
 ) -> (Seat<J>, LinkEnd)
-    // The number in its Welcome is that of statements which the account of the hub's book has of this peer.
+    // The number in its Welcome is that of statements which the account of the hub's book has of
+    // this peer.
     ensures counted { IsLawfulSeat seat }
     // It hands in what it read.
     ensures reads { ReadsLink version hub.now.size (S.told stream.old) (S.told stream.new) seat result.0 result.1 }

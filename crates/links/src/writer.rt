@@ -109,7 +109,7 @@ fn write_items<S: Stream>(
     }
 }
 
-/// What a session of a writer goes by: its hub, its version, and by what it waits.
+/// A session of a writer: its hub, its version, and the runtime by which it waits.
 #[derive(Drop)]
 struct Writer<'a, D: Disk, J: Naming, R> {
     rt: &'a R,
@@ -119,8 +119,8 @@ struct Writer<'a, D: Disk, J: Naming, R> {
 }
 
 impl<D: Disk, J: Naming, R: Wait> Writer<'_, D, J, R> {
-    /// What is new in the outbox from a number on, once the bell rang for it; nothing where it rang for nothing. At a hub that is
-    /// shut the session ends where there is nothing.
+    /// Returns what is new in the outbox from a number on, once the bell rang for it; nothing where
+    /// it rang for nothing. At a hub that is shut the session ends where there is nothing.
     fn next_items(&self, from: u64) -> Result<Vec<Sealed>, LinkEnd>
         ensures few { IfOk result (λ v. vec_len v ≤ 99) }
         ensures numbered { IfOk result (λ v. is_numbered from v.items ≡ true) }
@@ -187,19 +187,23 @@ impl<D: Disk, J: Naming, R: Wait> Writer<'_, D, J, R> {
     }
 }
 
-/// A session of the link to a peer, a number below n: writes the Hello, reads the Welcome, at most 11 bytes in all, and
-/// then writes the statements of the outbox from its next on, in order, until the session ends: in version 1 at most 64 at a
-/// time, in version 2 at most 99, which are one frame. Woken by the bell with nothing new it writes an Idle. It waits for no
-/// disk, but for that of a hub that is shut. The stream is closed. Beside the end it answers whether it read its Welcome.
+/// A session of the link to a peer, a number below n: writes the Hello, reads the Welcome, at most
+/// 11 bytes in all, and then writes the statements of the outbox from its next on, in order, until
+/// the session ends: in version 1 at most 64 at a time, in version 2 at most 99, which are one
+/// frame. Woken by the bell with nothing new it writes an Idle. It waits for no disk, but for that
+/// of a hub that is shut. The stream is closed. Beside the end it answers whether it read its
+/// Welcome.
 ///
 /// It ends:
 ///
-/// - `Ended`: the input ended before the Welcome; behind it, the hub was shut, and what was in the outbox is written.
+/// - `Ended`: the input ended before the Welcome; behind it, the hub was shut, and what was in the
+///   outbox is written.
 /// - `Lost`: a read or a write failed, or a write took nothing.
 /// - `Broken`, `OutOfOrder`: before the Welcome came bytes that begin no frame; another message.
 /// - `Memory`: there was none. What was written ends with a whole frame.
 ///
-/// It is never `Stopped`: what a stopped member said stands, and is sent. No point of the gate lies on its way.
+/// It is never `Stopped`: what a stopped member said stands, and is sent. No point of the gate lies
+/// on its way.
 pub fn write_link<D: Disk, J: Naming, S: Stream, G: Gate, R: Wait>(
     rt: &R,
     alloc: Global,
@@ -209,7 +213,8 @@ pub fn write_link<D: Disk, J: Naming, S: Stream, G: Gate, R: Wait>(
     version: Version,
     _gate: &G,
 ) -> (LinkEnd, bool)
-    // What it wrote begins its Hello and then the numbered frames; past the Hello it went where it was welcomed.
+    // What it wrote begins its Hello and then the numbered frames; past the Hello it went where it
+    // was welcomed.
     ensures writes { WritesLink hub.now version peer (S.told stream.old) (S.told stream.new) result.0 result.1 }
     ensures closed { S.is_closed stream.new ≡ true }
 {

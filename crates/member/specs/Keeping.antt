@@ -1,5 +1,5 @@
 -- What stands after the private calls by which a member saves a batch and keeps what its core answered.
-use Rattle.std.specs.Prelude.{◌≡◌, ◌⊎◌, ◌↔◌, ◌+◌, ◌*◌, ◌<◌, ◌≤◌, ◌^◌, Result, Ok, IfOk, IfErr, IsOk, IsErr, OnOk, OnErr, IsErrOf, false, true, List, ◌++◌, length}
+use Rattle.std.specs.Prelude.{◌≡◌, ◌⊎◌, ◌+◌, ◌*◌, ◌<◌, ◌≤◌, ◌^◌, Result, Ok, IfOk, IfErr, IsOk, IsErr, OnOk, OnErr, IsErrOf, false, true, List, ◌++◌, length}
 use Rattle.std.specs.Global.{Vec}
 use Rattle.terms.specs.declared.Memory.{Memory as NoMemory}
 use Rattle.terms_prelude.specs.Terms.{Record, records_of}
@@ -35,10 +35,10 @@ pub record SavesBatch {D : Type 0} (disk : DiskGhosts D) (batch : List Record) (
   pub sealed : hands_out ≡ sealed_from 0 after
   pub same_outbox : OnErr result (hands_out ≡ handed_out)
   pub running : OnOk result (journal_is_stopped new ≡ false)
-  pub settled : disk.keeps (journal_disk old) → OnOk result (IsAtRest disk.state (journal_header old) (before ++ batch) new)
-  pub any_moment : disk.keeps (journal_disk old) → LeavesOnly disk.moment disk.since (journal_disk old) (journal_disk new)
+  pub settled : disk.keeps (journal_disk new) → OnOk result (IsAtRest disk.state (journal_header old) (before ++ batch) new)
+  pub any_moment : disk.keeps (journal_disk new) → LeavesOnly disk.moment disk.since (journal_disk old) (journal_disk new)
       (λ file. Holds (journal_header old) before file ⊎ Holds (journal_header old) (before ++ batch) file)
-  pub four_calls : disk.keeps (journal_disk old) → 0 < length batch → OnOk result (disk.moment (journal_disk new) ≡ disk.moment (journal_disk old) + 4)
+  pub four_calls : disk.keeps (journal_disk new) → 0 < length batch → OnOk result (disk.moment (journal_disk new) ≡ disk.moment (journal_disk old) + 4)
   pub gate : 0 < length batch → OnOk result (journal_gate new ≡ journal_gate old + 3 + 6 * length batch)
   -- an empty batch changes nothing
   pub nothing : length batch ≡ 0 → OnOk result (new ≡ old)
@@ -53,7 +53,7 @@ pub record SavesBatch {D : Type 0} (disk : DiskGhosts D) (batch : List Record) (
   -- however it ended
   pub header : journal_header new ≡ journal_header old
   pub later : disk.failures (journal_disk old) ≤ disk.failures (journal_disk new)
-  pub kept : disk.keeps (journal_disk old) ↔ disk.keeps (journal_disk new)
+  pub kept : disk.keeps (journal_disk new) → disk.keeps (journal_disk old)
 
 -- What a core, now this one, answered was kept: its records were saved as one batch and the answer is given; or with a
 -- fault, which stops the member where the core didn't refuse the event, nothing was.
@@ -65,7 +65,7 @@ pub record Kept {D : Type 0} (disk : DiskGhosts D) (old : Member D) (core : Core
   pub core_is : new.core ≡ core
   pub header : member_header new ≡ member_header old
   pub going : OnOk result (member_is_stopped new ≡ false)
-  pub any_moment : disk.keeps (member_disk old) → IfOk answer (λ a. LeavesOnly disk.moment disk.since (member_disk old) (member_disk new)
+  pub any_moment : disk.keeps (member_disk new) → IfOk answer (λ a. LeavesOnly disk.moment disk.since (member_disk old) (member_disk new)
       (λ file. Holds (member_header old) (member_saved old) file ⊎ Holds (member_header old) (member_saved old ++ records_of (reply_of a)) file))
   pub refused : IfErr answer (λ _. member_disk new ≡ member_disk old)
   pub told_is : IfErr answer (λ fault. IsErrOf result (member_fault fault))
@@ -80,7 +80,7 @@ pub record Kept {D : Type 0} (disk : DiskGhosts D) (old : Member D) (core : Core
   pub within : IfOk result (λ a. 0 < length (records_of (reply_of a)) → member_gate new ≤ 2 ^ 31)
   pub device : IsErrOf result Device → disk.failures (member_disk old) < disk.failures (member_disk new)
   pub failures : disk.failures (member_disk old) ≤ disk.failures (member_disk new)
-  pub kept : disk.keeps (member_disk old) ↔ disk.keeps (member_disk new)
+  pub kept : disk.keeps (member_disk new) → disk.keeps (member_disk old)
 
 -- What a core, now this one, answered to a group was kept: the records of all answers were saved as one batch and the
 -- answers are given; or with a fault, which stops the member, nothing was.
@@ -93,7 +93,7 @@ pub record KeptAll {D : Type 0} (disk : DiskGhosts D) (old : Member D) (core : C
   pub core_is : new.core ≡ core
   pub header : member_header new ≡ member_header old
   pub going : OnOk result (member_is_stopped new ≡ false)
-  pub any_moment : disk.keeps (member_disk old) → IfOk heard (λ group. LeavesOnly disk.moment disk.since (member_disk old) (member_disk new)
+  pub any_moment : disk.keeps (member_disk new) → IfOk heard (λ group. LeavesOnly disk.moment disk.since (member_disk old) (member_disk new)
       (λ file. Holds (member_header old) (member_saved old) file ⊎ Holds (member_header old) (member_saved old ++ group.records.items) file))
   pub refused : IfErr heard (λ _. member_disk new ≡ member_disk old)
   pub told_is : IfErr heard (λ _. IsErrOf result Memory)
@@ -102,11 +102,11 @@ pub record KeptAll {D : Type 0} (disk : DiskGhosts D) (old : Member D) (core : C
   pub same_disk : IsErrOf result Memory ⊎ IsErrOf result JournalFull → member_disk new ≡ member_disk old
   pub memory : IsErrOf result Memory → IfOk heard (λ group. 0 < length group.records.items)
   pub no_call : OnOk result (IfOk heard (λ group. length group.records.items ≡ 0 → member_disk new ≡ member_disk old))
-  pub four_calls : disk.keeps (member_disk old) → OnOk result (IfOk heard (λ group.
+  pub four_calls : disk.keeps (member_disk new) → OnOk result (IfOk heard (λ group.
       0 < length group.records.items → disk.moment (member_disk new) ≡ disk.moment (member_disk old) + 4))
   pub full : IsErrOf result JournalFull → IsOk heard × IfOk heard (λ group. 2 ^ 31 < gate_after old (length group.records.items))
   pub room : OnOk result (IfOk heard (λ group. 0 < length group.records.items → member_gate new ≡ gate_after old (length group.records.items)))
   pub within : OnOk result (IfOk heard (λ group. 0 < length group.records.items → member_gate new ≤ 2 ^ 31))
   pub device : IsErrOf result Device → disk.failures (member_disk old) < disk.failures (member_disk new)
   pub failures : disk.failures (member_disk old) ≤ disk.failures (member_disk new)
-  pub kept : disk.keeps (member_disk old) ↔ disk.keeps (member_disk new)
+  pub kept : disk.keeps (member_disk new) → disk.keeps (member_disk old)

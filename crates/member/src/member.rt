@@ -28,7 +28,8 @@ use terms::{Header, Record, Statement};
 
 /// One member of a cluster, over its journal. What it says is saved before it is in the outbox.
 ///
-/// It is of its last life alone: what it heard before it was opened is forgotten, and what it saved is not.
+/// It is of its last life alone: what it heard before it was opened is forgotten, and what it saved
+/// is not.
 #[derive(Drop)]
 pub struct Member<D: Disk> {
     pub(crate) alloc: Global,
@@ -41,14 +42,16 @@ pub struct Member<D: Disk> {
 
 #[tactic(auto, unfolding(crate::specs::Readers::member_disk, crate::specs::Readers::member_header, crate::specs::Readers::member_gate, crate::specs::Readers::member_saved, crate::specs::Readers::member_outbox, crate::specs::Readers::member_is_stopped, crate::specs::Readers::MemberStandsFor))]
 impl<D: Disk> Member<D> {
-    /// Opens a member's journal, which a crash may have left: [`adopt`](Member::adopt) where the disk isn't wanted back
-    /// after a fault. The disk is gone then, so what a fault left of it is said there alone.
+    /// Opens a member's journal, which a crash may have left: [`adopt`](Member::adopt) where the
+    /// disk isn't wanted back after a fault. The disk is gone then, so what a fault left of it is
+    /// said there alone.
     pub fn open(alloc: Global, disk: D, header: &Header) -> Result<Member<D>, JournalFault>
     where
         D: Drop,
         ensures opened { IfOk result (λ m. IsOpened D.Disk disk header.now m) }
         ensures restart { IfOk result (λ m. IsARestart D.Disk disk header.now m) }
-        // The disk that is gone: some disk that this one became, since a fault of a call is one of a disk.
+        // The disk that is gone: some disk that this one became, since a fault of a call is one of
+        // a disk.
         ensures fault { IfErr result (λ fault. (after : D) × IsNotOpened D.Disk disk header.now fault after) }
     {
         match Member::adopt(alloc, disk, header) {
@@ -57,12 +60,12 @@ impl<D: Disk> Member<D> {
         }
     }
 
-    /// Opens a member's journal, which a crash may have left, by the calls of [`Journal::adopt`]. The member has its
-    /// records and hands out their statements; it heard nothing yet.
+    /// Opens a member's journal, which a crash may have left, by the calls of [`Journal::adopt`].
+    /// The member has its records and hands out their statements; it heard nothing yet.
     ///
-    /// A fault hands the disk back; no byte of its file was changed. The faults are those of the journal's opening:
-    /// `BadHeader`, `OldVersion`, `OtherHeader`, `CutShort` and `BadRecord` for what is wrong with the file, `Memory` and
-    /// `Device`.
+    /// A fault hands the disk back; no byte of its file was changed. The faults are those of the
+    /// journal's opening: `BadHeader`, `OldVersion`, `OtherHeader`, `CutShort` and `BadRecord` for
+    /// what is wrong with the file, `Memory` and `Device`.
     pub fn adopt(alloc: Global, disk: D, header: &Header) -> Result<Member<D>, (JournalFault, D)>
         ensures opened { IfOk result (λ m. IsOpened D.Disk disk header.now m) }
         ensures restart { IfOk result (λ m. IsARestart D.Disk disk header.now m) }
@@ -84,12 +87,14 @@ impl<D: Disk> Member<D> {
         }
     }
 
-    /// Answers to a statement from the member `from`, with this toss. The records of the answer are saved, and then their
-    /// statements are in the outbox. An answer of no records makes no call of the device.
+    /// Answers to a statement from the member `from`, with this toss. The records of the answer are
+    /// saved, and then their statements are in the outbox. An answer of no records makes no call of
+    /// the device.
     ///
-    /// Of all faults the first in this order: [`MemberFault::Stopped`]; [`MemberFault::NoSuchQuestion`], the statement's;
-    /// [`MemberFault::NoSuchMember`], the sender or the statement's origin. These change nothing. Then
-    /// [`MemberFault::Memory`], [`MemberFault::JournalFull`] and [`MemberFault::Device`], which stop the member; only
+    /// Of all faults the first in this order: [`MemberFault::Stopped`];
+    /// [`MemberFault::NoSuchQuestion`], the statement's; [`MemberFault::NoSuchMember`], the sender
+    /// or the statement's origin. These change nothing. Then [`MemberFault::Memory`],
+    /// [`MemberFault::JournalFull`] and [`MemberFault::Device`], which stop the member; only
     /// `Device` comes after a call of the device was made.
     #[inline(always)]
     pub fn hear(&mut self, from: u8, s: &Statement, toss: Toss) -> Result<Answer, MemberFault>
@@ -118,12 +123,14 @@ impl<D: Disk> Member<D> {
         self.keep(answer)
     }
 
-    /// Answers to a bit that is proposed for the question, with this toss. The bit that was proposed first stands, in this
-    /// life or in an earlier one. The records of the answer are saved, and then their statements are in the outbox.
+    /// Answers to a bit that is proposed for the question, with this toss. The bit that was
+    /// proposed first stands, in this life or in an earlier one. The records of the answer are
+    /// saved, and then their statements are in the outbox.
     ///
-    /// Of all faults the first in this order: [`MemberFault::Stopped`]; [`MemberFault::NoSuchQuestion`]. These change
-    /// nothing. Then [`MemberFault::Memory`], [`MemberFault::JournalFull`] and [`MemberFault::Device`], which stop the
-    /// member; only `Device` comes after a call of the device was made.
+    /// Of all faults the first in this order: [`MemberFault::Stopped`];
+    /// [`MemberFault::NoSuchQuestion`]. These change nothing. Then [`MemberFault::Memory`],
+    /// [`MemberFault::JournalFull`] and [`MemberFault::Device`], which stop the member; only
+    /// `Device` comes after a call of the device was made.
     pub fn propose(&mut self, question: u16, bit: bool, toss: Toss) -> Result<Answer, MemberFault>
         requires sound { IsSound D.Disk self.old }
         ensures sound { IsSound D.Disk self.new }

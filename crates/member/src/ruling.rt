@@ -3,7 +3,8 @@ ghost use Rattle.std.specs.Prelude.{◌≡◌};
 
 use std::marker::Model;
 
-/// The decision of a question that its member has saved. A member alone makes it: what a client is told is on the disk.
+/// The decision of a question that its member has saved. A member alone makes it: what a client is
+/// told is on the disk.
 #[derive(Clone, Copy, Debug, PartialEq, Eq)]
 pub struct Ruling {
     question: u16,

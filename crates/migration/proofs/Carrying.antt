@@ -45,8 +45,8 @@ module _ {E : Type 0} (disk : DiskGhosts E) (old : Draft E) (records : List Reco
   AllOrNothing file = IsNoJournal file ⊎ Holds (draft_header old) records file
 
   module _ (mid : Draft E) (grown : HasGrown disk old (in_thousands records) mid) where
-    full_draft : disk.keeps (draft_disk old) → IsDraftOf disk.state (in_thousands records) mid
-    full_draft keeps = grown.added keeps (drafted keeps)
+    full_draft : disk.keeps (draft_disk mid) → IsDraftOf disk.state (in_thousands records) mid
+    full_draft keeps = grown.added keeps (drafted (grown.kept keeps))
 
     -- what holds of the header and the batches of the draft holds of those that were asked
     as_asked : (P : Header → List Record → Type 0) → P (draft_header mid) (batch_records (in_thousands records)) → P (draft_header old) records
@@ -54,7 +54,7 @@ module _ {E : Type 0} (disk : DiskGhosts E) (old : Draft E) (records : List Reco
         subst (λ (l : List Record). P (draft_header old) l) (records_again records)
         (subst (λ (h : Header). P h (batch_records (in_thousands records))) grown.header_is has)
 
-    so_far : disk.keeps (draft_disk old) → LeavesOnly disk.moment disk.since (draft_disk old) (draft_disk mid) AllOrNothing
+    so_far : disk.keeps (draft_disk mid) → LeavesOnly disk.moment disk.since (draft_disk old) (draft_disk mid) AllOrNothing
     so_far keeps = leaves_more AllOrNothing (λ file none. inl none) (grown.any_moment keeps)
 
     -- it was made a journal
@@ -62,18 +62,17 @@ module _ {E : Type 0} (disk : DiskGhosts E) (old : Draft E) (records : List Reco
     filled journal done =
         let header = draft_header old in
         let batches = in_thousands records in
-        let go_on : disk.keeps (draft_disk old) → disk.keeps (draft_disk mid) = grown.kept.0 in
         record {
-          settled = λ keeps. as_asked (λ h l. IsAtRest disk.state h l journal) (done.settled (go_on keeps) batches (full_draft keeps));
-          written = λ keeps. done.written (go_on keeps) batches (full_draft keeps) ∙ ap (λ (h : Header). at_rest (journal_text h batches)) grown.header_is;
-          durable = λ keeps file may. as_asked (λ h l. Holds h l file) (done.durable (go_on keeps) batches (full_draft keeps) file may);
+          settled = λ keeps. as_asked (λ h l. IsAtRest disk.state h l journal) (done.settled keeps batches (full_draft (done.kept keeps)));
+          written = λ keeps. done.written keeps batches (full_draft (done.kept keeps)) ∙ ap (λ (h : Header). at_rest (journal_text h batches)) grown.header_is;
+          durable = λ keeps file may. as_asked (λ h l. Holds h l file) (done.durable keeps batches (full_draft (done.kept keeps)) file may);
           any_moment = λ keeps.
-              then_leaves (so_far keeps)
-              (leaves_more AllOrNothing (λ file. as_asked (λ h l. HoldsAllOrNothing (draft_header mid) batches file → IsNoJournal file ⊎ Holds h l file) (λ is. is)) (done.any_moment (go_on keeps) batches (full_draft keeps)));
-          calls = λ keeps. omega (arith, done.two_calls (go_on keeps), grown.calls keeps);
+              then_leaves (so_far (done.kept keeps))
+              (leaves_more AllOrNothing (λ file. as_asked (λ h l. HoldsAllOrNothing (draft_header mid) batches file → IsNoJournal file ⊎ Holds h l file) (λ is. is)) (done.any_moment keeps batches (full_draft (done.kept keeps))));
+          calls = λ keeps. omega (arith, done.two_calls keeps, grown.calls (done.kept keeps));
           room = λ some. omega (arith, grown.gate_is, grown.room (some_batches records some));
           quiet = done.quiet ∙ grown.quiet;
-          kept = (λ k. done.kept.0 (grown.kept.0 k), λ k. grown.kept.1 (done.kept.1 k));
+          kept = λ k. grown.kept (done.kept k);
         }
 
     -- its first byte couldn't be written
@@ -83,12 +82,12 @@ module _ {E : Type 0} (disk : DiskGhosts E) (old : Draft E) (records : List Reco
         record {
           only = tt;
           any_moment = λ keeps.
-              then_leaves (so_far keeps)
-              (leaves_more AllOrNothing (λ file. as_asked (λ h l. HoldsAllOrNothing (draft_header mid) batches file → IsNoJournal file ⊎ Holds h l file) (λ is. is)) (not.any_moment (grown.kept.0 keeps) batches (full_draft keeps)));
+              then_leaves (so_far (not.kept keeps))
+              (leaves_more AllOrNothing (λ file. as_asked (λ h l. HoldsAllOrNothing (draft_header mid) batches file → IsNoJournal file ⊎ Holds h l file) (λ is. is)) (not.any_moment keeps batches (full_draft (not.kept keeps))));
           device = λ _. omega (arith, not.cause, grown.quiet);
           full = λ is. absurd (cc is);
           later = omega (arith, not.cause, grown.quiet);
-          kept = (λ k. not.kept.0 (grown.kept.0 k), λ k. grown.kept.1 (not.kept.1 k));
+          kept = λ k. grown.kept (not.kept k);
         }
 
   -- its records couldn't be added
@@ -120,11 +119,11 @@ module _ {D E : Type 0} (from : DiskGhosts D) (to : DiskGhosts E) (staging : Sta
         no_call = λ _. refl;
         untouched = back.untouched;
         later = omega arith;
-        kept = (λ k. k, λ k. k);
+        kept = λ k. k;
       })
 
   -- it was, and the new file couldn't be filled
-  pub not_filled : (records : List Record) (fault : MigrateFault) (disk : E) → (from.keeps before → HoldsOld (staging_header staging) records (from.state before).seen)
+  pub not_filled : (records : List Record) (fault : MigrateFault) (disk : E) → (from.keeps after → HoldsOld (staging_header staging) records (from.state before).seen)
       → WasRead from before after → HasNotFilled to (staging_draft staging) records fault disk → HasNotCarried from to staging before fault disk after
   not_filled records fault disk held read not =
       let so = filling_so fault not.only in

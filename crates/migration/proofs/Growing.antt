@@ -1,5 +1,5 @@
 -- How a new file grows, batch by batch, and what a crash leaves of it.
-use Rattle.std.proofs.Common.{◌≡◌, inl, inr, ⊎_elim, ◌↔◌, ℕ, zero, suc, ◌+◌, ◌*◌, ◌<◌, ◌≤◌, ◌^◌, min, List, [], ◌∷◌, ◌++◌, length, take, drop, refl, sym, ◌∙◌, ap, arith, append-nil, append_assoc, length-append, length-drop, take-append-drop, take_at, drop_at}
+use Rattle.std.proofs.Common.{◌≡◌, inl, inr, ⊎_elim, ℕ, zero, suc, ◌+◌, ◌*◌, ◌<◌, ◌≤◌, ◌^◌, min, List, [], ◌∷◌, ◌++◌, length, take, drop, refl, sym, ◌∙◌, ap, arith, append-nil, append_assoc, length-append, length-drop, take-append-drop, take_at, drop_at}
 use Rattle.std.proofs.lemmas.Bool.{cases_lt}
 use Rattle.std.proofs.lemmas.List.{nil_from_length, take_all, drop_all}
 use Rattle.std.proofs.lemmas.List.Concat.{flat_map-append}
@@ -159,51 +159,51 @@ module _ {E : Type 0} (disk : DiskGhosts E) where
     gate_is = omega arith;
     room = λ some. absurd (omega (arith, some));
     quiet = refl;
-    kept = (λ k. k, λ k. k);
+    kept = λ k. k;
   }
 
   -- by a batch more
   pub grown_more : (old mid new : Draft E) (done : List Batch) (records : List Record) → HasGrown disk old done mid
-      → (disk.keeps (draft_disk mid) → (batches : List Batch) → IsDraftOf disk.state batches mid → IsDraftOf disk.state (batches ++ new_batch records ∷ []) new)
-      → (disk.keeps (draft_disk mid) → LeavesOnly disk.moment disk.since (draft_disk mid) (draft_disk new) IsNoJournal)
-      → (disk.keeps (draft_disk mid) → disk.moment (draft_disk new) ≡ disk.moment (draft_disk mid) + 4)
+      → (disk.keeps (draft_disk new) → (batches : List Batch) → IsDraftOf disk.state batches mid → IsDraftOf disk.state (batches ++ new_batch records ∷ []) new)
+      → (disk.keeps (draft_disk new) → LeavesOnly disk.moment disk.since (draft_disk mid) (draft_disk new) IsNoJournal)
+      → (disk.keeps (draft_disk new) → disk.moment (draft_disk new) ≡ disk.moment (draft_disk mid) + 4)
       → draft_header new ≡ draft_header mid
       → draft_gate new ≡ draft_gate mid + 3 + 6 * length records
       → draft_gate mid + 3 + 6 * length records ≤ 2 ^ 31
       → disk.failures (draft_disk new) ≡ disk.failures (draft_disk mid)
-      → disk.keeps (draft_disk mid) ↔ disk.keeps (draft_disk new)
+      → (disk.keeps (draft_disk new) → disk.keeps (draft_disk mid))
       → HasGrown disk old (done ++ new_batch records ∷ []) new
   grown_more old mid new done records first added leaves calls header gate room quiet kept = record {
-    added = λ keeps is. added (first.kept.0 keeps) done (first.added keeps is);
-    any_moment = λ keeps. then_leaves (first.any_moment keeps) (leaves (first.kept.0 keeps));
-    calls = λ keeps. omega (arith, first.calls keeps, calls (first.kept.0 keeps), length-append done (new_batch records ∷ []));
+    added = λ keeps is. added keeps done (first.added (kept keeps) is);
+    any_moment = λ keeps. then_leaves (first.any_moment (kept keeps)) (leaves keeps);
+    calls = λ keeps. omega (arith, first.calls (kept keeps), calls keeps, length-append done (new_batch records ∷ []));
     header_is = header ∙ first.header_is;
     gate_is = omega (arith, gate, first.gate_is, length_more done (new_batch records));
     room = λ some. omega (arith, gate, room);
     quiet = quiet ∙ first.quiet;
-    kept = (λ k. kept.0 (first.kept.0 k), λ k. first.kept.1 (kept.1 k));
+    kept = λ k. first.kept (kept k);
   }
 
   -- not by the next batch
   pub stopped_at : (old mid new : Draft E) (done : List Batch) (chunk rest records : List Record) (fault : JournalFault) → HasGrown disk old done mid
       → (done ++ new_batch chunk ∷ []) ++ in_thousands rest ≡ in_thousands records
       → IsFaultOfAdding fault
-      → (disk.keeps (draft_disk mid) → LeavesOnly disk.moment disk.since (draft_disk mid) (draft_disk new) IsNoJournal)
+      → (disk.keeps (draft_disk new) → LeavesOnly disk.moment disk.since (draft_disk mid) (draft_disk new) IsNoJournal)
       → (fault ≡ journal.Device → disk.failures (draft_disk mid) < disk.failures (draft_disk new))
       → (fault ≡ journal.Full → 2 ^ 31 < draft_gate mid + 3 + 6 * length chunk)
       → disk.failures (draft_disk mid) ≤ disk.failures (draft_disk new)
-      → disk.keeps (draft_disk mid) ↔ disk.keeps (draft_disk new)
+      → (disk.keeps (draft_disk new) → disk.keeps (draft_disk mid))
       → HasStopped disk old records (new_fault_of fault) new
   stopped_at old mid new done chunk rest records fault first left only leaves device full later kept =
       let long : length (batches_bytes done) + 3 + 6 * length chunk ≤ length (batches_bytes (in_thousands records)) =
       omega (arith, length_front done (new_batch chunk) (in_thousands rest), ap (λ (l : List Batch). length (batches_bytes l)) (sym (append_assoc done (new_batch chunk ∷ []) (in_thousands rest)) ∙ left)) in
       record {
         only = filling fault only;
-        any_moment = λ keeps. then_leaves (first.any_moment keeps) (leaves (first.kept.0 keeps));
+        any_moment = λ keeps. then_leaves (first.any_moment (kept keeps)) (leaves keeps);
         device = λ is. omega (arith, first.quiet, device (of_device fault only is));
         full = λ is. omega (arith, first.gate_is, full (of_room fault only is), long);
         later = omega (arith, first.quiet, later);
-        kept = (λ k. kept.0 (first.kept.0 k), λ k. first.kept.1 (kept.1 k));
+        kept = λ k. first.kept (kept k);
       }
 
 -- what is done, the next batch, and what stands behind it

@@ -8,8 +8,8 @@ use journal::JournalFault;
 use std::alloc::{AllocError, AllocFailed};
 use thiserror::Error;
 
-/// Why a journal wasn't brought over. The new file is to be thrown away then, save one that is `NotEmpty`. The text of each
-/// is its name.
+/// Why a journal wasn't brought over. The new file is to be thrown away then, save one that is
+/// `NotEmpty`. The text of each is its name.
 #[derive(Clone, Copy, Debug, PartialEq, Eq, Error)]
 pub enum MigrateFault {
     /// 1: the new file has bytes already. Nothing was written.
@@ -21,7 +21,8 @@ pub enum MigrateFault {
     /// 3: the old file has the header of another cluster, size or member.
     #[error("OtherHeader")]
     OtherHeader,
-    /// 4: a batch of the old file is of no record, or one of its records isn't well formed for the header.
+    /// 4: a batch of the old file is of no record, or one of its records isn't well formed for the
+    /// header.
     #[error("BadRecord")]
     BadRecord,
     /// 5: the old file ends where a gate, or what stands behind an open gate, should be.
@@ -57,7 +58,7 @@ impl<T: Drop> From<AllocFailed<T>> for MigrateFault {
     }
 }
 
-/// Of the old file's disk alone.
+/// The fault is of the old file's disk alone.
 impl From<DeviceFault> for MigrateFault {
     ghost from_gives = { λ _ e. e ≡ OldDevice };
 
@@ -66,7 +67,7 @@ impl From<DeviceFault> for MigrateFault {
     }
 }
 
-/// Of the new file alone.
+/// The fault is of the new file alone.
 impl From<JournalFault> for MigrateFault {
     ghost from_gives = { λ fault e. e ≡ new_fault_of fault };
 

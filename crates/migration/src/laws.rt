@@ -1,5 +1,5 @@
-//! What holds of every file of version 1. Each function does nothing: its contract is a law over the definitions
-//! that the contracts of this crate cite.
+//! Laws of every file of version 1. Each function does nothing: its contract is a law over the
+//! definitions that the contracts of this crate cite.
 
 ghost use Rattle.std.specs.Prelude.{◌≡◌, ◌⊎◌, ℕ, List};
 ghost use Rattle.terms_prelude.specs.Terms.{Record, Header};

@@ -1,9 +1,10 @@
 //! A member's journal of version 1, brought over into a new file of version 2.
 //!
-//! The old file is read and never written. The new file is begun with 0 as its first byte, gets all records of the old
-//! one, and then its first byte: a crash at any moment leaves a new file that opening refuses, or one that holds exactly
-//! the old records. After Ok the old file is out of use, since a member that ran by both would say things twice. After a
-//! fault the new file is to be thrown away.
+//! The old file is read and never written. The new file is begun with 0 as its first byte, gets all
+//! records of the old one, and then its first byte: a crash at any moment leaves a new file that
+//! opening refuses, or one that holds exactly the old records. After Ok the old file is out of use,
+//! since a member that ran by both would say things twice. After a fault the new file is to be
+//! thrown away.
 //!
 //! A file of version 1 is one of version 2, but for this:
 //!

@@ -1,5 +1,5 @@
 //! A journal's file of version 1. It is read, and never written.
-ghost use Rattle.std.specs.Prelude.{◌≡◌, ◌↔◌, ◌⊎◌, ◌+◌, ◌<◌, ◌≤◌, ℕ, List, IsErrOf, IfOk, IfErr, OnOk};
+ghost use Rattle.std.specs.Prelude.{◌≡◌, ◌⊎◌, ◌+◌, ◌<◌, ◌≤◌, ℕ, List, IsErrOf, IfOk, IfErr, OnOk};
 ghost use Rattle.terms_prelude.specs.Terms.{Header};
 ghost use Rattle.disk.specs.Model.{MayLeave, LeavesOnly};
 ghost use Rattle.journal.specs.WellFormed.{AreWellFormedFor};
@@ -21,23 +21,23 @@ mod record;
 use header::{HEADER, header_of};
 use read::read;
 
-/// The header that a file of version 1 begins with, by two calls of the device: `len`, and one read of the first
-/// 24 bytes, or of all where there are fewer. It takes no memory, and changes no byte.
+/// The header that a file of version 1 begins with, by two calls of the device: `len`, and one read
+/// of the first 24 bytes, or of all where there are fewer. It takes no memory, and changes no byte.
 ///
 /// - `NotOld`: the file begins with no header of that version.
 /// - `OldDevice`: the disk failed.
 pub fn peek_old<D: Disk>(disk: &mut D) -> Result<Header, MigrateFault>
-    ensures header { D.keeps disk.old → IfOk result (λ header. HasOldHeader header (D.state disk.old).seen) }
-    ensures not_old { D.keeps disk.old → IsErrOf result MigrateFault.NotOld →
+    ensures header { D.keeps disk.new → IfOk result (λ header. HasOldHeader header (D.state disk.old).seen) }
+    ensures not_old { D.keeps disk.new → IsErrOf result MigrateFault.NotOld →
         (header : Header) → HasOldHeader header (D.state disk.old).seen → ⊥ }
-    ensures same { D.keeps disk.old → D.state disk.new ≡ D.state disk.old }
-    ensures any_moment { D.keeps disk.old → LeavesOnly D.moment D.since disk.old disk.new (MayLeave (D.state disk.old)) }
-    ensures two_calls { D.keeps disk.old → IsErrOf result MigrateFault.OldDevice ⊎ (D.moment disk.new ≡ D.moment disk.old + 2) }
+    ensures same { D.keeps disk.new → D.state disk.new ≡ D.state disk.old }
+    ensures any_moment { D.keeps disk.new → LeavesOnly D.moment D.since disk.old disk.new (MayLeave (D.state disk.old)) }
+    ensures two_calls { D.keeps disk.new → IsErrOf result MigrateFault.OldDevice ⊎ (D.moment disk.new ≡ D.moment disk.old + 2) }
 
     ensures device { IsErrOf result MigrateFault.OldDevice → D.failures disk.old < D.failures disk.new }
     ensures only { IfErr result IsFaultOfPeeking }
     ensures later { D.failures disk.old ≤ D.failures disk.new }
-    ensures kept { D.keeps disk.old ↔ D.keeps disk.new }
+    ensures kept { D.keeps disk.new → D.keeps disk.old }
 {
     let len = disk.len()?;
     let mut bytes = [0; HEADER];
@@ -51,13 +51,14 @@ pub fn peek_old<D: Disk>(disk: &mut D) -> Result<Header, MigrateFault>
     }
 }
 
-/// The records that the file holds, by three calls of the device: `sync`, `len` and one read of all bytes.
+/// The records that the file holds, by three calls of the device: `sync`, `len` and one read of all
+/// bytes.
 pub(crate) fn load<D: Disk>(
     alloc: Global,
     disk: &mut D,
     header: &Header,
 ) -> Result<Vec<Record>, MigrateFault>
-    ensures held { D.keeps disk.old → IfOk result (λ records. HoldsOld header.now records.items (D.state disk.old).seen) }
+    ensures held { D.keeps disk.new → IfOk result (λ records. HoldsOld header.now records.items (D.state disk.old).seen) }
     ensures well_formed { IfOk result (λ records. AreWellFormedFor header.now records.items) }
     ensures read { OnOk result (WasRead D.Disk disk.old disk.new) }
     ensures fault { IfErr result (λ fault. HandsOldBack D.Disk disk.old header.now fault disk.new) }
@@ -68,7 +69,7 @@ pub(crate) fn load<D: Disk>(
 
 /// All the bytes, once they are on the disk.
 fn fetch<D: Disk>(alloc: Global, disk: &mut D) -> Result<Vec<u8>, MigrateFault>
-    ensures bytes { D.keeps disk.old → IfOk result (λ bytes. bytes.items ≡ (D.state disk.old).seen) }
+    ensures bytes { D.keeps disk.new → IfOk result (λ bytes. bytes.items ≡ (D.state disk.old).seen) }
     ensures read { OnOk result (WasRead D.Disk disk.old disk.new) }
     ensures fault { IfErr result (λ fault. (header : Header) → HandsOldBack D.Disk disk.old header fault disk.new) }
 {

@@ -13,7 +13,7 @@ use journal::{Draft, Journal};
 use std::alloc::Global;
 use terms::{Header, Record};
 
-/// How many records a batch of the new file has: the last one has the rest.
+/// The number of records of a batch of the new file: the last one has the rest.
 const BATCH: usize = 1000;
 
 /// A new file that was begun. Opening refuses it until it is finished.
@@ -22,12 +22,14 @@ pub struct Staging<E: Disk> {
     draft: Draft<E>,
 }
 
-/// Begins a new file: [`stage`] where the disk isn't wanted back after a fault. What a fault left of it is said there alone.
+/// Begins a new file: [`stage`] where the disk isn't wanted back after a fault. What a fault left
+/// of it is said there alone.
 pub fn begin<E: Disk>(alloc: Global, new: E, header: &Header) -> Result<Staging<E>, MigrateFault>
 where
     E: Drop,
     ensures begun { IfOk result (λ staging. HasBegun E.Disk new header.now (staging_draft staging)) }
-    // The disk that is gone: some disk that this one became, since a fault of a call is one of a disk.
+    // The disk that is gone: some disk that this one became, since a fault of a call is one of a
+    // disk.
     ensures fault { IfErr result (λ fault. (after : E) × HasNotStaged E.Disk new header.now fault after) }
 {
     match stage(alloc, new, header) {
@@ -36,8 +38,8 @@ where
     }
 }
 
-/// Begins a new file in an empty one, by three calls of the device: `len`, one write of 25 bytes whose first is 0, and
-/// `sync`.
+/// Begins a new file in an empty one, by three calls of the device: `len`, one write of 25 bytes
+/// whose first is 0, and `sync`.
 ///
 /// A fault hands the disk back:
 /// - `NotEmpty`: the file has bytes already. Nothing was written.
@@ -58,8 +60,9 @@ pub fn stage<E: Disk>(
 }
 
 impl<E: Disk> Staging<E> {
-    /// Brings the old file's records over, and makes the new file a journal: [`carry`](Staging::carry) where the new disk
-    /// isn't wanted back after a fault. What a fault left of it is said there alone.
+    /// Brings the old file's records over, and makes the new file a journal:
+    /// [`carry`](Staging::carry) where the new disk isn't wanted back after a fault. What a fault
+    /// left of it is said there alone.
     pub fn finish<D: Disk>(
         self,
         alloc: Global,
@@ -69,7 +72,8 @@ impl<E: Disk> Staging<E> {
         E: Drop,
         requires staged { E.keeps (staging_disk self) → IsStaged E.state self }
         ensures carried { IfOk result (λ done. HasCarried D.Disk E.Disk self old.old done.0 done.1 old.new) }
-        // The new disk that is gone: some disk that it became, since a fault of a call is one of a disk.
+        // The new disk that is gone: some disk that it became, since a fault of a call is one of a
+        // disk.
         ensures fault { IfErr result (λ fault. (disk : E) × HasNotCarried D.Disk E.Disk self old.old fault disk old.new) }
     {
         match self.carry(alloc, old) {
@@ -78,14 +82,17 @@ impl<E: Disk> Staging<E> {
         }
     }
 
-    /// Brings the old file's records over, and makes the new file a journal. The old file is read by three calls of the
-    /// device, `sync`, `len` and one read of all bytes, and never written. The new one gets the records in batches of
-    /// 1,000 by four calls each, the last one the rest, and then its first byte by a write and a `sync`. Gives the journal
-    /// and the number of records.
+    /// Brings the old file's records over, and makes the new file a journal. The old file is read
+    /// by three calls of the device, `sync`, `len` and one read of all bytes, and never written.
+    /// The new one gets the records in batches of 1,000 by four calls each, the last one the rest,
+    /// and then its first byte by a write and a `sync`. Gives the journal and the number of
+    /// records.
     ///
-    /// A crash at any moment leaves a new file that opening refuses, or one that holds exactly the old records; after Ok
-    /// only the latter. A fault hands the new disk back, and its file is to be thrown away:
-    /// - `NotOld`, `OtherHeader`, `CutShort` or `BadRecord`: the first thing that is wrong with the old file.
+    /// A crash at any moment leaves a new file that opening refuses, or one that holds exactly the
+    /// old records; after Ok only the latter. A fault hands the new disk back, and its file is to
+    /// be thrown away:
+    /// - `NotOld`, `OtherHeader`, `CutShort` or `BadRecord`: the first thing that is wrong with the
+    ///   old file.
     /// - `OldDevice`, `NewDevice`: a disk failed.
     /// - `Memory`: there was none for the bytes or the records.
     /// - `Full`: the closed gate behind a batch of the new file would stand past byte 2^31.

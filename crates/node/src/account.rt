@@ -1,5 +1,6 @@
-//! The account of a book: all groups that it heard, in a list that only grows, and of which seats have seen beginnings. The list
-//! stands in the proofs alone: at run time there is how many groups it has.
+//! The account of a book: all groups that it heard, in a list that only grows, and of which seats
+//! have seen beginnings. The list stands in the proofs alone: at run time there is how many groups
+//! it has.
 ghost use Rattle.std.specs.Prelude.{◌≡◌, ◌<◌, ◌++◌, ◌∷◌, [], length, MatchBool, IsTrue};
 ghost use mathlib.Core.List.{IsPrefix};
 ghost use Rattle.member.specs.Groups.{hearing_of, hearings};
@@ -121,7 +122,8 @@ impl EmptyAccount {
     }
 }
 
-/// A beginning of an account that was reached. It is known by this that those groups stand in the account. It takes 8 bytes.
+/// A beginning of an account that was reached. It is known by this that those groups stand in the
+/// account. It takes 8 bytes.
 #[derive(Drop)]
 pub(crate) struct Witness<J: Naming> {
     groups: u64,
@@ -170,8 +172,8 @@ impl<J: Naming> Witness<J> {
         other.groups <= self.groups
     }
 
-    /// Appends a group to the account of which this is all. False, and nothing is appended, where the account has more, or as many
-    /// as it can have.
+    /// Appends a group to the account of which this is all. False, and nothing is appended, where
+    /// the account has more, or as many as it can have.
     fn append<X, M: Plain<X, Group, u64>>(
         &mut self,
         count: &Word<Group, u64, CountsGroups>,
@@ -230,7 +232,8 @@ impl<J: Naming> Account<J> {
             .append::<Vec<(u8, Statement, Toss)>, Append>(&self.count, group)
     }
 
-    /// Appends a statement as a group; false, and nothing is appended, where it has as many as it can have.
+    /// Appends a statement as a group; false, and nothing is appended, where it has as many as it
+    /// can have.
     pub(crate) fn add_one(&mut self, one: &(u8, Statement, Toss)) -> bool
         ensures { MatchBool result (self.new ≡ self.old ++ (hearing_of one.now ∷ []) ∷ []) (self.new ≡ self.old) }
     {

@@ -1,5 +1,5 @@
-//! A group that the book hears: what several links handed in, one behind the other. A journal's batch is another thing: that
-//! one is of records.
+//! A group that the book hears: what several links handed in, one behind the other. A journal's
+//! batch is another thing: that one is of records.
 ghost use Rattle.std.specs.Prelude.{◌≡◌, [], IfErr};
 
 use rounds::Toss;
@@ -17,8 +17,8 @@ pub(crate) struct Part {
     pub(crate) events: Vec<(u8, Statement, Toss)>,
 }
 
-/// What several links handed in, one behind the other: at most 256 statements, each with its sender and its toss. Contracts
-/// see all of them, and that each part is one.
+/// A group: what several links handed in, one after the other: at most 256 statements, each with
+/// its sender and its toss. Contracts see all of them, and that each part is one.
 #[derive(Drop)]
 pub(crate) struct Batch {
     pub(crate) events: Vec<(u8, Statement, Toss)>,
@@ -49,7 +49,8 @@ impl Batch {
         }
     }
 
-    /// Adds what a link handed in behind what it has. Where there is no room or no memory it comes back, and the group stays.
+    /// Adds what a link handed in behind what it has. Where there is no room or no memory it comes
+    /// back, and the group stays.
     pub(crate) fn add(
         &mut self,
         at: usize,

@@ -3,7 +3,8 @@
 use std::sync::atomic::{AtomicU64, Ordering};
 use std::sync::{Condvar, MutexGuard, Wait};
 
-/// The bell for writers that wait until more of the outbox is shown. It rings once for what is new, however many show it.
+/// The bell for writers that wait until more of the outbox is shown. It rings once for what is new,
+/// however many show it.
 #[derive(Drop)]
 pub(crate) struct Bell {
     condition: Condvar,

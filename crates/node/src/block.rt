@@ -12,13 +12,15 @@ use terms::Memory;
 /// The places of the table of a block.
 const PLACES: usize = 4096;
 
-/// Entries that are no more changed. They stand in one place for all who have the block. Contracts see the entries.
+/// Entries that are no more changed. They stand in one place for all who have the block. Contracts
+/// see the entries.
 #[derive(Drop)]
 pub(crate) struct Block {
     full: Arc<Full>,
 }
 
-/// The entries of a block, and a table by which one who looks for a question needn't look through them.
+/// The entries of a block, and a table by which one who looks for a question needn't look through
+/// them.
 #[derive(Drop)]
 struct Full {
     entries: Vec<Noted>,
@@ -52,7 +54,8 @@ impl Table {
         self.marks[usize::from(entry.question()) % PLACES] = true;
     }
 
-    /// Tells that nothing of the entries is on the question; where the table can't tell, it says no.
+    /// Tells that nothing of the entries is on the question; where the table can't tell, it says
+    /// no.
     fn is_without(&self, question: u16) -> bool
         ensures { (entries : List Entry) → AreMarkedIn self.now.marks entries → IsTrue result → heard_on question entries ≡ [] }
     {
@@ -93,7 +96,8 @@ impl Block {
         Ok(Block { full })
     }
 
-    /// Tells without a look at the entries that none is on the question; where it can't tell, it says no.
+    /// Tells without a look at the entries that none is on the question; where it can't tell, it
+    /// says no.
     pub(crate) fn is_without(&self, question: u16) -> bool
         ensures { IsTrue result → heard_on question self.now ≡ [] }
     {

@@ -51,9 +51,10 @@ use std::marker::{Brand, Model};
 use std::sync::Arc;
 use terms::{Header, Memory, Record, Statement};
 
-/// Names a hub, by its board and the header of its member: contracts say by it that a book, its hub and a pass are of one
-/// board, that a seat counts by the account of the book behind its hub's lock, and that a book and its hub are of one member of
-/// one cluster. A program is generic over it, and is called at `Brand`.
+/// Names a hub, by its board and the header of its member: contracts say by it that a book, its hub
+/// and a pass are of one board, that a seat counts by the account of the book behind its hub's
+/// lock, and that a book and its hub are of one member of one cluster. A program is generic over
+/// it, and is called at `Brand`.
 pub trait Naming {
     ghost use Rattle.node.specs.Accounts.{BoardName};
 
@@ -70,14 +71,16 @@ impl Naming for Brand {
     ghost header = { record { cluster = 0; size = record { n = 0; t = 0; questions = 0 }; me = 0 } };
 }
 
-/// A member with what happened since its opening: its history has each event that it took, in order, and a member that
-/// opens with the same records and is told the history with its tosses does the same.
+/// A member with what happened since its opening: its history has each event that it took, in
+/// order, and a member that opens with the same records and is told the history with its tosses
+/// does the same.
 ///
-/// The history stays in memory, at 15 bytes an entry, in blocks of 4,096 entries. Nothing that was noted is copied when it
-/// grows: a block is begun, and where a group found no room in the one before, up to 255 entries of that one stay unused.
-/// Of each sender one Echo and one Ready a place are taken, one Initial of each of its own places, and of each question one
-/// proposal. With 32 members and 256 questions these are 51,118,336 entries at most, or 0.77 GB; where all are honest and
-/// each question is decided in round 1 they are some 3.2 million, or 48 MB.
+/// The history stays in memory, at 15 bytes an entry, in blocks of 4,096 entries. Nothing that was
+/// noted is copied when it grows: a block is begun, and where a group found no room in the one
+/// before, up to 255 entries of that one stay unused. Of each sender one Echo and one Ready a place
+/// are taken, one Initial of each of its own places, and of each question one proposal. With 32
+/// members and 256 questions these are 51,118,336 entries at most, or 0.77 GB; where all are honest
+/// and each question is decided in round 1 they are some 3.2 million, or 48 MB.
 #[derive(Drop)]
 pub struct Book<D: Disk, J: Naming> {
     alloc: Global,
@@ -104,8 +107,8 @@ impl<D: Disk, J: Naming> Model for Book<D, J> {
 }
 
 impl<D: Disk, J: Naming> Book<D, J> {
-    /// A book over a member that heard nothing since its opening, with an empty history. Its decisions are published at
-    /// once.
+    /// A book over a member that heard nothing since its opening, with an empty history. Its
+    /// decisions are published at once.
     pub(crate) fn open(
         alloc: Global,
         member: Member<D>,
@@ -136,12 +139,14 @@ impl<D: Disk, J: Naming> Book<D, J> {
         })
     }
 
-    /// Hands in a statement of the seat's peer, with this toss. The answer is that of [`Member::hear`]; one that takes the
-    /// statement lengthens the history by it. Each answer counts for the seat, and a fault doesn't.
+    /// Hands in a statement of the seat's peer, with this toss. The answer is that of
+    /// [`Member::hear`]; one that takes the statement lengthens the history by it. Each answer
+    /// counts for the seat, and a fault doesn't.
     ///
-    /// Room in history and seat is made first, and the account gains the statement: where a member that isn't stopped has no room,
-    /// it is stopped, with [`MemberFault::Memory`], and no call of the device is made. The other faults are the member's, and those that stop
-    /// it stop the book. After each fault the records, the history and the seat are as they were.
+    /// Room in history and seat is made first, and the account gains the statement: where a member
+    /// that isn't stopped has no room, it is stopped, with [`MemberFault::Memory`], and no call of
+    /// the device is made. The other faults are the member's, and those that stop it stop the book.
+    /// After each fault the records, the history and the seat are as they were.
     pub fn apply(
         &mut self,
         seat: &mut Seat<J>,
@@ -155,7 +160,8 @@ impl<D: Disk, J: Naming> Book<D, J> {
         ensures life { (header : Header) (liars : ℕ → Bool) (w : World) → IsCorrect header.size liars header.me →
             MemberIsAt D.Disk header w self.old.member → Comes w (Hearing seat.old.peer statement.now) →
             LivesOn D.Disk header liars w toss.0 (Hearing seat.old.peer statement.now) result self.old.member self.new.member }
-        // A crash within the call: it made no call of the device, or it is that event with all records in doubt.
+        // A crash within the call: it made no call of the device, or it is that event with all
+        // records in doubt.
         ensures cut { (header : Header) (liars : ℕ → Bool) (w : World) → IsCorrect header.size liars header.me →
             MemberIsAt D.Disk header w self.old.member → Comes w (Hearing seat.old.peer statement.now) →
             MayBeCutOff D.Disk header liars w toss.0 (Hearing seat.old.peer statement.now) self.old.member self.new.member }
@@ -206,12 +212,13 @@ impl<D: Disk, J: Naming> Book<D, J> {
         }
     }
 
-    /// Hands in statements of the seat's peer as one group, each with its toss: at most 256, and perhaps none. The answers
-    /// are those of [`Book::hear_all`]. Each answer counts for the seat, and after a fault none does.
+    /// Hands in statements of the seat's peer as one group, each with its toss: at most 256, and
+    /// perhaps none. The answers are those of [`Book::hear_all`]. Each answer counts for the seat,
+    /// and after a fault none does.
     ///
-    /// Room in the seat, and for the list that the member hears, is made first: where a member that isn't stopped has none,
-    /// it is stopped, with [`MemberFault::Memory`], and no call of the device is made. After each fault the records, the
-    /// history and the seat are as they were.
+    /// Room in the seat, and for the list that the member hears, is made first: where a member that
+    /// isn't stopped has none, it is stopped, with [`MemberFault::Memory`], and no call of the
+    /// device is made. After each fault the records, the history and the seat are as they were.
     pub fn apply_all(
         &mut self,
         seat: &mut Seat<J>,
@@ -223,7 +230,7 @@ impl<D: Disk, J: Naming> Book<D, J> {
         ensures length { IfOk result (λ answers. length answers.items ≡ length events.now) }
         ensures saved { IfOk result (λ answers.
             HasSaved D.Disk self.old.member (records_of_all (replies_of answers.items)) self.new.member) }
-        ensures four_calls { D.keeps (member_disk self.old.member) → IfOk result (λ answers.
+        ensures four_calls { D.keeps (member_disk self.new.member) → IfOk result (λ answers.
             0 < length (records_of_all (replies_of answers.items)) →
             D.moment (member_disk self.new.member) ≡ D.moment (member_disk self.old.member) + 4) }
         ensures seat { OnOk result (HandsIn seat.old seat.new (said_in events.now) (length events.now)) }
@@ -231,7 +238,8 @@ impl<D: Disk, J: Naming> Book<D, J> {
         ensures life { (header : Header) (liars : ℕ → Bool) (w : World) → IsCorrect header.size liars header.me →
             MemberIsAt D.Disk header w self.old.member → AllCome w (heard_from seat.old.peer events.now) →
             LivesOnAll D.Disk header liars w (heard_from seat.old.peer events.now) result self.old.member self.new.member }
-        // A crash within the call: it made no call of the device, or it is that event with all records in doubt.
+        // A crash within the call: it made no call of the device, or it is that event with all
+        // records in doubt.
         ensures cut { (header : Header) (liars : ℕ → Bool) (w : World) → IsCorrect header.size liars header.me →
             MemberIsAt D.Disk header w self.old.member → AllCome w (heard_from seat.old.peer events.now) →
             MayAllBeCutOff D.Disk header liars w (heard_from seat.old.peer events.now) self.old.member self.new.member }
@@ -265,14 +273,16 @@ impl<D: Disk, J: Naming> Book<D, J> {
         }
     }
 
-    /// Hears statements of any members as one group, each with its sender and its toss: at most 256, and perhaps none. The
-    /// answers are those to one after another, and each that takes its statement lengthens the history by it. The records of
-    /// all answers are saved as one batch, by four calls of the device, as [`Member::hear_all`] says.
+    /// Hears statements of any members as one group, each with its sender and its toss: at most
+    /// 256, and perhaps none. The answers are those to one after another, and each that takes its
+    /// statement lengthens the history by it. The records of all answers are saved as one batch, by
+    /// four calls of the device, as [`Member::hear_all`] says.
     ///
-    /// Room in the history is made first: where a member that isn't stopped has none, it is stopped, with
-    /// [`MemberFault::Memory`], and no call of the device is made. The other faults are the member's, and those that stop it
-    /// stop the book. After each fault the records and the history are as they were. The account has the group before the member
-    /// hears it, so a member that refuses it then, for another cause than a bad number, is stopped.
+    /// Room in the history is made first: where a member that isn't stopped has none, it is
+    /// stopped, with [`MemberFault::Memory`], and no call of the device is made. The other faults
+    /// are the member's, and those that stop it stop the book. After each fault the records and the
+    /// history are as they were. The account has the group before the member hears it, so a member
+    /// that refuses it then, for another cause than a bad number, is stopped.
     pub(crate) fn hear_all(
         &mut self,
         group: &Vec<(u8, Statement, Toss)>,
@@ -282,14 +292,15 @@ impl<D: Disk, J: Naming> Book<D, J> {
         ensures length { IfOk result (λ answers. length answers.items ≡ length group.now.items) }
         ensures saved { IfOk result (λ answers.
             HasSaved D.Disk self.old.member (records_of_all (replies_of answers.items)) self.new.member) }
-        ensures four_calls { D.keeps (member_disk self.old.member) → IfOk result (λ answers.
+        ensures four_calls { D.keeps (member_disk self.new.member) → IfOk result (λ answers.
             0 < length (records_of_all (replies_of answers.items)) →
             D.moment (member_disk self.new.member) ≡ D.moment (member_disk self.old.member) + 4) }
         // In the world it is the member's event, or the member hears nothing and goes down.
         ensures life { (header : Header) (liars : ℕ → Bool) (w : World) → IsCorrect header.size liars header.me →
             MemberIsAt D.Disk header w self.old.member → AllCome w (hearings group.now.items) →
             LivesOnAll D.Disk header liars w (hearings group.now.items) result self.old.member self.new.member }
-        // A crash within the call: it made no call of the device, or it is that event with all records in doubt.
+        // A crash within the call: it made no call of the device, or it is that event with all
+        // records in doubt.
         ensures cut { (header : Header) (liars : ℕ → Bool) (w : World) → IsCorrect header.size liars header.me →
             MemberIsAt D.Disk header w self.old.member → AllCome w (hearings group.now.items) →
             MayAllBeCutOff D.Disk header liars w (hearings group.now.items) self.old.member self.new.member }
@@ -323,12 +334,13 @@ impl<D: Disk, J: Naming> Book<D, J> {
         }
     }
 
-    /// Takes a bit that is proposed for the question, with this toss. The answer is that of [`Member::propose`]; one that
-    /// takes the bit lengthens the history by it.
+    /// Takes a bit that is proposed for the question, with this toss. The answer is that of
+    /// [`Member::propose`]; one that takes the bit lengthens the history by it.
     ///
-    /// Room in the history is made first: where a member that isn't stopped has none, it is stopped, with
-    /// [`MemberFault::Memory`], and no call of the device is made. The other faults are the member's, and those that stop
-    /// it stop the book. After each fault the records and the history are as they were.
+    /// Room in the history is made first: where a member that isn't stopped has none, it is
+    /// stopped, with [`MemberFault::Memory`], and no call of the device is made. The other faults
+    /// are the member's, and those that stop it stop the book. After each fault the records and the
+    /// history are as they were.
     pub fn propose(&mut self, question: u16, bit: bool, toss: Toss) -> Result<Answer, MemberFault>
         ensures answer { IfOk result (λ a. Applies self.old (Proposed question bit toss.0) a self.new) }
         ensures saved { IfOk result (λ a. HasSaved D.Disk self.old.member (records_of (reply_of a)) self.new.member) }
@@ -336,7 +348,8 @@ impl<D: Disk, J: Naming> Book<D, J> {
         ensures life { (header : Header) (liars : ℕ → Bool) (w : World) → IsCorrect header.size liars header.me →
             MemberIsAt D.Disk header w self.old.member → Comes w (Proposal question bit) →
             LivesOn D.Disk header liars w toss.0 (Proposal question bit) result self.old.member self.new.member }
-        // A crash within the call: it made no call of the device, or it is that event with all records in doubt.
+        // A crash within the call: it made no call of the device, or it is that event with all
+        // records in doubt.
         ensures cut { (header : Header) (liars : ℕ → Bool) (w : World) → IsCorrect header.size liars header.me →
             MemberIsAt D.Disk header w self.old.member → Comes w (Proposal question bit) →
             MayBeCutOff D.Disk header liars w toss.0 (Proposal question bit) self.old.member self.new.member }
@@ -373,7 +386,8 @@ impl<D: Disk, J: Naming> Book<D, J> {
         }
     }
 
-    /// The saved records, in order. They are those of the replay of the history over the opening records.
+    /// The saved records, in order. They are those of the replay of the history over the opening
+    /// records.
     pub fn records(&self) -> &[Record]
         ensures saved { result.now ≡ member_saved self.now.member }
         ensures replay { IsReplayed self.now.member self.now.opening self.now.history }
@@ -393,8 +407,8 @@ impl<D: Disk, J: Naming> Book<D, J> {
         self.member.outbox()
     }
 
-    /// The statements of the outbox from that number on, at most so many: none where it is past the end. Where there is no
-    /// memory for them nothing changes.
+    /// The statements of the outbox from that number on, at most so many: none where it is past the
+    /// end. Where there is no memory for them nothing changes.
     pub fn pull(&self, from: u64, max: usize) -> Result<Vec<Sealed>, Memory>
         ensures items { IfOk result (λ v. v.items ≡ take max (drop from (sealed_from 0 (member_saved self.now.member)))) }
         ensures numbered { IfOk result (λ v. is_numbered from v.items ≡ true) }
@@ -403,7 +417,8 @@ impl<D: Disk, J: Naming> Book<D, J> {
         part(self.alloc, self.outbox(), from, max)
     }
 
-    /// The bit that the question was decided for, in this life or an earlier one; none where there is no such question.
+    /// The bit that the question was decided for, in this life or an earlier one; none where there
+    /// is no such question.
     pub fn verdict(&self, question: u16) -> Option<bool>
         ensures decided { result ≡ verdict_of (member_saved self.now.member) question }
         ensures asked { (member_header self.now.member).size.questions ≤ question → result ≡ None }
@@ -411,8 +426,8 @@ impl<D: Disk, J: Naming> Book<D, J> {
         self.tally.verdict(question)
     }
 
-    /// Returns how the question stands at the member: none where there is no such question, and where it isn't decided and
-    /// the member is stopped. It goes through no records.
+    /// Returns how the question stands at the member: none where there is no such question, and
+    /// where it isn't decided and the member is stopped. It goes through no records.
     pub fn state(&self, question: u16) -> Option<QuestionState>
         ensures { IsState self.now question result }
     {
@@ -425,21 +440,23 @@ impl<D: Disk, J: Naming> Book<D, J> {
         Some(state_at(self.member.progress(question)))
     }
 
-    /// The decisions that the member has saved, in this life and in earlier ones, in the order of its journal: all of them,
-    /// where they are fewer than the questions, as they are of a correct member.
+    /// The decisions that the member has saved, in this life and in earlier ones, in the order of
+    /// its journal: all of them, where they are fewer than the questions, as they are of a correct
+    /// member.
     pub fn decisions(&self) -> &[Decision]
         ensures { AreDecisions J.header.size.questions (member_saved self.now.member) result.now }
     {
         self.tally.decisions()
     }
 
-    /// What was heard of a question that is decided, since the member was opened: the bit, and each statement on the question
-    /// with its sender, in order. An audit of it is true: whoever has the transcript finds by it alone that the bit may be
-    /// decided.
+    /// Returns what was heard of a question that is decided, since the member was opened: the bit,
+    /// and each statement on the question with its sender, in order. An audit of it is true:
+    /// whoever has the transcript finds by it alone that the bit may be decided.
     ///
-    /// Refused with the first that holds: [`TranscriptFault::NoSuchQuestion`]; [`TranscriptFault::Undecided`];
-    /// [`TranscriptFault::Memory`]; [`TranscriptFault::Thin`], where what was heard since the opening is no proof of the bit,
-    /// which was decided before. It goes through the whole history. A member that is stopped gives what it heard until then.
+    /// Refused with the first that holds: [`TranscriptFault::NoSuchQuestion`];
+    /// [`TranscriptFault::Undecided`]; [`TranscriptFault::Memory`]; [`TranscriptFault::Thin`],
+    /// where what was heard since the opening is no proof of the bit, which was decided before. It
+    /// goes through the whole history. A member that is stopped gives what it heard until then.
     pub fn transcript(&self, question: u16) -> Result<Transcript, TranscriptFault>
         ensures ok { IfOk result (IsTranscript self.now question) }
         ensures err { IfErr result (HasNoTranscript self.now question) }
@@ -450,11 +467,12 @@ impl<D: Disk, J: Naming> Book<D, J> {
         }
     }
 
-    /// What a transcript of a question that is decided is made of ([`Dossier::transcript`]), without the book: what takes long is
-    /// done once the book was given back. It goes through no more than the last block of the history.
+    /// Returns what a transcript of a question that is decided is made of
+    /// ([`Dossier::transcript`]), without the book: what takes long is done once the book was given
+    /// back. It goes through no more than the last block of the history.
     ///
-    /// Refused with the first that holds: [`TranscriptFault::NoSuchQuestion`]; [`TranscriptFault::Undecided`];
-    /// [`TranscriptFault::Memory`].
+    /// Refused with the first that holds: [`TranscriptFault::NoSuchQuestion`];
+    /// [`TranscriptFault::Undecided`]; [`TranscriptFault::Memory`].
     pub fn dossier(&self, question: u16) -> Result<Dossier, TranscriptFault>
         ensures ok { IfOk result (IsDossier self.now question) }
         ensures err { IfErr result (HasNoDossier self.now question) }
@@ -472,7 +490,7 @@ impl<D: Disk, J: Naming> Book<D, J> {
         }
     }
 
-    /// Whether its member is stopped: then it takes no event.
+    /// Returns `true` if its member is stopped: then it takes no event.
     pub fn is_stopped(&self) -> bool
         ensures { result ≡ member_is_stopped self.now.member }
     {
@@ -486,7 +504,8 @@ impl<D: Disk, J: Naming> Book<D, J> {
         self.account.witness()
     }
 
-    /// Stops its member: each later event is refused. What it saved and what happened stay, and no call of the device is made.
+    /// Stops its member: each later event is refused. What it saved and what happened stay, and no
+    /// call of the device is made.
     pub fn stop(&mut self)
         ensures stopped { member_is_stopped self.new.member ≡ true }
         ensures saved { member_saved self.new.member ≡ member_saved self.old.member }
@@ -502,7 +521,7 @@ impl<D: Disk, J: Naming> Book<D, J> {
         self.member.stop();
     }
 
-    /// Whose journal it is: that of its hub's member.
+    /// Returns whose journal it is: that of its hub's member.
     pub fn header(&self) -> Header
         ensures member { result ≡ member_header self.now.member }
         ensures hub { result ≡ J.header }
@@ -510,8 +529,8 @@ impl<D: Disk, J: Naming> Book<D, J> {
         self.member.header()
     }
 
-    /// How many statements are in the outbox, and how many questions are decided; none where the member is stopped. It goes
-    /// through no records and no questions.
+    /// Returns how many statements are in the outbox, and how many questions are decided; none
+    /// where the member is stopped. It goes through no records and no questions.
     pub fn status(&self) -> Option<(u64, u16)>
         ensures outbox { IfSome result (λ status. status.0 ≡ length (sealed_from 0 (member_saved self.now.member))) }
         ensures decided { IfSome result (λ status.
@@ -525,7 +544,7 @@ impl<D: Disk, J: Naming> Book<D, J> {
         Some((self.outbox().len() as u64, self.tally.decided()))
     }
 
-    /// How many events the history has.
+    /// Returns how many events the history has.
     pub fn events(&self) -> usize
         ensures { result ≡ length self.now.history }
     {
@@ -540,15 +559,16 @@ impl<D: Disk, J: Naming> Book<D, J> {
         self.history.get(at)
     }
 
-    /// Whether the seats are those of all members, each with the link part of its peer.
+    /// Returns `true` if the seats are those of all members, each with the link part of its peer.
     pub(crate) fn is_settled(&self, seats: &[Seat<J>]) -> bool
         ensures { result ≡ is_settled (member_header self.now.member).size.n self.now.history seats.now }
     {
         is_settled(self.member.header().size().n(), &self.history, seats)
     }
 
-    /// What the book knows to stand on its board for the question is its decision, and a pass of the board that knows a
-    /// verdict of the question knows the same one. Nothing changes.
+    /// Compares the book with its board. What the book knows to stand there for the question is its
+    /// decision, and a pass of the board that knows a verdict of the question knows the same one.
+    /// Nothing changes.
     pub fn meet(&mut self, pass: &mut Pass, question: u16)
         requires { pass.old.cells ≡ J.names.cells }
         ensures same { (self.new ≡ self.old) × (pass.new ≡ pass.old) }
@@ -561,7 +581,8 @@ impl<D: Disk, J: Naming> Book<D, J> {
     }
 }
 
-/// Notes a group in the account once there is room for as many entries. Where there isn't, or the account is full, it stays.
+/// Notes a group in the account once there is room for as many entries. Where there isn't, or the
+/// account is full, it stays.
 fn make_ready<J: Naming>(
     history: &mut History,
     account: &mut Account<J>,
@@ -596,8 +617,9 @@ fn see<J: Naming>(seen: &mut Witness<J>, after: Witness<J>, events: &[(Statement
     }
 }
 
-/// Notes a statement in the account, as a group, once there is room for one more entry and one more first, where the account is
-/// no shorter than it was seen. Else, or where the account is full, it stays.
+/// Notes a statement in the account, as a group, once there is room for one more entry and one more
+/// first, where the account is no shorter than it was seen. Else, or where the account is full, it
+/// stays.
 fn make_ready_for_one<J: Naming>(
     history: &mut History,
     firsts: &mut Firsts,

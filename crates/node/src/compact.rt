@@ -12,9 +12,9 @@ use statement_codec::{byte_of_kind, byte_of_value};
 use std::marker::Model;
 use terms::{Kind, Place, Statement, Value};
 
-/// An entry, which takes just these fifteen bytes: a tag, the sender, the question with its greater byte first, the origin,
-/// the round, the step, and the toss in eight bytes. The tag of a statement is its kind, 1 to 3, and four times its value;
-/// that of a proposal is four times its bit.
+/// An entry, which takes just these fifteen bytes: a tag, the sender, the question with its greater
+/// byte first, the origin, the round, the step, and the toss in eight bytes. The tag of a statement
+/// is its kind, 1 to 3, and four times its value; that of a proposal is four times its bit.
 #[derive(Drop)]
 pub(crate) struct Noted {
     bytes: [u8; 15],

@@ -10,7 +10,8 @@ use std::alloc::Global;
 use std::marker::Model;
 use std::mem::replace;
 
-/// How many entries a block is made for, unless more are wanted at once: it takes 61,440 bytes.
+/// The number of entries for which a block is made, unless more are wanted at once: it takes 61,440
+/// bytes.
 const BLOCK: usize = 4096;
 
 /// The entries that were noted, in order.
@@ -46,8 +47,8 @@ impl History {
         }
     }
 
-    /// Makes room for so many entries more, if there is memory. The entries stay, and none is moved: where the last block
-    /// lacks room a new one is begun.
+    /// Makes room for so many entries more, if there is memory. The entries stay, and none is
+    /// moved: where the last block lacks room a new one is begun.
     pub(crate) fn make_room(&mut self, k: usize) -> bool
         ensures entries { self.new.entries ≡ self.old.entries }
         ensures room { result ≡ true → k ≤ self.new.room }
@@ -90,7 +91,7 @@ impl History {
         self.last.push_reserved(Noted::of(entry));
     }
 
-    /// How many entries were noted.
+    /// Returns how many entries were noted.
     pub(crate) fn len(&self) -> usize
         ensures { result ≡ length self.now.entries }
     {

@@ -1,6 +1,6 @@
-//! A member that threads share. Threads borrow it one after another, as a [`Book`] that keeps what happened since the
-//! member was opened; each link hands in what it reads from a [`Seat`] of its own, and whoever wants a verdict asks the
-//! [`Board`], which takes no lock.
+//! A member that threads share. Threads borrow it one after another, as a [`Book`] that keeps what
+//! happened since the member was opened; each link hands in what it reads from a [`Seat`] of its
+//! own, and whoever wants a verdict asks the [`Board`], which takes no lock.
 #![tactic(auto)]
 
 mod account;

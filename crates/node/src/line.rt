@@ -1,5 +1,5 @@
-//! The line in front of the book: what several links hand in while a batch is on its way to the disk is heard as one group.
-//! Begin at `Line`, and at `hear`, last.
+//! The line in front of the book: what several links hand in while a batch is on its way to the
+//! disk is heard as one group. Begin at `Line`, and at `hear`, last.
 ghost use Rattle.std.specs.Prelude.{◌≡◌, IfSome, IsTrue, List, Result};
 ghost use Rattle.member.specs.Groups.{hearings};
 ghost use Rattle.member.specs.declared.fault.MemberFault.{MemberFault};
@@ -19,14 +19,14 @@ use std::marker::{Model, PhantomData};
 use std::mem::replace;
 use terms::{Memory, Statement};
 
-/// For how many groups in a row the bell isn't rung, at most.
+/// The most groups in a row for which the bell isn't rung.
 const QUIET: u32 = 7;
 
 /// The most statements that a read of a link gives: it is of 512 bytes, and each takes seven.
 const READ: usize = 73;
 
-/// The outcome of statements that wait for the book: it heard them, and this is its account then; or it refused them, or there
-/// was no memory to hand them in.
+/// The outcome of statements that wait for the book: it heard them, and this is its account then;
+/// or it refused them, or there was no memory to hand them in.
 pub(crate) type Outcome<J> = Result<Witness<J>, MemberFault>;
 
 /// The same for one more.
@@ -58,7 +58,7 @@ impl<D, J: Naming> Model for Heard<D, J> {
     ghost invariant = { λ heard. HasCome D (hearings heard.batch) heard.outcome };
 }
 
-/// What a link handed in, and what came of it.
+/// An answered piece: what a link handed in, and what came of it.
 #[derive(Drop)]
 struct Answered<D, J: Naming> {
     events: Vec<(u8, Statement, Toss)>,
@@ -84,21 +84,22 @@ enum Slot<D, J: Naming> {
     Free,
     /// This waits for the book.
     Waits(Vec<(u8, Statement, Toss)>),
-    /// What waited is on its way through the book.
+    /// The pieces that waited are on their way through the book.
     Away,
     /// The book has answered.
     Answered(Answered<D, J>),
 }
 
-/// A place for each link. Who serves the line takes what waits, has the book hear it as one group, and leaves the answers.
+/// A place for each link. Who serves the line takes what waits, has the book hear it as one group,
+/// and leaves the answers.
 #[derive(Drop)]
 pub(crate) struct Line<D, J: Naming> {
     slots: Vec<Slot<D, J>>,
     /// The place with which the next group begins, so that each link has its turn.
     first: usize,
-    /// How many groups in a row were taken for which the bell isn't rung.
+    /// The number of groups in a row for which the bell isn't rung.
     quiet: u32,
-    /// Whether a link serves the line at this moment.
+    /// Set if a link serves the line at this moment.
     pub(crate) is_busy: bool,
 }
 
@@ -117,7 +118,8 @@ impl<D, J: Naming> Line<D, J> {
         })
     }
 
-    /// What this link hands in waits from now on. A link waits for one answer at a time. False where there is no such link.
+    /// What this link hands in waits from now on. A link waits for one answer at a time. False
+    /// where there is no such link.
     pub(crate) fn enter(&mut self, link: u8, events: Vec<(u8, Statement, Toss)>) -> bool {
         match self.slots.get_mut(usize::from(link)) {
             Some(slot) => {
@@ -128,7 +130,8 @@ impl<D, J: Naming> Line<D, J> {
         }
     }
 
-    /// What came of these statements of the link, if they were answered; its place is free then.
+    /// Returns what came of these statements of the link, if they were answered; its place is free
+    /// then.
     pub(crate) fn leave(&mut self, link: u8, events: &[(Statement, Toss)]) -> Option<Outcome<J>>
         ensures { IfSome result (λ outcome. HasCome D (heard_from link events.now) outcome) }
     {
@@ -138,12 +141,13 @@ impl<D, J: Naming> Line<D, J> {
         Some(outcome)
     }
 
-    /// Whether something waits.
+    /// Returns `true` if something waits.
     pub(crate) fn has_waiting(&self) -> bool {
         self.slots.iter().any(|slot| slot.waits())
     }
 
-    /// Whether what waits may be all that a group takes: what one more read gives might have no room in it.
+    /// Returns `true` if what waits may be all that a group takes: what one more read gives might
+    /// have no room in it.
     pub(crate) fn is_full(&self) -> bool {
         let mut waiting = 0usize;
         for slot in &self.slots {
@@ -152,7 +156,8 @@ impl<D, J: Naming> Line<D, J> {
         waiting > GROUP - READ
     }
 
-    /// Takes what waits as one group, link by link: as much of it as the group has room and memory for.
+    /// Takes what waits as one group, link by link: as much of it as the group has room and memory
+    /// for.
     pub(crate) fn drain(&mut self, alloc: Global) -> Batch {
         let mut batch = Batch::new(alloc);
         let links = self.slots.len();
@@ -166,9 +171,9 @@ impl<D, J: Naming> Line<D, J> {
         batch
     }
 
-    /// Whether the bell is to ring for the group that was taken last: not while more waits than that had room for, which is
-    /// the next group, but at most 7 times in a row. So writers are woken less often where there is much to say, and each of
-    /// them has more to send.
+    /// Returns `true` if the bell is to ring for the group that was taken last: not while more
+    /// waits than that had room for, which is the next group, but at most 7 times in a row. So
+    /// writers are woken less often where there is much to say, and each of them has more to send.
     pub(crate) fn is_to_ring(&mut self) -> bool {
         let rings = !self.has_waiting() || self.quiet >= QUIET;
         self.quiet = if rings {
@@ -199,7 +204,8 @@ impl<D, J: Naming> Line<D, J> {
         }
     }
 
-    /// Leaves the answers of a group that was heard. What waits for want of memory, so that it is in no group, is refused.
+    /// Leaves the answers of a group that was heard. What waits for want of memory, so that it is
+    /// in no group, is refused.
     pub(crate) fn give(&mut self, heard: Heard<D, J>) {
         let Heard {
             batch,
@@ -222,8 +228,8 @@ impl<D, J: Naming> Line<D, J> {
         }
     }
 
-    /// Whom to wake behind a group, a bit for each link, the lowest of them that of link 0: those that were answered, and the
-    /// first that waits, which serves the line next.
+    /// Returns whom to wake behind a group, a bit for each link, the lowest of them that of link 0:
+    /// those that were answered, and the first that waits, which serves the line next.
     pub(crate) fn to_wake(&self) -> u64 {
         let mut links = 0;
         let mut bit = 1u64;
@@ -248,12 +254,12 @@ impl<D, J: Naming> Line<D, J> {
 }
 
 impl<D, J: Naming> Slot<D, J> {
-    /// Whether something waits there.
+    /// Returns `true` if something waits there.
     fn waits(&self) -> bool {
         matches!(self, Slot::Waits(_))
     }
 
-    /// How many statements wait there.
+    /// Returns how many statements wait there.
     fn count(&self) -> usize {
         match self {
             Slot::Waits(events) => events.len(),
@@ -261,12 +267,12 @@ impl<D, J: Naming> Slot<D, J> {
         }
     }
 
-    /// Whether the book has answered.
+    /// Returns `true` if the book has answered.
     fn is_answered(&self) -> bool {
         matches!(self, Slot::Answered(_))
     }
 
-    /// What came of these statements of the peer, if they were answered.
+    /// Returns what came of these statements of the peer, if they were answered.
     fn outcome_of(&self, peer: u8, events: &[(Statement, Toss)]) -> Option<Outcome<J>>
         ensures { IfSome result (λ outcome. HasCome D (heard_from peer events.now) outcome) }
     {
@@ -276,7 +282,7 @@ impl<D, J: Naming> Slot<D, J> {
         }
     }
 
-    /// What waits there is refused for want of memory.
+    /// Refuses what waits there for want of memory.
     fn refuse(&mut self) {
         match replace(self, Slot::Away) {
             Slot::Waits(events) => {
@@ -292,7 +298,7 @@ impl<D, J: Naming> Slot<D, J> {
 }
 
 impl<D, J: Naming> Answered<D, J> {
-    /// What came of these statements of the peer, if it is these that were answered.
+    /// Returns what came of these statements of the peer, if it is these that were answered.
     fn outcome_of(&self, peer: u8, events: &[(Statement, Toss)]) -> Option<Outcome<J>>
         ensures { IfSome result (λ outcome. HasCome D (heard_from peer events.now) outcome) }
     {
@@ -304,7 +310,7 @@ impl<D, J: Naming> Answered<D, J> {
     }
 }
 
-/// Whether these are the statements, each with its toss, as they are heard from the peer.
+/// Returns `true` if these are the statements, each with its toss, as they are heard from the peer.
 fn are_of(heard: &[(u8, Statement, Toss)], peer: u8, events: &[(Statement, Toss)]) -> bool
     ensures { result ≡ are_of heard.now peer events.now }
 {
@@ -318,7 +324,7 @@ fn are_of(heard: &[(u8, Statement, Toss)], peer: u8, events: &[(Statement, Toss)
     rest.is_empty()
 }
 
-/// Whether this is the statement with its toss, as it is heard from the peer.
+/// Returns `true` if this is the statement with its toss, as it is heard from the peer.
 fn is_of(heard: &(u8, Statement, Toss), peer: u8, event: &(Statement, Toss)) -> bool
     ensures { result ≡ is_of heard.now peer event.now }
 {

@@ -1,4 +1,4 @@
-//! Which links of a member are up.
+//! The links of a member that are up.
 ghost use Rattle.std.specs.Prelude.{◌≡◌, ◌<◌, ◌≤◌, length, slice_set, IfOk};
 ghost use Rattle.node.specs.Links.{count_true, none_up};
 
@@ -6,16 +6,18 @@ use std::alloc::Global;
 use std::marker::Model;
 use terms::Memory;
 
-/// How many links of a member are up. The link from it to itself comes in and goes out like the others.
+/// The numbers of a member's links that are up. The link from it to itself comes in and goes out
+/// like the others.
 #[derive(Clone, Copy, Debug, PartialEq, Eq)]
 pub struct LinkCount {
-    /// From how many members a link comes in: it has greeted, and what that member says is heard.
+    /// The number of members from whom a link comes in: it has greeted, and what that member says
+    /// is heard.
     pub incoming: usize,
     /// To how many members a link goes out that was welcomed.
     pub outgoing: usize,
 }
 
-/// Which links are up, by the number of the member at their other end. Contracts see both lists.
+/// The links that are up, by the number of the member at their other end. Contracts see both lists.
 #[derive(Drop)]
 pub(crate) struct LinkTable {
     incoming: Vec<bool>,
@@ -30,14 +32,14 @@ impl Model for LinkTable {
     ghost view = { λ table. record { incoming = table.incoming.items; outgoing = table.outgoing.items } };
 }
 
-/// How many of these are true.
+/// Returns how many of these are true.
 fn count_true(flags: &[bool]) -> usize
     ensures { result ≡ count_true flags.now }
 {
     flags.iter().filter(|flag| **flag).count()
 }
 
-/// From now on the flag at that place is this; past the last place nothing changes.
+/// Sets the flag at that place; past the last place nothing changes.
 fn set_at(flags: &mut [bool], at: u8, up: bool)
     ensures within { at < length flags.old → flags.new ≡ slice_set flags.old at up }
     ensures past { length flags.old ≤ at → flags.new ≡ flags.old }
@@ -74,7 +76,7 @@ impl LinkTable {
         set_at(&mut self.outgoing, member, up);
     }
 
-    /// How many links are up.
+    /// Returns how many links are up.
     pub(crate) fn count(&self) -> LinkCount
         ensures incoming { result.incoming ≡ count_true self.now.incoming }
         ensures outgoing { result.outgoing ≡ count_true self.now.outgoing }

@@ -22,8 +22,9 @@ const BLANK: Decision = Decision {
     bit: false,
 };
 
-/// The decisions of a member in the order in which it saved them: one for each question at most. Room for all is made at
-/// the beginning. Contracts see the decisions, and for how many there is room.
+/// The decisions of a member in the order in which it saved them: one for each question at most.
+/// Room for all is made at the beginning. Contracts see the decisions, and for how many there is
+/// room.
 #[derive(Drop)]
 pub(crate) struct Order {
     items: Vec<Decision>,

@@ -1,8 +1,9 @@
-//! How fast a link may hand in what nobody needs yet: begin at `Pace`.
+//! The pace at which a link may hand in what nobody needs yet: begin at `Pace`.
 //!
-//! A correct member says its Initial of a step once it has accepted n - t of the step before, t + 1 of them from correct
-//! members. So an own Initial of a peer that is more than a round ahead of all but t members is needed by nobody yet: a
-//! liar says as many of those as there are places, and each would cost every correct member an Echo and a Ready.
+//! A correct member says its Initial of a step once it has accepted n - t of the step before, t + 1
+//! of them from correct members. So an own Initial of a peer that is more than a round ahead of all
+//! but t members is needed by nobody yet: a liar says as many of those as there are places, and
+//! each would cost every correct member an Echo and a Ready.
 ghost use Rattle.std.specs.Prelude.{◌≡◌, ◌↔◌, ◌≤◌, ◌+◌, ◌-◌, ◌*◌, ◌/◌, IsTrue, leb, length, slice_set};
 ghost use Rattle.std.specs.List.{count_by};
 ghost use Rattle.terms_prelude.specs.Terms.{IsPlace};
@@ -12,10 +13,11 @@ use std::alloc::Global;
 use std::sync::{Condvar, Mutex, Wait};
 use terms::{Header, Kind, LAST_STEP, Memory, Place, Size, Statement};
 
-/// How many seconds' worth of early Initials a link may hand in at once.
+/// The seconds' worth of early Initials that a link may hand in at once.
 const BURST: u32 = 16;
 
-/// How many steps a question has had at that place: 1 at the first step of round 1, 96 at the last step of round 32.
+/// Returns how many steps a question has had at that place: 1 at the first step of round 1, 96 at
+/// the last step of round 32.
 fn steps_at(place: Place) -> u8
     ensures steps { result ≡ 3 * (place.round - 1) + place.step }
     ensures form { IsPlace place }
@@ -24,8 +26,8 @@ fn steps_at(place: Place) -> u8
     LAST_STEP * (place.round() - 1) + place.step()
 }
 
-/// Whether an Initial at so many steps is early, where the members have said theirs up to these: at most t of them are no
-/// more than a round behind it.
+/// Returns `true` if an Initial at so many steps is early, where the members have said theirs up to
+/// these: at most t of them are no more than a round behind it.
 fn is_early(said: &[u8], steps: u8, t: u8) -> bool
     ensures { IsTrue result ↔ count_by (λ at. leb (steps - 3) at) said.now ≤ t }
 {
@@ -33,8 +35,9 @@ fn is_early(said: &[u8], steps: u8, t: u8) -> bool
     said.iter().filter(|at| least <= **at).count() <= usize::from(t)
 }
 
-/// How many early Initials a link may hand in each second among so many members: 8,192 / n^2, since each brings every member
-/// 2 n statements from a third of n liars, but at least 16 and at most 512.
+/// Returns how many early Initials a link may hand in each second among so many members: 8,192 /
+/// n^2, since each brings every member 2 n statements from a third of n liars, but at least 16 and
+/// at most 512.
 fn rate_among(n: u8) -> u32
     ensures least { 16 ≤ result }
     ensures most { result ≤ 512 }
@@ -43,26 +46,27 @@ fn rate_among(n: u8) -> u32
     (8192 / (n * n)).clamp(16, 512)
 }
 
-/// Whether it is an Initial of that peer's own.
+/// Returns `true` if it is an Initial of that peer's own.
 fn is_own_initial(statement: &Statement, peer: u8) -> bool {
     statement.kind() == Kind::Initial && statement.place().origin() == peer
 }
 
-/// Whether one of them is an Initial of that peer's own.
+/// Returns `true` if one of them is an Initial of that peer's own.
 fn has_own_initial(events: &[(Statement, Toss)], peer: u8) -> bool {
     events
         .iter()
         .any(|(statement, _)| is_own_initial(statement, peer))
 }
 
-/// What is known of each link.
+/// The debts of the links.
 #[derive(Drop)]
 struct Table {
-    /// Up to how many steps each member has said its Initials, as its link handed them in: by question, then by member.
+    /// Up to how many steps each member has said its Initials, as its link handed them in: by
+    /// question, then by member.
     said: Vec<Vec<u8>>,
-    /// How many early Initials each link has handed in that no second has paid for yet.
+    /// The number of early Initials that each link has handed in and no second has paid for yet.
     owed: Vec<u32>,
-    /// Whether nobody is held up any more.
+    /// Set if nobody is held up any more.
     ended: bool,
 }
 
@@ -81,7 +85,8 @@ impl Table {
         })
     }
 
-    /// Whether the Initial at that place is early. One on a question that there isn't is none.
+    /// Returns `true` if the Initial at that place is early. One on a question that there isn't is
+    /// none.
     fn has_early(&self, place: Place, t: u8) -> bool {
         match self.said.get(usize::from(place.question())) {
             Some(said) => is_early(said.as_slice(), steps_at(place), t),
@@ -89,7 +94,7 @@ impl Table {
         }
     }
 
-    /// How many of these statements are early Initials of the peer's own.
+    /// Returns how many of these statements are early Initials of the peer's own.
     fn count_early(&self, peer: u8, events: &[(Statement, Toss)], t: u8) -> u32 {
         let mut early = 0u32;
         for (statement, _) in events {
@@ -120,7 +125,7 @@ impl Table {
         }
     }
 
-    /// Whether the peer owes no more than that.
+    /// Returns `true` if the peer owes no more than that.
     fn owes_at_most(&self, peer: u8, most: u32) -> bool {
         match self.owed.get(usize::from(peer)) {
             Some(owed) => *owed <= most,
@@ -143,8 +148,9 @@ impl Table {
     }
 }
 
-/// Who may hand in how much that nobody needs yet. It holds up links alone that said more early Initials than their rate, one
-/// each for as long as its own debt says, and time lets each go: each second pays for a second's worth.
+/// The pace of what nobody needs yet. It holds up links alone that said more early Initials than
+/// their rate, one each for as long as its own debt says, and time lets each go: each second pays
+/// for a second's worth.
 #[derive(Drop)]
 pub(crate) struct Pace {
     header: Header,
@@ -188,7 +194,7 @@ impl Pace {
         self.paid.notify_all();
     }
 
-    /// From now on nobody is held up.
+    /// Holds nobody up from now on.
     pub(crate) fn end<R: Wait>(&self, rt: &R) {
         self.table.lock(rt).ended = true;
         self.paid.notify_all();

@@ -1,4 +1,4 @@
-//! What a hub shows of its book to whoever doesn't take the book.
+//! The part of its book that a hub shows to whoever doesn't take the book.
 ghost use Rattle.std.specs.Prelude.{◌≡◌, ◌+◌, ◌<◌, ◌≤◌, ◌^◌, ◌++◌, length, take, drop, true, IfOk, IfSome, IsTrue, IsFalse, vec_len};
 ghost use Rattle.member.specs.Readers.{member_saved};
 ghost use Rattle.member.specs.Sealed.{sealed_from};
@@ -14,8 +14,9 @@ use std::alloc::Global;
 use std::marker::{Model, PhantomData};
 use terms::Memory;
 
-/// The statements of a book's outbox and the decisions that are shown, and the member's status. All are of one book, since they change
-/// under one lock. Contracts see the statements, the decisions and the status.
+/// The statements of a book's outbox and the decisions that are shown, and the member's status. All
+/// are of one book, since they change under one lock. Contracts see the statements, the decisions
+/// and the status.
 #[derive(Drop)]
 pub(crate) struct Published<D: Disk, J: Naming> {
     shown: Shown,
@@ -52,8 +53,8 @@ impl<D: Disk, J: Naming> Published<D, J> {
         })
     }
 
-    /// Shows how far the book's member is, and what the outbox and its decisions have behind what is shown. Where there is no
-    /// memory no more statements or decisions are shown.
+    /// Shows how far the book's member is, and what the outbox and its decisions have behind what
+    /// is shown. Where there is no memory no more statements or decisions are shown.
     pub(crate) fn show(&mut self, book: &Book<D, J>) -> bool
         ensures items { IsTrue result →
             self.new.items ≡ self.old.items ++ drop (length self.old.items) (sealed_from 0 (member_saved book.now.member)) }
@@ -65,7 +66,8 @@ impl<D: Disk, J: Naming> Published<D, J> {
         self.shown.show(book.outbox())
     }
 
-    /// Shows the decisions of the book behind those that are shown. Where there is no memory no more are shown.
+    /// Shows the decisions of the book behind those that are shown. Where there is no memory no
+    /// more are shown.
     fn show_decisions(&mut self, book: &Book<D, J>)
         ensures items { self.new.items ≡ self.old.items }
         ensures status { self.new.status ≡ self.old.status }
@@ -91,8 +93,8 @@ impl<D: Disk, J: Naming> Published<D, J> {
         self.decisions.len()
     }
 
-    /// How far the member was when the book was shown last: how many statements were in its outbox, and how many questions it
-    /// had decided; none where it was stopped.
+    /// Returns how far the member was when the book was shown last: how many statements were in its
+    /// outbox, and how many questions it had decided; none where it was stopped.
     pub(crate) fn status(&self) -> Option<(u64, u16)>
         ensures status { result ≡ self.now.status }
         ensures standing { IsStanding D J.header result }
@@ -100,14 +102,14 @@ impl<D: Disk, J: Naming> Published<D, J> {
         self.status
     }
 
-    /// How many statements are shown.
+    /// Returns how many statements are shown.
     pub(crate) fn len(&self) -> usize
         ensures { result ≡ length self.now.items }
     {
         self.shown.len()
     }
 
-    /// Whether the statement with that number is shown.
+    /// Returns `true` if the statement with that number is shown.
     pub(crate) fn has(&self, number: u64) -> bool
         ensures { IsTrue result → number < length self.now.items }
     {
@@ -124,7 +126,7 @@ impl<D: Disk, J: Naming> Published<D, J> {
     }
 }
 
-/// How far the book's member is. The book is one of its hub's.
+/// Returns how far the book's member is. The book is one of its hub's.
 fn status_of<D: Disk, J: Naming>(book: &Book<D, J>) -> Option<(u64, u16)>
     ensures status { result ≡ status_of book.now }
     ensures book { IsBookOf J.header book.now }

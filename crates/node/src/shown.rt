@@ -1,4 +1,4 @@
-//! What writers see of the outbox.
+//! The outbox, as writers see it.
 ghost use Rattle.std.specs.Prelude.{◌≡◌, ◌+◌, ◌<◌, ◌≤◌, ◌^◌, ◌++◌, length, take, drop, true, IfOk, IsTrue, IsFalse, vec_len};
 ghost use Rattle.node.specs.Books.{is_numbered};
 
@@ -7,8 +7,9 @@ use std::alloc::Global;
 use std::marker::Model;
 use terms::Memory;
 
-/// The statements of an outbox, as far as they are shown. Writers look here, behind a lock that nobody holds for long, and
-/// so wait for no disk. It takes 24 bytes a statement. Contracts see the statements.
+/// The statements of an outbox, as far as they are shown. Writers look here, behind a lock that
+/// nobody holds for long, and so wait for no disk. It takes 24 bytes a statement. Contracts see the
+/// statements.
 #[derive(Drop)]
 pub(crate) struct Shown {
     items: Vec<Sealed>,
@@ -37,7 +38,8 @@ impl Shown {
         })
     }
 
-    /// Shows what the outbox has behind what is shown. Where there is no memory nothing more is shown.
+    /// Shows what the outbox has behind what is shown. Where there is no memory nothing more is
+    /// shown.
     pub(crate) fn show(&mut self, outbox: &[Sealed]) -> bool
         requires numbered { is_numbered 0 outbox.now ≡ true }
         ensures shown { IsTrue result → self.new ≡ self.old ++ drop (length self.old) outbox.now }
@@ -53,14 +55,14 @@ impl Shown {
         true
     }
 
-    /// How many statements are shown.
+    /// Returns how many statements are shown.
     pub(crate) fn len(&self) -> usize
         ensures { result ≡ length self.now }
     {
         self.items.len()
     }
 
-    /// Whether the statement with that number is shown.
+    /// Returns `true` if the statement with that number is shown.
     pub(crate) fn has(&self, number: u64) -> bool
         ensures { IsTrue result → number < length self.now }
     {
@@ -77,7 +79,7 @@ impl Shown {
     }
 }
 
-/// What an outbox has behind the first so many, if it has more.
+/// Returns what an outbox has behind the first so many, if it has more.
 fn behind(outbox: &[Sealed], count: usize) -> &[Sealed]
     ensures { result.now ≡ drop count outbox.now }
 {

@@ -17,14 +17,15 @@ pub enum QuestionState {
         /// The step, 1 to 3.
         step: u8,
     },
-    /// Open, and the member said its Initial of round 32 step 3: it says no more of its own. It still
-    /// answers others, and decides if they say enough.
+    /// Open, and the member said its Initial of round 32 step 3: it says no more of its own. It
+    /// still answers others, and decides if they say enough.
     Spent,
     /// Decided for this bit.
     Decided(bool),
 }
 
-/// The state of a question that isn't decided, by the round and step of the member's last own Initial.
+/// The state of a question that isn't decided, by the round and step of the member's last own
+/// Initial.
 pub(crate) fn state_at(progress: Option<(u8, u8)>) -> QuestionState
     ensures { result ≡ state_at progress }
 {

@@ -1,4 +1,4 @@
-//! What a member has decided, question by question.
+//! The decisions of a member, question by question.
 ghost use Rattle.std.specs.Prelude.{◌≡◌, ◌++◌, [], ◌∷◌, ℕ, List, IfOk, take, drop};
 ghost use Rattle.terms_prelude.specs.Terms.{Record};
 ghost use Rattle.member.specs.Readers.{member_header, member_saved};
@@ -13,8 +13,9 @@ use std::alloc::Global;
 use std::marker::Model;
 use terms::{Memory, Record};
 
-/// The verdict of each question, how many questions have one, and the decisions in order. All is found at once, also where
-/// the member is stopped, which looks for each in all its records. Contracts see the three.
+/// The verdict of each question, how many questions have one, and the decisions in order. All is
+/// found at once, also where the member is stopped, which looks for each in all its records.
+/// Contracts see the three.
 #[derive(Drop)]
 pub(crate) struct Tally {
     verdicts: Vec<Option<bool>>,
@@ -110,7 +111,7 @@ impl Tally {
         self.order.as_slice()
     }
 
-    /// How many questions have a verdict.
+    /// Returns how many questions have a verdict.
     pub(crate) fn decided(&self) -> u16
         ensures { result ≡ self.now.decided }
     {

@@ -1,4 +1,4 @@
-//! What a book heard of a question that is decided.
+//! The statements that a book heard of a question that is decided.
 ghost use Rattle.std.specs.Prelude.{◌≡◌, [], ◌∷◌, ◌++◌, IfOk, IfErr, OnOk, MatchOption};
 ghost use Rattle.terms_prelude.specs.Terms.{pairs_on};
 ghost use Rattle.questions.specs.Audits.{IsProof};
@@ -16,8 +16,8 @@ use std::alloc::Global;
 use std::marker::Model;
 use terms::{Memory, Size, Statement};
 
-/// What was heard of a question that is decided. By these statements alone the bit may be decided: an audit of them is
-/// true.
+/// The statements that were heard of a question that is decided. By these alone the bit may be
+/// decided: an audit of them is true.
 #[derive(Debug, PartialEq, Eq, Drop)]
 pub struct Transcript {
     /// The bit that the question is decided for.
@@ -33,15 +33,16 @@ pub enum TranscriptFault {
     NoSuchQuestion,
     /// The question isn't decided.
     Undecided,
-    /// It was decided in an earlier life, and what was heard since then doesn't show it.
+    /// The question was decided in an earlier life, and what was heard since then doesn't show it.
     Thin,
     /// There was no memory.
     Memory,
 }
 
-/// What a book has of a question that is decided: its transcript is made of it without the book. The full blocks are those of
-/// the book's own that may have something of the question, and don't change any more; what stands behind them was gone through.
-/// Contracts see the size of the cluster, the question, the bit, and what was heard of the question.
+/// A book's part in the transcript of a question that is decided: the transcript is made of it
+/// without the book. The full blocks are those of the book's own that may have something of the
+/// question, and don't change any more; what stands behind them was gone through. Contracts see the
+/// size of the cluster, the question, the bit, and what was heard of the question.
 #[derive(Drop)]
 pub struct Dossier {
     alloc: Global,
@@ -63,8 +64,8 @@ impl Model for Dossier {
 }
 
 impl Dossier {
-    /// That of a question that is decided for the bit. It goes through the last block of the history alone. Memory is its only
-    /// fault.
+    /// Returns the part of a question that is decided for the bit. It goes through the last block
+    /// of the history alone. Memory is its only fault.
     pub(crate) fn of(
         alloc: Global,
         size: Size,
@@ -102,7 +103,8 @@ impl Dossier {
     ///
     /// # Errors
     ///
-    /// [`TranscriptFault::Thin`] where it isn't, and [`TranscriptFault::Memory`] where there was none.
+    /// [`TranscriptFault::Thin`] where it isn't, and [`TranscriptFault::Memory`] where there was
+    /// none.
     pub fn transcript(self) -> Result<Transcript, TranscriptFault>
         ensures bit { IfOk result (λ transcript. transcript.bit ≡ self.bit) }
         ensures heard { IfOk result (λ transcript. transcript.heard.items ≡ self.heard) }
@@ -178,7 +180,8 @@ fn statement_on(entry: &Entry, question: u16) -> Option<(u8, Statement)>
     }
 }
 
-/// What blocks have of the question, and this behind it: each sender and its statement, in order.
+/// Returns what blocks have of the question, and this behind it: each sender and its statement, in
+/// order.
 fn heard_on(
     alloc: Global,
     full: &[Block],

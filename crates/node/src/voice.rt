@@ -1,13 +1,14 @@
-//! Whether a member speaks, or only listens.
+//! The state of a member that speaks, or only listens.
 
 use std::sync::atomic::{AtomicBool, Ordering};
 use std::sync::{Condvar, Mutex, Wait};
 
-/// Whether a member speaks. While it listens, who would make it say something waits.
+/// The state of a member that speaks, or only listens. While it listens, who would make it say
+/// something waits.
 #[derive(Drop)]
 pub(crate) struct Voice {
     listens: AtomicBool,
-    /// Is held while `listens` changes, so that who waits misses no change.
+    /// Held while `listens` changes, so that who waits misses no change.
     turn: Mutex<()>,
     changed: Condvar,
 }
@@ -22,12 +23,12 @@ impl Voice {
         }
     }
 
-    /// Whether it only listens. It waits for nobody.
+    /// Returns `true` if it only listens. It waits for nobody.
     pub(crate) fn listens(&self) -> bool {
         self.listens.load(Ordering::SeqCst)
     }
 
-    /// From now on it only listens, or speaks: then who waits goes on.
+    /// Has the member only listen from now on, or speak: then who waits goes on.
     pub(crate) fn set<R: Wait>(&self, rt: &R, listens: bool) {
         let _turn = self.turn.lock(rt);
         self.listens.store(listens, Ordering::SeqCst);

@@ -7,14 +7,15 @@ use hex::FromHexError;
 use std::alloc::Global;
 use terms::Memory;
 
-/// Whether memory was refused.
+/// Returns `true` if memory was refused.
 fn is_refusal(error: &FromHexError) -> bool
     ensures { IsTrue result ↔ (error.now ≡ FromHexError.OutOfMemory) }
 {
     matches!(error, FromHexError::OutOfMemory)
 }
 
-/// The bytes, at least one, that the word writes in hexadecimal digits of either case. [`Memory`]: no room for them.
+/// The bytes, at least one, that the word writes in hexadecimal digits of either case. [`Memory`]:
+/// no room for them.
 pub fn bytes(alloc: Global, word: &[u8]) -> Result<Option<Vec<u8>>, Memory>
     ensures some { IfOk result (λ found. IfSome found (λ bytes. IsHexOf word.now bytes.items)) }
     ensures exact { (bytes : List ℕ) → IsHexOf word.now bytes → IfOk result (λ found. MatchOption found ⊥ (λ found. found.items ≡ bytes)) }

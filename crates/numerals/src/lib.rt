@@ -1,5 +1,5 @@
-//! Words of texts, and what they write: numbers, bytes, sizes. Scripts, settings, commands and the lines of clients are
-//! read by these.
+//! Words of texts, and what they write: numbers, bytes, sizes. Scripts, settings, commands and the
+//! lines of clients are read by these.
 #![tactic(auto)]
 
 mod hexes;

@@ -3,7 +3,8 @@
 ghost use Rattle.std.specs.Prelude.{◌≡◌, ◌↔◌, ℕ, Some, IfSome, IsTrue};
 ghost use Rattle.numerals.specs.Numbers.{IsBelow};
 
-/// The number below 2^64 that the word writes: decimal digits alone, at least one. Leading zeros are taken.
+/// The number below 2^64 that the word writes: decimal digits alone, at least one. Leading zeros
+/// are taken.
 pub fn number(word: &[u8]) -> Option<u64>
     ensures some { IfSome result (IsBelow 64 word.now) }
     ensures exact { (number : ℕ) → IsBelow 64 word.now number → result ≡ Some number }
@@ -42,7 +43,7 @@ pub fn number8(word: &[u8]) -> Option<u8>
     }
 }
 
-/// Whether the word is this name.
+/// Returns `true` if the word is this name.
 pub fn is(word: &[u8], name: &str) -> bool
     ensures { IsTrue result ↔ (word.now ≡ name.now) }
 {

@@ -5,8 +5,9 @@ ghost use Rattle.terms_prelude.specs.Terms.{new_size, size_fault};
 
 use terms::{Size, SizeFault};
 
-/// The size of these numbers, or the first thing that is wrong with them, in the order of [`SizeFault`]. A number of
-/// members or of liars that no byte holds is too many, as one just above the limit is.
+/// The size of these numbers, or the first thing that is wrong with them, in the order of
+/// [`SizeFault`]. A number of members or of liars that no byte holds is too many, as one just above
+/// the limit is.
 pub fn size_from(n: u16, t: u16, questions: u16) -> Result<Size, SizeFault>
     ensures ok { IfOk result (λ size. size ≡ new_size n t questions) }
     ensures exact { MatchResult result (λ _. size_fault n t questions ≡ None) (λ fault. size_fault n t questions ≡ Some fault) }

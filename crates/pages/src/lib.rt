@@ -1,6 +1,6 @@
-//! The texts of two pages for browsers: that of a cluster, for a gateway, and that of a simulated run, between whose parts
-//! `playing` writes the run. Their sources are `html/live.html` and `html/play.html`; `tools/pages` writes
-//! the constants.
+//! The texts of two pages for browsers: that of a cluster, for a gateway, and that of a simulated
+//! run, between whose parts `playing` writes the run. Their sources are `html/live.html` and
+//! `html/play.html`; `tools/pages` writes the constants.
 #![tactic(auto)]
 
 ghost use Rattle.std.specs.Prelude.{◌≡◌};
@@ -20,8 +20,8 @@ pub fn live() -> &'static str
     LIVE
 }
 
-/// Returns the value of the header `Content-Security-Policy` that goes with [`live`]. The page has the same policy, but for
-/// `frame-ancestors`, which only a header can say.
+/// Returns the value of the header `Content-Security-Policy` that goes with [`live`]. The page has
+/// the same policy, but for `frame-ancestors`, which only a header can say.
 pub fn live_policy() -> &'static str
     ensures { result.now ≡ LIVE_POLICY.now }
 {

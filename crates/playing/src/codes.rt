@@ -39,7 +39,8 @@ pub(crate) fn bit_digit(bit: bool) -> u64
     if bit { 1 } else { 0 }
 }
 
-/// Returns the number of a statement: its place, its kind and its value, each a digit of its own base.
+/// Returns the number of a statement: its place, its kind and its value, each a digit of its own
+/// base.
 fn statement_code(statement: Statement) -> u64
     ensures { result ≡ statement_code statement }
 {

@@ -30,7 +30,8 @@ fn has_form(byte: u8) -> bool
     byte < 32 || byte == b'"' || byte == b'\\' || byte == b'<'
 }
 
-/// Appends a byte of a text as it stands between quotes. No `<` stays, so no text ends the element around it.
+/// Appends a byte of a text as it stands between quotes. No `<` stays, so no text ends the element
+/// around it.
 fn push_escaped(text: &mut Vec<u8>, byte: u8) -> Result<(), AllocError>
     ensures { IfOk result (λ _. text.new.items ≡ text.old.items ++ escaped_byte byte) }
 {
@@ -149,7 +150,8 @@ fn skips_json(alloc: Global, marks: &[Mark]) -> Result<String, AllocError>
     )
 }
 
-/// Returns how many events have no row though they weren't skipped: those after the first [`MOST_ROWS`].
+/// Returns how many events have no row though they weren't skipped: those after the first
+/// [`MOST_ROWS`].
 fn left_out(marks: &[Mark]) -> usize
     ensures { result ≡ left_out marks.now }
 {

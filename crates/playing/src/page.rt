@@ -64,14 +64,16 @@ fn write_run<W: Write>(alloc: Global, run: &Run<'_>, output: &mut W) -> io::Resu
     output.write_all(b"]}\n")
 }
 
-/// Writes a page that plays a run: the template, and between its parts the run as an object in JSON, in which no `<` of its name
-/// stands. The object has the name, the size, the liars and the counts of events, each decision that a correct member has saved,
-/// and a row for each event that wasn't skipped, at most [`crate::MOST_ROWS`]: later ones are counted as left out. The page is
+/// Writes a page that plays a run: the template, and between its parts the run as an object in
+/// JSON, in which no `<` of its name stands. The object has the name, the size, the liars and the
+/// counts of events, each decision that a correct member has saved, and a row for each event that
+/// wasn't skipped, at most [`crate::MOST_ROWS`]: later ones are counted as left out. The page is
 /// written row by row.
 ///
 /// # Errors
 ///
-/// Those of the writer, and [`io::ErrorKind::OutOfMemory`] if a growth failed: a part of the page may be written then.
+/// Those of the writer, and [`io::ErrorKind::OutOfMemory`] if a growth failed: a part of the page
+/// may be written then.
 pub fn write_page<W: Write>(
     alloc: Global,
     run: &Run<'_>,

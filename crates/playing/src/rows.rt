@@ -33,7 +33,8 @@ fn failed_text(mark: Mark) -> &'static str
     }
 }
 
-/// Returns the row of an event: its number, the line of a script that says it, and the records that were saved because of it.
+/// Returns the row of an event: its number, the line of a script that says it, and the records that
+/// were saved because of it.
 fn row_text(alloc: Global, row: &Row<'_>) -> Result<String, AllocError>
     ensures { IfOk result (λ text. string_bytes text ≡
         row_text row.now.number row.now.event.now row.now.mark row.now.saved.now) }
@@ -51,7 +52,8 @@ fn row_text(alloc: Global, row: &Row<'_>) -> Result<String, AllocError>
     )
 }
 
-/// Writes the row of an event, unless it was skipped or no row is left. Returns how many rows are left after it.
+/// Writes the row of an event, unless it was skipped or no row is left. Returns how many rows are
+/// left after it.
 fn write_row<W: Write>(
     alloc: Global,
     left: usize,
@@ -70,11 +72,13 @@ fn write_row<W: Write>(
     Ok(left - 1)
 }
 
-/// Writes the rows of the events that weren't skipped, the first [`MOST_ROWS`] of them, each after a comma and the end of a line.
+/// Writes the rows of the events that weren't skipped, the first [`MOST_ROWS`] of them, each after
+/// a comma and the end of a line.
 ///
 /// # Errors
 ///
-/// Those of the writer, and [`io::ErrorKind::OutOfMemory`] if a growth failed: a part of the rows may be written then.
+/// Those of the writer, and [`io::ErrorKind::OutOfMemory`] if a growth failed: a part of the rows
+/// may be written then.
 pub(crate) fn write_rows<W: Write>(
     alloc: Global,
     events: &[Event],

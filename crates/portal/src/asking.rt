@@ -45,8 +45,8 @@ fn propose<R: Runner>(
     Ok(())
 }
 
-/// Asks the member how it stands with some of the questions that are under way, from this one on. Returns the question after the
-/// last of them; 0 after the last of all.
+/// Asks the member how it stands with some of the questions that are under way, from this one on.
+/// Returns the question after the last of them; 0 after the last of all.
 fn ask_open<R: Runner>(
     rt: &R,
     it: &Shared,

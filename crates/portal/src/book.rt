@@ -129,7 +129,8 @@ impl Book {
         }
     }
 
-    /// Returns the events after this number, 64 at most. `None` if they aren't kept, or there was no such number.
+    /// Returns the events after this number, 64 at most. `None` if they aren't kept, or there was
+    /// no such number.
     pub(crate) fn after(&self, number: u64) -> Option<&[Event]> {
         if number < self.before {
             return None;
@@ -196,7 +197,8 @@ impl Book {
         }
     }
 
-    /// Returns the milliseconds from the proposal of the question to this moment, if it was proposed here.
+    /// Returns the milliseconds from the proposal of the question to this moment, if it was
+    /// proposed here.
     fn time_of(&self, question: u16, time: u64) -> Option<u32> {
         match self.begun.get(usize::from(question)) {
             Some(Some(begun)) => Some(u32::try_from(time.saturating_sub(*begun)).unwrap_or(
@@ -363,7 +365,8 @@ impl Book {
         *spent >> (member & 63) & 1 == 0 && self.standing(question) == Standing::Proposed
     }
 
-    /// Returns the first question from this one on that is under way, and at whose end the member wasn't seen.
+    /// Returns the first question from this one on that is under way, and at whose end the member
+    /// wasn't seen.
     pub(crate) fn open_from(&self, question: u16, member: u8) -> Option<u16> {
         for question in question..self.size.questions() {
             if self.is_open_for(question, member) {
@@ -373,7 +376,8 @@ impl Book {
         None
     }
 
-    /// Notes that a member came to the last step of the question's last round. Once n - t did, no decision is awaited.
+    /// Notes that a member came to the last step of the question's last round. Once n - t did, no
+    /// decision is awaited.
     pub(crate) fn set_spent(&mut self, question: u16, member: u8) {
         let place = usize::from(question);
         let Some(spent) = self.spent.get_mut(place) else {
@@ -398,7 +402,8 @@ impl Book {
         }
     }
 
-    /// Begins a proposal to all members, and returns its number. `None` if as many are under way as are taken.
+    /// Begins a proposal to all members, and returns its number. `None` if as many are under way as
+    /// are taken.
     pub(crate) fn propose(&mut self, question: u16, bit: bool, time: u64) -> Option<u64> {
         if self.motions.len() >= MOST_MOTIONS {
             return None;

@@ -19,7 +19,8 @@ impl Deadline {
         })
     }
 
-    /// Returns the end of so many milliseconds from now on, or this one if it comes first. `TimedOut` if it is over.
+    /// Returns the end of so many milliseconds from now on, or this one if it comes first.
+    /// `TimedOut` if it is over.
     pub(crate) fn within<R: Clock>(&self, rt: &R, milliseconds: u64) -> io::Result<Deadline> {
         let left = self.left(rt)?;
         Ok(Deadline {

@@ -234,8 +234,8 @@ impl<'a, C: Cluster> Door<'a, C> {
 impl<'a, C: Cluster> Service for Door<'a, C> {
     ghost use Rattle.portal.specs.Served.{Proposes, Tells};
 
-    // Nothing is handed on to the members but what the request may propose, and a decision of a question is what more than t
-    // members told.
+    // Nothing is handed on to the members but what the request may propose, and a decision of a
+    // question is what more than t members told.
     ghost answers = { λ old request response new.
         Proposes old.policy old.size request (C.handed old.cluster) (C.handed new.cluster)
         × Tells old.policy old.size request response.status response.body.items };

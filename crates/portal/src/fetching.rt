@@ -16,7 +16,8 @@ const TO_SEND: u64 = 5000;
 /// The milliseconds in which all members that are asked have to.
 const IN_ALL: u64 = 20_000;
 
-/// The most bytes of a transcript. The longest true one, of 64 members and all 32 rounds, has 19 MB.
+/// The most bytes of a transcript. The longest true one, of 64 members and all 32 rounds, has 19
+/// MB.
 const LONGEST: usize = 33_554_432;
 
 /// A transcript that a member sent of a question and a bit.
@@ -90,7 +91,8 @@ fn audited(alloc: Global, size: Size, text: &[u8]) -> Option<bool> {
     }
 }
 
-/// Returns the member's transcript of the question and the bit, and what an audit says of it. `None` if it sends another.
+/// Returns the member's transcript of the question and the bit, and what an audit says of it.
+/// `None` if it sends another.
 fn sent_by<R: Speaker>(
     rt: &R,
     it: &Shared,
@@ -114,7 +116,8 @@ fn sent_by<R: Speaker>(
     }
 }
 
-/// Returns the members to ask: those that told this bit of the question, each time from another one on.
+/// Returns the members to ask: those that told this bit of the question, each time from another one
+/// on.
 fn tellers<R: Speaker>(
     rt: &R,
     it: &Shared,
@@ -139,8 +142,8 @@ fn sooner<R: Speaker>(rt: &R, all: Deadline) -> io::Result<Deadline> {
     all.within(rt, TO_SEND)
 }
 
-/// Asks the members that told this decision for their transcripts of the question, one after the other, until one sends one
-/// that is proof; else the last that was sent is returned.
+/// Asks the members that told this decision for their transcripts of the question, one after the
+/// other, until one sends one that is proof; else the last that was sent is returned.
 pub(crate) fn fetch<R: Speaker>(
     rt: &R,
     it: &Shared,

@@ -14,8 +14,8 @@ use std::{io, thread};
 /// The milliseconds in which a desk has to take a connection or a line.
 pub(crate) const PROMPT: u64 = 2000;
 
-/// The milliseconds after which a follower that is told nothing calls the connection dead. A desk says something every five
-/// seconds.
+/// The milliseconds after which a follower that is told nothing calls the connection dead. A desk
+/// says something every five seconds.
 const SILENCE: u64 = 12_000;
 
 /// The longest rest between two connections, in milliseconds.
@@ -42,7 +42,8 @@ pub(crate) fn longer_rest(rest: u64) -> u64 {
     rest.saturating_mul(2).min(LONGEST_REST)
 }
 
-/// Takes the decisions that a member tells from this number on, until the connection ends, and counts them.
+/// Takes the decisions that a member tells from this number on, until the connection ends, and
+/// counts them.
 fn follow_once<R: Runner>(rt: &R, it: &Shared, member: u8, number: &mut u32) -> io::Result<()> {
     let mut lines = connect(rt, it, member)?;
     let line = format!(in it.alloc; "FOLLOW {}\n", *number)?;

@@ -9,7 +9,8 @@ use std::alloc::{AllocError, Global};
 use std::marker::Model;
 use terms::Size;
 
-/// A watch that stands for what members told: whatever that is, its decisions are those that more than t of them told.
+/// A watch that stands for what members told: whatever that is, its decisions are those that more
+/// than t of them told.
 #[derive(Drop)]
 pub(crate) struct Hearing {
     watch: Watch,

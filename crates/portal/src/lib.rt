@@ -1,4 +1,5 @@
-//! The gateway's process: its threads and sockets. What a request means and what is answered is [`gateway`]'s.
+//! The gateway's process: its threads and sockets. What a request means and what is answered is
+//! [`gateway`]'s.
 #![tactic(auto)]
 
 mod asking;

@@ -1,4 +1,5 @@
-//! A cluster as the thread of a connection reaches it: through the book that all threads share. Begin at `Reach`.
+//! A cluster as the thread of a connection reaches it: through the book that all threads share.
+//! Begin at `Reach`.
 
 ghost use Rattle.std.specs.Prelude.{◌≡◌, IfOk};
 ghost use Rattle.portal.specs.Served.{IsToldAt};
@@ -25,7 +26,8 @@ use terms::Size;
 /// The milliseconds in which members reply to a proposal.
 const REPLIES: u64 = 3000;
 
-/// The most transcripts that are fetched at once: one takes up to a hundred megabytes for some seconds.
+/// The most transcripts that are fetched at once: one takes up to a hundred megabytes for some
+/// seconds.
 const MOST_FETCHES: u64 = 1;
 
 /// A cluster as the thread of a connection reaches it.

@@ -105,7 +105,8 @@ fn config() -> Config {
 }
 
 impl<'a, R: Clock + 'static> Timed<'a, R> {
-    /// Begins the time anew, in which a request has to come or answers have to be taken, unless it runs.
+    /// Begins the time anew, in which a request has to come or answers have to be taken, unless it
+    /// runs.
     fn turn(&mut self, writes: bool) -> io::Result<()> {
         if self.writes == writes {
             return Ok(());
@@ -173,7 +174,8 @@ fn talk<R: Runner>(
     Ok(())
 }
 
-/// Serves requests over a connection, until it is done. Returns the position of a follower, once one asks for the stream.
+/// Serves requests over a connection, until it is done. Returns the position of a follower, once
+/// one asks for the stream.
 fn converse<R: Runner>(
     rt: &R,
     it: &Shared,
@@ -372,7 +374,8 @@ fn start_accepting<R: Runner>(
     Ok(())
 }
 
-/// Starts a gateway: it listens, follows every member, and serves its clients in threads of their own.
+/// Starts a gateway: it listens, follows every member, and serves its clients in threads of their
+/// own.
 ///
 /// # Errors
 ///

@@ -35,7 +35,8 @@ struct Batch {
     number: u64,
 }
 
-/// Returns the events after a number; a beat if there is none for a while; or that all must be loaded anew.
+/// Returns the events after a number; a beat if there is none for a while; or that all must be
+/// loaded anew.
 fn next_batch<R: Runner>(rt: &R, it: &Shared, number: u64) -> Result<Batch, AllocError> {
     let book = it.book.lock(rt);
     let limit = Duration::from_secs(BEAT);

@@ -79,7 +79,8 @@ fn linked_count(book: &Book, size: Size) -> Result<usize, AllocError> {
     Ok(count)
 }
 
-/// Returns whether the cluster can decide: n - t members answer and have as many links as they need.
+/// Returns whether the cluster can decide: n - t members answer and have as many links as they
+/// need.
 pub(crate) fn ready_answer(it: &Shared, book: &Book) -> Result<Answer, AllocError> {
     let count = linked_count(book, it.size)?;
     it.size.recall();

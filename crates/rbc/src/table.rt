@@ -13,7 +13,7 @@ use crate::touched::Touched;
 use std::alloc::AllocError;
 use terms::{Place, Size, Statement};
 
-/// Where the place stands.
+/// Returns the spot of the place.
 fn spot(size: Size, place: Place) -> u16
     requires { place.origin < size.n }
     ensures value { result ≡ spot_of size.n place }
@@ -24,7 +24,7 @@ fn spot(size: Size, place: Place) -> u16
     u16::from(row) * u16::from(size.n()) + u16::from(place.origin())
 }
 
-/// What is known of the place.
+/// Returns what is known of the place.
 pub fn known_at(cells: &Touched, size: Size, place: Place) -> Known
     requires { place.origin < size.n }
     ensures { result ≡ known_in (touched_known cells.now) size.n place }
@@ -48,7 +48,8 @@ pub fn say(cells: &mut Touched, size: Size, s: &Statement) -> Result<(), AllocEr
     Ok(())
 }
 
-/// Receives a statement at its place: it counts, or is a repeat. Nothing is asked of memory where the place has a cell.
+/// Receives a statement at its place: it counts, or is a repeat. Nothing is asked of memory where
+/// the place has a cell.
 #[inline(always)]
 pub fn receive(
     cells: &mut Touched,

@@ -1,10 +1,11 @@
-//! What is known of the spots of one question, with memory for those alone that were touched: cells in the order in which
-//! their spots were touched, each of which says for which spot it is. So what a liar makes a member keep is in proportion
-//! to what it says, wherever it says it.
+//! The state of the spots of one question, with memory for those alone that were touched: cells in
+//! the order in which their spots were touched, each of which says for which spot it is. So what a
+//! liar makes a member keep is in proportion to what it says, wherever it says it.
 //!
-//! Numbers of cells find that of a spot at once. They are for the first spots alone, in a run that is no longer than the
-//! cells allow: of a spot past it all cells are looked at. As a question's places are touched round by round, that is
-//! seldom, and a liar that keeps far away has made no more than 768 cells before all spots have their numbers.
+//! Numbers of cells find that of a spot at once. They are for the first spots alone, in a run that
+//! is no longer than the cells allow: of a spot past it all cells are looked at. As a question's
+//! places are touched round by round, that is seldom, and a liar that keeps far away has made no
+//! more than 768 cells before all spots have their numbers.
 ghost use Rattle.std.specs.Prelude.{◌≡◌, ◌==◌, ◌↔◌, ◌<◌, ℕ, false, IsTrue, set, vec_len, vec_capacity, IfSome, IfNone, IfOk, OnOk};
 ghost use Rattle.std.specs.List.{position_from};
 ghost use Rattle.rbc.specs.Touching.{touched_known, touched_made, AreApart, IsTable, IsAt};
@@ -21,17 +22,17 @@ const FIRST: usize = 16;
 /// The spots more that have numbers for each cell.
 const FOR_EACH: usize = 8;
 
-/// What is known of one spot, and which spot that is.
+/// The state of one spot, and the spot's number.
 #[derive(Clone, Copy)]
 struct Cell {
     spot: u16,
     known: Known,
 }
 
-/// What is known of the spots that were touched. Of the others nothing is known.
+/// The state of the spots that were touched. Of the others nothing is known.
 #[derive(Drop)]
 pub struct Touched {
-    /// Which cell to look at for each of the first spots. It is the spot's only if it says so.
+    /// The cell to look at for each of the first spots. It is the spot's only if it says so.
     numbers: Vec<u16>,
     /// The cells, in the order in which their spots were touched.
     cells: Vec<Cell>,
@@ -66,7 +67,7 @@ impl Touched {
         }
     }
 
-    /// What is known of the spot.
+    /// Returns what is known of the spot.
     pub fn at(&self, spot: u16) -> Known
         ensures { result ≡ touched_known self.now spot }
     {
@@ -76,7 +77,8 @@ impl Touched {
         }
     }
 
-    /// The number of the spot's cell, which is made where it has none. Nothing is asked of memory where it has one.
+    /// The number of the spot's cell, which is made where it has none. Nothing is asked of memory
+    /// where it has one.
     #[inline(always)]
     pub fn reach(&mut self, spot: u16) -> Result<usize, AllocError>
         requires { spot < 8000 }
@@ -139,15 +141,15 @@ fn search(cells: &[Cell], spot: u16) -> Option<usize>
     cells.iter().position(|cell| cell.spot == spot)
 }
 
-/// Whether the cell of that number is the spot's.
+/// Returns `true` if the cell of that number is the spot's.
 fn is_at(cells: &[Cell], number: usize, spot: u16) -> bool
     ensures { IsTrue result ↔ IsAt cells.now number spot }
 {
     number < cells.len() && cells[number].spot == spot
 }
 
-/// Makes a cell for a spot that has none, and gives its number. It is called once a spot, where the rest is called for each
-/// statement.
+/// Makes a cell for a spot that has none, and gives its number. It is called once a spot, where the
+/// rest is called for each statement.
 #[cold]
 fn add(numbers: &mut Vec<u16>, cells: &mut Vec<Cell>, spot: u16) -> Result<usize, AllocError>
     requires table { IsTable numbers.old.items cells.old.items }
@@ -179,7 +181,8 @@ fn make_room(cells: &mut Vec<Cell>) -> Result<(), AllocError>
     cells.reserve_exact(cells.len() + 1)
 }
 
-/// Makes the numbers reach a spot, if the cells allow so many: then all spots have theirs that the cells allow.
+/// Makes the numbers reach a spot, if the cells allow so many: then all spots have theirs that the
+/// cells allow.
 fn lengthen(numbers: &mut Vec<u16>, cells: &[Cell], spot: u16) -> Result<(), AllocError>
     requires { IsTable numbers.old.items cells.now }
     ensures { IsTable numbers.new.items cells.now }

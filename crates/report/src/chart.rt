@@ -1,4 +1,4 @@
-//! What `simulate --chart` draws: the events of a run as a sequence chart in SVG.
+//! The chart of `simulate --chart`: the events of a run as a sequence chart in SVG.
 
 ghost use Rattle.std.specs.Prelude.{ℕ, ◌≡◌, ◌+◌, ◌*◌, ◌/◌, ◌^◌, ◌<◌, ◌≤◌, ◌||◌, nat_lt, min, IfOk, OnOk, List, [], ◌∷◌, ◌++◌, length, slice_get, string_bytes};
 ghost use Rattle.std.specs.List.{count_by};
@@ -31,22 +31,22 @@ use std::alloc::{AllocError, Global};
 use std::io::{self, Write};
 use terms::{Kind, Record, Size};
 
-/// How far a row stands below the one before it.
+/// The distance of a row from the one above it.
 const ROW: u64 = 36;
 
-/// How far down the first row stands.
+/// The distance of the first row from the top.
 const TOP: u64 = 66;
 
-/// How far down the lifelines begin.
+/// The distance of the lifelines' beginning from the top.
 const LIFE: u64 = 34;
 
 /// After so many rows the heads of the columns stand again.
 const HEADS: u64 = 40;
 
-/// Where the events' numbers end.
+/// The place at which the events' numbers end.
 const NUMBERS: u64 = 40;
 
-/// How the classes of the elements look, on light pages and on dark ones.
+/// The look of the classes of the elements, on light pages and on dark ones.
 const STYLE: &str =
     "<style>text{font:12px sans-serif;fill:#111;stroke:#fff;stroke-width:3px;paint-order:stroke}\
 path{fill:none;stroke:#111;stroke-width:1.5}.page{fill:#fff}\
@@ -61,7 +61,7 @@ path{fill:none;stroke:#111;stroke-width:1.5}.page{fill:#fff}\
 .liar{fill:#f28b82;stroke:#f28b82}.cross{stroke:#f28b82}.ring{stroke:#f28b82;fill:#14171c}\
 .triangle{fill:#81c995;stroke:#81c995}.runs{stroke:#bbb}.down{stroke:#777}.lies{stroke:#a05252}.verdict{fill:#fff}}</style>";
 
-/// What the signs mean, a line each.
+/// The meaning of the signs, a line each.
 const LEGEND: &str = "<path class=\"dot\" d=\"M40 0m-5 0a5 5 0 1 0 10 0a5 5 0 1 0 -10 0z\"/>\
 <text x=\"66\" y=\"4\">a proposal comes</text>\n\
 <path class=\"arrow\" d=\"M20 20H60m0 0l-8 -4v8z\"/><text x=\"66\" y=\"24\">a statement arrives: question, origin, round, step</text>\n\
@@ -72,17 +72,18 @@ const LEGEND: &str = "<path class=\"dot\" d=\"M40 0m-5 0a5 5 0 1 0 10 0a5 5 0 1 
 <rect class=\"badge\" x=\"24\" y=\"112\" width=\"32\" height=\"17\" rx=\"8\"/><text x=\"66\" y=\"124\">a decision</text>\n\
 <path class=\"down\" d=\"M20 140H60\"/><text x=\"66\" y=\"144\">down or stopped</text>\n";
 
-/// How far down the legend reaches.
+/// The height of the legend.
 const LEGEND_HEIGHT: u64 = 160;
 
-/// Where the lifeline of that member stands.
+/// Returns the place of that member's lifeline.
 fn x_of(member: u8) -> u64
     ensures { result ≡ 220 * member + 110 }
 {
     220 * u64::from(member) + 110
 }
 
-/// Where the row of that number stands, counted from 0. Behind each 40 rows there is room for the heads.
+/// Returns the place of the row of that number, counted from 0. After each 40 rows there is room
+/// for the heads.
 fn y_of(row: u64) -> u64
     ensures { row ≤ MOST_EVENTS → result ≡ 36 * (row + row / 40) + 66 }
 {
@@ -102,7 +103,7 @@ fn on_question(alloc: Global, questions: u16, question: u16) -> Result<String, A
     }
 }
 
-/// How many calls a fuse lets pass.
+/// Returns how many calls a fuse lets pass.
 fn calls_text(alloc: Global, calls: Option<u64>) -> Result<String, AllocError>
     ensures { IfOk result (λ text. string_bytes text ≡ calls_text calls) }
 {
@@ -112,7 +113,7 @@ fn calls_text(alloc: Global, calls: Option<u64>) -> Result<String, AllocError>
     }
 }
 
-/// What a crash leaves: `kept`, `lost`, or `fill` and the byte in two hexadecimal digits.
+/// Returns what a crash leaves: `kept`, `lost`, or `fill` and the byte in two hexadecimal digits.
 fn pick_text(alloc: Global, pick: Pick) -> Result<String, AllocError>
     ensures { IfOk result (λ text. string_bytes text ≡ pick_text pick) }
 {
@@ -134,7 +135,7 @@ fn add_part(text: &mut String, verb: &str, part: &str) -> Result<(), AllocError>
     text.push_str(part)
 }
 
-/// How many statements of that kind are among the records.
+/// Returns how many statements of that kind are among the records.
 fn count_of(kind: Kind, saved: &[Record]) -> usize
     ensures { result ≡ count_by (is_said_of kind) saved.now }
 {
@@ -166,7 +167,7 @@ fn add_kind(
     }
 }
 
-/// What was said, by kinds, behind the verb; nothing where nothing was.
+/// Returns what was said, by kinds, behind the verb; nothing where nothing was.
 fn said_text(alloc: Global, verb: &str, saved: &[Record]) -> Result<String, AllocError>
     ensures { 0 < length verb.now → IfOk result (λ text. string_bytes text ≡ said_text verb.now saved.now) }
 {
@@ -177,7 +178,7 @@ fn said_text(alloc: Global, verb: &str, saved: &[Record]) -> Result<String, Allo
     Ok(text)
 }
 
-/// What a member does with the statements that are saved because of the event.
+/// Returns what a member does with the statements that are saved because of the event.
 fn said_verb(event: &Event) -> &'static str
     ensures { result.now ≡ said_verb event.now }
 {
@@ -195,7 +196,7 @@ fn decision(alloc: Global, questions: u16, question: u16, bit: bool) -> Result<S
     format!(in alloc; "{}{on}", u8::from(bit))
 }
 
-/// What was decided; nothing where nothing was.
+/// Returns what was decided; nothing where nothing was.
 fn decided_text(alloc: Global, questions: u16, saved: &[Record]) -> Result<String, AllocError>
     ensures { IfOk result (λ text. string_bytes text ≡ decided_text questions saved.now) }
 {
@@ -506,7 +507,7 @@ impl Canvas {
         self.events.words(Words::Proposal, x, y, words.as_str())
     }
 
-    /// What a delivery carries.
+    /// Returns what a delivery carries.
     fn carried(&self, from: u8, to: u8, which: Which) -> Result<String, AllocError>
         ensures text { (sender receiver : Column) (place : ℕ) → slice_get self.now.columns.items from ≡ Some sender →
             slice_get self.now.columns.items to ≡ Some receiver → slice_get receiver.places.items from ≡ Some place →
@@ -525,7 +526,7 @@ impl Canvas {
         }
     }
 
-    /// What a group carries: how many statements it has.
+    /// Returns what a group carries: how many statements it has.
     fn carried_together(&self, from: u8, to: u8, count: u16) -> Result<String, AllocError>
         ensures text { (sender receiver : Column) (place : ℕ) → slice_get self.now.columns.items from ≡ Some sender →
             slice_get self.now.columns.items to ≡ Some receiver → slice_get receiver.places.items from ≡ Some place →
@@ -719,7 +720,7 @@ fn size_text(alloc: Global, width: u64, height: u64) -> Result<String, AllocErro
     )
 }
 
-/// How the elements look, and the page below them.
+/// Returns how the elements look, and the page below them.
 fn page_text(alloc: Global, width: u64, height: u64) -> Result<String, AllocError>
     ensures { IfOk result (λ text. string_bytes text ≡ page_text width height) }
 {
@@ -729,14 +730,15 @@ fn page_text(alloc: Global, width: u64, height: u64) -> Result<String, AllocErro
     )
 }
 
-/// What the signs mean, that far down.
+/// Returns what the signs mean, that far down.
 fn legend_text(alloc: Global, below: u64) -> Result<String, AllocError>
     ensures { IfOk result (λ text. string_bytes text ≡ legend_text below) }
 {
     format!(in alloc; "<g transform=\"translate(0,{below})\">\n{}</g>\n", LEGEND)
 }
 
-/// Writes the beginning of a picture of that width, as far down as that, and the lifelines below all else.
+/// Writes the beginning of a picture of that width, as far down as that, and the lifelines below
+/// all else.
 fn write_top<W: Write>(
     alloc: Global,
     width: u64,
@@ -763,7 +765,8 @@ fn write_bottom<W: Write>(alloc: Global, bottom: u64, output: &mut W) -> io::Res
     output.write_all(end.as_bytes())
 }
 
-/// A run of a cluster: its size, its liars, its events, and of each what became of it and what was saved because of it.
+/// A run of a cluster: its size, its liars, its events, and of each what became of it and what was
+/// saved because of it.
 #[derive(Clone, Copy)]
 pub struct Run<'a> {
     /// The size of the cluster.
@@ -778,14 +781,15 @@ pub struct Run<'a> {
     pub saved: &'a [Vec<Record>],
 }
 
-/// How many events are drawn: as many as the shortest of the lists has.
+/// Returns how many events are drawn: as many as the shortest of the lists has.
 fn shortest(run: &Run<'_>) -> usize
     ensures { result ≡ min (min (length run.now.events.now) (length run.now.marks.now)) (length run.now.saved.now) }
 {
     run.events.len().min(run.marks.len()).min(run.saved.len())
 }
 
-/// Writes the heads of the columns, and the rows of the events that are chosen, each as soon as it is drawn.
+/// Writes the heads of the columns, and the rows of the events that are chosen, each as soon as it
+/// is drawn.
 fn write_rows<W: Write>(
     alloc: Global,
     run: &Run<'_>,
@@ -813,20 +817,22 @@ fn write_rows<W: Write>(
     Ok(())
 }
 
-/// Draws the events of a run that are chosen and weren't skipped as a sequence chart in SVG, each in a row with its number,
-/// counted from 1, and returns how many rows there are. A member's lifeline is solid while it runs, and dashed while it is
-/// down or stopped. The columns have their heads at the top and again after each 40 rows; below stands what the signs mean.
-/// On a dark page the picture is dark. If the lists are of unequal lengths the chart goes as far as the shortest.
+/// Draws the events of a run that are chosen and weren't skipped as a sequence chart in SVG, each
+/// in a row with its number, counted from 1, and returns how many rows there are. A member's
+/// lifeline is solid while it runs, and dashed while it is down or stopped. The columns have their
+/// heads at the top and again after each 40 rows; below stands what the signs mean. On a dark page
+/// the picture is dark. If the lists are of unequal lengths the chart goes as far as the shortest.
 ///
-/// Events that aren't drawn still count: an arrow carries what it carried in the run, and a lifeline turns where the next row
-/// stands.
+/// Events that aren't drawn still count: an arrow carries what it carried in the run, and a
+/// lifeline turns where the next row stands.
 ///
-/// The chart is written row by row as it is drawn, so that a long one takes no memory but for the lifelines and a byte for each
-/// event.
+/// The chart is written row by row as it is drawn, so that a long one takes no memory but for the
+/// lifelines and a byte for each event.
 ///
 /// # Errors
 ///
-/// Those of the writer, and [`io::ErrorKind::OutOfMemory`] if a growth failed: a part of the chart may be written then.
+/// Those of the writer, and [`io::ErrorKind::OutOfMemory`] if a growth failed: a part of the chart
+/// may be written then.
 pub fn write_chart<W: Write>(
     alloc: Global,
     run: &Run<'_>,

@@ -1,4 +1,4 @@
-//! What happened in a simulated cluster, for people: records in words, a line for each event, and a chart.
+//! A simulated cluster, for people: records in words, a line for each event, and a chart.
 #![tactic(auto)]
 
 mod chart;

@@ -1,4 +1,4 @@
-//! What `simulate --trace` writes: a line for each event of a run.
+//! The trace of `simulate --trace`: a line for each event of a run.
 
 ghost use Rattle.std.specs.Prelude.{◌≡◌, IfOk, OnOk, string_bytes};
 ghost use Rattle.std.specs.Io.KnownBytes.{Appends};
@@ -11,7 +11,7 @@ use std::alloc::{AllocError, Global};
 use std::io::{self, Write};
 use terms::Record;
 
-/// Whether the event was skipped.
+/// Returns `true` if the event was skipped.
 pub fn is_skipped(mark: &Mark) -> bool
     ensures { result ≡ is_skipped mark.now }
 {
@@ -21,7 +21,7 @@ pub fn is_skipped(mark: &Mark) -> bool
     }
 }
 
-/// What became of an event.
+/// Returns what became of an event.
 fn mark_text(mark: Mark) -> &'static str
     ensures { result.now ≡ mark_text mark }
 {
@@ -81,13 +81,15 @@ fn trace_line(
     format!(in alloc; "{number} {event}: {}{saved}\n", mark_text(mark))
 }
 
-/// Writes a line for each event, numbered from 1, as it is made: `NUMBER EVENT: MARK[: RECORD[, RECORD]..]`. EVENT is the
-/// event as a line of a script, MARK is `done`, `failed`, or `skipped` and the reason; the records are those that were saved
-/// because of it, each as `dump` writes it. Where the lists are of unequal lengths the text goes as far as the shortest.
+/// Writes a line for each event, numbered from 1, as it is made: `NUMBER EVENT: MARK[: RECORD[,
+/// RECORD]..]`. EVENT is the event as a line of a script, MARK is `done`, `failed`, or `skipped`
+/// and the reason; the records are those that were saved because of it, each as `dump` writes it.
+/// Where the lists are of unequal lengths the text goes as far as the shortest.
 ///
 /// # Errors
 ///
-/// Those of the writer, and [`io::ErrorKind::OutOfMemory`] where a growth failed: a part of the lines may be written then.
+/// Those of the writer, and [`io::ErrorKind::OutOfMemory`] where a growth failed: a part of the
+/// lines may be written then.
 pub fn write_trace<W: Write>(
     alloc: Global,
     events: &[Event],

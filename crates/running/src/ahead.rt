@@ -1,4 +1,5 @@
-//! Which members have welcomed this one, and which of them have heard more of it than its journal holds.
+//! The members that have welcomed this one, and those that have heard more of it than its journal
+//! holds.
 
 ghost use Rattle.std.specs.Prelude.{◌≡◌, ◌<◌, ◌-◌, ◌+◌, nat_le, nat_lt, false};
 ghost use Rattle.terms_prelude.specs.Terms.{One, count_below, value_is};
@@ -18,11 +19,11 @@ fn with_member(votes: Votes, size: Size, member: u8) -> Votes
     votes
 }
 
-/// The members whose Welcome named more statements than this one has said: it lost its journal, or runs on an old copy. A
-/// member that lies may say so too, but more than t members don't all lie.
+/// The members whose Welcome named more statements than this one has said: it lost its journal, or
+/// runs on an old copy. A member that lies may say so too, but more than t members don't all lie.
 #[derive(Clone, Copy, Debug, PartialEq, Eq)]
 pub(crate) struct Ahead {
-    /// Who says so, as a vote for One.
+    /// The members that say so, as votes for One.
     votes: Votes,
     is_forgotten: bool,
 }
@@ -36,7 +37,8 @@ impl Ahead {
         }
     }
 
-    /// That member says so. A number that is no member's changes nothing but the answer to `is_forgotten`.
+    /// Notes that this member says so. A number that is no member's changes nothing but the answer
+    /// to `is_forgotten`.
     pub(crate) fn add(&mut self, size: Size, member: u8)
         ensures noted { member < size.n → self.new.votes ≡ with_vote self.old.votes member One }
         ensures more { self.new.is_forgotten ≡
@@ -46,7 +48,7 @@ impl Ahead {
         self.is_forgotten = size.t() < self.votes.count(size, false, Value::One);
     }
 
-    /// Whether more than t members say so.
+    /// Returns `true` if more than t members say so.
     pub(crate) fn is_forgotten(&self) -> bool
         ensures { result ≡ self.now.is_forgotten }
     {
@@ -54,11 +56,11 @@ impl Ahead {
     }
 }
 
-/// The other members that have welcomed this one since it started. Once n - t - 1 have, a member that has said more than its
-/// journal holds would have been told so, and this one may speak.
+/// The other members that have welcomed this one since it started. Once n - t - 1 have, a member
+/// that has said more than its journal holds would have been told so, and this one may speak.
 #[derive(Clone, Copy, Debug, PartialEq, Eq)]
 pub(crate) struct Welcomes {
-    /// Who has, as a vote for One.
+    /// The members that have, as votes for One.
     votes: Votes,
 }
 
@@ -72,14 +74,14 @@ impl Welcomes {
         }
     }
 
-    /// That other member has. A number that is no member's adds none.
+    /// Notes that this other member has. A number that is no member's adds none.
     pub(crate) fn add(&mut self, size: Size, member: u8)
         ensures { member < size.n → self.new.votes ≡ with_vote self.old.votes member One }
     {
         self.votes = with_member(self.votes, size, member);
     }
 
-    /// Whether n - t - 1 other members have.
+    /// Returns `true` if n - t - 1 other members have.
     pub(crate) fn are_enough(&self, size: Size) -> bool
         ensures { result ≡ nat_le (size.n - size.t)
             (count_below size.n (λ m. value_is (value_of false self.now.votes m) One) + 1) }

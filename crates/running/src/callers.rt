@@ -1,4 +1,4 @@
-//! Who says that it is a member.
+//! The peers that say that they are members.
 
 ghost use Rattle.std.specs.Prelude.{ℕ, ◌≡◌, Some, IfSome};
 ghost use Rattle.std.specs.Int.{w16, w64, to_be_bytes};
@@ -16,7 +16,7 @@ use std::fmt;
 use std::net::IpAddr;
 use terms::Header;
 
-/// What a Hello says, which may be of any cluster, size and version.
+/// The claim of a Hello, which may be of any cluster, size and version.
 #[derive(Clone, Copy, Drop)]
 pub(crate) struct Claim {
     pub(crate) version: u8,
@@ -43,7 +43,8 @@ fn short(bytes: &[u8; 2]) -> u16
 }
 
 impl Claim {
-    /// What these bytes say, if they are a Hello. It may be one that no member of this cluster would send.
+    /// Returns what these bytes say, if they are a Hello. It may be one that no member of this
+    /// cluster would send.
     pub(crate) fn read(bytes: &[u8]) -> Option<Claim>
         ensures some { IfSome result (λ claim. bytes.now ≡ claim_bytes claim) }
         ensures exact { (claim : Claim) → Fits claim → bytes.now ≡ claim_bytes claim → result ≡ Some claim }
@@ -125,40 +126,40 @@ impl Claim {
     }
 }
 
-/// In what a Hello differs from what the member expects to which it comes. The text of each is behind `member M` in a line of
-/// a log.
+/// In what a Hello differs from what the member expects to which it comes. The text of each is
+/// behind `member M` in a line of a log.
 #[derive(Clone, Copy, Debug, PartialEq, Eq)]
 pub enum Difference {
-    /// It is of a version that this member doesn't know.
+    /// The Hello is of a version that this member doesn't know.
     Version(u8),
-    /// It is of that cluster.
+    /// The Hello is of that cluster.
     Cluster(u64),
-    /// It is of a cluster of that size.
+    /// The Hello is of a cluster of that size.
     Size {
-        /// How many members it has.
+        /// The number of its members.
         n: u8,
-        /// How many of them may lie.
+        /// The most of them that may lie.
         t: u8,
-        /// How many questions it has.
+        /// The number of its questions.
         questions: u16,
     },
-    /// It means that member.
+    /// The Hello is meant for that member.
     To(u8),
-    /// It comes from a host that may not speak for its member.
+    /// The Hello comes from a host that may not speak for its member.
     Host,
 }
 
-/// Who a peer said it was, in a Hello.
+/// The member that a peer said it was, in a Hello.
 #[derive(Clone, Copy, Debug, PartialEq, Eq)]
 pub struct Caller {
-    /// Which member.
+    /// The member's number.
     pub member: u8,
     /// In what the Hello differs from one that would be taken; none where it doesn't.
     pub differs: Option<Difference>,
 }
 
 impl Caller {
-    /// Who that is, to the header's member with these peers, from that host.
+    /// Returns who that is, to the header's member with these peers, from that host.
     pub(crate) fn of<J: Life>(
         claim: &Claim,
         header: &Header,

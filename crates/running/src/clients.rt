@@ -17,7 +17,8 @@ use node::Board;
 use std::sync::Wait;
 use std::thread;
 
-/// The stream of a client in a slot. Each read that gives bytes is a hearing of it, and so is each write that takes some.
+/// The stream of a client in a slot. Each read that gives bytes is a hearing of it, and so is each
+/// write that takes some.
 #[derive(Drop)]
 struct Client<'a, D: Disk, J: Life, R> {
     rt: &'a R,
@@ -27,7 +28,7 @@ struct Client<'a, D: Disk, J: Life, R> {
 }
 
 impl<D: Disk, J: Life, R: Wait> Client<'_, D, J, R> {
-    /// It is heard, if so many bytes came or went.
+    /// Notes that the client was heard, if so many bytes came or went.
     fn note(&self, count: usize) {
         if count > 0 {
             self.it.hear_client(self.rt, self.slot);
@@ -69,7 +70,8 @@ impl<D: Disk, J: Life, R: Wait> Stream for Client<'_, D, J, R> {
     }
 }
 
-/// Answers the client in a chair; none where there is no memory for its pass, or its socket can't be set up.
+/// Answers the client in a chair; none where there is no memory for its pass, or its socket can't
+/// be set up.
 fn serve_chair<D: Disk, J: Life, R: Machine>(
     rt: &R,
     it: &Shared<D, J>,
@@ -99,7 +101,8 @@ fn serve_chair<D: Disk, J: Life, R: Machine>(
     Some(serve(rt, desk, &mut pass, &mut *tosser, &mut client))
 }
 
-/// A session of the client in a chair. One that asks to follow decisions leaves the chair, and its session goes on elsewhere.
+/// A session of the client in a chair. One that asks to follow decisions leaves the chair, and its
+/// session goes on elsewhere.
 pub(crate) fn answer_client<D: Disk, J: Life, R: Machine>(rt: &R, it: &Shared<D, J>, chair: Chair) {
     match serve_chair(rt, it, chair) {
         Some(DeskEnd::Follows(number)) => hand_on(rt, it, chair, number),
@@ -107,8 +110,8 @@ pub(crate) fn answer_client<D: Disk, J: Life, R: Machine>(rt: &R, it: &Shared<D,
     }
 }
 
-/// Takes clients in, each in a thread of its own, until the end. If all places are taken, the next client waits for one, and those
-/// behind it in the listener's queue.
+/// Takes clients in, each in a thread of its own, until the end. If all places are taken, the next
+/// client waits for one, and those behind it in the listener's queue.
 pub(crate) fn accept_clients<D: Disk + Send, J: Life + Send + Sync, R: Machine>(
     rt: &R,
     it: &Shared<D, J>,

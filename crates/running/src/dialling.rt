@@ -20,7 +20,7 @@ pub enum DialFault {
 }
 
 impl DialFault {
-    /// What an error of that kind means.
+    /// Returns what an error of that kind means.
     pub(crate) fn of(kind: ErrorKind) -> DialFault
         ensures refused { kind ≡ kinds.ConnectionRefused → result ≡ DialFault.Refused }
         ensures no_answer { kind ≡ kinds.TimedOut → result ≡ DialFault.NoAnswer }

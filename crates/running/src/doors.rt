@@ -1,4 +1,4 @@
-//! Where links and clients come in.
+//! The ways in for links and clients.
 
 use crate::sockets::shut;
 use std::io;
@@ -6,7 +6,7 @@ use std::net::{IpAddr, Ipv4Addr, TcpListener, TcpStream};
 use std::os::fd::OwnedFd;
 use std::os::unix::net::UnixListener;
 
-/// What listens: at an address, or at a path of this machine.
+/// A listener at an address, or at a path of this machine.
 #[derive(Drop)]
 pub(crate) enum Listener {
     Tcp(TcpListener),
@@ -38,8 +38,8 @@ impl Listener {
     }
 }
 
-/// A listener, and a copy of its descriptor by which it is shut down. The copy is made at once, so that an end asks the system
-/// for nothing that it may not have left then.
+/// A listener, and a copy of its descriptor by which it is shut down. The copy is made at once, so
+/// that an end asks the system for nothing that it may not have left then.
 #[derive(Drop)]
 pub(crate) struct Door {
     pub(crate) listener: Listener,
@@ -62,7 +62,7 @@ impl Door {
     }
 }
 
-/// Where a member's links and clients come in.
+/// The ways in for a member's links and clients.
 #[derive(Drop)]
 pub(crate) struct Doors {
     pub(crate) links: Door,

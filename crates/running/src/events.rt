@@ -1,4 +1,4 @@
-//! What happens to a member that runs.
+//! The events of a member that runs.
 
 ghost use Rattle.std.specs.Prelude.{◌≡◌};
 ghost use Rattle.running.specs.Events.{cause_text, fault_text, version_text};
@@ -10,25 +10,29 @@ use std::fmt;
 use std::net::IpAddr;
 use wire::{Version, WireFault};
 
-/// What happens to a member that runs. The text of each is its line in a log, without the line's end.
+/// An event of a member that runs. The text of each is its line in a log, without the line's end.
 #[derive(Clone, Copy, Debug, PartialEq, Eq)]
 pub enum LogEvent {
     /// This member listens.
     Ready(u8),
-    /// A link from this member has greeted, with a session of that version, and is read from now on.
+    /// A link from this member has greeted, with a session of that version, and is read from now
+    /// on.
     LinkUp(u8, Version),
-    /// It isn't read any more, for this cause.
+    /// The link isn't read any more, for this cause.
     LinkDown(u8, LinkEnd),
-    /// A link to this member was welcomed, in a session of that version, and what this one says is written to it from now on.
+    /// A link to this member was welcomed, in a session of that version, and what this one says is
+    /// written to it from now on.
     LinkUpTo(u8, Version),
-    /// The same, and that member has heard so many statements more of this one than its journal holds: this is another
-    /// journal than it was, or an old copy.
+    /// The same, and that member has heard so many statements more of this one than its journal
+    /// holds: this is another journal than it was, or an old copy.
     LinkUpAhead(u8, u64, Version),
     /// A link to this member isn't written any more, for this cause.
     LinkDownTo(u8, LinkEnd),
-    /// Connections to the links' address were closed before they became links, or links to a peer came to nothing.
+    /// Connections to the links' address were closed before they became links, or links to a peer
+    /// came to nothing.
     Refused(RefusalCount),
-    /// A client was closed, because all places were taken, another waited for one, and it had been silent longest.
+    /// A client was closed, because all places were taken, another waited for one, and it had been
+    /// silent longest.
     ClientClosed {
         /// Its host, if the system knows it.
         host: Option<IpAddr>,
@@ -62,7 +66,8 @@ fn fault_text(fault: WireFault) -> &'static str
     }
 }
 
-/// What the line of a link that comes up says of its version. Of the newer one it says nothing.
+/// Returns what the line of a link that comes up says of its version. Of the newer one it says
+/// nothing.
 fn version_text(version: Version) -> &'static str
     ensures { result.now ≡ version_text version }
 {
@@ -141,7 +146,7 @@ impl fmt::Display for LogEvent {
     }
 }
 
-/// How often it came, behind what came; nothing where it came once.
+/// The number of times that something came, as it stands after it; nothing if it came once.
 #[derive(Clone, Copy)]
 struct Times(u64);
 

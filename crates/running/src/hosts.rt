@@ -1,4 +1,4 @@
-//! Which host may speak for which member.
+//! The hosts that may speak for members.
 ghost use Rattle.std.specs.Prelude.{◌≡◌, ◌↔◌, IsTrue, IfSome, IfNone, slice_get, option_map};
 ghost use Rattle.std.specs.Net.Socket.{socket_ip};
 ghost use Rattle.running.specs.Hosts.{MaySpeak};
@@ -7,18 +7,19 @@ use crate::life::Life;
 use std::marker::PhantomData;
 use std::net::{IpAddr, SocketAddr};
 
-/// From where links are taken. A link's sender is the member that its Hello names; who may say so is all that ties the name
-/// to somebody.
+/// The hosts from which links are taken. A link's sender is the member that its Hello names; who
+/// may say so is all that ties the name to somebody.
 #[derive(Clone, Copy, Debug, PartialEq, Eq)]
 pub enum Hosts {
     /// A member's links are taken from the host of its address alone.
     OfMembers,
-    /// They are taken from any host: whoever reaches the port may speak for any member, and one that does breaks agreement.
+    /// They are taken from any host: whoever reaches the port may speak for any member, and one
+    /// that does breaks agreement.
     Any,
 }
 
-/// The members' addresses, by their numbers, and from where their links are taken: those that the run was given, and no
-/// others.
+/// The members' addresses, by their numbers, and from where their links are taken: those that the
+/// run was given, and no others.
 #[derive(Drop)]
 pub(crate) struct Peers<J: Life> {
     addresses: Vec<SocketAddr>,
@@ -41,15 +42,16 @@ impl<J: Life> Peers<J> {
         }
     }
 
-    /// Returns the address at which the member of that number listens, or `None` for a number past the last.
+    /// Returns the address at which the member of that number listens, or `None` for a number past
+    /// the last.
     pub(crate) fn address_of(&self, peer: u8) -> Option<SocketAddr>
         ensures { result ≡ slice_get J.addresses peer }
     {
         self.addresses.get(usize::from(peer)).copied()
     }
 
-    /// The first member of the host, which stands for all that comes from there; none where no member is of it. From any
-    /// host it is member 0.
+    /// The first member of the host, which stands for all that comes from there; none where no
+    /// member is of it. From any host it is member 0.
     pub(crate) fn first_of(&self, host: IpAddr) -> Option<u8> {
         if self.hosts == Hosts::Any {
             return Some(0);
@@ -64,8 +66,9 @@ impl<J: Life> Peers<J> {
         }
     }
 
-    /// How many of so many places a host may take: an equal share for each host of the members, so that what one does never
-    /// takes another's. From any host there is one share for all.
+    /// Returns how many of so many places a host may take: an equal share for each host of the
+    /// members, so that what one does never takes another's. From any host there is one share for
+    /// all.
     pub(crate) fn share_of(&self, places: usize) -> usize {
         let mut hosts = 0usize;
         for (member, address) in self.addresses.iter().enumerate() {
@@ -77,7 +80,8 @@ impl<J: Life> Peers<J> {
     }
 }
 
-/// A member whose link comes from a host that may speak for it, by the peers that the run was given.
+/// A member whose link comes from a host that may speak for it, by the peers that the run was
+/// given.
 #[derive(Drop)]
 pub(crate) struct Sender<J: Life> {
     peer: u8,
@@ -96,7 +100,7 @@ fn host_of(addresses: &[SocketAddr], peer: u8) -> Option<IpAddr>
     }
 }
 
-/// Whether a link that names this member in its Hello may come from the host.
+/// Returns `true` if a link that names this member in its Hello may come from the host.
 pub(crate) fn may_speak<J: Life>(peers: &Peers<J>, peer: u8, host: IpAddr) -> bool
     ensures { IsTrue result ↔ MaySpeak J.addresses J.hosts peer host }
 {

@@ -72,7 +72,8 @@ impl Opening {
     }
 }
 
-/// The stream of a link that comes in. It keeps the first bytes that were read, so that it can be told who was refused.
+/// The stream of a link that comes in. It keeps the first bytes that were read, so that it can be
+/// told who was refused.
 #[derive(Drop)]
 pub(crate) struct Incoming {
     stream: NetStream,
@@ -92,7 +93,8 @@ impl Incoming {
         }
     }
 
-    /// What the first 18 bytes say that were read, if they are a Hello, of whatever cluster.
+    /// Returns what the first 18 bytes say that were read, if they are a Hello, of whatever
+    /// cluster.
     pub(crate) fn claim(&self) -> Option<Claim>
         ensures some { IfSome result (λ claim. take 18 (told_net self.now.stream).taken ≡ claim_bytes claim) }
         ensures exact { (claim : Claim) → Fits claim → take 18 (told_net self.now.stream).taken ≡ claim_bytes claim →

@@ -1,7 +1,8 @@
 //! A member that runs: its links, its desk and its clock, in threads of one process.
 //!
-//! [`run_member`] takes a member that was just opened, over any disk, and serves its peers and clients until its
-//! [`Operator`] ends it. Nothing here decides: threads hand in what links read, write what the book has, and answer clients.
+//! [`run_member`] takes a member that was just opened, over any disk, and serves its peers and
+//! clients until its [`Operator`] ends it. Nothing here decides: threads hand in what links read,
+//! write what the book has, and answer clients.
 #![tactic(auto)]
 
 mod ahead;

@@ -3,9 +3,10 @@
 use node::Naming;
 use std::marker::Brand;
 
-/// The name of a run, by what it was given: the addresses at which members listen, the hosts from which their links are
-/// taken, the seed of its tosses, and the number of records that its journal had. A type over it says by it of which run its
-/// peers and its tosses are. The program is generic over it, and is called at `Brand`.
+/// The name of a run, by what it was given: the addresses at which members listen, the hosts from
+/// which their links are taken, the seed of its tosses, and the number of records that its journal
+/// had. A type over it says by it of which run its peers and its tosses are. The program is generic
+/// over it, and is called at `Brand`.
 pub(crate) trait Life: Naming {
     ghost use Rattle.std.specs.Prelude.{ℕ, List};
     ghost use Rattle.std.specs.declared.net.socket_addr.SocketAddr.{SocketAddr};

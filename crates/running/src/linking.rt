@@ -1,8 +1,9 @@
 //! The threads of links: begin at `accept_links` and `serve_guest`, last, and at `dial_on`.
 //!
-//! The socket of a session is in `sockets` from `enter_to` or `enter_to_greet` to `leave`, which shuts it down. `dial_once` and
-//! `serve_guest` call that as their last step, however the session ended. Its stream has a copy of the socket: `greet`,
-//! `read_link` and `write_link` close it as soon as they end, so that the peer learns of it before the rest is done.
+//! The socket of a session is in `sockets` from `enter_to` or `enter_to_greet` to `leave`, which
+//! shuts it down. `dial_once` and `serve_guest` call that as their last step, however the session
+//! ended. Its stream has a copy of the socket: `greet`, `read_link` and `write_link` close it as
+//! soon as they end, so that the peer learns of it before the rest is done.
 
 ghost use Rattle.std.specs.Prelude.{◌≡◌, take, IfOk, IfSome};
 ghost use Rattle.links.specs.Greeting.{hello_from};
@@ -35,10 +36,11 @@ use std::thread;
 use std::time::Duration;
 use wire::Version;
 
-/// How many seconds a link waits for its peer to say more of its Hello, and to take what is written.
+/// The seconds that a link waits for its peer to say more of its Hello, and to take what is
+/// written.
 const PATIENCE: u64 = 10;
 
-/// How many seconds a link that was dialled waits for its Welcome.
+/// The seconds that a link that was dialled waits for its Welcome.
 const WELCOME_PATIENCE: u64 = 4;
 
 /// A stream over the socket of that number.
@@ -56,8 +58,8 @@ fn stream_at<D: Disk, J: Life, R: Machine>(
     }
 }
 
-/// Writes the link to a peer over the stream, and answers what came of it. That it comes up, and that it goes down again, is to
-/// be told, and that it was refused.
+/// Writes the link to a peer over the stream, and answers what came of it. That it comes up, and
+/// that it goes down again, is to be told, and that it was refused.
 fn write_told<D: Disk, J: Life, R: Machine>(
     rt: &R,
     it: &Shared<D, J>,
@@ -87,7 +89,8 @@ fn write_told<D: Disk, J: Life, R: Machine>(
     reception
 }
 
-/// Writes the link to a peer over the socket of that number, and answers what came of it; none where that is gone.
+/// Writes the link to a peer over the socket of that number, and answers what came of it; none
+/// where that is gone.
 fn write_at<D: Disk, J: Life, R: Machine>(
     rt: &R,
     it: &Shared<D, J>,
@@ -101,8 +104,8 @@ fn write_at<D: Disk, J: Life, R: Machine>(
     Some(write_told(rt, it, peer, stream, version))
 }
 
-/// One session of that version of the link to a peer, which is dialled at that tick, and what came of it; none where nobody
-/// listens there.
+/// One session of that version of the link to a peer, which is dialled at that tick, and what came
+/// of it; none where nobody listens there.
 fn dial_once<D: Disk, J: Life, R: Machine>(
     rt: &R,
     it: &Shared<D, J>,
@@ -125,8 +128,8 @@ fn dial_once<D: Disk, J: Life, R: Machine>(
     reception
 }
 
-/// The link to a peer: a session, of version 2 at first, and another once it has ended, until the end. It is dialled once a
-/// second at most, and once more where a link of the peer begins.
+/// The link to a peer: a session, of version 2 at first, and another once it has ended, until the
+/// end. It is dialled once a second at most, and once more where a link of the peer begins.
 pub(crate) fn dial_on<D: Disk, J: Life, R: Machine>(
     rt: &R,
     it: &Shared<D, J>,
@@ -147,7 +150,8 @@ pub(crate) fn dial_on<D: Disk, J: Life, R: Machine>(
     unreachable!()
 }
 
-/// Where the member of that number listens; none once the own member ends, and for a number past the last.
+/// Returns the address at which the member of that number listens; none once the own member ends,
+/// and for a number past
 pub(crate) fn address_of<D: Disk, J: Life>(it: &Shared<D, J>, peer: u8) -> Option<SocketAddr> {
     if it.is_closing() || peer >= it.hub.header().size().n() {
         return None;
@@ -155,7 +159,7 @@ pub(crate) fn address_of<D: Disk, J: Life>(it: &Shared<D, J>, peer: u8) -> Optio
     it.peers.address_of(peer)
 }
 
-/// Who dialled from that host, by the Hello that it said, if it said one.
+/// Returns who dialled from that host, by the Hello that it said, if it said one.
 fn caller_at<D: Disk, J: Life>(it: &Shared<D, J>, host: IpAddr, stream: &Incoming) -> Option<Caller>
     ensures { IfSome result (λ caller. (claim : Claim) × (take 18 (told_net stream.now.stream).taken ≡ claim_bytes claim)
         × (caller.member ≡ claim.from)
@@ -167,8 +171,8 @@ fn caller_at<D: Disk, J: Life>(it: &Shared<D, J>, host: IpAddr, stream: &Incomin
     }
 }
 
-/// Who greets on the stream, from a host that may speak for that member, and with which version; else a stranger, to whom
-/// nothing is written.
+/// Returns who greets on the stream, from a host that may speak for that member, and with which
+/// version; else a stranger, to whom nothing is written.
 fn greeted<D: Disk, J: Life>(
     it: &Shared<D, J>,
     guest: Guest,
@@ -187,8 +191,9 @@ fn greeted<D: Disk, J: Life>(
     }
 }
 
-/// Who greets on the stream, and with which version, and the seat of that member; none where the member is stopped, since it
-/// reads no link. That isn't told: each peer dials again once a second.
+/// Returns who greets on the stream, and with which version, and the seat of that member; none
+/// where the member is stopped, since it reads no link. That isn't told: each peer dials again once
+/// a second.
 fn seated<D: Disk, J: Life, R: Machine>(
     rt: &R,
     it: &Shared<D, J>,
@@ -212,8 +217,8 @@ fn seated<D: Disk, J: Life, R: Machine>(
     }
 }
 
-/// Reads the link of a peer with its seat and its tosser, and gives the seat back. Where it begins and where it ends the own
-/// link to that peer is dialled anew, if it is of before.
+/// Reads the link of a peer with its seat and its tosser, and gives the seat back. Where it begins
+/// and where it ends the own link to that peer is dialled anew, if it is of before.
 fn read_seated<D: Disk, J: Life, R: Machine>(
     rt: &R,
     it: &Shared<D, J>,
@@ -233,8 +238,8 @@ fn read_seated<D: Disk, J: Life, R: Machine>(
     it.renew_link_to(rt, peer);
 }
 
-/// Greets the peer on the stream, and reads its link to the end; or why the link was refused. Until it has its seat it takes one
-/// of the places of those that are to greet.
+/// Greets the peer on the stream, and reads its link to the end; or why the link was refused. Until
+/// it has its seat it takes one of the places of those that are to greet.
 fn read_from<D: Disk, J: Life, R: Machine>(
     rt: &R,
     it: &Shared<D, J>,

@@ -8,16 +8,18 @@ use std::alloc::Global;
 use std::marker::Model;
 use std::mem;
 
-/// Where the events of a member are told.
+/// A log: the events of a member are told there.
 pub trait Log {
-    /// Tells an event. Where it can't be told it is lost. Nothing of the member waits for it, but for its end.
+    /// Tells an event. Where it can't be told it is lost. Nothing of the member waits for it, but
+    /// for its end.
     fn tell(&mut self, event: &LogEvent);
 }
 
-/// How many events may wait.
+/// The most events that wait.
 const WAITING: usize = 1024;
 
-/// Events that wait to be told, at most 1,024, and how many came since that don't. Contracts see both.
+/// Events that wait to be told, at most 1,024, and how many came since that don't. Contracts see
+/// both.
 #[derive(Drop)]
 pub struct Queue {
     events: Vec<LogEvent>,
@@ -43,7 +45,8 @@ impl Queue {
         }
     }
 
-    /// The event waits from now on, or is counted as missed where 1,024 wait, or there is no memory.
+    /// The event waits from now on, or is counted as missed where 1,024 wait, or there is no
+    /// memory.
     pub fn put(&mut self, event: LogEvent)
         ensures { HasCome self.old event self.new }
     {
@@ -52,14 +55,14 @@ impl Queue {
         }
     }
 
-    /// Whether nothing waits.
+    /// Returns `true` if nothing waits.
     pub fn is_empty(&self) -> bool
         ensures { IsTrue result ↔ (self.now ≡ none) }
     {
         self.events.is_empty() && self.missed == 0
     }
 
-    /// What waits, in order, and how many came since that don't. Nothing waits any more.
+    /// Returns what waits, in order, and how many came since that don't. Nothing waits any more.
     pub fn drain(&mut self, alloc: Global) -> (Vec<LogEvent>, u64)
         ensures taken { (result.0.items ≡ self.old.events) × (result.1 ≡ self.old.missed) }
         ensures none { self.new ≡ none }

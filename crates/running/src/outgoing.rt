@@ -14,8 +14,8 @@ use std::sync::Wait;
 use terms::Size;
 use wire::{Feeder, Message, Version};
 
-/// How far a link that is written has come. Its writer says nothing behind the Hello before the Welcome was read, so the
-/// first write behind a read is one to a peer that has welcomed it.
+/// The progress of a link that is written. Its writer says nothing after the Hello before the
+/// Welcome was read, so the first write behind a read is one to a peer that has welcomed it.
 #[derive(Clone, Copy, Debug, PartialEq, Eq)]
 pub enum Standing {
     /// Nothing was read from the peer.
@@ -27,7 +27,7 @@ pub enum Standing {
 }
 
 impl Standing {
-    /// Where it stands when a read gave bytes.
+    /// Returns the progress after a read gave bytes.
     pub fn read(self) -> Standing
         ensures { result ≡ after_read self }
     {
@@ -37,7 +37,7 @@ impl Standing {
         }
     }
 
-    /// Where it stands when a write took bytes.
+    /// Returns the progress after a write took bytes.
     pub fn written(self) -> Standing
         ensures { result ≡ after_written self }
     {
@@ -47,7 +47,7 @@ impl Standing {
         }
     }
 
-    /// Whether it comes up when a write takes bytes: it was answered, and is not up yet.
+    /// Returns `true` if it comes up when a write takes bytes: it was answered, and is not up yet.
     pub fn comes_up(self) -> bool
         ensures { result ≡ has_come_up self (after_written self) }
     {
@@ -55,8 +55,8 @@ impl Standing {
     }
 }
 
-/// The peer of a link that is written: its number, how many statements this member had said before it was dialled, and the
-/// version of the session.
+/// The peer of a link that is written: its number, how many statements this member had said before
+/// it was dialled, and the version of the session.
 #[derive(Clone, Copy, Drop)]
 pub(crate) struct Peer {
     pub(crate) number: u8,
@@ -65,8 +65,9 @@ pub(crate) struct Peer {
     pub(crate) version: Version,
 }
 
-/// The stream of a link that is written. The peer's Welcome is noted as soon as it was read, with how much more the peer has
-/// heard of this member than it has said; and once the link is up its event is to be told, if the member has a log.
+/// The stream of a link that is written. The peer's Welcome is noted as soon as it was read, with
+/// how much more the peer has heard of this member than it has said; and once the link is up its
+/// event is to be told, if the member has a log.
 #[derive(Drop)]
 pub(crate) struct Outgoing<'a, D: Disk, J: Life, R> {
     rt: &'a R,
@@ -74,7 +75,7 @@ pub(crate) struct Outgoing<'a, D: Disk, J: Life, R> {
     stream: NetStream,
     peer: Peer,
     standing: Standing,
-    /// What reads the Welcome as it passes.
+    /// The reader of the Welcome as it passes.
     feeder: Feeder,
     read: Vec<Message>,
     /// The Welcome was noted.
@@ -101,13 +102,13 @@ impl<'a, D: Disk, J: Life, R: Wait> Outgoing<'a, D, J, R> {
         }
     }
 
-    /// Whether the link has come up.
+    /// Returns `true` if the link has come up.
     pub(crate) fn is_up(&self) -> bool {
         self.standing == Standing::Up
     }
 
-    /// How many statements more the peer has heard of this member than it had said when it was dialled: 0 where the Welcome
-    /// names no more, or no memory was left to read it.
+    /// Returns how many statements more the peer has heard of this member than it had said when it
+    /// was dialled: 0 where the Welcome names no more, or no memory was left to read it.
     fn excess(&self) -> u64 {
         match self.read.first() {
             Some(Message::Welcome { next }) => next.saturating_sub(self.peer.said),

@@ -1,20 +1,21 @@
-//! How many lines of links a log takes.
+//! The number of lines of links that a log takes.
 
 ghost use Rattle.std.specs.Prelude.{◌≡◌};
 ghost use Rattle.running.specs.Paces.{admits, after_line, pace_at};
 
-/// How many lines of the links of one member are told in a minute.
+/// The most lines of the links of one member that are told in a minute.
 const LINES: u8 = 20;
 
-/// How many seconds that minute has.
+/// The seconds of that minute.
 const MINUTE: u64 = 60;
 
-/// How many lines of the links from and to one member were told in the minute that began at a second.
+/// The lines of the links from and to one member that were told in the minute that began at a
+/// second.
 #[derive(Clone, Copy, Debug, PartialEq, Eq)]
 pub(crate) struct Pace {
     /// The second at which the minute began.
     pub(crate) began: u64,
-    /// How many lines were told in it.
+    /// The number of lines that were told in it.
     pub(crate) told: u8,
 }
 
@@ -33,7 +34,8 @@ impl Pace {
         }
     }
 
-    /// Whether one more line may be told at that second: the 20th of its minute is the last one.
+    /// Returns `true` if one more line may be told at that second: the 20th of its minute is the
+    /// last one.
     pub(crate) fn admits(self, now: u64) -> bool
         ensures { result ≡ admits self now }
     {

@@ -64,7 +64,8 @@ impl Given {
         self.slot
     }
 
-    /// Returns for how many seconds the client was silent that is to be closed for this one, if one is.
+    /// Returns for how many seconds the client was silent that is to be closed for this one, if one
+    /// is.
     pub(crate) fn displaced(self) -> Option<u64>
         ensures { result ≡ self.displaced }
     {

@@ -1,10 +1,10 @@
-//! How many connections there may be.
+//! The number of connections that there may be.
 
 ghost use Rattle.std.specs.Prelude.{◌≡◌, ◌+◌, ◌-◌, ◌≤◌, nat_lt, if◌then◌else◌, true};
 
 use std::marker::Model;
 
-/// How many of at most N are in. Contracts see their number.
+/// The number of connections that are in, at most N. Contracts see it.
 #[derive(Drop)]
 pub struct Quota<const N: u32> {
     entered: u32,

@@ -1,4 +1,5 @@
-//! Refusals and the like, which come again and again, and of which a log is told once a minute: begin at `Refusals::count`, near the end.
+//! Refusals and the like, which come again and again, and of which a log is told once a minute:
+//! begin at `Refusals::count`, near the end.
 
 ghost use Rattle.std.specs.Prelude.{ℕ, ◌≡◌, ◌+◌, ◌<◌, ◌↔◌, true, false, Some, None, slice_set, IfSome, IfNone, IsTrue};
 ghost use Rattle.std.specs.Option.{option_to_list};
@@ -15,10 +16,10 @@ use links::LinkEnd;
 use std::marker::Model;
 use std::net::IpAddr;
 
-/// How many refusals are told apart.
+/// The most refusals that are told apart.
 const PLACES: usize = 64;
 
-/// How many seconds lie between two lines of the same refusal.
+/// The seconds between two lines of the same refusal.
 const MINUTE: u64 = 60;
 
 /// A refusal that may come again.
@@ -30,35 +31,38 @@ pub enum Refusal {
     By(u8),
     /// No connection to this member could be made, for this cause.
     Unreachable(u8, DialFault),
-    /// A link from this member or to it came up or went down, as too many have in this minute for a line of its own.
+    /// A link from this member or to it came up or went down, as too many have in this minute for a
+    /// line of its own.
     Unsteady(u8),
     /// The system refused a thread for a session.
     Threadless,
     /// A client that asked to follow decisions was closed, because as many follow as may.
     Crowded,
-    /// A client that follows decisions, from this host, was closed, because it took nothing of what it was owed.
+    /// A client that follows decisions, from this host, was closed, because it took nothing of what
+    /// it was owed.
     Stalled(IpAddr),
 }
 
-/// What a line of a log tells of a refusal: how often it came, and who was refused last, if it said who it was.
+/// A line of a log about a refusal: how often it came, and who was refused last, if it said who it
+/// was.
 #[derive(Clone, Copy, Debug, PartialEq, Eq)]
 pub struct RefusalCount {
-    /// Which refusal.
+    /// The refusal.
     pub refusal: Refusal,
-    /// Who said last that it is a member; none where it said nothing.
+    /// The last one that said that it is a member; none if it said nothing.
     pub caller: Option<Caller>,
-    /// How often it came since it was told before, at least once.
+    /// The number of times that it came since it was told before, at least one.
     pub count: u64,
 }
 
-/// What is kept of a refusal.
+/// A refusal that is kept.
 #[derive(Clone, Copy, Drop)]
 pub struct KeptRefusal {
-    /// Which refusal.
+    /// The refusal.
     pub refusal: Refusal,
-    /// Who was refused last.
+    /// The last one that was refused.
     pub caller: Option<Caller>,
-    /// How often it came since its last line.
+    /// The number of times that it came since its last line.
     pub held: u32,
     /// The second of its last line.
     pub told: u64,
@@ -81,14 +85,16 @@ impl Model for Refusals {
 }
 
 impl KeptRefusal {
-    /// Whether a minute has passed since its last line, or as many are held back as can be counted.
+    /// Returns `true` if a minute has passed since its last line, or as many are held back as can
+    /// be counted.
     fn is_due(&self, now: u64) -> bool
         ensures { result ≡ is_due now self.now }
     {
         now.saturating_sub(self.told) >= MINUTE || self.held == u32::MAX
     }
 
-    /// What is kept of it when it comes again, and what is told of it: nothing until it is due.
+    /// Returns what is kept of it when it comes again, and what is told of it: nothing until it is
+    /// due.
     fn come_again(&self, now: u64, caller: Option<Caller>) -> (KeptRefusal, Option<RefusalCount>)
         ensures soon { is_due now self.now ≡ false →
             (result.0 ≡ record self.now { caller = caller; held = self.now.held + 1 }) × (result.1 ≡ None) }
@@ -119,7 +125,7 @@ impl KeptRefusal {
     }
 }
 
-/// Whether it is the refusal of that host for this cause.
+/// Returns `true` if it is the refusal of that host for this cause.
 fn is_from(refusal: Refusal, host: IpAddr, end: LinkEnd) -> bool
     ensures { IsTrue result ↔ (refusal ≡ kinds.From host end) }
 {
@@ -134,7 +140,7 @@ fn is_from(refusal: Refusal, host: IpAddr, end: LinkEnd) -> bool
     }
 }
 
-/// Whether it is the refusal by that member.
+/// Returns `true` if it is the refusal by that member.
 fn is_by(refusal: Refusal, peer: u8) -> bool
     ensures { IsTrue result ↔ (refusal ≡ kinds.By peer) }
 {
@@ -149,7 +155,7 @@ fn is_by(refusal: Refusal, peer: u8) -> bool
     }
 }
 
-/// Whether it says that this member can't be reached, for that cause.
+/// Returns `true` if it says that this member can't be reached, for that cause.
 fn is_unreachable(refusal: Refusal, peer: u8, fault: DialFault) -> bool
     ensures { IsTrue result ↔ (refusal ≡ kinds.Unreachable peer fault) }
 {
@@ -164,7 +170,7 @@ fn is_unreachable(refusal: Refusal, peer: u8, fault: DialFault) -> bool
     }
 }
 
-/// Whether it says that the links of this member come and go.
+/// Returns `true` if it says that the links of this member come and go.
 fn is_unsteady(refusal: Refusal, peer: u8) -> bool
     ensures { IsTrue result ↔ (refusal ≡ kinds.Unsteady peer) }
 {
@@ -179,7 +185,7 @@ fn is_unsteady(refusal: Refusal, peer: u8) -> bool
     }
 }
 
-/// Whether it says that a thread was refused.
+/// Returns `true` if it says that a thread was refused.
 fn is_threadless(refusal: Refusal) -> bool
     ensures { IsTrue result ↔ (refusal ≡ kinds.Threadless) }
 {
@@ -224,7 +230,7 @@ fn is_stalled(refusal: Refusal, host: IpAddr) -> bool
     }
 }
 
-/// Whether these are one refusal.
+/// Returns `true` if these are one refusal.
 fn is_same(one: Refusal, other: Refusal) -> bool
     ensures { IsTrue result ↔ (one ≡ other) }
 {
@@ -239,7 +245,7 @@ fn is_same(one: Refusal, other: Refusal) -> bool
     }
 }
 
-/// Where a refusal is kept, and what is kept of it.
+/// Returns the place of a refusal, and what is kept of it.
 fn find(places: &[Option<KeptRefusal>; PLACES], refusal: Refusal) -> Option<(usize, KeptRefusal)>
     ensures some { IfSome result (λ found. KeepsAt places.now found.0 found.1 × (found.1.refusal ≡ refusal)) }
     ensures within { IfSome result (λ found. found.0 < 64) }
@@ -255,7 +261,8 @@ fn find(places: &[Option<KeptRefusal>; PLACES], refusal: Refusal) -> Option<(usi
     None
 }
 
-/// Whether the last line of one is older than that of the other. A free place is older than any.
+/// Returns `true` if the last line of one is older than that of the other. A free place is older
+/// than any.
 fn is_older(one: &Option<KeptRefusal>, other: &Option<KeptRefusal>) -> bool
     ensures { result ≡ is_older one.now other.now }
 {
@@ -279,7 +286,7 @@ fn oldest(places: &[Option<KeptRefusal>; PLACES]) -> usize
     oldest
 }
 
-/// What is left to tell of a refusal that gives its place.
+/// Returns what is left to tell of a refusal that gives its place.
 fn left_of(kept: &Option<KeptRefusal>) -> Option<RefusalCount>
     ensures { result ≡ left_of kept.now }
 {
@@ -293,7 +300,7 @@ fn left_of(kept: &Option<KeptRefusal>) -> Option<RefusalCount>
     }
 }
 
-/// What is due of what is kept, at that second.
+/// Returns what is due of what is kept, at that second.
 fn due_of(kept: &Option<KeptRefusal>, now: u64) -> Option<RefusalCount>
     ensures { result ≡ due_of now kept.now }
 {
@@ -303,7 +310,7 @@ fn due_of(kept: &Option<KeptRefusal>, now: u64) -> Option<RefusalCount>
     }
 }
 
-/// What is kept of it then.
+/// Returns what is kept of it then.
 fn after_due(kept: &Option<KeptRefusal>, now: u64) -> Option<KeptRefusal>
     ensures { result ≡ after_due now kept.now }
 {
@@ -364,7 +371,7 @@ fn count_first(
     (left, Some(line))
 }
 
-/// What is due at that second of the refusal at a place.
+/// Returns what is due at that second of the refusal at a place.
 fn due_at(places: &mut [Option<KeptRefusal>; PLACES], at: usize, now: u64) -> Option<RefusalCount>
     requires table { IsTable places.old }
     requires within { at < 64 }
@@ -410,9 +417,9 @@ impl Refusals {
         }
     }
 
-    /// A refusal came, at that second. What is to be told of it is nothing where its last line is of less than a minute ago,
-    /// else how often it came since, this time included. Before that stands what is left to tell of the refusal that gave its
-    /// place, if one did.
+    /// A refusal came, at that second. What is to be told of it is nothing where its last line is
+    /// of less than a minute ago, else how often it came since, this time included. Before that
+    /// stands what is left to tell of the refusal that gave its place, if one did.
     pub fn count(
         &mut self,
         now: u64,
@@ -430,8 +437,8 @@ impl Refusals {
         }
     }
 
-    /// What is due at that second is to be told: of each refusal that was held back and whose last line is a minute old, how
-    /// often it came since.
+    /// Has told what is due at that second: of each refusal that was held back and whose last line
+    /// is a minute old, how often it came since.
     pub fn tell_due(&mut self, now: u64, queue: &mut Queue)
         ensures events { HaveCome queue.old (events_of (dues now self.old)) queue.new }
         ensures after { (at : ℕ) → at < 64 → place_at self.new at ≡ after_due now (place_at self.old at) }

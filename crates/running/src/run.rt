@@ -1,7 +1,7 @@
 //! The life of a member, from its opening to its end: begin at `run_member`, last.
 
 ghost use Rattle.std.specs.Prelude.{◌≡◌, ◌*◌, ◌+◌, ◌<◌, ◌^◌, [], false, length, IfOk};
-ghost use Rattle.member.specs.Sound.{IsSound};
+ghost use Rattle.member.specs.Sound.{HasItsFile, IsSound};
 ghost use Rattle.member.specs.Readers.{member_header, member_saved, member_is_stopped, MemberStandsFor};
 
 use crate::ahead::{Ahead, Welcomes};
@@ -37,49 +37,54 @@ use std::sync::{Condvar, Mutex, Wait};
 use std::{io, thread};
 use terms::Memory;
 
-/// Where the members listen, and who is let in.
+/// The addresses at which the members listen, and the hosts that are let in.
 #[derive(Drop)]
 pub struct Addresses {
     /// The link address of each member, by its number. Each is dialled, the own one too.
     pub peers: Vec<SocketAddr>,
-    /// Where links are listened for, if that isn't the own address of `peers`.
+    /// The address at which links are listened for, if that isn't the own address of `peers`.
     pub listen: Option<SocketAddr>,
-    /// From where the members' links are taken.
+    /// The hosts from which the members' links are taken.
     pub hosts: Hosts,
     /// The own address for clients.
     pub desk: SocketAddr,
-    /// What listens for clients of this machine too, by the rights of a file, if anything does.
+    /// The listener for clients of this machine, by the rights of a file, if there is one.
     pub local: Option<UnixListener>,
-    /// How many clients are let in at once, 1 to 32. Another number counts as the nearer of these.
+    /// The most clients that are let in at once, 1 to 32. Another number counts as the nearer of
+    /// these.
     pub clients: u8,
     /// The most clients that follow decisions at once, 0 to 1,024. A higher number counts as 1,024.
     pub followers: u16,
-    /// For how many seconds the member listens at most before it speaks, 0 for not at all.
+    /// The most seconds that the member listens before it speaks, 0 for not at all.
     pub patience: u64,
 }
 
-/// Who starts a member and says when it ends.
+/// An operator, who starts a member and says when it ends.
 pub trait Operator {
     ghost use Rattle.std.specs.Prelude.{ℕ, List};
 
     /// The seeds that the member may toss from. An operator that says nothing of it takes any.
     ghost may_toss_from: { Self → List ℕ → Type 0 } = { λ _ _. Unit {0} };
 
-    /// Is told that both listeners stand. Threads start when it returns; where it fails the run ends with its fault.
+    /// Tells that both listeners stand. Threads start when it returns; where it fails the run ends
+    /// with its fault.
     fn ready(&mut self) -> Result<(), RunFault>;
 
-    /// Returns when the member is to end. Where it fails the member ends too, and the run with its fault.
+    /// Returns when the member is to end. Where it fails the member ends too, and the run with its
+    /// fault.
     fn until_end(&mut self) -> Result<(), RunFault>;
 
-    /// Is told why the member can't listen at this address. The run ends with [`RunFault::Listen`] then.
+    /// Tells why the member can't listen at this address. The run ends with [`RunFault::Listen`]
+    /// then.
     fn unheard(&mut self, _address: SocketAddr, _error: &io::Error) {}
 
-    /// Is told that the system refused a thread without which the member can't run. The run ends with [`RunFault::Memory`] then.
+    /// Tells that the system refused a thread without which the member can't run. The run ends with
+    /// [`RunFault::Memory`] then.
     fn unstarted(&mut self) {}
 }
 
-/// A member that was just opened, and what its run begins with: its board, where the members listen and from where their links
-/// are taken, how many clients it lets in, and the seed of its tosses.
+/// A member that was just opened, and what its run begins with: its board, where the members listen
+/// and from where their links are taken, how many clients it lets in, and the seed of its tosses.
 struct Opened<D: Disk> {
     alloc: Global,
     member: Member<D>,
@@ -92,7 +97,8 @@ struct Opened<D: Disk> {
     seed: [u8; 32],
 }
 
-/// Makes what the threads of a member share that was just opened. Its peers and its tosses are those that the run was given.
+/// Makes what the threads of a member share that was just opened. Its peers and its tosses are
+/// those that the run was given.
 fn share<D: Disk + Drop, J: Life>(opened: Opened<D>) -> Result<Shared<D, J>, Memory>
     requires addresses { opened.addresses.items ≡ J.addresses }
     requires hosts { opened.hosts ≡ J.hosts }
@@ -142,7 +148,7 @@ fn share<D: Disk + Drop, J: Life>(opened: Opened<D>) -> Result<Shared<D, J>, Mem
     })
 }
 
-/// From now on what happens is to be told, and first that the member is ready.
+/// Has told from now on what happens, and first that the member is ready.
 fn begin_telling<D: Disk, J: Life, R: Machine>(rt: &R, it: &Shared<D, J>) -> Result<(), Memory> {
     let book = it.hub.lock(rt);
     let telling = Telling::new(it.alloc, &book)?;
@@ -151,8 +157,8 @@ fn begin_telling<D: Disk, J: Life, R: Machine>(rt: &R, it: &Shared<D, J>) -> Res
     Ok(())
 }
 
-/// Dials each member, itself too, in a thread of its own, and runs the other threads until the operator ends the member, where
-/// all of these were started. Ends all threads.
+/// Dials each member, itself too, in a thread of its own, and runs the other threads until the
+/// operator ends the member, where all of these were started. Ends all threads.
 fn run_threads<D: Disk + Send, J: Life + Send + Sync, O: Operator, R: Machine>(
     rt: &R,
     operator: &mut O,
@@ -174,8 +180,8 @@ fn run_threads<D: Disk + Send, J: Life + Send + Sync, O: Operator, R: Machine>(
     })
 }
 
-/// Takes clients of this machine in, if they have a door, and waits for the operator to end the member, where all other threads
-/// were started. Ends all threads.
+/// Takes clients of this machine in, if they have a door, and waits for the operator to end the
+/// member, where all other threads were started. Ends all threads.
 fn run_local<D: Disk + Send, J: Life + Send + Sync, O: Operator, R: Machine>(
     rt: &R,
     operator: &mut O,
@@ -205,7 +211,8 @@ fn run_local<D: Disk + Send, J: Life + Send + Sync, O: Operator, R: Machine>(
     })
 }
 
-/// Tells followers until the operator ends the member, where all threads before were started, and ends all threads.
+/// Tells followers until the operator ends the member, where all threads before were started, and
+/// ends all threads.
 fn run_followers<D: Disk + Send, J: Life + Send + Sync, O: Operator, R: Machine>(
     rt: &R,
     operator: &mut O,
@@ -219,7 +226,8 @@ fn run_followers<D: Disk + Send, J: Life + Send + Sync, O: Operator, R: Machine>
     })
 }
 
-/// Takes clients in until the operator ends the member, where all threads before were started, and ends all threads.
+/// Takes clients in until the operator ends the member, where all threads before were started, and
+/// ends all threads.
 fn run_desk<D: Disk + Send, J: Life + Send + Sync, O: Operator, R: Machine>(
     rt: &R,
     operator: &mut O,
@@ -236,7 +244,8 @@ fn run_desk<D: Disk + Send, J: Life + Send + Sync, O: Operator, R: Machine>(
     })
 }
 
-/// Takes links in until the operator ends the member, where all threads before were started, and ends all threads.
+/// Takes links in until the operator ends the member, where all threads before were started, and
+/// ends all threads.
 fn run_links<D: Disk + Send, J: Life + Send + Sync, O: Operator, R: Machine>(
     rt: &R,
     operator: &mut O,
@@ -251,7 +260,8 @@ fn run_links<D: Disk + Send, J: Life + Send + Sync, O: Operator, R: Machine>(
     })
 }
 
-/// Runs the clock until the operator ends the member, where the diallers were started, and ends all threads.
+/// Runs the clock until the operator ends the member, where the diallers were started, and ends all
+/// threads.
 fn run_clock<D: Disk + Send, J: Life + Send + Sync, O: Operator, R: Machine>(
     rt: &R,
     operator: &mut O,
@@ -265,8 +275,8 @@ fn run_clock<D: Disk + Send, J: Life + Send + Sync, O: Operator, R: Machine>(
     })
 }
 
-/// Runs all threads until the operator ends the member, and one more that tells the log what is to be told. Where the
-/// system refuses that one all is told at the end.
+/// Runs all threads until the operator ends the member, and one more that tells the log what is to
+/// be told. Where the system refuses that one all is told at the end.
 fn run_logged<D: Disk + Send, J: Life + Send + Sync, O: Operator, L: Log + Send, R: Machine>(
     rt: &R,
     operator: &mut O,
@@ -281,8 +291,8 @@ fn run_logged<D: Disk + Send, J: Life + Send + Sync, O: Operator, L: Log + Send,
     ended
 }
 
-/// Runs a member whose threads share this: tries whether the system gives them, tells the operator that it is ready, and then
-/// starts them.
+/// Runs a member whose threads share this: tries whether the system gives them, tells the operator
+/// that it is ready, and then starts them.
 fn run_shared<D: Disk + Send, J: Life + Send + Sync, O: Operator, L: Log + Send, R: Machine>(
     rt: &R,
     operator: &mut O,
@@ -382,26 +392,33 @@ fn local_door(local: Option<UnixListener>) -> Result<Option<Door>, RunFault> {
 
 /// Runs a member that was just opened, over any disk, until its operator ends it.
 ///
-/// It listens at its own two addresses, tries whether the system gives it its threads, tells the operator that it is ready,
-/// and then starts them: a clock, one that
-/// has the book hear what links hand in, a dialler for each member, one that takes links in and one that takes clients in,
-/// one for each of these, and one that tells all clients that follow decisions. At the end all of them end, and with them every connection.
+/// It listens at its own two addresses, tries whether the system gives it its threads, tells the
+/// operator that it is ready, and then starts them: a clock, one that has the book hear what links
+/// hand in, a dialler for each member, one that takes links in and one that takes clients in, one
+/// for each of these, and one that tells all clients that follow decisions. At the end all of them
+/// end, and with them every connection.
 ///
-/// **It listens before it speaks**: it makes no record, and answers no proposal, before n - t - 1 other members have welcomed
-/// it, or the seconds of its patience have passed. So a member whose journal was lost is told by those that know more of it
-/// before it contradicts what it said. One whose end comes before that says nothing, and doesn't count as stopped.
+/// **It listens before it speaks**: it makes no record, and answers no proposal, before n - t - 1
+/// other members have welcomed it, or the seconds of its patience have passed. So a member whose
+/// journal was lost is told by those that know more of it before it contradicts what it said. One
+/// whose end comes before that says nothing, and doesn't count as stopped.
 ///
-/// Where there is a log one thread more tells it the member's events, so that no other waits for it. Past 1,024 events that
-/// wait to be told the next ones are counted and not kept. The last event is the end, when all threads have ended.
+/// Where there is a log one thread more tells it the member's events, so that no other waits for
+/// it. Past 1,024 events that wait to be told the next ones are counted and not kept. The last
+/// event is the end, when all threads have ended.
 ///
 /// # Errors
 ///
-/// [`RunFault::Listen`], [`RunFault::Memory`] and what the operator says when it is told come before any thread starts: `Memory`
-/// also where the system doesn't give as many threads as n - t links, the doors and a client want. [`RunFault::Stopped`] is told at the end, where the member is stopped by then, and
-/// [`RunFault::Forgotten`] where that is because more than t members have heard more of it than its journal holds.
-/// Whatever comes, the member is gone with its threads; what it saved is on its disk.
+/// [`RunFault::Listen`], [`RunFault::Memory`] and what the operator says when it is told come
+/// before any thread starts: `Memory` also where the system doesn't give as many threads as n - t
+/// links, the doors and a client want. [`RunFault::Stopped`] is told at the end, where the member
+/// is stopped by then, and [`RunFault::Forgotten`] where that is because more than t members have
+/// heard more of it than its journal holds. Whatever comes, the member is gone with its threads;
+/// what it saved is on its disk.
 ///
-/// All that its links and its desk toss comes from a seed that the operator takes.
+/// All that its links and its desk toss comes from a seed that the operator takes. Its records are
+/// those of the file with which its disk began, so nobody wrote that file since the disk was
+/// opened.
 ///
 /// It may wait: for its operator, for locks and for its threads.
 pub fn run_member<D: Disk + Drop + Send, O: Operator, L: Log + Send, R: Machine>(
@@ -416,6 +433,7 @@ pub fn run_member<D: Disk + Drop + Send, O: Operator, L: Log + Send, R: Machine>
     requires seed { O.may_toss_from operator.old seed }
     requires sound { IsSound D.Disk member }
     requires fresh { member_is_stopped member ≡ false → MemberStandsFor member (member_saved member) [] }
+    requires begun { HasItsFile D.Disk member }
 {
     let Addresses {
         peers,

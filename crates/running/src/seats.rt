@@ -22,7 +22,8 @@ pub(crate) struct Seats<J: Life> {
     rack: Rack<J>,
 }
 
-/// The seat of a member that has greeted from a host that may speak for it, by the peers that the run was given.
+/// The seat of a member that has greeted from a host that may speak for it, by the peers that the
+/// run was given.
 #[derive(Drop)]
 pub(crate) struct Seated<J: Life> {
     seat: Seat<J>,
@@ -66,7 +67,8 @@ impl<J: Life> Seated<J> {
         self.seat.peer()
     }
 
-    /// Reads the link of that member over the stream, with tosses of this life, and puts the seat back.
+    /// Reads the link of that member over the stream, with tosses of this life, and puts the seat
+    /// back.
     pub(crate) fn read<D: Disk, R: Machine>(
         self,
         rt: &R,

@@ -7,7 +7,8 @@ ghost use Rattle.running.specs.declared.seconds.Call.TheVariants.{Silent};
 /// The most members of a cluster.
 const MEMBERS: usize = 64;
 
-/// A link of a peer that has begun within the second: the peer is up then, and the pause of its dialler is over.
+/// A link of a peer that has begun within the second: the peer is up then, and the pause of its
+/// dialler is over.
 #[derive(Clone, Copy, Debug, PartialEq, Eq)]
 pub(crate) enum Call {
     /// None has.
@@ -106,7 +107,8 @@ impl Seconds {
         call.is_due()
     }
 
-    /// Says if the pause behind a dialling of the peer in that second is over. A call of the peer ends it once.
+    /// Says if the pause behind a dialling of the peer in that second is over. A call of the peer
+    /// ends it once.
     pub(crate) fn is_over(&mut self, peer: u8, dialled: u64) -> bool
         ensures over { peer < 64 → result ≡ is_over self.old peer dialled }
         ensures answered { peer < 64 → self.new ≡ changed self.old peer after_answer }

@@ -1,4 +1,5 @@
-//! What the threads of a member share. Begin at the struct; its methods stand after what they call.
+//! The state that the threads of a member share. Begin at the struct; its methods stand after what
+//! they call.
 
 ghost use Rattle.std.specs.Prelude.{◌≡◌, ◌≤◌, ◌*◌, IfSome};
 
@@ -31,14 +32,16 @@ use std::sync::{Condvar, Mutex, Wait};
 use std::thread;
 use std::time::Duration;
 
-/// How often a peer that has greeted asks for its seat, 20 milliseconds apart: for half a second.
+/// The most times that a peer that has greeted asks for its seat, 20 milliseconds apart: for half a
+/// second.
 const SEAT_TRIES: u32 = 25;
 
-/// What the threads of a member share.
+/// The state that the threads of a member share.
 #[derive(Drop)]
 pub(crate) struct Shared<D: Disk, J: Life> {
     pub(crate) alloc: Global,
-    /// Where the members listen, by their numbers, and from where their links are taken.
+    /// The addresses at which the members listen, by their numbers, and the hosts from which their
+    /// links are taken.
     pub(crate) peers: Peers<J>,
     pub(crate) hub: Hub<D, J>,
     pub(crate) seats: Seats<J>,
@@ -57,19 +60,20 @@ pub(crate) struct Shared<D: Disk, J: Life> {
     pub(crate) followed: Condvar,
     pub(crate) greetings: Mutex<Quota<GREETINGS>>,
     pub(crate) sockets: Mutex<Sockets>,
-    /// Which members have heard more of this one than its journal holds.
+    /// The members that have heard more of this one than its journal holds.
     pub(crate) ahead: Mutex<Ahead>,
-    /// Which other members have welcomed this one.
+    /// The other members that have welcomed this one.
     pub(crate) welcomes: Mutex<Welcomes>,
-    /// For how many seconds the member listens at most before it speaks.
+    /// The most seconds that the member listens before it speaks.
     pub(crate) patience: u64,
     pub(crate) closing: AtomicBool,
     /// The end came before the member spoke, and has stopped it for that alone.
     pub(crate) ended_unheard: AtomicBool,
-    /// How many seconds have passed; it counts on from 0 after 2^64 - 1.
+    /// The seconds that have passed; they count on from 0 after 2^64 - 1.
     pub(crate) seconds: Mutex<Seconds>,
     pub(crate) ticked: Condvar,
-    /// What is to be told, if the member has a log. Another thread tells it, so that nobody waits for the log.
+    /// The events to be told, if the member has a log. Another thread tells them, so that nobody
+    /// waits for the log.
     pub(crate) telling: Mutex<Option<Telling>>,
 }
 
@@ -89,13 +93,13 @@ pub(crate) struct Chair {
 }
 
 impl<D: Disk, J: Life> Shared<D, J> {
-    /// Whether the member is coming to its end.
+    /// Returns `true` if the member is coming to its end.
     pub(crate) fn is_closing(&self) -> bool {
         self.closing.load(Ordering::SeqCst)
     }
 
-    /// From now on the member comes to its end: who waits for a tick or for the bell goes on, and each socket is shut down. One
-    /// that hasn't spoken yet never does.
+    /// Brings the member to its end: who waits for a tick or for the bell goes on, and each socket
+    /// is shut down. One that hasn't spoken yet never does.
     pub(crate) fn close<R: Machine>(&self, rt: &R) {
         self.closing.store(true, Ordering::SeqCst);
         self.tick(rt);
@@ -121,7 +125,7 @@ impl<D: Disk, J: Life> Shared<D, J> {
         }
     }
 
-    /// Whether the end came before the member spoke.
+    /// Returns `true` if the end came before the member spoke.
     pub(crate) fn has_ended_unheard(&self) -> bool {
         self.ended_unheard.load(Ordering::SeqCst)
     }
@@ -132,7 +136,8 @@ impl<D: Disk, J: Life> Shared<D, J> {
         self.speak_if_due(rt);
     }
 
-    /// Has the member speak once n - t - 1 others have welcomed it, or it has listened for long enough.
+    /// Has the member speak once n - t - 1 others have welcomed it, or it has listened for long
+    /// enough.
     fn speak_if_due<R: Wait>(&self, rt: &R) {
         if !self.hub.is_listening() || self.is_closing() {
             return;
@@ -143,8 +148,8 @@ impl<D: Disk, J: Life> Shared<D, J> {
         }
     }
 
-    /// A peer has welcomed the link to it, and has heard so many statements more of this member than it has said. One that more
-    /// than t members are ahead of is stopped before it speaks.
+    /// A peer has welcomed the link to it, and has heard so many statements more of this member
+    /// than it has said. One that more than t members are ahead of is stopped before it speaks.
     pub(crate) fn note_welcome<R: Wait>(&self, rt: &R, peer: u8, excess: u64) {
         self.hub.set_outgoing(rt, peer, true);
         let header = self.hub.header();
@@ -166,8 +171,9 @@ impl<D: Disk, J: Life> Shared<D, J> {
         }
     }
 
-    /// The same of an event of a link from a peer or to it; of those of one peer that come too fast how many there were, once a
-    /// minute. What the member's own end does to links isn't told, and the link from the member to itself is none of the log's.
+    /// The same of an event of a link from a peer or to it; of those of one peer that come too fast
+    /// how many there were, once a minute. What the member's own end does to links isn't told, and
+    /// the link from the member to itself is none of the log's.
     pub(crate) fn log_of_peer<R: Wait>(&self, rt: &R, peer: u8, event: LogEvent) {
         if self.is_closing() || peer == self.hub.header().me() {
             return;
@@ -178,8 +184,8 @@ impl<D: Disk, J: Life> Shared<D, J> {
         }
     }
 
-    /// A refusal is to be told, if the member has a log: the first of its kind at once, the others once a minute. What the
-    /// member's own end does to links isn't told.
+    /// A refusal is to be told, if the member has a log: the first of its kind at once, the others
+    /// once a minute. What the member's own end does to links isn't told.
     pub(crate) fn log_refusal<R: Machine>(&self, rt: &R, refusal: Refusal, caller: Option<Caller>) {
         if self.is_closing() {
             return;
@@ -190,26 +196,25 @@ impl<D: Disk, J: Life> Shared<D, J> {
         }
     }
 
-    /// How often refusals came that weren't told yet, and of which no line is younger than a minute at that second, is to be
-    /// told, if the member has a log.
+    /// Has told how often refusals came that weren't told yet, and of which no line is younger than
+    /// a minute at that second, if the member has a log.
     pub(crate) fn log_due<R: Machine>(&self, rt: &R, now: u64) {
         if let Some(telling) = &mut *self.telling.lock(rt) {
             telling.tell_due(now);
         }
     }
 
-    /// What the book has that wasn't told is to be told, if the member has a log. That a member that has not spoken was stopped
-    /// by its end is no news.
+    /// Has told what the book has that wasn't told, if the member has a log.
     pub(crate) fn log_book<R: Machine>(&self, rt: &R) {
-        if self.telling.lock(rt).is_none() || self.has_ended_unheard() {
+        if self.telling.lock(rt).is_none() {
             return;
         }
         let book = self.hub.read(rt);
         self.look(rt, &book);
     }
 
-    /// The same, but where another thread has the book for longer than a tenth of a second, as while its disk stalls, nothing:
-    /// the clock waits for no book.
+    /// The same, but where another thread has the book for longer than a tenth of a second, as
+    /// while its disk stalls, nothing: the clock waits for no book.
     fn try_log_book<R: Machine>(&self, rt: &R) {
         if self.telling.lock(rt).is_none() {
             return;
@@ -222,7 +227,8 @@ impl<D: Disk, J: Life> Shared<D, J> {
         }
     }
 
-    /// What the book has that wasn't told is to be told, if no other thread has the book; false where one has.
+    /// Has told what the book has that wasn't told, if no other thread has the book; false where
+    /// one has.
     fn try_look<R: Machine>(&self, rt: &R) -> bool {
         match self.hub.try_lock() {
             Some(book) => {
@@ -233,8 +239,12 @@ impl<D: Disk, J: Life> Shared<D, J> {
         }
     }
 
-    /// What a book has that wasn't told is to be told.
+    /// Has told what a book has that wasn't told. That a member that has not spoken was stopped by
+    /// its end is no news.
     fn look<R: Machine>(&self, rt: &R, book: &Book<D, J>) {
+        if self.has_ended_unheard() {
+            return;
+        }
         if let Some(telling) = &mut *self.telling.lock(rt) {
             telling.look(book);
         }
@@ -252,7 +262,7 @@ impl<D: Disk, J: Life> Shared<D, J> {
         }
     }
 
-    /// What waits to be told, and how many events came too fast.
+    /// Returns what waits to be told, and how many events came too fast.
     fn drain_events<R: Machine>(&self, rt: &R) -> (Vec<LogEvent>, u64) {
         match &mut *self.telling.lock(rt) {
             Some(telling) => telling.queue.drain(self.alloc),
@@ -284,15 +294,16 @@ impl<D: Disk, J: Life> Shared<D, J> {
         self.seconds.lock(rt).second()
     }
 
-    /// Ends the pause of the peer's dialler, once a second: a link of the peer has begun, so it is up.
+    /// Ends the pause of the peer's dialler, once a second: a link of the peer has begun, so it is
+    /// up.
     pub(crate) fn call_dialler<R: Machine>(&self, rt: &R, peer: u8) {
         let mut seconds = self.seconds.lock(rt);
         seconds.call(peer);
         self.ticked.notify_all();
     }
 
-    /// Waits until the peer that was dialled in that second may be dialled again: in another one, or once a link of its own has
-    /// begun.
+    /// Waits until the peer that was dialled in that second may be dialled again: in another one,
+    /// or once a link of its own has begun.
     pub(crate) fn wait_to_dial<R: Machine>(&self, rt: &R, peer: u8, dialled: u64) {
         let mut seconds = self.seconds.lock(rt);
         for _ in rt.forever() {
@@ -315,7 +326,7 @@ impl<D: Disk, J: Life> Shared<D, J> {
         true
     }
 
-    /// Whether more than t members have heard more of this one than its journal holds.
+    /// Returns `true` if more than t members have heard more of this one than its journal holds.
     pub(crate) fn is_forgotten<R: Wait>(&self, rt: &R) -> bool {
         self.ahead.lock(rt).is_forgotten()
     }
@@ -327,7 +338,8 @@ impl<D: Disk, J: Life> Shared<D, J> {
         }
     }
 
-    /// Ticks and rings the bell about once a second, pays for early Initials, and gives peers up that don't greet, until the end.
+    /// Ticks and rings the bell about once a second, pays for early Initials, and gives peers up
+    /// that don't greet, until the end.
     pub(crate) fn tick_on<R: Machine>(&self, rt: &R) {
         for _ in rt.forever() {
             if !self.waits(rt) {
@@ -346,7 +358,8 @@ impl<D: Disk, J: Life> Shared<D, J> {
         unreachable!()
     }
 
-    /// What the next connection that is admitted has; none at the end. One that isn't admitted is closed.
+    /// Returns what the next connection that is admitted has; none at the end. One that isn't
+    /// admitted is closed.
     pub(crate) fn next<R: Machine, A, F: Fn(TcpStream, IpAddr) -> Option<A>>(
         &self,
         rt: &R,
@@ -378,7 +391,8 @@ impl<D: Disk, J: Life> Shared<D, J> {
         let_in(&mut greetings)
     }
 
-    /// Waits until a client has a slot: one that is free, or that of a client that has been silent for long. None at the end.
+    /// Waits until a client has a slot: one that is free, or that of a client that has been silent
+    /// for long. None at the end.
     fn await_slot<R: Machine>(&self, rt: &R) -> Option<Given> {
         let mut slots = self.slots.lock(rt);
         for _ in rt.forever() {
@@ -394,7 +408,7 @@ impl<D: Disk, J: Life> Shared<D, J> {
         unreachable!()
     }
 
-    /// Has those look again that wait for a slot.
+    /// Wakes those that wait for a slot, to look again.
     fn call_waiting<R: Wait>(&self, rt: &R) {
         let _slots = self.slots.lock(rt);
         self.left.notify_all();
@@ -413,9 +427,9 @@ impl<D: Disk, J: Life> Shared<D, J> {
         self.left.notify_all();
     }
 
-    /// Takes in the socket of a peer that is to greet. It is closed where it comes from a host that may speak for no member,
-    /// so that strangers take no place, where 64 are to greet already, and where its host has its share of these: 64 by the
-    /// number of the members' hosts.
+    /// Takes in the socket of a peer that is to greet. It is closed where it comes from a host that
+    /// may speak for no member, so that strangers take no place, where 64 are to greet already, and
+    /// where its host has its share of these: 64 by the number of the members' hosts.
     pub(crate) fn admit_peer<R: Machine>(
         &self,
         rt: &R,
@@ -442,8 +456,9 @@ impl<D: Disk, J: Life> Shared<D, J> {
         }
     }
 
-    /// The seat of a sender that has greeted, once the session before has given it back; none where that goes on for half a
-    /// second. One whose connection is dead ends in silence, and the peer dials again.
+    /// The seat of a sender that has greeted, once the session before has given it back; none where
+    /// that goes on for half a second. One whose connection is dead ends in silence, and the peer
+    /// dials again.
     pub(crate) fn take_seat<R: Machine>(&self, rt: &R, sender: &Sender<J>) -> Option<Seated<J>>
         ensures peer { IfSome result (λ seated. seated.seat.peer ≡ sender.now.peer) }
         ensures host { IfSome result (λ seated. seated.host ≡ sender.now.host) }
@@ -458,9 +473,9 @@ impl<D: Disk, J: Life> Shared<D, J> {
         None
     }
 
-    /// Cuts the own link to a peer from which a link has begun or ended, unless it was dialled just now: it may be a connection
-    /// that is dead, or one to an earlier life of the peer, and its writer would learn of that only when the system sends
-    /// again. The dialler begins anew.
+    /// Cuts the own link to a peer from which a link has begun or ended, unless it was dialled just
+    /// now: it may be a connection that is dead, or one to an earlier life of the peer, and its
+    /// writer would learn of that only when the system sends again. The dialler begins anew.
     pub(crate) fn renew_link_to<R: Machine>(&self, rt: &R, peer: u8) {
         if peer == self.hub.header().me() {
             return;
@@ -473,8 +488,8 @@ impl<D: Disk, J: Life> Shared<D, J> {
         }
     }
 
-    /// The peer at that socket has its seat, or is refused or gone: another may greet in its place, and ticks don't end its
-    /// session.
+    /// The peer at that socket has its seat, or is refused or gone: another may greet in its place,
+    /// and ticks don't end its session.
     pub(crate) fn end_greeting<R: Machine>(&self, rt: &R, socket: usize) {
         self.sockets.lock(rt).greeted(socket);
         self.greetings.lock(rt).leave();
@@ -487,9 +502,10 @@ impl<D: Disk, J: Life> Shared<D, J> {
         self.sockets.lock(rt).leave(socket);
     }
 
-    /// Takes in the socket of a client, and gives it a chair. If as many clients are in as may be, it waits until one leaves, or
-    /// one has been silent for more than ten seconds, which is closed for it then. Who was silent longest goes first, and the new one
-    /// is answered once that one's session has ended.
+    /// Takes in the socket of a client, and gives it a chair. If as many clients are in as may be,
+    /// it waits until one leaves, or one has been silent for more than ten seconds, which is closed
+    /// for it then. Who was silent longest goes first, and the new one is answered once that one's
+    /// session has ended.
     pub(crate) fn admit_client<R: Machine>(&self, rt: &R, socket: TcpStream) -> Option<Chair> {
         let slot = self.await_slot(rt)?;
         if let Some(silent) = slot.displaced() {
@@ -505,7 +521,8 @@ impl<D: Disk, J: Life> Shared<D, J> {
         }
     }
 
-    /// Closes the client in that slot for another, since it was silent for so many seconds, which is to be told.
+    /// Closes the client in that slot for another, since it was silent for so many seconds, which
+    /// is to be told.
     fn displace<R: Machine>(&self, rt: &R, slot: u8, silent: u64) {
         let host = self.sockets.lock(rt).shut_client(slot);
         self.log(rt, LogEvent::ClientClosed { host, slot, silent });

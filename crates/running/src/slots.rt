@@ -10,10 +10,12 @@ use std::marker::Model;
 /// The number of slots.
 const SLOTS: usize = CLIENTS as usize;
 
-/// The seconds for which a client may be silent and keeps its slot all the same, if another wants one.
+/// The seconds for which a client may be silent and keeps its slot all the same, if another wants
+/// one.
 const SILENCE: u64 = 10;
 
-/// A slot of a client. While it has two sessions, the first of them comes to its end, and the second waits for it.
+/// A slot of a client. While it has two sessions, the first of them comes to its end, and the
+/// second waits for it.
 #[derive(Clone, Copy, Drop)]
 struct Slot {
     sessions: u8,
@@ -38,12 +40,13 @@ const SHUT: Slot = Slot {
 pub enum GivenSlot {
     /// This one was free.
     Free(u8),
-    /// All were taken. The client of this one is to be closed, which has been silent for so many seconds, longer than all others.
+    /// All were taken. The client of this one is to be closed, which has been silent for so many
+    /// seconds, longer than all others.
     InPlaceOf(u8, u64),
 }
 
-/// The 32 slots of clients, of which some may be shut. Contracts see the number of sessions that each has, and the second in which
-/// its client was heard last.
+/// The 32 slots of clients, of which some may be shut. Contracts see the number of sessions that
+/// each has, and the second in which its client was heard last.
 #[derive(Drop)]
 pub struct Slots {
     slots: [Slot; SLOTS],
@@ -67,15 +70,16 @@ fn first_free(slots: &[Slot; SLOTS]) -> Option<usize>
     slots.iter().position(|slot| slot.sessions == 0)
 }
 
-/// Returns `true` if the client of one was heard before that of the other. One that is free, or whose client is being closed, has
-/// no such client.
+/// Returns `true` if the client of one was heard before that of the other. One that is free, or
+/// whose client is being closed, has no such client.
 fn is_longer_silent(one: &Slot, other: &Slot) -> bool
     ensures { result ≡ is_longer_silent one.now other.now }
 {
     one.sessions == 1 && (other.sessions != 1 || one.heard < other.heard)
 }
 
-/// The first one whose client has been silent longest; none if each that has a client is being closed for another.
+/// The first one whose client has been silent longest; none if each that has a client is being
+/// closed for another.
 fn longest_silent(slots: &[Slot; SLOTS]) -> Option<usize>
     ensures some { IfSome result (λ at. IsSilentLongest slots.now at) }
     ensures within { IfSome result (λ at. at < 32) }
@@ -94,8 +98,8 @@ fn longest_silent(slots: &[Slot; SLOTS]) -> Option<usize>
     }
 }
 
-/// The one whose client is to be closed for another at that second, and for how many seconds it has been silent: longest of all, and
-/// for more than ten.
+/// The one whose client is to be closed for another at that second, and for how many seconds it has
+/// been silent: longest of all, and for more than ten.
 fn gives_way(slots: &[Slot; SLOTS], now: u64) -> Option<(usize, u64)>
     ensures some { IfSome result (λ found. GivesWay now slots.now found.0 found.1) }
     ensures within { IfSome result (λ found. found.0 < 32) }
@@ -113,7 +117,7 @@ fn gives_way(slots: &[Slot; SLOTS], now: u64) -> Option<(usize, u64)>
     }
 }
 
-/// How many clients are let in at once where so many are to be.
+/// Returns how many clients are let in at once where so many are to be.
 fn let_in(clients: u8) -> usize
     ensures { result ≡ clients_let_in clients }
 {
@@ -121,8 +125,9 @@ fn let_in(clients: u8) -> usize
 }
 
 impl Slots {
-    /// Creates slots of which the first `clients` are free (at least one, at most all), and nobody was heard. The others are shut:
-    /// they have two sessions that never end, so no client is given one.
+    /// Creates slots of which the first `clients` are free (at least one, at most all), and nobody
+    /// was heard. The others are shut: they have two sessions that never end, so no client is given
+    /// one.
     pub fn new(clients: u8) -> Slots
         ensures free { (at : ℕ) → at < clients_let_in clients → slot_at result at ≡ unused }
         ensures shut { (at : ℕ) → clients_let_in clients ≤ at → at < 32 → slot_at result at ≡ shut }
@@ -134,9 +139,10 @@ impl Slots {
         Slots { slots }
     }
 
-    /// Gives a client that comes at that second, and counts as heard then, the first slot that is free. If none is, it gets that of
-    /// the client that has been silent longest, if that is for more than ten seconds, and which isn't being closed for another
-    /// already. Else it gets none, and nothing changes.
+    /// Gives a client that comes at that second, and counts as heard then, the first slot that is
+    /// free. If none is, it gets that of the client that has been silent longest, if that is for
+    /// more than ten seconds, and which isn't being closed for another already. Else it gets none,
+    /// and nothing changes.
     pub fn take(&mut self, now: u64) -> Option<GivenSlot>
         ensures gives { Gives now self.old result }
         ensures come { IfSome result (λ given. self.new ≡ has_come self.old (slot_of given) now) }
@@ -176,8 +182,8 @@ impl Slots {
         }
     }
 
-    /// Ends a session of the slot: the slot is free, or it is that of the client for whom the other was closed. A number past the
-    /// slots changes nothing.
+    /// Ends a session of the slot: the slot is free, or it is that of the client for whom the other
+    /// was closed. A number past the slots changes nothing.
     pub fn put(&mut self, slot: u8)
         ensures { self.new ≡ has_left self.old slot }
     {

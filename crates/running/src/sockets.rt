@@ -1,4 +1,5 @@
-//! The sockets of a member, which its end shuts down: begin at `Sockets`. Each has a number while its session is under way.
+//! The sockets of a member, which its end shuts down: begin at `Sockets`. Each has a number while
+//! its session is under way.
 
 use links::NetStream;
 use std::alloc::Global;
@@ -6,14 +7,15 @@ use std::io;
 use std::net::{IpAddr, Shutdown, TcpStream};
 use std::time::Duration;
 
-/// How many ticks, of about a second, a peer has for its whole greeting.
+/// The ticks, of about a second, that a peer has for its whole greeting.
 const GREETING_TICKS: u8 = 10;
 
-/// For how many milliseconds a link is read on in silence. Its peer says something once a second, so two of its Idles are missing
-/// then.
+/// The milliseconds for which a link is read on in silence. Its peer says something once a second,
+/// so two of its Idles are missing then.
 const SILENCE: u64 = 2500;
 
-/// How many ticks a link that was dialled stays untouched by what happens to the link from its peer.
+/// The ticks for which a link that was dialled stays untouched by what happens to the link from its
+/// peer.
 const FRESH_TICKS: u64 = 2;
 
 /// A member that was dialled, and the tick of that.
@@ -27,7 +29,7 @@ struct Dialled {
 #[derive(Drop)]
 struct OpenSocket {
     socket: TcpStream,
-    /// How many ticks are left for the greeting; none where none is awaited.
+    /// The ticks that are left for the greeting; none where none is awaited.
     patience: Option<u8>,
     /// The member that was dialled; none where it dialled.
     to: Option<Dialled>,
@@ -37,8 +39,8 @@ struct OpenSocket {
     slot: Option<u8>,
 }
 
-/// The sockets of the sessions that are under way. A session has a copy of its socket, so that a shutdown here ends a read
-/// or write in which its thread waits.
+/// The sockets of the sessions that are under way. A session has a copy of its socket, so that a
+/// shutdown here ends a read or write in which its thread waits.
 #[derive(Drop)]
 pub(crate) struct Sockets {
     open: Vec<Option<OpenSocket>>,
@@ -54,8 +56,8 @@ impl Sockets {
         }
     }
 
-    /// Takes in the socket of the client in that slot, and gives its number. It is closed, and has none, where memory is refused
-    /// or all were shut down.
+    /// Takes in the socket of the client in that slot, and gives its number. It is closed, and has
+    /// none, where memory is refused or all were shut down.
     pub(crate) fn enter_client(&mut self, socket: TcpStream, slot: u8) -> Option<usize> {
         self.enter(OpenSocket {
             socket,
@@ -66,8 +68,9 @@ impl Sockets {
         })
     }
 
-    /// Shuts down the sockets of clients in that slot, whose sessions end then. Answers the host of the last of them; none where
-    /// there is no such client, or the system doesn't know its host any more.
+    /// Shuts down the sockets of clients in that slot, whose sessions end then. Answers the host of
+    /// the last of them; none where there is no such client, or the system doesn't know its host
+    /// any more.
     pub(crate) fn shut_client(&self, slot: u8) -> Option<IpAddr> {
         let mut host = None;
         for open in &self.open {
@@ -81,7 +84,8 @@ impl Sockets {
         host
     }
 
-    /// Takes in the socket of a link to that member, which was dialled at that tick, like `enter_client`.
+    /// Takes in the socket of a link to that member, which was dialled at that tick, like
+    /// `enter_client`.
     pub(crate) fn enter_to(&mut self, socket: TcpStream, peer: u8, tick: u64) -> Option<usize> {
         self.enter(OpenSocket {
             socket,
@@ -92,8 +96,8 @@ impl Sockets {
         })
     }
 
-    /// Shuts down the sockets of links to that member that were dialled two ticks before this one or earlier, whose sessions
-    /// end then. Answers whether there was one.
+    /// Shuts down the sockets of links to that member that were dialled two ticks before this one
+    /// or earlier, whose sessions end then. Answers whether there was one.
     pub(crate) fn shut_old_to(&self, peer: u8, now: u64) -> bool {
         let mut any = false;
         for open in &self.open {
@@ -104,15 +108,15 @@ impl Sockets {
         any
     }
 
-    /// From now on a read of the socket of that number fails once it has waited so long. Where the system refuses that, the
-    /// limit stays as it was.
+    /// Limits reads of the socket of that number: from now on one fails once it has waited so long.
+    /// Where the system refuses that, the limit stays as it was.
     pub(crate) fn limit_reads(&self, number: usize, limit: Duration) {
         if let Some(Some(open)) = self.open.get(number) {
             let _limited = open.socket.set_read_timeout(Some(limit)).is_ok();
         }
     }
 
-    /// How many peers from that member's host are to greet.
+    /// Returns how many peers from that member's host are to greet.
     fn greeting_from(&self, first: u8) -> usize {
         let mut count = 0usize;
         for open in &self.open {
@@ -125,8 +129,9 @@ impl Sockets {
         count
     }
 
-    /// Takes in the socket of a peer from that member's host that is to greet within ten ticks, like `enter_client`; it is closed
-    /// too where as many peers from there as its share are to greet already.
+    /// Takes in the socket of a peer from that member's host that is to greet within ten ticks,
+    /// like `enter_client`; it is closed too where as many peers from there as its share are to
+    /// greet already.
     pub(crate) fn enter_to_greet(
         &mut self,
         socket: TcpStream,
@@ -161,7 +166,8 @@ impl Sockets {
         Some(last)
     }
 
-    /// The peer at the socket of that number has greeted: ticks don't end its session any more, but silence does.
+    /// The peer at the socket of that number has greeted: ticks don't end its session any more, but
+    /// silence does.
     pub(crate) fn greeted(&mut self, number: usize) {
         if let Some(Some(open)) = self.open.get_mut(number) {
             open.patience = None;
@@ -227,7 +233,7 @@ impl OpenSocket {
         }
     }
 
-    /// Is shut down if it is that of a client in that slot, and says whether it is.
+    /// Shuts the socket down if it is that of a client in that slot, and returns `true` if it is.
     fn shut_if_of(&self, slot: u8) -> bool {
         let is_its = self.slot == Some(slot);
         if is_its {
@@ -236,7 +242,8 @@ impl OpenSocket {
         is_its
     }
 
-    /// Is shut down if it is one of a link to that member, dialled two ticks before this one or earlier, and says whether it is.
+    /// Shuts the socket down if it is one of a link to that member, dialled two ticks before this
+    /// one or earlier, and returns
     fn shut_if_old_to(&self, peer: u8, now: u64) -> bool {
         let is_its = match self.to {
             Some(to) => to.peer == peer && now.saturating_sub(to.tick) >= FRESH_TICKS,
@@ -262,8 +269,9 @@ pub(crate) fn shut(socket: &TcpStream) {
     let _already = socket.shutdown(Shutdown::Both).is_err();
 }
 
-/// The stream of the client at this socket, whose bytes leave at once, however few they are. One that says nothing for ten
-/// minutes, or takes nothing for ten seconds, is given up: the read or the write fails.
+/// The stream of the client at this socket, whose bytes leave at once, however few they are. One
+/// that says nothing for ten minutes, or takes nothing for ten seconds, is given up: the read or
+/// the write fails.
 pub fn client_stream(socket: TcpStream) -> io::Result<NetStream> {
     // A Unix socket has no such delay.
     let _at_once = socket.set_nodelay(true).is_ok();

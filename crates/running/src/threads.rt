@@ -1,4 +1,4 @@
-//! Whether the system gives a member its threads.
+//! A trial of the threads that the system gives a member.
 
 ghost use Rattle.std.specs.Prelude.{◌≡◌};
 ghost use Rattle.running.specs.Threads.{least_threads, one_if};
@@ -15,8 +15,9 @@ fn one_if(is_wanted: bool) -> u32
     if is_wanted { 1 } else { 0 }
 }
 
-/// Counts the threads of a member that takes part: a dialler for each member, a reader for each of n - t links, the clock, one
-/// at each of two doors, one for a client and one for all followers; one more for a log, and for a door of this machine.
+/// Counts the threads of a member that takes part: a dialler for each member, a reader for each of
+/// n - t links, the clock, one at each of two doors, one for a client and one for all followers;
+/// one more for a log, and for a door of this machine.
 pub(crate) fn least_threads(size: Size, has_log: bool, has_local: bool) -> u32
     ensures { result ≡ least_threads size has_log has_local }
 {

@@ -18,14 +18,14 @@ use terms::Memory;
 /// The place of the desk's first client among the streams.
 const DESK: u8 = 128;
 
-/// How many clients the desk has a place for.
+/// The number of clients for whom the desk has a place.
 pub(crate) const CLIENTS: u8 = 32;
 
-/// The tosses of a place, in a life that began with so many records in the journal: those of the stream
-/// `records * 256 + place` of the seed. A journal has fewer than 2^55 records.
+/// The tosses of a place, in a life that began with so many records in the journal: those of the
+/// stream `records * 256 + place` of the seed. A journal has fewer than 2^55 records.
 ///
-/// A link's place is its peer's number; the place of a client of the desk is 128 and the slot that it has, 0 to 31. So two
-/// lives, two links, and two slots toss from streams of their own.
+/// A link's place is its peer's number; the place of a client of the desk is 128 and the slot that
+/// it has, 0 to 31. So two lives, two links, and two slots toss from streams of their own.
 pub fn tosser_for(seed: [u8; 32], records: u64, place: u8) -> ChaChaTosser
     ensures { records < 2 ^ 55 → result ≡ stream_of seed (records * 256 + place) }
 {
@@ -64,8 +64,8 @@ pub struct Tossers {
     pub desk: Vec<ChaChaTosser>,
 }
 
-/// The tossers of the life of a member that was just opened. The records in its journal say which streams of the seed they
-/// are.
+/// The tossers of the life of a member that was just opened. The records in its journal say which
+/// streams of the seed they are.
 ///
 /// # Errors
 ///
@@ -91,8 +91,8 @@ pub fn tossers_of<D: Disk>(
     Ok(Tossers { links, desk })
 }
 
-/// A tosser of this life: it tosses from a stream of the run's seed that no other life has. A journal has fewer than 2^55
-/// records.
+/// A tosser of this life: it tosses from a stream of the run's seed that no other life has. A
+/// journal has fewer than 2^55 records.
 #[derive(Drop)]
 pub(crate) struct LifeTosser<J: Life> {
     tosser: ChaChaTosser,
@@ -136,8 +136,8 @@ fn locked<J: Life>(
     Ok(locked)
 }
 
-/// The tossers of a run, each behind a lock: those of its links, by the members' numbers, and those of its desk, by the
-/// slots'.
+/// The tossers of a run, each behind a lock: those of its links, by the members' numbers, and those
+/// of its desk, by the slots'.
 #[derive(Drop)]
 pub(crate) struct LockedTossers<J: Life> {
     pub(crate) links: Vec<Mutex<LifeTosser<J>>>,

@@ -7,10 +7,11 @@ ghost use Rattle.running.specs.declared.versions.Reception.TheVariants as recept
 use links::LinkEnd;
 use wire::Version;
 
-/// Within how many seconds a peer that refuses a session has closed it. One that takes longer to fail met silence.
+/// Within how many seconds a peer that refuses a session has closed it. One that takes longer to
+/// fail met silence.
 const REFUSAL: u64 = 2;
 
-/// What came of a session that this member dialled.
+/// The outcome of a session that this member dialled.
 #[derive(Clone, Copy, Debug, PartialEq, Eq)]
 pub(crate) enum Reception {
     /// The peer welcomed it.
@@ -22,7 +23,7 @@ pub(crate) enum Reception {
 }
 
 impl Reception {
-    /// What came of a session that ended so, that many seconds after it began.
+    /// Returns what came of a session that ended so, that many seconds after it began.
     pub(crate) fn of(end: LinkEnd, welcomed: bool, waited: u64) -> Reception
         ensures { result ≡ received end welcomed waited }
     {
@@ -36,8 +37,8 @@ impl Reception {
         }
     }
 
-    /// Whether a log is told that the peer refused a session of that version. One of version 2 may have been refused for its
-    /// version alone.
+    /// Returns `true` if a log is told that the peer refused a session of that version. One of
+    /// version 2 may have been refused for its version alone.
     pub(crate) fn is_told(self, version: Version) -> bool
         ensures { result ≡ is_told_refusal self version }
     {
@@ -48,8 +49,9 @@ impl Reception {
     }
 }
 
-/// The version of the next session of the link to a peer. Version 2 is tried first; once the peer has welcomed it, it is
-/// tried first after each session that was welcomed, and twice in a row, for good.
+/// The version of the next session of the link to a peer. Version 2 is tried first; once the peer
+/// has welcomed it, it is tried first after each session that was welcomed, and twice in a row, for
+/// good.
 #[derive(Clone, Copy, Debug, PartialEq, Eq)]
 pub(crate) struct Choice {
     /// The version of the next session.
@@ -72,7 +74,8 @@ impl Choice {
         }
     }
 
-    /// Whether the peer has welcomed version 2 once a session of this choice's version is welcomed.
+    /// Returns `true` if the peer has welcomed version 2 once a session of this choice's version is
+    /// welcomed.
     fn will_take_two(self) -> bool
         ensures { result ≡ will_take_two self }
     {
@@ -90,7 +93,7 @@ impl Choice {
         }
     }
 
-    /// Whether the same version is tried once more after a refusal.
+    /// Returns `true` if the same version is tried once more after a refusal.
     fn tries_again(self) -> bool
         ensures { result ≡ tries_again self }
     {

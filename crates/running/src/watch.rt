@@ -1,4 +1,4 @@
-//! What of a member's book was told.
+//! The part of a member's book that was told.
 
 ghost use Rattle.std.specs.Prelude.{◌≡◌, ◌⊎◌, ◌+◌, ◌++◌, ◌||◌, false, Option, None, IfOk, IsOk, is_some, slice_set};
 ghost use Rattle.std.specs.Option.{option_to_list};
@@ -21,10 +21,11 @@ use std::alloc::Global;
 use std::marker::Model;
 use terms::Memory;
 
-/// Which decisions of a member were told, or are of an earlier life, and whether its stop was. Contracts see both.
+/// The decisions of a member that were told, or are of an earlier life, and its stop, if that was.
+/// Contracts see both.
 #[derive(Drop)]
 pub(crate) struct Watch {
-    /// For each question whether its decision needs no telling.
+    /// Set for each question whose decision needs no telling.
     told: Vec<bool>,
     stopped: bool,
 }
@@ -38,7 +39,7 @@ impl Model for Watch {
 }
 
 impl Watch {
-    /// What was decided in earlier lives needs no telling.
+    /// Returns what was decided in earlier lives needs no telling.
     pub(crate) fn new<D: Disk, J: Naming>(alloc: Global, book: &Book<D, J>) -> Result<Watch, Memory>
         ensures { IfOk result (λ watch. watch ≡ record {
           told = decided_list (member_saved book.now.member) (member_header book.now.member).size.questions;
@@ -87,12 +88,12 @@ impl Watch {
     }
 }
 
-/// What is to be told of a member, and what was told of its book.
+/// The lines that are to be told of a member, and what was told of its book.
 #[derive(Drop)]
 pub(crate) struct Telling {
     watch: Watch,
     refusals: Refusals,
-    /// How many lines of the links of each member were told.
+    /// The number of lines of the links of each member that were told.
     paces: [Pace; 64],
     pub(crate) queue: Queue,
 }
@@ -128,7 +129,8 @@ impl Telling {
         }
     }
 
-    /// Whether one more line of the links of that member may be told at that second, which counts it.
+    /// Returns `true` if one more line of the links of that member may be told at that second,
+    /// which counts it.
     fn admits_line(&mut self, now: u64, peer: u8) -> bool
         ensures queue { self.new.queue ≡ self.old.queue }
         ensures refusals { self.new.refusals ≡ self.old.refusals }
@@ -143,8 +145,8 @@ impl Telling {
         }
     }
 
-    /// An event of a link from or to that member came, at that second. It is to be told, or where it is one too many of its
-    /// minute it is counted, as a refusal is.
+    /// An event of a link from or to that member came, at that second. It is to be told, or where
+    /// it is one too many of its minute it is counted, as a refusal is.
     pub(crate) fn put_of_link(&mut self, now: u64, peer: u8, event: LogEvent)
         ensures { HasCome self.old.queue event self.new.queue
             ⊎ ((left line : Option RefusalCount) × IsNoted now (kinds.Unsteady peer) None self.old.refusals self.new.refusals left line
@@ -167,7 +169,8 @@ impl Telling {
         put_line(&mut self.queue, line);
     }
 
-    /// How often refusals came that are held back, and whose last line is a minute old at that second, is to be told.
+    /// Has told how often refusals came that are held back, and whose last line is a minute old at
+    /// that second.
     pub(crate) fn tell_due(&mut self, now: u64)
         ensures events { HaveCome self.old.queue (events_of (dues now self.old.refusals)) self.new.queue }
         ensures counts { held self.new.refusals + counted_by (dues now self.old.refusals) ≡ held self.old.refusals }
@@ -175,7 +178,8 @@ impl Telling {
         self.refusals.tell_due(now, &mut self.queue);
     }
 
-    /// What the book has that wasn't told is to be told: first its decisions, by their questions, and then its stop.
+    /// Has told what the book has that wasn't told: first its decisions, by their questions, and
+    /// then its stop.
     pub(crate) fn look<D: Disk, J: Naming>(&mut self, book: &Book<D, J>)
         ensures events { HaveCome self.old.queue
             (decisions_below self.old.watch (member_saved book.now.member) (member_header book.now.member).size.questions

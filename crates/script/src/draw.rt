@@ -17,17 +17,17 @@ use std::marker::Model;
 use terms::{Kind, Memory, Place, Size, Statement, Value};
 use wire::{Message, encode};
 
-/// How many statements of an outbox a drawn delivery may name, the first ones.
+/// The number of statements of an outbox that a drawn delivery may name, the first ones.
 const NUMBERS: u32 = 64;
 
-/// What a drawn crash may do: fill with one of 256 bytes, keep all, or lose all.
+/// The number of drawn crashes that differ: fill with one of 256 bytes, keep all, or lose all.
 const PICKS: u32 = 258;
 
-/// What stands in an event whose toss isn't drawn yet.
+/// The toss of an event whose toss isn't drawn yet.
 pub const UNDRAWN: Toss = Toss(0);
 
-/// What is drawn from a seed: stream 0 of ChaCha20, whose key is the seed in eight bytes, the greatest first, and 24
-/// zeros.
+/// The numbers drawn from a seed: stream 0 of ChaCha20, whose key is the seed in eight bytes, the
+/// greatest first, and 24 zeros.
 #[derive(Drop)]
 pub struct Draw {
     rng: ChaCha20Rng,
@@ -40,7 +40,7 @@ impl Model for Draw {
 }
 
 impl Draw {
-    /// From the first word on.
+    /// Returns the numbers from the first word on.
     #[tactic(auto, unfolding(crate::specs::Drawing::stream_of_seed))]
     pub fn from_seed(seed: u64) -> Draw
         ensures { result ≡ drawing.stream_of_seed seed }
@@ -158,7 +158,7 @@ impl Draw {
         Statement::new(kind, place, value).unwrap()
     }
 
-    /// What a crash leaves.
+    /// Returns what a crash leaves.
     pub fn pick(&mut self) -> Pick
         ensures { (result, self.new) ≡ drawing.pick self.old }
     {

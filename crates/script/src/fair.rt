@@ -1,5 +1,5 @@
-//! The events of a fair network: each link has its delivery in each pass of a shuffled deck, liars lie, and members fail
-//! and come back.
+//! The events of a fair network: each link has its delivery in each pass of a shuffled deck, liars
+//! lie, and members fail and come back.
 
 ghost use Rattle.std.specs.Prelude.{◌≡◌, ◌<◌, ◌++◌, length, option_map, IfOk, OnOk};
 ghost use Rattle.script.specs.Acts.{act_of};
@@ -14,8 +14,8 @@ use std::alloc::{AllocError, Global};
 use std::marker::Model;
 use terms::{Memory, Size};
 
-/// The number of kinds of events, by member: with many members, each of them fails as seldom, measured in passes of the
-/// deck.
+/// The number of kinds of events, by member: with many members, each of them fails as seldom,
+/// measured in passes of the deck.
 const KINDS: u32 = 16;
 
 /// The bound of a deal's word: below [`MOST_IN_GROUP`] it is a group, else a single delivery.
@@ -24,7 +24,8 @@ const DEALS: u32 = 288;
 /// The most events of a trouble behind its first.
 const SPAN: u64 = 100;
 
-/// The bound of the events between a trouble's first and its crash, and of those between that and the restart.
+/// The bound of the events between a trouble's first and its crash, and of those between that and
+/// the restart.
 const PAUSES: u32 = 50;
 
 /// A link between correct members.
@@ -247,7 +248,8 @@ fn sort_of(n: u8, kind: u32, quiet: bool, lying: bool) -> Sort
     Sort::Delivery
 }
 
-/// The state of a fair network between two events: the links that are left in its deck, and what is owed.
+/// The state of a fair network between two events: the links that are left in its deck, and what is
+/// owed.
 #[derive(Drop)]
 pub struct Fair {
     deck: Vec<Link>,

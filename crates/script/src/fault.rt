@@ -7,11 +7,12 @@ use std::alloc::{AllocError, AllocFailed};
 use terms::{Memory, SizeFault};
 use thiserror::Error;
 
-/// Why a text is no script: the first thing that is wrong, read from the top. Nothing of the script is given then.
+/// Why a text is no script: the first thing that is wrong, read from the top. Nothing of the script
+/// is given then.
 #[derive(Clone, Copy, Debug, PartialEq, Eq, Error)]
 pub enum ScriptFault {
-    /// 1: this line, counted from 1, isn't one. Where the text ends before its first five lines, it is the line
-    /// behind the last one.
+    /// 1: this line, counted from 1, isn't one. Where the text ends before its first five lines, it
+    /// is the line behind the last one.
     #[error("line {0}")]
     Line(u64),
     /// 2: with this many events there are more than [`MOST_EVENTS`](sim::MOST_EVENTS).

@@ -99,10 +99,10 @@ fn seed_at(alloc: Global, lines: &Lines, place: usize) -> Result<u64, ScriptFaul
     }
 }
 
-/// How many lines a head has.
+/// The number of lines of a head.
 pub const HEAD_LINES: usize = 5;
 
-/// What the first five lines say.
+/// A head: what the first five lines say.
 #[derive(Drop)]
 pub struct Head {
     pub size: Size,

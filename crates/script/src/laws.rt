@@ -1,6 +1,7 @@
-//! What holds of every text.
+//! Laws of every text.
 //!
-//! Each function does nothing: its contract is a law over the definitions that the contract of `read` cites.
+//! Each function does nothing: its contract is a law over the definitions that the contract of
+//! `read` cites.
 
 ghost use Rattle.std.specs.Prelude.{ℕ, List, ◌≡◌, ◌≢◌, ◌⊎◌, ◌<◌, ◌∷◌, Some, length, map, slice_get};
 ghost use Rattle.std.specs.List.{AllPairs};
@@ -46,7 +47,8 @@ pub fn each_text_says_something_or_has_a_fault()
         ⊎ ((fault : ScriptFault) × IsFirstFault text fault) }
 {}
 
-/// Each crash of a line `fair K` is followed by that member's restart, at most 50 events later and before the line ends.
+/// Each crash of a line `fair K` is followed by that member's restart, at most 50 events later and
+/// before the line ends.
 pub fn each_crash_of_fair_has_its_restart()
     ensures { (size : Size) (correct : List ℕ) (k place member : ℕ) (pick : Pick) (stream : ChaCha)
         → slice_get (fair_acts size correct k stream) place ≡ Some (Crash member pick)

@@ -1,9 +1,10 @@
 //! Scripts: the text that says what happens in a simulated cluster.
 //!
-//! A script is lines of words, one space between two words. Empty lines and lines that begin with `#` are skipped.
-//! The first five others are `n N`, `t T`, `questions Q`, `liars ..` and `seed S`, in this order; behind them stand
-//! the events, of which `rounds K`, `random K` and `fair K` stand for many. The tosses of the coins, and what `random` and
-//! `fair` draw, are words of ChaCha20 on the seed, so a script says all that happens.
+//! A script is lines of words, one space between two words. Empty lines and lines that begin with
+//! `#` are skipped. The first five others are `n N`, `t T`, `questions Q`, `liars ..` and `seed S`,
+//! in this order; behind them stand the events, of which `rounds K`, `random K` and `fair K` stand
+//! for many. The tosses of the coins, and what `random` and `fair` draw, are words of ChaCha20 on
+//! the seed, so a script says all that happens.
 #![tactic(auto)]
 
 ghost use Rattle.std.specs.Prelude.{◌≡◌, ◌≤◌, ◌⊎◌, length, IfOk, IfErr};
@@ -33,8 +34,8 @@ use terms::Size;
 pub struct Script {
     /// The cluster's size.
     pub size: Size,
-    /// The members that lie, as the script lists them: whether they ascend and are few enough is looked at when the
-    /// script is run.
+    /// The members that lie, as the script lists them: whether they ascend and are few enough is
+    /// looked at when the script is run.
     pub liars: Vec<u8>,
     /// The events, with their tosses drawn, at most [`MOST_EVENTS`].
     pub events: Vec<Event>,
@@ -57,8 +58,9 @@ fn correct_members(alloc: Global, n: u8, liars: &[u8]) -> Result<Vec<u8>, AllocE
 ///
 /// # Errors
 ///
-/// The first fault from the top: [`ScriptFault::Line`], [`ScriptFault::Size`] behind the third line of the head,
-/// [`ScriptFault::Events`] before a line's events are made. [`ScriptFault::Memory`] where memory was refused.
+/// The first fault from the top: [`ScriptFault::Line`], [`ScriptFault::Size`] behind the third line
+/// of the head, [`ScriptFault::Events`] before a line's events are made. [`ScriptFault::Memory`]
+/// where memory was refused.
 pub fn read(alloc: Global, text: &[u8]) -> Result<Script, ScriptFault>
     ensures says { IfOk result (IsScript text.now) }
     ensures few { IfOk result (λ script. length script.events.items ≤ MOST_EVENTS) }

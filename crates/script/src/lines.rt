@@ -36,14 +36,14 @@ impl<'a> Line<'a> {
     }
 }
 
-/// What stands before, between and behind the bytes 0A of the text.
+/// Returns what stands before, between and behind the bytes 0A of the text.
 fn parts(alloc: Global, text: &[u8]) -> Result<Vec<&[u8]>, AllocError>
     ensures { IfOk result (λ parts. texts parts.items ≡ slice_split (λ byte. byte == 10) text.now) }
 {
     text.split(|byte| *byte == b'\n').collect(alloc)
 }
 
-/// Whether the last of these is empty.
+/// Returns `true` if the last of these is empty.
 fn ends_empty(parts: &[&[u8]]) -> bool
     ensures { result ≡ ends_empty (texts parts.now) }
 {
@@ -53,7 +53,7 @@ fn ends_empty(parts: &[&[u8]]) -> bool
     }
 }
 
-/// Whether the line is empty or begins with `#`.
+/// Returns `true` if the line is empty or begins with `#`.
 fn is_skipped(line: &[u8]) -> bool
     ensures { result ≡ is_comment line.now }
 {
@@ -92,8 +92,8 @@ fn said<'a>(alloc: Global, parts: &[&'a [u8]]) -> Result<Vec<Line<'a>>, Memory>
 }
 
 impl<'a> Lines<'a> {
-    /// The lines of the text. A line ends at byte 0A, the last one perhaps at the text's end. Empty lines and those that
-    /// begin with `#` are skipped.
+    /// The lines of the text. A line ends at byte 0A, the last one perhaps at the text's end. Empty
+    /// lines and those that begin with `#` are skipped.
     pub fn of(alloc: Global, text: &'a [u8]) -> Result<Lines<'a>, Memory>
         ensures { IfOk result (λ lines. lines ≡ page_from text.now) }
     {
@@ -114,7 +114,8 @@ impl<'a> Lines<'a> {
         }
     }
 
-    /// The line of that place, counted from 0, or the fault that names the line behind the text's end.
+    /// The line of that place, counted from 0, or the fault that names the line behind the text's
+    /// end.
     pub fn at(&self, place: usize) -> Result<Line<'a>, ScriptFault>
         ensures ok { IfOk result (λ line. slice_get self.now.said place ≡ Some (line.number, line.text.now)) }
         ensures err { IfErr result (λ fault. (slice_get self.now.said place ≡ None) × (fault ≡ ScriptFault.Line self.now.next)) }

@@ -17,7 +17,7 @@ use std::alloc::Global;
 use std::marker::Model;
 use terms::Size;
 
-/// How many events are drawn at once, where they are asked for a few at a time.
+/// The number of events that are drawn at once, where they are asked for a few at a time.
 const PIECE: u64 = 256;
 
 /// The events so far, and the words behind those that were drawn.
@@ -158,7 +158,8 @@ impl Making {
         Ok(left - now)
     }
 
-    /// Adds one of so many rounds, and gives the order of those behind it. Without members there is nothing to add.
+    /// Adds one of so many rounds, and gives the order of those behind it. Without members there is
+    /// nothing to add.
     fn order_round(&mut self, count: u64, members: &[u8]) -> Result<Order, ScriptFault>
         ensures ok { IfOk result (λ rest.
             (size : Size) → after_step size members.now (order_step rest) self.new ≡ adds (times count (round members.now)) self.old) }
@@ -217,8 +218,8 @@ impl Making {
         Ok(Order::Random(0))
     }
 
-    /// Adds the first events that the order stands for, and gives the order of those behind them: at most [`PIECE`]
-    /// that are drawn, or one round.
+    /// Adds the first events that the order stands for, and gives the order of those behind them:
+    /// at most [`PIECE`] that are drawn, or one round.
     pub fn take_piece(
         &mut self,
         alloc: Global,

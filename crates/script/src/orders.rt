@@ -1,4 +1,4 @@
-//! What a script's lines say, read before anything of it is made.
+//! The orders of a script's lines, read before anything of it is made.
 
 ghost use Rattle.std.specs.Prelude.{ℕ, ◌≡◌, ◌<◌, ◌≤◌, ◌+◌, ◌*◌, ◌-◌, ◌^◌, [], length, min, IfOk, IfErr, ◌⊎◌};
 ghost use Rattle.sim.specs.declared.TheConstants.{MOST_EVENTS};
@@ -14,14 +14,14 @@ use crate::step::Order;
 use sim::MOST_EVENTS;
 use std::alloc::Global;
 
-/// How many links there are between these members: 2^64 - 1 where there are more.
+/// Returns how many links there are between these members: 2^64 - 1 where there are more.
 fn links(members: &[u8]) -> u64
     ensures { result ≡ min (length members.now * length members.now) (2 ^ 64 - 1) }
 {
     (members.len() as u64).saturating_mul(members.len() as u64)
 }
 
-/// How many events there are with so many more: `Events` where these are too many.
+/// Returns how many events there are with so many more: `Events` where these are too many.
 fn with_room(have: u64, more: u64) -> Result<u64, ScriptFault>
     requires { have ≤ MOST_EVENTS }
     ensures ok { IfOk result (λ all. (all ≡ have + more) × (all ≤ MOST_EVENTS)) }
@@ -34,7 +34,8 @@ fn with_room(have: u64, more: u64) -> Result<u64, ScriptFault>
     }
 }
 
-/// How many events there are with those that the order stands for: `Events` where these are too many.
+/// Returns how many events there are with those that the order stands for: `Events` where these are
+/// too many.
 fn with_order(have: u64, order: &Order, correct: &[u8]) -> Result<u64, ScriptFault>
     requires { have ≤ MOST_EVENTS }
     ensures ok { IfOk result (λ all. (all ≡ have + how_many (length correct.now) (order_step order.now)) × (all ≤ MOST_EVENTS)) }
@@ -49,7 +50,7 @@ fn with_order(have: u64, order: &Order, correct: &[u8]) -> Result<u64, ScriptFau
     }
 }
 
-/// What the line says: `Line` where it says nothing.
+/// Returns what the line says: `Line` where it says nothing.
 fn order_of(alloc: Global, line: Line) -> Result<Order, ScriptFault>
     ensures ok { IfOk result (λ order. SaysStep (words_of line.entry.text.now) (order_step order)) }
     ensures err { IfErr result (λ fault. (fault ≡ ScriptFault.Memory)
@@ -62,8 +63,8 @@ fn order_of(alloc: Global, line: Line) -> Result<Order, ScriptFault>
     }
 }
 
-/// What the lines say, up to the first fault: `Line` where a line says nothing, `Events` where there would be too many
-/// events. It is the same whatever the seed is.
+/// Returns what the lines say, up to the first fault: `Line` where a line says nothing, `Events`
+/// where there would be too many events. It is the same whatever the seed is.
 pub fn orders(alloc: Global, correct: &[u8], lines: &[Line]) -> Result<Vec<Order>, ScriptFault>
     ensures ok { (size : Size) (start : Made) → start.events ≡ [] → IfOk result (λ orders.
         LeadTo size correct.now start (numbered lines.now) (made_by size correct.now orders.items start)) }

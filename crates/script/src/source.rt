@@ -21,18 +21,18 @@ use std::mem;
 use std::vec::IntoIter;
 use terms::Size;
 
-/// A script whose events are made a few at a time, as they are asked for. It keeps what the text's lines say, and of the
-/// events those that are the next to be played.
+/// A script whose events are made a few at a time, as they are asked for. It keeps what the text's
+/// lines say, and of the events those that are the next to be played.
 ///
-/// In contracts it is its cluster, the events of now (`batch`), those behind them (`left`), and in how many turns at most
-/// these are made (`turns`).
+/// In contracts it is its cluster, the events of now (`batch`), those behind them (`left`), and in
+/// how many turns at most these are made (`turns`).
 #[derive(Drop)]
 pub struct Source {
     size: Size,
     liars: Vec<u8>,
     correct: Vec<u8>,
     orders: IntoIter<Order>,
-    /// What is left of the order that is carried out.
+    /// The rest of the order that is carried out.
     rest: Order,
     making: Making,
 }
@@ -53,12 +53,13 @@ impl Model for Source {
 }
 
 impl Source {
-    /// The script that the text says, before its first event is made. All lines are read: so no fault of the text comes
-    /// later.
+    /// The script that the text says, before its first event is made. All lines are read: so no
+    /// fault of the text comes later.
     ///
     /// # Errors
     ///
-    /// The first fault from the top, as [`read`](crate::read) has it. [`ScriptFault::Memory`] where memory was refused.
+    /// The first fault from the top, as [`read`](crate::read) has it. [`ScriptFault::Memory`] where
+    /// memory was refused.
     pub fn of(alloc: Global, text: &[u8]) -> Result<Source, ScriptFault>
         ensures says { IfOk result (λ source. SaysCluster text.now source.size source.liars source.left) }
         ensures none { IfOk result (λ source. source.batch ≡ []) }
@@ -97,7 +98,8 @@ impl Source {
     ///
     /// # Errors
     ///
-    /// [`ScriptFault::Memory`] where memory was refused. Then events may be lost: the source is of no more use.
+    /// [`ScriptFault::Memory`] where memory was refused. Then events may be lost: the source is of
+    /// no more use.
     pub fn more(&mut self, alloc: Global) -> Result<bool, ScriptFault>
         ensures gives { OnOk result (self.old.left ≡ self.new.batch ++ self.new.left) }
         ensures fewer { IfOk result (λ more. more ≡ true → self.new.turns < self.old.turns) }
@@ -162,7 +164,7 @@ impl Source {
     }
 }
 
-/// Whether the order stands for nothing, as a number of 0 says.
+/// Returns `true` if the order stands for nothing, as a number of 0 says.
 fn is_over(order: &Order) -> bool
     ensures { IsTrue result ↔ (turns (order_step order.now) ≡ 0) }
 {

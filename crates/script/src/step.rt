@@ -1,4 +1,4 @@
-//! What one line of events says.
+//! The order of one line of events.
 
 ghost use Rattle.std.specs.Prelude.{ℕ, ◌≡◌, IfOk, IfSome, MatchOption, Some};
 ghost use Rattle.disk.specs.declared.Pick.{Pick};
@@ -43,7 +43,7 @@ pub enum Verb {
     Fair,
 }
 
-/// What a line says, before tosses are drawn and lines that stand for many events are unrolled.
+/// The order of a line, before tosses are drawn and lines that stand for many events are unrolled.
 #[derive(Drop)]
 pub enum Order {
     /// One event, whose toss isn't drawn yet.
@@ -56,7 +56,7 @@ pub enum Order {
     Fair(u64, Fair),
 }
 
-/// What the words behind `propose` say.
+/// Returns what the words behind `propose` say.
 fn propose(words: &[&[u8]]) -> Option<Order>
     ensures some { IfSome result (λ order. SaysBehind Verb.Propose (texts words.now) (order_step order)) }
     ensures exact { (step : ScriptStep) → SaysBehind Verb.Propose (texts words.now) step → MatchOption result ⊥ (λ order. order_step order ≡ step) }
@@ -72,7 +72,7 @@ fn propose(words: &[&[u8]]) -> Option<Order>
     }))
 }
 
-/// What the words behind `deliver` say.
+/// Returns what the words behind `deliver` say.
 fn deliver(words: &[&[u8]]) -> Option<Order>
     ensures some { IfSome result (λ order. SaysBehind Verb.Deliver (texts words.now) (order_step order)) }
     ensures exact { (step : ScriptStep) → SaysBehind Verb.Deliver (texts words.now) step → MatchOption result ⊥ (λ order. order_step order ≡ step) }
@@ -88,7 +88,7 @@ fn deliver(words: &[&[u8]]) -> Option<Order>
     }))
 }
 
-/// What the words behind `group` say.
+/// Returns what the words behind `group` say.
 fn group(words: &[&[u8]]) -> Option<Order>
     ensures some { IfSome result (λ order. SaysBehind Verb.Group (texts words.now) (order_step order)) }
     ensures exact { (step : ScriptStep) → SaysBehind Verb.Group (texts words.now) step → MatchOption result ⊥ (λ order. order_step order ≡ step) }
@@ -104,7 +104,7 @@ fn group(words: &[&[u8]]) -> Option<Order>
     }))
 }
 
-/// What the words behind `fuse` say.
+/// Returns what the words behind `fuse` say.
 fn fuse_of(words: &[&[u8]]) -> Option<Order>
     ensures some { IfSome result (λ order. SaysBehind Verb.Fuse (texts words.now) (order_step order)) }
     ensures exact { (step : ScriptStep) → SaysBehind Verb.Fuse (texts words.now) step → MatchOption result ⊥ (λ order. order_step order ≡ step) }
@@ -118,7 +118,7 @@ fn fuse_of(words: &[&[u8]]) -> Option<Order>
     }))
 }
 
-/// What the words behind `restart` say.
+/// Returns what the words behind `restart` say.
 fn restart(words: &[&[u8]]) -> Option<Order>
     ensures some { IfSome result (λ order. SaysBehind Verb.Restart (texts words.now) (order_step order)) }
     ensures exact { (step : ScriptStep) → SaysBehind Verb.Restart (texts words.now) step → MatchOption result ⊥ (λ order. order_step order ≡ step) }
@@ -131,7 +131,7 @@ fn restart(words: &[&[u8]]) -> Option<Order>
     }))
 }
 
-/// What the words behind `lie` say.
+/// Returns what the words behind `lie` say.
 fn lie(alloc: Global, words: &[&[u8]]) -> Result<Option<Order>, Memory>
     ensures some { IfOk result (λ found. IfSome found (λ order. SaysBehind Verb.Lie (texts words.now) (order_step order))) }
     ensures exact { (step : ScriptStep) → SaysBehind Verb.Lie (texts words.now) step → IfOk result (λ found. MatchOption found ⊥ (λ order. order_step order ≡ step)) }
@@ -150,7 +150,7 @@ fn lie(alloc: Global, words: &[&[u8]]) -> Result<Option<Order>, Memory>
     })))
 }
 
-/// What the words behind the member of a crash say.
+/// Returns what the words behind the member of a crash say.
 fn pick(alloc: Global, words: &[&[u8]]) -> Result<Option<Pick>, Memory>
     ensures some { IfOk result (λ found. IfSome found (ArePick (texts words.now))) }
     ensures exact { (pick : Pick) → ArePick (texts words.now) pick → IfOk result (λ found. MatchOption found ⊥ (λ found. found ≡ pick)) }
@@ -166,7 +166,7 @@ fn pick(alloc: Global, words: &[&[u8]]) -> Result<Option<Pick>, Memory>
     }
 }
 
-/// What the words behind `crash` say.
+/// Returns what the words behind `crash` say.
 fn crash(alloc: Global, words: &[&[u8]]) -> Result<Option<Order>, Memory>
     ensures some { IfOk result (λ found. IfSome found (λ order. SaysBehind Verb.Crash (texts words.now) (order_step order))) }
     ensures exact { (step : ScriptStep) → SaysBehind Verb.Crash (texts words.now) step → IfOk result (λ found. MatchOption found ⊥ (λ order. order_step order ≡ step)) }
@@ -183,7 +183,7 @@ fn crash(alloc: Global, words: &[&[u8]]) -> Result<Option<Order>, Memory>
     }
 }
 
-/// What the words behind `reset` say.
+/// Returns what the words behind `reset` say.
 fn reset(words: &[&[u8]]) -> Option<Order>
     ensures some { IfSome result (λ order. SaysBehind Verb.Reset (texts words.now) (order_step order)) }
     ensures exact { (step : ScriptStep) → SaysBehind Verb.Reset (texts words.now) step → MatchOption result ⊥ (λ order. order_step order ≡ step) }
@@ -246,7 +246,7 @@ impl Verb {
 }
 
 impl Order {
-    /// What the words behind the verb say.
+    /// Returns what the words behind the verb say.
     fn behind(alloc: Global, verb: Verb, words: &[&[u8]]) -> Result<Option<Order>, Memory>
         ensures some { IfOk result (λ found. IfSome found (λ order. SaysBehind verb (texts words.now) (order_step order))) }
         ensures exact { (step : ScriptStep) → SaysBehind verb (texts words.now) step → IfOk result (λ found. MatchOption found ⊥ (λ order. order_step order ≡ step)) }
@@ -272,7 +272,7 @@ impl Order {
         }
     }
 
-    /// What the words say, or none where they are no line of events.
+    /// Returns what the words say, or none where they are no line of events.
     pub fn parse(alloc: Global, words: &[&[u8]]) -> Result<Option<Order>, Memory>
         ensures some { IfOk result (λ found. IfSome found (λ order. SaysStep (texts words.now) (order_step order))) }
         ensures exact { (step : ScriptStep) → SaysStep (texts words.now) step → IfOk result (λ found. MatchOption found ⊥ (λ order. order_step order ≡ step)) }

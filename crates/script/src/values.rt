@@ -1,4 +1,4 @@
-//! What the words of an event write, beside numbers.
+//! The values that the words of an event write, beside numbers.
 
 ghost use Rattle.std.specs.Prelude.{◌≡◌, ℕ, Bool, Option, Some, IfSome};
 ghost use Rattle.script.specs.LineWords.{IsBit, IsWhich, IsGroupSize, IsFuse};
@@ -19,7 +19,7 @@ pub fn bit(word: &[u8]) -> Option<bool>
     }
 }
 
-/// Which statement the word names: `next`, or a number.
+/// Returns which statement the word names: `next`, or a number.
 pub fn which(word: &[u8]) -> Option<Which>
     ensures some { IfSome result (IsWhich word.now) }
     ensures exact { (which : Which) → IsWhich word.now which → result ≡ Some which }
@@ -33,7 +33,7 @@ pub fn which(word: &[u8]) -> Option<Which>
     }
 }
 
-/// How many statements the word gives a group at most: 1 to [`MOST_IN_GROUP`].
+/// Returns how many statements the word gives a group at most: 1 to [`MOST_IN_GROUP`].
 pub fn group_size(word: &[u8]) -> Option<u16>
     ensures some { IfSome result (IsGroupSize word.now) }
     ensures exact { (count : ℕ) → IsGroupSize word.now count → result ≡ Some count }

@@ -1,4 +1,4 @@
-//! Where a peer or a desk listens: a text `HOST:PORT`.
+//! The address at which a peer or a desk listens: a text `HOST:PORT`.
 
 ghost use Rattle.std.specs.Prelude.{ℕ, List, ◌≡◌, ◌<◌, ◌∷◌, ◌++◌, [], IfSome, MatchOption, Some};
 ghost use Rattle.settings.specs.Addresses.{IsOctet, IsPort, IsHost, AreDotted};
@@ -83,9 +83,9 @@ impl Address {
     ghost use Rattle.settings.specs.Addresses.{IsAddress};
     ghost use Rattle.settings.specs.declared.address.Address.{Address};
 
-    /// The address that the text `HOST:PORT` names, or none where it isn't one. HOST is `localhost`, which is
-    /// 127.0.0.1, or four numbers 0 to 255 with points between them; PORT is 1 to 65535. The numbers are decimal digits
-    /// alone; leading zeros are taken.
+    /// The address that the text `HOST:PORT` names, or none where it isn't one. HOST is
+    /// `localhost`, which is 127.0.0.1, or four numbers 0 to 255 with points between them; PORT is
+    /// 1 to 65535. The numbers are decimal digits alone; leading zeros are taken.
     pub fn parse(text: &str) -> Option<Address>
         ensures some { IfSome result (IsAddress text.now) }
         ensures exact { (address : Address) → IsAddress text.now address → result ≡ Some address }

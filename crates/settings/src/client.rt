@@ -19,7 +19,7 @@ pub struct ClientSettings {
     pub cluster: u64,
     /// The cluster's size.
     pub size: Size,
-    /// Where each member listens to its clients, n addresses in the order of the members.
+    /// The addresses at which the members listen to their clients, n in the order of the members.
     pub desks: Vec<Address>,
 }
 
@@ -27,18 +27,19 @@ impl ClientSettings {
     ghost use Rattle.settings.specs.Clients.{HasDeskTwice, IsClientFault, IsClientSettings};
     ghost use Rattle.settings.specs.declared.fault.SettingsFault.{SettingsFault};
 
-    /// The settings that the TOML text gives, or the first thing that is wrong with it. Keys of other names are left alone.
+    /// The settings that the TOML text gives, or the first thing that is wrong with it. Keys of
+    /// other names are left alone.
     ///
     /// # Errors
     ///
     /// The first that applies:
     ///
     /// - [`SettingsFault::Text`] if the text isn't TOML;
-    /// - [`SettingsFault::Key`] with the first key of `cluster`, `n`, `t`, `questions` and `desks` that has no value of its own type
-    ///   and range;
+    /// - [`SettingsFault::Key`] with the first key of `cluster`, `n`, `t`, `questions` and `desks`
+    ///   that has no value of its own type and range;
     /// - [`SettingsFault::Size`] if the numbers make no size;
-    /// - [`SettingsFault::Key`] with `desks` if there aren't as many desks as members, or one stands twice: a member that is counted
-    ///   as two would be believed where t + 1 have to agree;
+    /// - [`SettingsFault::Key`] with `desks` if there aren't as many desks as members, or one
+    ///   stands twice: a member that is counted as two would be believed where t + 1 have to agree;
     /// - [`SettingsFault::Memory`], at any time, if an allocation failed.
     pub fn parse(alloc: Global, text: &str) -> Result<ClientSettings, SettingsFault>
         ensures ok { IfOk result (IsClientSettings (parse_document text.now)) }
@@ -50,8 +51,9 @@ impl ClientSettings {
         ClientEntries::read(alloc, &table)?.fit()
     }
 
-    /// Returns the first desk of the TOML text that stands at two places, or more: then [`ClientSettings::parse`] refuses it.
-    /// None too if another key has no value of its own type and range, or an allocation failed.
+    /// Returns the first desk of the TOML text that stands at two places, or more: then
+    /// [`ClientSettings::parse`] refuses it. None too if another key has no value of its own type
+    /// and range, or an allocation failed.
     pub fn desk_twice(alloc: Global, text: &str) -> Option<Address>
         ensures { IfSome result (HasDeskTwice (parse_document text.now)) }
     {
@@ -64,12 +66,14 @@ impl ClientSettings {
         entries.desk_twice()
     }
 
-    /// Returns the settings as a text of TOML, a line for each key, which [`ClientSettings::parse`] reads as these settings.
+    /// Returns the settings as a text of TOML, a line for each key, which [`ClientSettings::parse`]
+    /// reads as these settings.
     ///
     /// # Errors
     ///
     /// - [`SettingsFault::Text`] if the text would be read as other settings;
-    /// - the fault of reading the text, as [`SettingsFault::Key`] with `desks` if there aren't n desks;
+    /// - the fault of reading the text, as [`SettingsFault::Key`] with `desks` if there aren't n
+    ///   desks;
     /// - [`SettingsFault::Memory`] if an allocation failed.
     pub fn to_text(&self, alloc: Global) -> Result<String, SettingsFault>
         ensures text { IfOk result (λ text. string_bytes text ≡ client_text self.now) }
@@ -94,14 +98,14 @@ fn client_text(alloc: Global, settings: &ClientSettings) -> Result<String, Alloc
     format!(in alloc; "{sized}desks = [\n{desks}]\n")
 }
 
-/// Whether the two have the same desks.
+/// Returns `true` if the two have the same desks.
 fn has_same_desks(read: &ClientSettings, settings: &ClientSettings) -> bool
     ensures { IsTrue result → read.now.desks.items ≡ settings.now.desks.items }
 {
     read.desks.as_slice() == settings.desks.as_slice()
 }
 
-/// Whether what was read is what was to be written.
+/// Returns `true` if what was read is what was to be written.
 fn is_like_client(read: &ClientSettings, settings: &ClientSettings) -> bool
     ensures { IsTrue result → IsLikeClient read.now settings.now }
 {

@@ -1,4 +1,4 @@
-//! What the keys of a client's settings say, each by itself.
+//! The values of the keys of a client's settings, each by itself.
 
 ghost use Rattle.std.specs.Prelude.{◌≡◌, ◌<◌, None, Some, IfOk, IfErr, IfSome};
 ghost use Rattle.toml.specs.View.{table_view};
@@ -55,7 +55,8 @@ impl ClientEntries {
     ghost use Rattle.settings.specs.Clients.{FitsClientEntries, SaysClientEntries, client_keys, unfit_client};
     ghost use Rattle.settings.specs.Entries.{IsOfFirst};
 
-    /// What the keys say, or the first of a client's keys that has no value of its own type and range.
+    /// Returns what the keys say, or the first of a client's keys that has no value of its own type
+    /// and range.
     pub fn read(alloc: Global, table: &Table) -> Result<ClientEntries, SettingsFault>
         ensures ok { IfOk result (SaysClientEntries (table_view table.now)) }
         ensures fault { IfErr result (IsOfFirst client_keys (table_view table.now)) }

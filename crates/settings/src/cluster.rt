@@ -12,14 +12,16 @@ use crate::keys::Key;
 use std::alloc::{AllocError, Global};
 use terms::Header;
 
-/// How many ports lie between the first link's and the first desk's, in a cluster of at most so many members.
+/// The number of ports from the first link's to the first desk's, in a cluster of at most so many
+/// members.
 const GAP: u16 = 10;
 
-/// How many lie between them in a greater cluster.
+/// The same in a greater cluster.
 const FAR_GAP: u16 = 100;
 
-/// Returns the addresses at these hosts, in order: the first at the port `first`, and each other at the port after the last one's.
-/// `None` if a text is neither `localhost` nor four numbers with points between them, or there are more hosts than ports.
+/// Returns the addresses at these hosts, in order: the first at the port `first`, and each other at
+/// the port after the last one's. `None` if a text is neither `localhost` nor four numbers with
+/// points between them, or there are more hosts than ports.
 pub fn addresses_from(
     alloc: Global,
     hosts: &[&str],
@@ -46,15 +48,16 @@ fn address_at(host: &str, first: u16, member: usize) -> Option<Address>
     Some(Address { octets, port })
 }
 
-/// How many ports lie between the first link's and the first desk's.
+/// Returns how many ports lie between the first link's and the first desk's.
 fn desk_gap(n: u8) -> u16
     ensures { result ≡ desk_gap n }
 {
     if u16::from(n) > GAP { FAR_GAP } else { GAP }
 }
 
-/// Returns the port of the first member's desk in a new cluster of `n` members whose links are at the ports from `first` on:
-/// `first` + 10, or `first` + 100 if `n` is above 10. `None` if `first` is 0 or the last desk's port would be above 65535.
+/// Returns the port of the first member's desk in a new cluster of `n` members whose links are at
+/// the ports from `first` on: `first` + 10, or `first` + 100 if `n` is above 10. `None` if `first`
+/// is 0 or the last desk's port would be above 65535.
 pub fn desk_base(first: u16, n: u8) -> Option<u16>
     ensures some { IfSome result (λ port. (port ≡ first + desk_gap n) × (0 < first) × (port + n ≤ 65536)) }
     ensures exact { 0 < first → 0 < n → first + desk_gap n + n ≤ 65536 → result ≡ Some (first + desk_gap n) }
@@ -68,8 +71,8 @@ pub fn desk_base(first: u16, n: u8) -> Option<u16>
     Some(base)
 }
 
-/// Returns the settings of the member of this header in a new cluster whose members listen to one another and to their clients
-/// there, with this seed. Its journal is `member-M.journal`.
+/// Returns the settings of the member of this header in a new cluster whose members listen to one
+/// another and to their clients there, with this seed. Its journal is `member-M.journal`.
 ///
 /// # Errors
 ///

@@ -18,13 +18,14 @@ pub struct Settings {
     pub header: Header,
     /// The path of the member's journal, which isn't empty.
     pub journal: String,
-    /// Where each member listens to the others, n addresses in the order of the members.
+    /// The addresses at which the members listen to one another, n in the order of the members.
     pub peers: Vec<Address>,
-    /// Where the member listens to its clients.
+    /// The address at which the member listens to its clients.
     pub desk: Address,
-    /// What the member tosses its coins by.
+    /// The secret from which the member tosses its coins.
     pub seed: [u8; 32],
-    /// Where the member listens to the others, if that isn't its own entry of the peers.
+    /// The address at which the member listens to the others, if that isn't its own entry of the
+    /// peers.
     pub listen: Option<Address>,
     /// The path of the Unix socket at which the member answers clients too, which isn't empty.
     pub desk_socket: Option<String>,
@@ -34,8 +35,8 @@ impl Settings {
     ghost use Rattle.settings.specs.Settings.{IsSettings, IsFault};
     ghost use Rattle.settings.specs.declared.fault.SettingsFault.{SettingsFault};
 
-    /// The settings that the TOML text gives, or the first thing that is wrong with it. Keys of other names are left
-    /// alone: [`strays_of`](crate::strays_of) names them.
+    /// The settings that the TOML text gives, or the first thing that is wrong with it. Keys of
+    /// other names are left alone: [`strays_of`](crate::strays_of) names them.
     pub fn parse(alloc: Global, text: &str) -> Result<Settings, SettingsFault>
         ensures ok { IfOk result (IsSettings (parse_document text.now)) }
         ensures fault { IfErr result (λ ends. IsFault (parse_document text.now) ends ⊎ (ends ≡ SettingsFault.Memory)) }

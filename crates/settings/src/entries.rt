@@ -1,4 +1,4 @@
-//! What the keys of a table say, each by itself.
+//! The values of the keys of a table, each by itself.
 
 ghost use Rattle.std.specs.Prelude.{List, ◌≡◌, ◌<◌, None, Some, IfOk, IfErr, IfSome, option_map, string_bytes, IsSome, MatchOption, ◌↔◌};
 ghost use Rattle.toml.specs.Data.{get_member};
@@ -147,7 +147,7 @@ fn optional_path(alloc: Global, table: &Table, key: Key) -> Result<Option<String
     }
 }
 
-/// What the keys say, each in its own range.
+/// The values of the keys, each in its own range.
 #[derive(Drop)]
 pub struct Entries {
     cluster: u64,
@@ -167,7 +167,8 @@ impl Entries {
     ghost use Rattle.settings.specs.Entries.{SaysEntries, IsOfFirst, FitsEntries, unfit};
     ghost use Rattle.settings.specs.Settings.{keys};
 
-    /// What the keys say, or the first of them, in the order of [`Key`], that has no value of its own type and range.
+    /// Returns what the keys say, or the first of them, in the order of [`Key`], that has no value
+    /// of its own type and range.
     pub fn read(alloc: Global, table: &Table) -> Result<Entries, SettingsFault>
         ensures ok { IfOk result (SaysEntries (table_view table.now)) }
         ensures fault { IfErr result (IsOfFirst keys (table_view table.now)) }

@@ -1,4 +1,4 @@
-//! What is wrong with a text of settings.
+//! The faults of a text of settings.
 
 ghost use Rattle.std.specs.Prelude.{◌≡◌};
 ghost use Rattle.settings.specs.declared.fault.SettingsFault.TheVariants as fault;
@@ -8,8 +8,9 @@ use std::alloc::{AllocError, AllocFailed};
 use terms::{Memory, SizeFault};
 use thiserror::Error;
 
-/// Why a text gives no settings. Of several faults the first is answered: the text's, the first key's that has no value
-/// of its own type and range, the size's, that of `me`, and that of the number of peers.
+/// Why a text gives no settings. Of several faults the first is answered: the text's, the first
+/// key's that has no value of its own type and range, the size's, that of `me`, and that of the
+/// number of peers.
 #[derive(Clone, Copy, Debug, PartialEq, Eq, Error)]
 pub enum SettingsFault {
     /// The text isn't TOML.

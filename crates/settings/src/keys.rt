@@ -10,27 +10,30 @@ use std::fmt;
 pub enum Key {
     /// The cluster's number, an integer that isn't negative.
     Cluster,
-    /// How many members there are.
+    /// The number of members.
     N,
-    /// How many of them may lie.
+    /// The most of them that may lie.
     T,
-    /// How many questions there are.
+    /// The number of questions.
     Questions,
     /// The member, an integer below n.
     Me,
     /// The path of the member's journal, a text that isn't empty.
     Journal,
-    /// Where the members listen to one another: an array of n texts `HOST:PORT`.
+    /// The addresses at which the members listen to one another: an array of n texts `HOST:PORT`.
     Peers,
-    /// Where the member listens to its clients: a text `HOST:PORT`.
+    /// The address at which the member listens to its clients: a text `HOST:PORT`.
     Desk,
-    /// What the member tosses coins by: a text of 64 hexadecimal digits.
+    /// The secret from which the member tosses its coins: a text of 64 hexadecimal digits.
     Seed,
-    /// Where the member listens to the others if not at its own entry of the peers: a text `HOST:PORT`. It may be left out.
+    /// The address at which the member listens to the others if not at its own entry of the peers:
+    /// a text `HOST:PORT`. It
     Listen,
-    /// The path of a Unix socket at which the member answers clients too, a text that isn't empty. It may be left out.
+    /// The path of a Unix socket at which the member answers clients too, a text that isn't empty.
+    /// It may be left out.
     DeskSocket,
-    /// Where the members listen to their clients, in a client's settings: an array of n texts `HOST:PORT`.
+    /// The addresses at which the members listen to their clients, in a client's settings: an array
+    /// of n texts `HOST:PORT`.
     Desks,
 }
 

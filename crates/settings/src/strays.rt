@@ -15,7 +15,7 @@ use toml::{Table, Value};
 pub struct Stray {
     /// The key.
     pub name: String,
-    /// Whether the key stands in a table of the text. Else it is none of a member's keys.
+    /// Set if the key stands in a table of the text. Else it is none of a member's keys.
     pub in_table: bool,
 }
 
@@ -68,7 +68,8 @@ fn push_inside(table: &Table, strays: &mut Vec<Stray>) -> Result<(), AllocError>
     Ok(())
 }
 
-/// Puts what is ignored of a key and its value behind the others: the keys of a table, or the key itself.
+/// Puts what is ignored of a key and its value behind the others: the keys of a table, or the key
+/// itself.
 fn push_strays(name: &String, value: &Value, strays: &mut Vec<Stray>) -> Result<(), AllocError>
     ensures { IfOk result (λ _. map named strays.new.items ≡ map named strays.old.items ++ strays_at (string_bytes name.now) (view value.now)) }
 {
@@ -78,7 +79,7 @@ fn push_strays(name: &String, value: &Value, strays: &mut Vec<Stray>) -> Result<
     }
 }
 
-/// What is ignored of a table's keys, in the order of their names.
+/// Returns what is ignored of a table's keys, in the order of their names.
 fn strays_in(alloc: Global, table: &Table) -> Result<Vec<Stray>, AllocError>
     ensures { IfOk result (λ strays. map named strays.items ≡ strays_in (table_view table.now)) }
 {
@@ -89,8 +90,9 @@ fn strays_in(alloc: Global, table: &Table) -> Result<Vec<Stray>, AllocError>
     Ok(strays)
 }
 
-/// Returns the keys of the text that [`Settings::parse`](crate::Settings::parse) ignores, in the order of the names that stand
-/// above the first table: those that are none of a member's, and all that stand in a table.
+/// Returns the keys of the text that [`Settings::parse`](crate::Settings::parse) ignores, in the
+/// order of the names that stand above the first table: those that are none of a member's, and all
+/// that stand in a table.
 ///
 /// # Errors
 ///

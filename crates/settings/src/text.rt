@@ -134,7 +134,7 @@ fn toml_text(alloc: Global, settings: &Settings) -> Result<String, AllocError>
     format!(in alloc; "{head}{journal}peers = [\n{peers}]\n{options}{own}")
 }
 
-/// Whether the two have the same journal and the same peers.
+/// Returns `true` if the two have the same journal and the same peers.
 fn has_same_lists(read: &Settings, settings: &Settings) -> bool
     ensures journal { IsTrue result → string_bytes read.now.journal ≡ string_bytes settings.now.journal }
     ensures peers { IsTrue result → read.now.peers.items ≡ settings.now.peers.items }
@@ -143,7 +143,7 @@ fn has_same_lists(read: &Settings, settings: &Settings) -> bool
         && read.peers.as_slice() == settings.peers.as_slice()
 }
 
-/// Whether the two have the same header, desk and seed.
+/// Returns `true` if the two have the same header, desk and seed.
 fn has_same_values(read: &Settings, settings: &Settings) -> bool
     ensures header { IsTrue result → read.now.header ≡ settings.now.header }
     ensures desk { IsTrue result → read.now.desk ≡ settings.now.desk }
@@ -152,7 +152,7 @@ fn has_same_values(read: &Settings, settings: &Settings) -> bool
     read.header == settings.header && read.desk == settings.desk && read.seed == settings.seed
 }
 
-/// Whether the two paths are the same, or both are missing.
+/// Returns `true` if the two paths are the same, or both are missing.
 fn is_same_path(read: &Option<String>, path: &Option<String>) -> bool
     ensures { IsTrue result → option_map string_bytes read.now ≡ option_map string_bytes path.now }
 {
@@ -163,7 +163,7 @@ fn is_same_path(read: &Option<String>, path: &Option<String>) -> bool
     }
 }
 
-/// Whether the two addresses are the same, or both are missing.
+/// Returns `true` if the two addresses are the same, or both are missing.
 fn is_same_address(read: &Option<Address>, address: &Option<Address>) -> bool
     ensures { IsTrue result → read.now ≡ address.now }
 {
@@ -174,7 +174,7 @@ fn is_same_address(read: &Option<Address>, address: &Option<Address>) -> bool
     }
 }
 
-/// Whether the two have the same values of the keys that may be left out.
+/// Returns `true` if the two have the same values of the keys that may be left out.
 fn has_same_options(read: &Settings, settings: &Settings) -> bool
     ensures listen { IsTrue result → read.now.listen ≡ settings.now.listen }
     ensures desk_socket { IsTrue result → option_map string_bytes read.now.desk_socket ≡ option_map string_bytes settings.now.desk_socket }
@@ -183,7 +183,7 @@ fn has_same_options(read: &Settings, settings: &Settings) -> bool
         && is_same_path(&read.desk_socket, &settings.desk_socket)
 }
 
-/// Whether what was read is what was to be written.
+/// Returns `true` if what was read is what was to be written.
 fn is_like(read: &Settings, settings: &Settings) -> bool
     ensures { IsTrue result → IsLike read.now settings.now }
 {
@@ -193,10 +193,12 @@ fn is_like(read: &Settings, settings: &Settings) -> bool
 }
 
 impl Settings {
-    /// The settings as a text of TOML, a line for each key, which [`Settings::parse`] reads as these settings.
+    /// The settings as a text of TOML, a line for each key, which [`Settings::parse`] reads as
+    /// these settings.
     ///
-    /// [`SettingsFault::Text`]: it would be read as others, as where the journal's path has a quotation mark or where there
-    /// are not n peers. [`SettingsFault::Memory`]: memory was refused.
+    /// [`SettingsFault::Text`]: it would be read as others, as where the journal's path has a
+    /// quotation mark or where there are not n peers. [`SettingsFault::Memory`]: memory was
+    /// refused.
     pub fn to_text(&self, alloc: Global) -> Result<String, SettingsFault>
         ensures text { IfOk result (λ text. string_bytes text ≡ toml_text self.now) }
         ensures read { IfOk result (λ text. IsSettings (parse_document (string_bytes text)) self.now) }

@@ -28,14 +28,14 @@ told size liars p w toss fused event old new (Ok a) mark is lives = record {
   is = subst (λ (m : Mark). Answers size p w fused toss event m (world_step p event (records_of (reply_of a)) true ∷ [])) (sym is)
       (record { reply = reply_of a; replies = lives.0; is = refl });
   is_run = (lives.1.0, tt);
-  at = lives.1.1;
+  at = lives.1.1 tt;
 }
 told size liars p w toss fused event old new (Err Device) mark is lives = record {
   steps = world_step p event (records_of lives.0) false ∷ [];
   is = subst (λ (m : Mark). Answers size p w fused toss event m (world_step p event (records_of lives.0) false ∷ [])) (sym is.1)
       (is.0, record { reply = lives.0; replies = lives.1; is = refl });
   is_run = (lives.2.0, tt);
-  at = lives.2.1;
+  at = lives.2.1 tt;
 }
 told size liars p w toss fused event old new (Err Stopped) mark is lives = absurd is
 told size liars p w toss fused event old new (Err Memory) mark is lives = absurd is
@@ -59,14 +59,14 @@ told_all size liars p w fused es old new (Ok a) mark is lives = record {
   is = subst (λ (m : Mark). AnswersGroup size p w fused es m (Hears p (without_tosses es) (records_of_all (replies_of a.items)) true ∷ [])) (sym is)
       (record { replies = replies_of a.items; all_reply = lives.0; is = refl });
   is_run = (lives.1.0, tt);
-  at = lives.1.1;
+  at = lives.1.1 tt;
 }
 told_all size liars p w fused es old new (Err Device) mark is lives = record {
   steps = Hears p (without_tosses es) (records_of_all lives.0) false ∷ [];
   is = subst (λ (m : Mark). AnswersGroup size p w fused es m (Hears p (without_tosses es) (records_of_all lives.0) false ∷ [])) (sym is.1)
       (is.0, record { replies = lives.0; all_reply = lives.1; is = refl });
   is_run = (lives.2.0, tt);
-  at = lives.2.1;
+  at = lives.2.1 tt;
 }
 told_all size liars p w fused es old new (Err Stopped) mark is lives = absurd is
 told_all size liars p w fused es old new (Err Memory) mark is lives = absurd is
@@ -148,5 +148,5 @@ reopened size liars p w fused header m e h =
       steps = Restart p g.0 ∷ [];
       is = (g.0, refl);
       is_run = (g.1.0, tt);
-      at = g.1.1;
+      at = g.1.1 tt;
     }

@@ -21,30 +21,32 @@ use std::marker::Model;
 use terms::{Header, Record, Size};
 use world::safety;
 
-/// What became of a script.
+/// The outcome of a script.
 #[derive(Debug, PartialEq, Eq, Drop)]
 pub struct Outcome {
-    /// What became of each event, in order.
+    /// The outcome of each event, in order.
     pub marks: Vec<Mark>,
-    /// Every decision that a correct member has saved: the member, the question, the round (1 to 32) and the bit. They
-    /// stand by member, and then by question.
+    /// Every decision that a correct member has saved: the member, the question, the round (1 to
+    /// 32) and the bit. They stand by member, and then by question.
     pub verdicts: Vec<(u8, u16, u8, bool)>,
-    /// Of each event, in order, the records that it made the member it came to save: what that member said because of it,
-    /// and what it decided. After a restart these are the records of a batch that was in doubt and that the disk has kept.
+    /// The records that each event, in order, made the member it came to save: what that member
+    /// said because of it, and what it decided. After a restart these are the records of a batch
+    /// that was in doubt and that the disk has kept.
     pub saved: Vec<Vec<Record>>,
 }
 
-/// A cluster in memory, the one of number 0, on which events are played one after another. It keeps nothing of them but
-/// what its members have saved.
+/// A cluster in memory, the one of number 0, on which events are played one after another. It keeps
+/// nothing of them but what its members have saved.
 ///
-/// What was played on it (`Played`: the events, the mark of each and the records that each saved) is a run of the crate
-/// `world`, after which the cluster is where it is (`Stands`). After an error nothing is known of the cluster.
+/// What was played on it (`Played`: the events, the mark of each and the records that each saved)
+/// is a run of the crate `world`, after which the cluster is where it is (`Stands`). After an error
+/// nothing is known of the cluster.
 #[derive(Drop)]
 pub struct Cluster {
     size: Size,
     posts: Vec<Post>,
-    /// Of the last event the member that it was for, and how many records that had saved before. None where the event was
-    /// skipped.
+    /// The member that the last event was for, and how many records that had saved before. None
+    /// where the event was skipped.
     last: Option<(u8, usize)>,
 }
 
@@ -60,11 +62,14 @@ impl Model for Cluster {
 }
 
 impl Cluster {
-    /// A cluster on which nothing was played. Each member has its disk, by number; a journal is created on the disks of
-    /// correct members alone, on all of them before the first is opened. The liars are numbers of members, upwards.
+    /// A cluster on which nothing was played. Each member has its disk, by number; a journal is
+    /// created on the disks of correct members alone, on all of them before the first is opened.
+    /// The liars are numbers of members, upwards.
     ///
-    /// - `bad_liars`: `BadLiars` exactly where the liars' numbers don't rise, one is not below n, or they are more than t.
-    /// - `bad_disks`: `BadDisks` exactly where the liars are right, and there are not n disks or one is not empty.
+    /// - `bad_liars`: `BadLiars` exactly where the liars' numbers don't rise, one is not below n,
+    ///   or they are more than t.
+    /// - `bad_disks`: `BadDisks` exactly where the liars are right, and there are not n disks or
+    ///   one is not empty.
     /// - `device`: `Device` only where a fuse is in the disk of a correct member.
     ///
     /// `Memory` comes where there is no memory.
@@ -98,11 +103,12 @@ impl Cluster {
 
     /// Plays an event: what became of it.
     ///
-    /// - `stands`: with the event, its mark and the records that it saved, all that was played is still a run of the world,
-    ///   and the cluster is where it leads. What an event saved is all that its member's journal has behind what it had
-    ///   before, in order; an event whose plan is to skip it saved nothing.
-    /// - `memory`: no error but `Memory` comes. So `Full` never does, whatever was played: all that a correct member may
-    ///   ever save has room in its journal.
+    /// - `stands`: with the event, its mark and the records that it saved, all that was played is
+    ///   still a run of the world, and the cluster is where it leads. What an event saved is all
+    ///   that its member's journal has behind what it had before, in order; an event whose plan is
+    ///   to skip it saved nothing.
+    /// - `memory`: no error but `Memory` comes. So `Full` never does, whatever was played: all that
+    ///   a correct member may ever save has room in its journal.
     #[inline(always)]
     pub fn play(&mut self, alloc: Global, event: &Event) -> Result<Mark, SimFault>
         ensures stands { (past : Played) (saved : Vec Record) → ClusterStandsFor past self.old → saved.items ≡ last_saved self.new →
@@ -115,8 +121,9 @@ impl Cluster {
         Ok(mark)
     }
 
-    /// The records that the last event made its member save: what the member said because of it, and what it decided.
-    /// After a restart these are the records of a batch that was in doubt and that the disk has kept.
+    /// The records that the last event made its member save: what the member said because of it,
+    /// and what it decided. After a restart these are the records of a batch that was in doubt and
+    /// that the disk has kept.
     pub fn saved(&self) -> &[Record]
         ensures { result.now ≡ last_saved self.now }
     {
@@ -130,7 +137,8 @@ impl Cluster {
     ///
     /// - `run`: they are all decisions of the world that was played.
     /// - `agree`: two verdicts of one question have one bit.
-    /// - `unanimous`: where all proposals of a question that weren't skipped are of one bit, so is each verdict of it.
+    /// - `unanimous`: where all proposals of a question that weren't skipped are of one bit, so is
+    ///   each verdict of it.
     ///
     /// `Memory` comes where there is no memory.
     pub fn verdicts(&self, alloc: Global) -> Result<Vec<(u8, u16, u8, bool)>, SimFault>
@@ -147,25 +155,33 @@ impl Cluster {
     }
 }
 
-/// Runs a script against a whole cluster, the one of number 0. The script, what was marked and what was decided are a
-/// run of the crate `world`; so its promises hold of them (the properties have the names of Cachin, Guerraoui and
-/// Rodrigues, chapter 5).
+/// Runs a script against a whole cluster, the one of number 0. The script, what was marked and what
+/// was decided are a run of the crate `world`; so its promises hold of them (the properties have
+/// the names of Cachin, Guerraoui and Rodrigues, chapter 5).
 ///
-/// The liars are numbers of members, upwards. Each member has its disk, by number; a journal is created on the disks of
-/// correct members alone, on all of them before the first is opened. On an error nothing is left of the cluster.
+/// The liars are numbers of members, upwards. Each member has its disk, by number; a journal is
+/// created on the disks of correct members alone, on all of them before the first is opened. On an
+/// error nothing is left of the cluster.
 ///
-/// - `bad_liars`: `BadLiars` exactly where the liars' numbers don't rise, one is not below n, or they are more than t.
-/// - `bad_disks`: `BadDisks` exactly where the liars are right, and there are not n disks or one is not empty.
-/// - `device`: `Device` only where a fuse is in the disk of a correct member; it comes before the first event.
-/// - `run`: the events with their marks are steps of the world from its start, event by event; each mark is the one
-///   that the event has there, and the verdicts are all decisions that correct members have saved in the end, by
-///   member and then by question. What an event saved is all that its member's journal has there behind what it had
-///   before, in order; an event whose plan is to skip it saved nothing.
-/// - `few_lie`: at most t lie in it, so what the theorem says of settled worlds can be asked of its last world too.
+/// - `bad_liars`: `BadLiars` exactly where the liars' numbers don't rise, one is not below n, or
+///   they are more than t.
+/// - `bad_disks`: `BadDisks` exactly where the liars are right, and there are not n disks or one is
+///   not empty.
+/// - `device`: `Device` only where a fuse is in the disk of a correct member; it comes before the
+///   first event.
+/// - `run`: the events with their marks are steps of the world from its start, event by event; each
+///   mark is the one that the event has there, and the verdicts are all decisions that correct
+///   members have saved in the end, by member and then by question. What an event saved is all that
+///   its member's journal has there behind what it had before, in order; an event whose plan is to
+///   skip it saved nothing.
+/// - `few_lie`: at most t lie in it, so what the theorem says of settled worlds can be asked of its
+///   last world too.
 /// - `agree`: two verdicts of one question have one bit.
-/// - `unanimous`: where all proposals of a question that weren't skipped are of one bit, so is each verdict of it.
-/// - `never_full`: `Full` never comes, whatever the size and the script: all that a correct member may ever save, at most
-///   one statement of each kind at each place and one decision of each question, has room in its journal.
+/// - `unanimous`: where all proposals of a question that weren't skipped are of one bit, so is each
+///   verdict of it.
+/// - `never_full`: `Full` never comes, whatever the size and the script: all that a correct member
+///   may ever save, at most one statement of each kind at each place and one decision of each
+///   question, has room in its journal.
 ///
 /// `Memory` comes where there is no memory.
 pub fn run(
@@ -195,7 +211,7 @@ pub fn run(
     })
 }
 
-/// Whether these may be the liars' numbers: they rise, are below n, and at most t.
+/// Returns `true` if these may be the liars' numbers: they rise, are below n, and at most t.
 fn are_liars(size: Size, liars: &[u8]) -> bool
     ensures { IsTrue result ↔ AreLiars size liars.now }
 {
@@ -209,7 +225,7 @@ fn are_liars(size: Size, liars: &[u8]) -> bool
     liars.len() <= usize::from(size.t())
 }
 
-/// Whether there is one disk for each member, and each is empty.
+/// Returns `true` if there is one disk for each member, and each is empty.
 fn are_disks(size: Size, disks: &[MemDisk]) -> bool
     ensures { IsTrue result ↔ AreDisks size disks.now }
 {
@@ -298,8 +314,9 @@ fn follow(
     Ok((marks, saved))
 }
 
-/// Carries one event out: its mark, and where it wasn't skipped its member, and how many records that had saved before.
-/// Most events are deliveries of one statement, for which nothing else is asked.
+/// Carries one event out: its mark, and where it wasn't skipped its member, and how many records
+/// that had saved before. Most events are deliveries of one statement, for which nothing else is
+/// asked.
 #[inline(always)]
 fn step(
     alloc: Global,
@@ -366,7 +383,7 @@ fn carry_out(
     }
 }
 
-/// What the post, if it is there, has saved behind its first so many records.
+/// Returns what the post, if it is there, has saved behind its first so many records.
 fn saved_behind(post: Option<&Post>, before: usize) -> &[Record]
     ensures { result.now ≡ saved_behind (option_map (λ p. p.now) post.entry) before }
 {
@@ -402,7 +419,8 @@ fn verdicts(alloc: Global, size: Size, posts: &[Post]) -> Result<Vec<(u8, u16, u
     Ok(verdicts)
 }
 
-/// The decisions among the records, in order: so records are gone through once, and not once a question.
+/// The decisions among the records, in order: so records are gone through once, and not once a
+/// question.
 fn decisions_among(alloc: Global, records: &[Record]) -> Result<Vec<Record>, SimFault>
     ensures same { IfOk result (λ kept. (question : ℕ) → decided kept.items question ≡ decided records.now question) }
     ensures only { IfErr result (λ fault. fault ≡ faults.Memory) }

@@ -1,10 +1,11 @@
-//! What happens in a simulation, and what became of it.
+//! The events of a simulation, and their outcomes.
 
 use disk::Pick;
 use rounds::Toss;
 use std::fmt;
 
-/// One event of a script. Members are numbered from 0; a number that names none makes the event be skipped.
+/// One event of a script. Members are numbered from 0; a number that names none makes the event be
+/// skipped.
 #[derive(Debug, PartialEq, Eq, Drop)]
 pub enum Event {
     /// A bit is proposed to a correct member.
@@ -24,20 +25,21 @@ pub enum Event {
         from: u8,
         /// The receiver.
         to: u8,
-        /// Which of the sender's statements.
+        /// The one of the sender's statements.
         which: Which,
         /// The coins of what the receiver then says.
         toss: Toss,
     },
-    /// A correct member's next statements come to a correct member, as frames. It hears them as one group, and saves what
-    /// it answers as one batch.
+    /// A correct member's next statements come to a correct member, as frames. It hears them as one
+    /// group, and saves what it answers as one batch.
     DeliverAll {
         /// The sender.
         from: u8,
         /// The receiver.
         to: u8,
-        /// How many there are at most, and never more than [`MOST_IN_GROUP`](crate::MOST_IN_GROUP): the statements from the
-        /// link's place on that are in the sender's outbox before the event. The link's place then goes as many further.
+        /// The most of them, and never more than [`MOST_IN_GROUP`](crate::MOST_IN_GROUP): the
+        /// statements from the link's place on that are in the sender's outbox before the event.
+        /// The link's place then goes as many further.
         count: u16,
         /// The coins of what the receiver then says, the same for each statement.
         toss: Toss,
@@ -57,17 +59,18 @@ pub enum Event {
     Fuse {
         /// The member.
         member: u8,
-        /// How many further device calls pass before all fail; none takes the fuse out.
+        /// The number of further device calls that pass before all fail; none takes the fuse out.
         calls: Option<u64>,
     },
     /// A correct member goes down, and its disk crashes. The fuse is out then.
     Crash {
         /// The member.
         member: u8,
-        /// What the crash leaves of its file.
+        /// The bytes that the crash leaves of its file.
         pick: Pick,
     },
-    /// A correct member that is down or stopped is opened again from its disk. Its incoming links start anew.
+    /// A correct member that is down or stopped is opened again from its disk. Its incoming links
+    /// start anew.
     Restart {
         /// The member.
         member: u8,
@@ -81,7 +84,7 @@ pub enum Event {
     },
 }
 
-/// Which statement of a sender is delivered, of all that were ever in its outbox.
+/// The statement of a sender that is delivered, of all that were ever in its outbox.
 #[derive(Clone, Copy, Debug, PartialEq, Eq)]
 pub enum Which {
     /// The one at the link's place, which then goes one further.
@@ -90,15 +93,15 @@ pub enum Which {
     At(u64),
 }
 
-/// What became of an event.
+/// The outcome of an event.
 #[derive(Clone, Copy, Debug, PartialEq, Eq)]
 pub enum Mark {
-    /// It happened.
+    /// The event happened.
     Done,
-    /// A member's disk failed in it, by its fuse: the member is stopped, or still down where it was to be opened. Of
-    /// a liar's bytes the rest was dropped.
+    /// A member's disk failed in it, by its fuse: the member is stopped, or still down where it was
+    /// to be opened. Of a liar's bytes the rest was dropped.
     Failed,
-    /// It couldn't happen, for this reason, and changed nothing.
+    /// The event couldn't happen, for this reason, and changed nothing.
     Skipped(Reason),
 }
 
@@ -113,7 +116,8 @@ pub enum Reason {
     NotUp,
     /// The member that is to be opened runs.
     Running,
-    /// There is no statement at that place of the outbox, a group is to have none, or the link is broken.
+    /// There is no statement at that place of the outbox, a group is to have none, or the link is
+    /// broken.
     Nothing,
 }
 

@@ -21,9 +21,10 @@ pub enum SimFault {
     /// 4: there was no memory.
     #[error("Memory")]
     Memory,
-    /// 5: a member's journal has no room for the records of an answer. No script of a cluster within the limits
-    /// brings it about: a correct member says each kind at most once at a place and decides a question at most once, which
-    /// is at most 75,501,568 records, and with the header and the batches' counts these stay far below 2^31 bytes.
+    /// 5: a member's journal has no room for the records of an answer. No script of a cluster
+    /// within the limits brings it about: a correct member says each kind at most once at a place
+    /// and decides a question at most once, which is at most 75,501,568 records, and with the
+    /// header and the batches' counts these stay far below 2^31 bytes.
     #[error("Full")]
     Full,
 }

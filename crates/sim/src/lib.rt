@@ -9,10 +9,10 @@ mod posts;
 mod seats;
 mod tasks;
 
-/// How many events a script may have.
+/// The most events of a script.
 pub const MOST_EVENTS: usize = 1_000_000;
 
-/// How many statements a group may have.
+/// The most statements of a group.
 pub const MOST_IN_GROUP: u16 = 256;
 
 pub use cluster::{Cluster, Outcome, run};

@@ -1,4 +1,5 @@
-//! A link from one member to another: how far it has come in the sender's outbox, and what it reads.
+//! A link from one member to another: how far it has come in the sender's outbox, and what it
+//! reads.
 
 ghost use Rattle.std.specs.Prelude.{◌≡◌, ◌≤◌, ◌+◌, ◌++◌, List, [], ◌∷◌, Some, IfOk, OnOk, OnErr, length, map};
 ghost use Rattle.std.specs.List.{AllByRecursion};
@@ -15,7 +16,8 @@ use std::slice::from_ref;
 use terms::{Memory, Size, Statement};
 use wire::{Fed, Feeder, MOST_STATEMENTS, Many, Message, encode, encode_alone};
 
-/// A link, as its receiver has it. In contracts it is its place, its size, and how the bytes ended that it was fed.
+/// A link, as its receiver has it. In contracts it is its place, its size, and how the bytes ended
+/// that it was fed.
 #[derive(Drop)]
 pub(crate) struct Link {
     place: u64,
@@ -23,7 +25,7 @@ pub(crate) struct Link {
     broken: bool,
     /// The frame of a group that was carried last. Its memory serves the next.
     frame: Vec<u8>,
-    /// What was read last. Its memory serves what is read next.
+    /// The messages that were read last. Their memory serves what is read next.
     messages: Vec<Message>,
 }
 
@@ -54,7 +56,7 @@ impl Link {
         }
     }
 
-    /// It is at its start again, in a cluster of this size.
+    /// Puts the link at its start again, in a cluster of this size.
     pub(crate) fn begin_anew(&mut self, size: Size)
         ensures place { self.new.place ≡ 0 }
         ensures size { self.new.size ≡ size }
@@ -65,7 +67,7 @@ impl Link {
         self.broken = false;
     }
 
-    /// How many of the sender's statements it has delivered in order.
+    /// Returns how many of the sender's statements it has delivered in order.
     pub(crate) fn place(&self) -> u64
         ensures { result ≡ self.now.place }
     {
@@ -81,7 +83,7 @@ impl Link {
         self.place = place;
     }
 
-    /// Whether it has read a byte that no frame has there: then it reads nothing more.
+    /// Returns `true` if it has read a byte that no frame has there: then it reads nothing more.
     pub(crate) fn is_broken(&self) -> bool
         ensures { result ≡ is_broken_at self.now.end }
     {
@@ -117,7 +119,8 @@ impl Link {
         Ok(statement_alone(&self.messages))
     }
 
-    /// Carries these statements as one frame, and adds what comes out at the other end, each with its sender and a toss.
+    /// Carries these statements as one frame, and adds what comes out at the other end, each with
+    /// its sender and a toss.
     fn carry_part(
         &mut self,
         alloc: Global,
@@ -149,7 +152,8 @@ impl Link {
         Ok(())
     }
 
-    /// Carries statements as frames of version 2, and gives what comes out at the other end, each with its sender and a toss.
+    /// Carries statements as frames of version 2, and gives what comes out at the other end, each
+    /// with its sender and a toss.
     pub(crate) fn carry_all(
         &mut self,
         alloc: Global,
@@ -215,7 +219,8 @@ fn add_tossed(
     Ok(())
 }
 
-/// Reads the next bytes: the messages are then those that they complete. Whether a byte came that no frame has there.
+/// Reads the next bytes: the messages are then those that they complete. Whether a byte came that
+/// no frame has there.
 fn read(feeder: &mut Feeder, bytes: &[u8], messages: &mut Vec<Message>) -> Result<bool, Memory>
     ensures reads { IfOk result (λ _.
         Feeds feeder.old.size feeder.old.end bytes.now [] messages.new.items feeder.new.end) }

@@ -36,14 +36,15 @@ pub(crate) struct Delivery {
 pub(crate) struct Post {
     header: Header,
     seat: Presence,
-    /// Whether a fuse is in its disk.
+    /// Set if a fuse is in its disk.
     fused: bool,
     /// The links to it, by their senders.
     incoming: Vec<Link>,
 }
 
 impl Post {
-    /// The post of a liar, or of a correct member whose journal is created on the disk and not yet opened.
+    /// The post of a liar, or of a correct member whose journal is created on the disk and not yet
+    /// opened.
     pub(crate) fn new(
         alloc: Global,
         header: Header,
@@ -89,14 +90,14 @@ impl Post {
         }
     }
 
-    /// Whether the number is a liar's.
+    /// Returns `true` if the number is a liar's.
     pub(crate) fn is_liar(&self) -> bool
         ensures { result ≡ is_liar self.now.seat }
     {
         self.seat.is_liar()
     }
 
-    /// Whether its member runs.
+    /// Returns `true` if its member runs.
     pub(crate) fn is_up(&self) -> bool
         ensures { result ≡ is_up self.now.seat }
     {
@@ -110,7 +111,7 @@ impl Post {
         self.header.me()
     }
 
-    /// What its member has saved.
+    /// Returns what its member has saved.
     pub(crate) fn records(&self) -> &[Record]
         ensures { result.now ≡ saved_in self.now.seat }
     {
@@ -126,8 +127,8 @@ impl Post {
         self.seat.statement(number)
     }
 
-    /// The statements from that number on, of all that its member has saved: at most so many, and at most
-    /// [`MOST_IN_GROUP`].
+    /// The statements from that number on, of all that its member has saved: at most so many, and
+    /// at most [`MOST_IN_GROUP`].
     pub(crate) fn group(&self, alloc: Global, number: u64, count: u16) -> Result<Delivery, SimFault>
         requires ready { IsReady self.now }
         ensures statements { IfOk result (λ group.
@@ -239,7 +240,8 @@ impl Post {
         }
     }
 
-    /// Statements come to it as one group over the link from their sender, which then has the place behind them.
+    /// Statements come to it as one group over the link from their sender, which then has the place
+    /// behind them.
     fn deliver_all(
         &mut self,
         alloc: Global,
@@ -312,7 +314,7 @@ impl Post {
         Ok(Mark::Done)
     }
 
-    /// It goes down, and its disk crashes.
+    /// Takes the member down, and has its disk crash.
     fn crash(&mut self, pick: Pick) -> Result<Mark, SimFault>
         requires ready { IsReady self.old }
         ensures ready { IsReady self.new }
@@ -328,7 +330,7 @@ impl Post {
         Ok(Mark::Done)
     }
 
-    /// It is opened again, and then its links begin anew.
+    /// Opens the member again, and has its links begin anew.
     fn restart(&mut self, alloc: Global) -> Result<Mark, SimFault>
         requires ready { IsReady self.old }
         ensures ready { IsReady self.new }

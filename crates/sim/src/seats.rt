@@ -1,4 +1,4 @@
-//! Where a member of a simulated cluster is.
+//! The presence of a member of a simulated cluster.
 
 ghost use Rattle.std.specs.Prelude.{◌≡◌, ◌<◌, ◌≤◌, ◌+◌, ◌^◌, length, ℕ, Bool, true, false, None, Some, List, [], IfOk, IfErr, IfSome, OnOk, IsErrOf, MatchOption};
 ghost use Rattle.std.specs.List.{AllByRecursion};
@@ -21,26 +21,26 @@ use std::alloc::Global;
 use std::mem;
 use terms::{Header, Record, Statement};
 
-/// Where a number's member is.
+/// The presence of a number's member.
 #[derive(Drop)]
 pub(crate) enum Presence {
-    /// It runs, or has stopped.
+    /// The member runs, or has stopped.
     Here(Member<MemDisk>),
-    /// It is down: its disk, and what it has saved.
+    /// The member is down: its disk, and what it has saved.
     Down(MemDisk, Vec<Record>),
     /// The number is a liar's.
     Liar,
 }
 
 impl Presence {
-    /// Whether the number is a liar's.
+    /// Returns `true` if the number is a liar's.
     pub(crate) fn is_liar(&self) -> bool
         ensures { result ≡ is_liar self.now }
     {
         matches!(self, Presence::Liar)
     }
 
-    /// Whether its member runs.
+    /// Returns `true` if its member runs.
     pub(crate) fn is_up(&self) -> bool
         ensures { result ≡ is_up self.now }
     {
@@ -50,7 +50,7 @@ impl Presence {
         }
     }
 
-    /// What its member has saved.
+    /// Returns what its member has saved.
     pub(crate) fn records(&self) -> &[Record]
         ensures { result.now ≡ saved_in self.now }
     {
@@ -202,7 +202,7 @@ impl Presence {
         }
     }
 
-    /// It goes down, and its disk crashes.
+    /// Takes the member down, and has its disk crash.
     pub(crate) fn crash(&mut self, pick: Pick) -> Result<(), SimFault>
         requires sound { IsOneSound self.old }
         ensures sound { IsOneSound self.new }
@@ -221,7 +221,7 @@ impl Presence {
         }
     }
 
-    /// It is opened from its disk. Where the disk fails by its fuse it is down.
+    /// Opens the member from its disk. Where the disk fails by its fuse it is down.
     pub(crate) fn open(
         &mut self,
         alloc: Global,
@@ -289,7 +289,7 @@ fn statement_at(records: &[Record], number: u64) -> Option<Statement>
     None
 }
 
-/// What becomes of an event that a member answered so.
+/// Returns what becomes of an event that a member answered so.
 fn mark_of<T: Drop>(answer: Result<T, MemberFault>, fused: bool) -> Result<Mark, SimFault>
     ensures mark { IfOk result (λ mark. IsMarkOf fused answer mark) }
     ensures only { IfErr result IsOfRun }

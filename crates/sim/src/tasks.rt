@@ -1,4 +1,4 @@
-//! What an event asks of one member, once nothing keeps it from happening.
+//! The task of one member at an event, once nothing keeps it from happening.
 
 ghost use Rattle.std.specs.Prelude.{◌≡◌, ◌<◌, ◌≤◌, ℕ, Bool, List, Ok, IfOk, IfErr, length};
 ghost use Rattle.sim.specs.Scene.{Scene, plan_of, lie_plan, delivery_of, to_group, for_correct, for_running, for_link, bytes_in};
@@ -15,7 +15,7 @@ use rounds::Toss;
 use std::alloc::Global;
 use terms::{Size, Statement};
 
-/// What one member of the cluster is told.
+/// A task of one member of the cluster.
 #[derive(Clone, Copy)]
 pub(crate) enum Instruction {
     /// To take a proposal.
@@ -146,8 +146,8 @@ fn for_running(
     Ok((member, task))
 }
 
-/// The place of the link from a correct member to one that is correct and runs, or the first reason why nothing comes over
-/// it.
+/// The place of the link from a correct member to one that is correct and runs, or the first reason
+/// why nothing comes over it.
 #[inline(always)]
 fn link_place(size: Size, posts: &[Post], from: u8, to: u8) -> Result<u64, Reason>
     requires ready { AreReady size posts.now }

@@ -1,4 +1,5 @@
-//! The seven bytes of a statement, as frames and journals of version 1 have them, and the bytes of kinds and values.
+//! The seven bytes of a statement, as frames and journals of version 1 have them, and the bytes of
+//! kinds and values.
 #![tactic(auto)]
 
 ghost use Rattle.std.specs.Prelude.{◌≡◌, ◌≢◌, MatchOption};
@@ -57,8 +58,8 @@ pub fn value_of(byte: u8) -> Option<Value>
     }
 }
 
-/// The bytes of a statement: its kind, its question in two bytes with the greater one first, its origin, round and step,
-/// and its value.
+/// The bytes of a statement: its kind, its question in two bytes with the greater one first, its
+/// origin, round and step, and its value.
 pub fn statement_bytes(statement: &Statement) -> [u8; 7]
     ensures { result ≡ statement_bytes statement.now }
 {

@@ -6,6 +6,7 @@ pub mod Status
 pub mod Signals
 pub mod Limits
 pub mod Desks
+pub mod Disks
 pub mod Doors
 pub mod Reading
 pub mod Forms

@@ -1,4 +1,4 @@
-//! Where the sockets of a member are, by its settings.
+//! The addresses of a member's sockets, by its settings.
 
 ghost use Rattle.system.specs.Sockets.{AreSocketsOf, IsSocketOf, dialled, everywhere, own_address};
 ghost use Rattle.running.specs.declared.hosts.Hosts.TheVariants as hosts;
@@ -11,7 +11,7 @@ use std::alloc::Global;
 use std::net::{IpAddr, SocketAddr};
 use terms::Memory;
 
-/// For how many seconds a member listens at most before it speaks.
+/// The most seconds that a member listens before it speaks.
 const PATIENCE: u64 = 3;
 
 /// The host of an address that stands for all of a machine's own.
@@ -41,7 +41,7 @@ pub(crate) fn socket_addresses(
     Ok(sockets)
 }
 
-/// Where a member dials itself that listens there.
+/// Returns the address at which a member dials itself that listens there.
 fn own_address(listen: &Address) -> Address
     ensures { result ≡ own_address listen.now }
 {
@@ -68,7 +68,8 @@ fn with_own(alloc: Global, peers: &[Address], me: u8, own: Address) -> Result<Ve
     Ok(all)
 }
 
-/// Where the members are dialled: at their entries of the peers; and the own one at the address of `listen`, where that is given.
+/// Returns the addresses at which the members are dialled: their entries of the peers; and for the
+/// own one the address of
 fn dialled(alloc: Global, settings: &Settings) -> Result<Vec<Address>, Memory>
     ensures { IfOk result (λ it. it.items ≡ dialled settings.now.peers.items settings.now.listen settings.now.header.me) }
 {
@@ -96,9 +97,9 @@ fn maybe_socket(address: &Option<Address>) -> Option<SocketAddr>
     }
 }
 
-/// Returns where the members of the settings are dialled and this one listens, how many clients are let in and may follow
-/// decisions, and from where links are taken: from the members' own hosts, unless any host may speak for any member. No clients of
-/// a Unix socket are let in.
+/// Returns where the members of the settings are dialled and this one listens, how many clients are
+/// let in and may follow decisions, and from where links are taken: from the members' own hosts,
+/// unless any host may speak for any member. No clients of a Unix socket are let in.
 pub(crate) fn addresses_of(
     alloc: Global,
     settings: &Settings,

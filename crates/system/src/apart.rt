@@ -4,12 +4,13 @@ ghost use Rattle.std.specs.Prelude.{◌≡◌, IsTrue};
 
 use settings::{Address, Settings};
 
-/// Whether the address is that of every host.
+/// Returns `true` if the address is that of every host.
 fn is_any(address: &Address) -> bool {
     address.octets == [0, 0, 0, 0]
 }
 
-/// Returns `true` if one host can't listen at both addresses: they are the same, or have one port, and one of them is at 0.0.0.0.
+/// Returns `true` if one host can't listen at both addresses: they are the same, or have one port,
+/// and one of them is at 0.0.0.0.
 pub fn overlaps(one: &Address, other: &Address) -> bool
     ensures same { one.now ≡ other.now → IsTrue result }
     ensures ports { IsTrue result → one.now.port ≡ other.now.port }
@@ -20,7 +21,8 @@ pub fn overlaps(one: &Address, other: &Address) -> bool
     one.port == other.port && (is_any(one) || is_any(other))
 }
 
-/// The address at which the member of these settings listens to the others, if there is such a member.
+/// The address at which the member of these settings listens to the others, if there is such a
+/// member.
 pub fn own_links(settings: &Settings) -> Option<Address> {
     match settings.listen {
         Some(address) => Some(address),

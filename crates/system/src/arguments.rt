@@ -37,7 +37,8 @@ fn text_at(place: usize, bytes: Vec<u8>) -> Result<String, Fault>
     }
 }
 
-/// The words with which the program was started, its name first. [`Fault::Argument`]: the first that isn't UTF-8.
+/// The words with which the program was started, its name first. [`Fault::Argument`]: the first
+/// that isn't UTF-8.
 pub fn own_words(env: &impl Env, alloc: Global) -> Result<Vec<String>, Fault> {
     let mut words = Vec::new(alloc);
     for place in 0..usize::MAX {
@@ -49,14 +50,15 @@ pub fn own_words(env: &impl Env, alloc: Global) -> Result<Vec<String>, Fault> {
     Ok(words)
 }
 
-/// Whether this value says so: it is `1`.
+/// Returns `true` if this value says so: it is `1`.
 fn is_one(value: &[u8]) -> bool
     ensures { IsTrue result ↔ (value.now ≡ codes "1") }
 {
     is(value, "1")
 }
 
-/// Whether the environment asks for the first line of a fault alone: `BRACHA_QUIET` is `1`.
+/// Returns `true` if the environment asks for the first line of a fault alone: `BRACHA_QUIET` is
+/// `1`.
 pub fn wants_quiet(env: &impl Env) -> bool {
     let mut value = [0; 2];
     match env.var("BRACHA_QUIET", &mut value) {

@@ -1,4 +1,5 @@
-//! The commands `propose`, `ask`, `status` and `transcript`: a line to the desk of a member that runs.
+//! The commands `propose`, `ask`, `status` and `transcript`: a line to the desk of a member that
+//! runs.
 
 ghost use Rattle.system.specs.Troubles.{IsNamed};
 ghost use Rattle.system.specs.declared.fault.Fault.TheVariants as ends;
@@ -35,7 +36,7 @@ fn talk_failure(rt: &HostRuntime, address: &str, fault: TalkFault) -> Failure
     }
 }
 
-/// What an address has to be.
+/// The form of an address.
 const ADDRESS_WORDS: &str =
     "must be unix:PATH, or localhost or four numbers with points between them, a colon and a port from 1 to 65535: no host names, no IPv6";
 
@@ -69,7 +70,8 @@ fn desk_at(rt: &HostRuntime, text: &str, deadline: Deadline) -> Result<DeskSocke
     }
 }
 
-/// The end of a client that begins now and waits so many milliseconds in all, where that is limited.
+/// The end of a client that begins now and waits so many milliseconds in all, where that is
+/// limited.
 fn deadline_of(rt: &HostRuntime, timeout: Option<u32>) -> Result<Deadline, Fault> {
     match Deadline::new(rt, timeout) {
         Ok(deadline) => Ok(deadline),
@@ -138,8 +140,8 @@ fn ask_desk(
     tell_reply(rt, text, reply, json)
 }
 
-/// Asks the member whose desk is at the address for what it heard of a question, and prints its reply. The status is 0 for a
-/// transcript, and 1 for any other reply.
+/// Asks the member whose desk is at the address for what it heard of a question, and prints its
+/// reply. The status is 0 for a transcript, and 1 for any other reply.
 pub fn transcript_at(
     rt: &HostRuntime,
     address: &str,
@@ -174,7 +176,8 @@ pub fn transcript_at(
     }
 }
 
-/// Proposes a bit to the member whose desk is at the address, and prints its reply. The status is that of the reply.
+/// Proposes a bit to the member whose desk is at the address, and prints its reply. The status is
+/// that of the reply.
 pub fn propose_at(
     rt: &HostRuntime,
     address: &str,
@@ -188,7 +191,8 @@ pub fn propose_at(
     ask_desk(rt, address, line.as_str(), false, timeout)
 }
 
-/// Asks the member whose desk is at the address for its decision, and prints its reply. The status is that of the reply.
+/// Asks the member whose desk is at the address for its decision, and prints its reply. The status
+/// is that of the reply.
 pub fn ask_at(
     rt: &HostRuntime,
     address: &str,
@@ -202,7 +206,7 @@ pub fn ask_at(
     ask_desk(rt, address, line.as_str(), json, timeout)
 }
 
-/// Whether the failure is that no reply came.
+/// Returns `true` if the failure is that no reply came.
 fn is_no_answer(failure: &Failure) -> bool {
     matches!(failure.fault, Fault::Talk(TalkFault::NoAnswer))
 }
@@ -220,9 +224,9 @@ fn tell_undecided(
     Ok(1)
 }
 
-/// Asks the member whose desk is at the address for its decision, and waits there until there is one or another reply, or until
-/// there is no time left; and prints the last reply. A member that doesn't answer is asked again. The status is that of the
-/// reply, but 1 for `UNDECIDED`.
+/// Asks the member whose desk is at the address for its decision, and waits there until there is
+/// one or another reply, or until there is no time left; and prints the last reply. A member that
+/// doesn't answer is asked again. The status is that of the reply, but 1 for `UNDECIDED`.
 pub fn await_at(
     rt: &HostRuntime,
     address: &str,
@@ -274,7 +278,8 @@ pub fn await_at(
     Ok(1)
 }
 
-/// Asks the member whose desk is at the address whether it is up, and prints its reply. The status is that of the reply.
+/// Asks the member whose desk is at the address whether it is up, and prints its reply. The status
+/// is that of the reply.
 pub fn status_at(
     rt: &HostRuntime,
     address: &str,
@@ -286,7 +291,8 @@ pub fn status_at(
     ask_desk(rt, address, status_line(), json, timeout)
 }
 
-/// Asks the member whose desk is at the address how a question stands there, and prints its reply. The status is that of the reply.
+/// Asks the member whose desk is at the address how a question stands there, and prints its reply.
+/// The status is that of the reply.
 pub fn state_at(
     rt: &HostRuntime,
     address: &str,
@@ -300,8 +306,9 @@ pub fn state_at(
     ask_desk(rt, address, line.as_str(), json, timeout)
 }
 
-/// Asks the member whose desk is at the address how many of its links come and go, and prints its reply. The status is that of
-/// the reply; where the member is to be ready, 0 only if as many links come in and go out as it needs to decide, and 1 else.
+/// Asks the member whose desk is at the address how many of its links come and go, and prints its
+/// reply. The status is that of the reply; where the member is to be ready, 0 only if as many links
+/// come in and go out as it needs to decide, and 1 else.
 pub fn links_at(
     rt: &HostRuntime,
     address: &str,

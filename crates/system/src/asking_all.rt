@@ -1,4 +1,5 @@
-//! A question that is asked of all members of a cluster, or proposed to them: begin at `ask_all` and `decide`, last.
+//! A question that is asked of all members of a cluster, or proposed to them: begin at `ask_all`
+//! and `decide`, last.
 
 use crate::board::News;
 use crate::callers::{Caller, Calls, Cluster, IN_ALL, Lines, deadline_within};
@@ -14,10 +15,12 @@ use std::alloc::Global;
 use std::io::{self, Write};
 use terms::Size;
 
-/// The milliseconds for which the other members are waited for once there is a decision, so that people learn of them.
+/// The milliseconds for which the other members are waited for once there is a decision, so that
+/// people learn of them.
 const GRACE: u32 = 250;
 
-/// The milliseconds for which the last t members are waited for once the others answered and told no decision.
+/// The milliseconds for which the last t members are waited for once the others answered and told
+/// no decision.
 const PATIENCE: u32 = 1000;
 
 /// The milliseconds that a decision takes at most, where no time is told.
@@ -129,7 +132,8 @@ impl Poll {
         Ok(())
     }
 
-    /// Prints the decision that may be believed, or that there is none. The status is 0 for a decision, and 1 else.
+    /// Prints the decision that may be believed, or that there is none. The status is 0 for a
+    /// decision, and 1 else.
     fn tell(&self, host: &HostRuntime) -> Result<u8, Failure> {
         let decision = self.survey.reading.decision();
         match tell_decision(host.alloc(), decision, self.json, &mut io::writer(host)) {
@@ -148,8 +152,9 @@ impl Poll {
         let _unsaid = errors.write_all(text.as_bytes());
     }
 
-    /// Takes what members say until all is said, or the time is over; then prints what isn't printed. Members that are asked
-    /// once have all said it when each is known, and then there is a short time for the last t.
+    /// Takes what members say until all is said, or the time is over; then prints what isn't
+    /// printed. Members that are asked once have all said it when each is known, and then there is
+    /// a short time for the last t.
     fn run<R: Caller>(
         &mut self,
         rt: &R,
@@ -190,7 +195,8 @@ struct Plan {
     json: bool,
 }
 
-/// Speaks to each member, and prints the decision that more than t of them told, or that there is none.
+/// Speaks to each member, and prints the decision that more than t of them told, or that there is
+/// none.
 fn hold_poll<R: Caller>(
     rt: &R,
     host: &HostRuntime,
@@ -211,8 +217,9 @@ fn hold_poll<R: Caller>(
     poll.run(rt, host, manner)
 }
 
-/// Asks each member of the cluster for its decision, all at once, and prints that which more than t of them told, as soon as they
-/// have, or `UNDECIDED`. The status is 0 for a decision, and 1 else. Standard error names who told another one, or nothing.
+/// Asks each member of the cluster for its decision, all at once, and prints that which more than t
+/// of them told, as soon as they have, or `UNDECIDED`. The status is 0 for a decision, and 1 else.
+/// Standard error names who told another one, or nothing.
 pub fn ask_all<R: Caller>(
     rt: &R,
     host: &HostRuntime,
@@ -245,9 +252,10 @@ fn refuse_bit(alloc: Global, bit: u8) -> Result<(), Failure> {
     Err(Failure::at(alloc, fault, "V", Whereabouts::Whole, &"must be 0 or 1"))
 }
 
-/// Proposes the bit to each member of the cluster, again to those that come back, and waits for the decision: prints that which
-/// more than t of them told, as soon as they have, or `UNDECIDED` once the time is over, a minute where none is told. The status
-/// is 0 for a decision, and 1 else. Standard error names who told another one, or nothing.
+/// Proposes the bit to each member of the cluster, again to those that come back, and waits for the
+/// decision: prints that which more than t of them told, as soon as they have, or `UNDECIDED` once
+/// the time is over, a minute where none is told. The status is 0 for a decision, and 1 else.
+/// Standard error names who told another one, or nothing.
 pub fn decide<R: Caller>(
     rt: &R,
     host: &HostRuntime,

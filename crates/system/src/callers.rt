@@ -50,7 +50,8 @@ impl<'a> Cluster<'a> {
         Err(Failure::at(host.alloc(), fault, self.file, Whereabouts::Whole, &words))
     }
 
-    /// The end of a command that begins now: after the time that is told, or else after ten seconds.
+    /// The end of a command that begins now: after the time that is told, or else after ten
+    /// seconds.
     pub fn deadline(&self, host: &HostRuntime) -> Result<Deadline, Failure> {
         deadline_within(host, Some(self.timeout.unwrap_or(IN_ALL)))
     }
@@ -83,7 +84,8 @@ pub struct Calls {
     sooner: Option<Deadline>,
 }
 
-/// Starts a thread that calls a member. If the system refuses it, the member counts as one that doesn't answer.
+/// Starts a thread that calls a member. If the system refuses it, the member counts as one that
+/// doesn't answer.
 fn spawn<R: Caller>(rt: &R, errand: &Arc<Errand>, client: &ClientSettings, member: u8) {
     let Some(desk) = client.desks.get(usize::from(member)) else {
         return;
@@ -161,7 +163,8 @@ impl Calls {
         }
     }
 
-    /// Returns what members said since the last call, once one said something; none where the time is over.
+    /// Returns what members said since the last call, once one said something; none where the time
+    /// is over.
     pub fn next<R: Caller>(&self, rt: &R, host: &HostRuntime) -> Option<Vec<News>> {
         let limit = self.left(host)?;
         Some(self.errand.board.take(rt, limit))

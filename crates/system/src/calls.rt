@@ -1,7 +1,8 @@
 //! One member's thread of a command over a whole cluster: begin at `call`, last.
 //!
-//! The thread sends its lines, and leaves each reply at the board. Nobody waits for its end: a member that says nothing, or
-//! byte after byte, holds up its own thread alone, which the end of the program ends.
+//! The thread sends its lines, and leaves each reply at the board. Nobody waits for its end: a
+//! member that says nothing, or byte after byte, holds up its own thread alone, which the end of
+//! the program ends.
 
 ghost use Rattle.std.specs.Io.{ReadsAtMost, WritesAtMost};
 
@@ -28,8 +29,8 @@ pub enum Manner {
     Once,
     /// The first line is sent, once, and a transcript is read.
     Transcript,
-    /// The first line is sent, then the one that waits, until the member tells a decision; from the beginning if it doesn't
-    /// answer.
+    /// The first line is sent, then the one that waits, until the member tells a decision; from the
+    /// beginning if it doesn't answer.
     Until,
 }
 
@@ -158,8 +159,8 @@ impl Errand {
         }
     }
 
-    /// Sends the lines over a connection and leaves the replies at the board, until the member tells a decision, which is
-    /// answered by true, or says something else.
+    /// Sends the lines over a connection and leaves the replies at the board, until the member
+    /// tells a decision, which is answered by true, or says something else.
     fn pursue<R: Caller>(&self, rt: &R, member: u8, socket: &TcpStream) -> bool {
         let mut line = self.first.as_str();
         let mut first = true;
@@ -174,7 +175,8 @@ impl Errand {
                 Next::End => return true,
                 Next::Begin => return false,
                 Next::Wait => {
-                    // A member that comes to its end, and one that lies, answers the waiting line at once.
+                    // A member that comes to its end, and one that lies, answers the waiting line
+                    // at once.
                     if !first {
                         self.rest(rt);
                     }

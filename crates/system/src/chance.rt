@@ -1,4 +1,5 @@
-//! Runs without a script: how many rounds decisions take (`rounds`), and drawn scripts for ever (`simulate --forever`).
+//! Runs without a script: how many rounds decisions take (`rounds`), and drawn scripts for ever
+//! (`simulate --forever`).
 
 use crate::fault::Fault;
 use crate::trouble::{Failure, Whereabouts};
@@ -23,8 +24,8 @@ const BETWEEN: u64 = 10;
 const ROUNDS: &str =
     "wants at most T liars, the order random, adversary or links, and at least one run";
 
-/// A measurement: clusters of this size, in which so many members lie and this one chooses the next message, as
-/// many runs as that, and the file that gets a chart.
+/// A measurement: clusters of this size, in which so many members lie and this one chooses the next
+/// message, as many runs as that, and the file that gets a chart.
 #[derive(Clone, Copy, Debug)]
 pub struct Measuring<'a> {
     pub size: Size,
@@ -176,7 +177,8 @@ fn print_table(rt: &HostRuntime, chart: Option<&str>, ends: &[End]) -> Result<u8
     }
 }
 
-/// Measures how many rounds decisions take: plays one question with each seed from 1 on, writes the chart and prints the table.
+/// Measures how many rounds decisions take: plays one question with each seed from 1 on, writes the
+/// chart and prints the table.
 ///
 /// # Errors
 ///
@@ -242,7 +244,8 @@ fn seed_of(rt: &HostRuntime, seed: Option<u32>) -> u64 {
     }
 }
 
-/// Returns `true` if so many seconds have passed since then. Without a limit, and where the clock fails, it isn't.
+/// Returns `true` if so many seconds have passed since then. Without a limit, and where the clock
+/// fails, it isn't.
 fn is_over(rt: &HostRuntime, start: Instant, seconds: Option<u32>) -> bool {
     match (start.elapsed(rt), seconds) {
         (Ok(passed), Some(seconds)) => passed.as_secs() >= u64::from(seconds),
@@ -268,7 +271,8 @@ fn report_text(
     Ok(format!(in alloc; "# script {number}: {finding}\n{script}")?)
 }
 
-/// Prints the script that shows what no run may show, behind a comment that names it. The status is 1.
+/// Prints the script that shows what no run may show, behind a comment that names it. The status is
+/// 1.
 fn report(rt: &HostRuntime, tried: &Tried, number: u64) -> Result<Option<u8>, Failure> {
     let Some(finding) = tried.judgement.finding else {
         return Ok(None);
@@ -277,8 +281,9 @@ fn report(rt: &HostRuntime, tried: &Tried, number: u64) -> Result<Option<u8>, Fa
     Ok(Some(say(rt, text.as_str(), 1)?))
 }
 
-/// Plays drawn scripts, and judges each by its trace, for so many seconds or until the program is stopped. The last line has the
-/// totals, and the status is 0. A run that shows what no run may show ends it: its script is printed, and the status is 1.
+/// Plays drawn scripts, and judges each by its trace, for so many seconds or until the program is
+/// stopped. The last line has the totals, and the status is 0. A run that shows what no run may
+/// show ends it: its script is printed, and the status is 1.
 ///
 /// # Errors
 ///

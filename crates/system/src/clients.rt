@@ -12,14 +12,14 @@ use commands::line_of_key;
 use settings::{Address, ClientSettings, Key, SettingsFault, address_text};
 use std::alloc::Global;
 
-/// What is told of a member's settings where a client's are wanted.
+/// The words on a member's settings where a client's are wanted.
 const OF_A_MEMBER: &str =
     "is a member's settings; --all wants the client.toml that new-cluster wrote";
 
-/// What is told of an address where a file is wanted.
+/// The words on an address where a file is wanted.
 const ADDRESS: &str = "is an address; --all wants a file, the client.toml that new-cluster wrote";
 
-/// Whether a line of the text gives `peers` a value, as a member's settings do.
+/// Returns `true` if a line of the text gives `peers` a value, as a member's settings do.
 fn has_peers(alloc: Global, text: &str) -> bool {
     matches!(line_of_key(alloc, text.as_bytes(), Key::Peers), Ok(Some(_)))
 }

@@ -20,24 +20,26 @@ use terms::{Header, Size};
 /// The first port of the links if none is asked for.
 const FIRST_PORT: u16 = 7100;
 
-/// What is asked of a new cluster.
+/// A request for a new cluster.
 #[derive(Clone, Copy, Debug, PartialEq, Eq)]
 pub struct NewCluster<'a> {
-    /// How many members there are, how many of them may lie, and how many questions there are.
+    /// The numbers of members, of those that may lie, and of questions.
     pub size: Size,
     /// Its number.
     pub cluster: u64,
     /// The path of the folder for the files.
     pub folder: &'a str,
-    /// The hosts of the members, with commas between them; this machine for all where none are given.
+    /// The hosts of the members, with commas between them; this machine for all where none are
+    /// given.
     pub hosts: Option<&'a str>,
     /// The port of the first member's links; 7100 where none is given.
     pub port: Option<u16>,
-    /// The host of all desks, or `links`: each desk at the host of its member's links; 127.0.0.1 where none is given.
+    /// The host of all desks, or `links`: each desk at the host of its member's links; 127.0.0.1
+    /// where none is given.
     pub desk: Option<&'a str>,
 }
 
-/// Where the members of a new cluster listen, in the order of the members.
+/// The addresses at which the members of a new cluster listen, in the order of the members.
 #[derive(Drop)]
 struct Places {
     links: Vec<Address>,
@@ -49,7 +51,7 @@ struct Places {
 struct NewFile {
     path: String,
     text: String,
-    /// Who may read and write it.
+    /// The mode: who may read and write it.
     mode: u32,
 }
 
@@ -79,7 +81,7 @@ fn desk_hosts_of<'a>(alloc: Global, wanted: &NewCluster<'a>) -> Result<Vec<&'a s
     }
 }
 
-/// What each host has to be.
+/// The form of each host.
 const HOST_WORDS: &str =
     "each must be `localhost` or four numbers with points between them: no host names, no IPv6";
 
@@ -96,7 +98,8 @@ fn bad_hosts(alloc: Global, wanted: &NewCluster<'_>, count: usize) -> Failure {
     }
 }
 
-/// Where the members listen to one another, from this port on. [`Fault::Hosts`]: there aren't n hosts, or one isn't any.
+/// Returns the addresses at which the members listen to one another, from this port on.
+/// [`Fault::Hosts`]: there aren't n
 fn links_of(alloc: Global, wanted: &NewCluster<'_>, first: u16) -> Result<Vec<Address>, Failure> {
     let hosts = hosts_of(alloc, wanted)?;
     if hosts.len() != usize::from(wanted.size.n()) {
@@ -108,7 +111,8 @@ fn links_of(alloc: Global, wanted: &NewCluster<'_>, first: u16) -> Result<Vec<Ad
     }
 }
 
-/// Where the members listen to their clients, from this port on. [`Fault::Hosts`]: the host isn't any.
+/// Returns the addresses at which the members listen to their clients, from this port on.
+/// [`Fault::Hosts`]: the host isn't
 fn desks_of(alloc: Global, wanted: &NewCluster<'_>, first: u16) -> Result<Vec<Address>, Failure> {
     let hosts = desk_hosts_of(alloc, wanted)?;
     match addresses_from(alloc, hosts.as_slice(), first).map_err(|_| Fault::Memory)? {
@@ -142,7 +146,8 @@ fn bad_port(alloc: Global, first: u16, n: u8) -> Failure {
     }
 }
 
-/// Where the members listen. [`Fault::Hosts`]: there aren't n hosts, or one isn't any, or there aren't ports enough.
+/// Returns the addresses at which the members listen. [`Fault::Hosts`]: there aren't n hosts, or
+/// one isn't any, or there
 fn places_of(alloc: Global, wanted: &NewCluster<'_>) -> Result<Places, Failure> {
     let first = wanted.port.unwrap_or(FIRST_PORT);
     let n = wanted.size.n();
@@ -355,7 +360,7 @@ fn write_all(rt: &HostRuntime, files: &[NewFile]) -> Result<(), Failure>
     Ok(())
 }
 
-/// What is to be done next, in words: the files, and the commands for one member.
+/// Returns what is to be done next, in words: the files, and the commands for one member.
 fn print_next(rt: &HostRuntime, wanted: &NewCluster<'_>, places: &Places) -> Result<(), Fault> {
     let alloc = rt.alloc();
     let mut output = io::writer(rt);
@@ -375,7 +380,7 @@ fn print_next(rt: &HostRuntime, wanted: &NewCluster<'_>, places: &Places) -> Res
     Ok(())
 }
 
-/// What is printed behind the files.
+/// The text that is printed after the files.
 const NEXT: &str =
     "Each member wants its own file alone, which has its seed. For each, where its file is:
   bracha init member-0.toml
@@ -385,12 +390,14 @@ Once they run, where client.toml is, and where DESK is one of the addresses in i
   bracha ask --wait DESK 0
 ";
 
-/// Writes the settings of each member of a new cluster into `member-M.toml` of the folder, which their owner alone can read,
-/// and those of its clients into `client.toml`, and says what to do next. A folder that is missing is made, one level of it. The
-/// status is 0. After a fault but [`Fault::Stream`] none of the files is left, and no file that was there was changed.
+/// Writes the settings of each member of a new cluster into `member-M.toml` of the folder, which
+/// their owner alone can read, and those of its clients into `client.toml`, and says what to do
+/// next. A folder that is missing is made, one level of it. The status is 0. After a fault but
+/// [`Fault::Stream`] none of the files is left, and no file that was there was changed.
 ///
-/// [`Fault::Hosts`]: the hosts aren't any, or not n, or the ports aren't enough. [`Fault::File`]: a file is there, or can't be
-/// made; or the system draws no random bytes. [`Fault::Stream`]: all files are made, but the output couldn't be written.
+/// [`Fault::Hosts`]: the hosts aren't any, or not n, or the ports aren't enough. [`Fault::File`]: a
+/// file is there, or can't be made; or the system draws no random bytes. [`Fault::Stream`]: all
+/// files are made, but the output couldn't be written.
 pub fn new_cluster(rt: &HostRuntime, wanted: &NewCluster<'_>) -> Result<u8, Failure> {
     let places = places_of(rt.alloc(), wanted)?;
     let files = files_of(rt, wanted, &places)?;

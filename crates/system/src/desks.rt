@@ -1,4 +1,4 @@
-//! Where a desk is, and how long a client waits for it.
+//! The place of a desk, and the time that a client waits for it.
 
 ghost use Rattle.std.specs.Prelude.{◌≡◌, ◌-◌, ◌≤◌, IfSome, None, Some};
 ghost use Rattle.std.specs.Duration.{as_nanos};
@@ -11,7 +11,7 @@ use std::net::TcpStream;
 use std::os::unix::net::UnixStream;
 use std::time::{Clock, Duration, Instant};
 
-/// Where a member listens to its clients.
+/// The place at which a member listens to its clients.
 #[derive(Clone, Copy, Debug, PartialEq, Eq)]
 pub enum DeskPlace<'a> {
     /// A host of the internet and a port of it.
@@ -30,8 +30,8 @@ fn path_in(text: &str) -> Option<DeskPlace<'_>>
     }
 }
 
-/// Returns the place of a desk that the text names: `unix:PATH`, or `HOST:PORT` as [`Address::parse`] reads it. `None` if it is
-/// neither.
+/// Returns the place of a desk that the text names: `unix:PATH`, or `HOST:PORT` as
+/// [`Address::parse`] reads it. `None` if it is neither.
 pub fn desk_place(text: &str) -> Option<DeskPlace<'_>>
     ensures { IfSome result (IsDeskPlace text.now) }
 {
@@ -41,13 +41,14 @@ pub fn desk_place(text: &str) -> Option<DeskPlace<'_>>
     }
 }
 
-/// How many seconds a client waits for its connection, where it isn't told.
+/// The seconds that a client waits for its connection, where it isn't told.
 pub const CONNECT: u64 = 10;
 
-/// How many seconds a client waits until more of its line is taken, or for more of the reply, where it isn't told.
+/// The seconds that a client waits until more of its line is taken, or for more of the reply, where
+/// it isn't told.
 pub const TALK: u64 = 30;
 
-/// How long a client that waits for a decision rests before it asks again, in milliseconds.
+/// The milliseconds for which a client that waits for a decision rests before it asks again.
 pub const REST: u64 = 250;
 
 /// Until when a client waits.
@@ -55,11 +56,11 @@ pub const REST: u64 = 250;
 pub struct Deadline {
     /// When it began.
     start: Instant,
-    /// How long it waits in all, if that is limited.
+    /// The time that it waits in all, if that is limited.
     total: Option<Duration>,
 }
 
-/// How long a client waits in all that is told so many milliseconds, one at least.
+/// Returns how long a client waits in all that is told so many milliseconds, one at least.
 fn total_of(timeout: Option<u32>) -> Option<Duration> {
     match timeout {
         Some(milliseconds) => Some(Duration::from_millis(u64::from(milliseconds.max(1)))),
@@ -67,7 +68,7 @@ fn total_of(timeout: Option<u32>) -> Option<Duration> {
     }
 }
 
-/// How much is left of a time when so much of it has passed. None: nothing.
+/// Returns how much is left of a time when so much of it has passed. None: nothing.
 fn rest_of(whole: Duration, passed: Duration) -> Option<Duration>
     ensures over { as_nanos whole ≤ as_nanos passed → result ≡ None }
     ensures left { IfSome result (λ left. as_nanos left ≡ as_nanos whole - as_nanos passed) }
@@ -79,8 +80,8 @@ fn rest_of(whole: Duration, passed: Duration) -> Option<Duration>
     Some(left)
 }
 
-/// How much is left of a time in all when so much has passed, or of a step of so many seconds where the time isn't limited. None:
-/// nothing.
+/// Returns how much is left of a time in all when so much has passed, or of a step of so many
+/// seconds where the time isn't limited. None: nothing.
 fn left_of(total: Option<Duration>, passed: Duration, step: u64) -> Option<Duration>
     ensures over { (whole : Duration) → total ≡ Some whole → as_nanos whole ≤ as_nanos passed → result ≡ None }
     ensures left { (whole : Duration) → total ≡ Some whole → IfSome result (λ left. as_nanos left ≡ as_nanos whole - as_nanos passed) }
@@ -92,7 +93,8 @@ fn left_of(total: Option<Duration>, passed: Duration, step: u64) -> Option<Durat
 }
 
 impl Deadline {
-    /// A client that begins now waits so many milliseconds at most, one at least; without an end in all where it isn't told.
+    /// A client that begins now waits so many milliseconds at most, one at least; without an end in
+    /// all where it isn't told.
     pub fn new<R: Clock>(rt: &R, timeout: Option<u32>) -> io::Result<Deadline> {
         Ok(Deadline {
             start: Instant::now(rt)?,
@@ -100,7 +102,7 @@ impl Deadline {
         })
     }
 
-    /// How long a step of so many seconds may take. An error: there is no time left.
+    /// Returns how long a step of so many seconds may take. An error: there is no time left.
     pub fn left<R: Clock>(&self, rt: &R, step: u64) -> io::Result<Duration> {
         let passed = self.start.elapsed(rt)?;
         match left_of(self.total, passed, step) {
@@ -109,7 +111,7 @@ impl Deadline {
         }
     }
 
-    /// Whether nothing is left after a rest. Where the clock fails nothing is.
+    /// Returns `true` if nothing is left after a rest. Where the clock fails nothing is.
     pub fn is_over<R: Clock>(&self, rt: &R) -> bool {
         let Some(total) = self.total else {
             return false;
@@ -131,7 +133,7 @@ pub enum DeskSocket {
 impl DeskSocket {
     ghost use Rattle.std.specs.Io.{ReadsAtMost, WritesAtMost};
 
-    /// Has a read wait so long at most.
+    /// Limits the time that a read waits.
     fn read_within(&self, limit: Duration) -> io::Result<()> {
         match self {
             DeskSocket::Host(socket) => socket.set_read_timeout(Some(limit)),
@@ -139,7 +141,7 @@ impl DeskSocket {
         }
     }
 
-    /// Has a write wait so long at most.
+    /// Limits the time that a write waits.
     fn write_within(&self, limit: Duration) -> io::Result<()> {
         match self {
             DeskSocket::Host(socket) => socket.set_write_timeout(Some(limit)),

@@ -1,4 +1,5 @@
-//! The addresses at which a member listens: that one host can listen at all of its own, and that they are this host's.
+//! The addresses at which a member listens: that one host can listen at all of its own, and that
+//! they are this host's.
 
 ghost use Rattle.std.specs.Fmt.{decimal};
 ghost use Rattle.std.specs.Prelude.{◌≡◌, ◌++◌, IfOk, IfSome, None, codes, string_bytes};
@@ -25,7 +26,8 @@ pub enum Door {
     Entry(u8),
 }
 
-/// Returns the key that names the address at which the member of these settings listens to the others.
+/// Returns the key that names the address at which the member of these settings listens to the
+/// others.
 pub fn own_door(settings: &Settings) -> Door
     ensures listen { IfSome settings.now.listen (λ _. result ≡ door.Listen) }
     ensures entry { settings.now.listen ≡ None → result ≡ door.Entry settings.now.header.me }
@@ -36,7 +38,8 @@ pub fn own_door(settings: &Settings) -> Door
     }
 }
 
-/// Returns what is told of an address that isn't this host's: the key of the settings that names it.
+/// Returns what is told of an address that isn't this host's: the key of the settings that names
+/// it.
 pub fn foreign_words(alloc: Global, door: Door) -> Result<String, AllocError>
     ensures { IfOk result (λ text. string_bytes text ≡ foreign_words door) }
 {
@@ -83,7 +86,8 @@ fn keep_ports_apart(rt: &HostRuntime, settings: &Settings) -> Result<(), Failure
     Err(listen_failure(rt, &settings.desk, words.as_str()))
 }
 
-/// Two members that have one address, and the address: the second is the first member that has one which another has before it.
+/// Two members that have one address, and the address: the second is the first member that has one
+/// which another has before it.
 fn twins_of(peers: &[Address]) -> Option<(usize, usize, Address)> {
     for (member, address) in peers.iter().enumerate() {
         if let Some(other) = peers[..member].iter().position(|it| *it == *address) {
@@ -119,7 +123,8 @@ fn keep_members_apart(rt: &HostRuntime, settings: &Settings) -> Result<(), Failu
     }
 }
 
-/// Whether the host of the address is this one: a socket is bound to it, at any port that is free, and given back at once.
+/// Returns `true` if the host of the address is this one: a socket is bound to it, at any port that
+/// is free, and given back at once.
 fn is_of_host(rt: &HostRuntime, address: &Address) -> bool {
     let at_any_port = SocketAddr::new(IpAddr::from(address.octets), 0);
     match TcpListener::bind(rt, at_any_port) {
@@ -141,8 +146,9 @@ fn keep_to_host(rt: &HostRuntime, address: &Address, door: Door) -> Result<(), F
     }
 }
 
-/// Refuses settings by which this host can't listen at all addresses of its member: two of them are one, two members have one,
-/// or one of them isn't this host's. An address at which somebody listens already is taken.
+/// Refuses settings by which this host can't listen at all addresses of its member: two of them are
+/// one, two members have one, or one of them isn't this host's. An address at which somebody
+/// listens already is taken.
 ///
 /// [`Fault::Run`] with [`RunFault::Listen`]: it can't.
 pub fn keep_to_own_doors(rt: &HostRuntime, settings: &Settings) -> Result<(), Failure> {

@@ -1,4 +1,4 @@
-//! What ends the program before its work is done.
+//! The faults that end the program before its work is done.
 
 ghost use Rattle.system.specs.declared.fault.Fault.TheVariants as ends;
 ghost use Rattle.system.specs.Faults.{IsMeant, IsFileFault, fault_status, of_journal};
@@ -16,10 +16,10 @@ use terms::SizeFault;
 use thiserror::Error;
 use transcripts::AuditFault;
 
-/// Why a command ended before its work was done. The program prints the text after `bracha: ` and ends with
-/// status 2 for the faults of the words, [`Fault::Argument`], [`Fault::SameFile`], [`Fault::Timeout`], [`Fault::Words`],
-/// [`Fault::Question`], [`Fault::Member`], [`Fault::First`] and [`Fault::Last`], and with status 1 for the others.
-/// What was printed before stays printed.
+/// Why a command ended before its work was done. The program prints the text after `bracha: ` and
+/// ends with status 2 for the faults of the words, [`Fault::Argument`], [`Fault::SameFile`],
+/// [`Fault::Timeout`], [`Fault::Words`], [`Fault::Question`], [`Fault::Member`], [`Fault::First`]
+/// and [`Fault::Last`], and with status 1 for the others. What was printed before stays printed.
 #[derive(Debug, Drop, Error)]
 pub enum Fault {
     /// The argument at this place isn't UTF-8. The program's name has place 0.
@@ -40,7 +40,8 @@ pub enum Fault {
     /// The member of a chart's rows: the script hasn't got it, or no chart is wanted.
     #[error("member")]
     Member,
-    /// The first event of a chart's rows: it isn't one, it comes after the last, or no chart is wanted.
+    /// The first event of a chart's rows: it isn't one, it comes after the last, or no chart is
+    /// wanted.
     #[error("from")]
     First,
     /// The last event of a chart's rows: it isn't one, or no chart is wanted.
@@ -55,16 +56,16 @@ pub enum Fault {
     /// The settings aren't any.
     #[error(transparent)]
     Settings(#[from] SettingsFault),
-    /// What ended `hear`.
+    /// The fault that ended `hear`.
     #[error(transparent)]
     Hear(#[from] HearFault),
-    /// What ended `init`.
+    /// The fault that ended `init`.
     #[error(transparent)]
     Init(#[from] InitFault),
-    /// What ended `dump` or `check`.
+    /// The fault that ended `dump` or `check`.
     #[error(transparent)]
     Dump(#[from] DumpFault),
-    /// What ended `migrate`.
+    /// The fault that ended `migrate`.
     #[error(transparent)]
     Migrate(#[from] MigrationFault),
     /// The journal of a member that is to run couldn't be opened.
@@ -82,13 +83,13 @@ pub enum Fault {
     /// The address of a desk, or of a gateway, isn't one.
     #[error("address")]
     Address,
-    /// What ended `propose`, `ask`, `status` or `transcript`.
+    /// The fault that ended `propose`, `ask`, `status` or `transcript`.
     #[error(transparent)]
     Talk(#[from] TalkFault),
-    /// What ended `audit`.
+    /// The fault that ended `audit`.
     #[error(transparent)]
     Audit(#[from] AuditFault),
-    /// What ended `simulate`.
+    /// The fault that ended `simulate`.
     #[error(transparent)]
     Simulate(#[from] SimulateFault),
     /// The end of `rounds`.
@@ -123,7 +124,8 @@ impl Fault {
         }
     }
 
-    /// The fault of a file that couldn't be opened, read or written: this one, but for want of memory.
+    /// The fault of a file that couldn't be opened, read or written: this one, but for want of
+    /// memory.
     pub fn of_file(self, error: io::Error) -> Fault
         ensures meant { IsMeant self result }
         ensures kind { IsFileFault self error result }

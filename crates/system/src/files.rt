@@ -1,6 +1,9 @@
 //! The commands over the files that their words name, and over the standard streams.
 
 ghost use Rattle.migration.specs.OldOutcomes.{IsUntouched};
+ghost use Rattle.disk.specs.File.{file_state};
+ghost use Rattle.disk.specs.Model.{at_rest};
+ghost use Rattle.system.specs.Disks.{marked_file};
 ghost use Rattle.system.specs.Faults.{IsMeant};
 ghost use Rattle.system.specs.Troubles.{IsNamed, IsTold};
 ghost use Rattle.system.specs.declared.trouble.Whereabouts.TheVariants as whereabouts;
@@ -26,7 +29,7 @@ use commands::{
     check_journal, dump_count, dump_count_object, dump_lines, dump_objects, init_disk,
     migrate_disks, print_check, print_settings, show_simulation,
 };
-use disk::{Disk, FileDisk, FirstError, MemDisk};
+use disk::{Disk, FileDisk, FirstError, MemDisk, Premise};
 use hearing::hear_lines;
 use journal::JournalFault;
 use migration::MigrateFault;
@@ -45,8 +48,8 @@ pub fn hear_input(rt: &HostRuntime, size: Size, me: u8) -> Result<u8, Fault> {
     Ok(hear_lines(rt.alloc(), size, me, &mut input, &mut output)?)
 }
 
-/// Reads the transcript in the file, of a cluster of that size, and prints whether it is proof of its decision. The status
-/// is 0 for `yes` and 1 for `no`.
+/// Reads the transcript in the file, of a cluster of that size, and prints whether it is proof of
+/// its decision. The status is 0 for `yes` and 1 for `no`.
 pub fn audit_file(rt: &HostRuntime, path: &str, size: Size) -> Result<u8, Failure>
     ensures named { IfErr result (IsNamed path.now) }
 {
@@ -87,7 +90,7 @@ fn warn_of_strays(rt: &HostRuntime, path: &str, text: &str) {
     }
 }
 
-/// What the file of a journal is opened for.
+/// The purpose for which the file of a journal is opened.
 #[derive(Clone, Copy, Debug, PartialEq, Eq)]
 pub enum Purpose {
     /// To make the journal: a missing file is made, empty.
@@ -98,7 +101,7 @@ pub enum Purpose {
     Run,
 }
 
-/// What is told of a member's journal that is missing: another one would let it say things twice.
+/// The words on a member's journal that is missing: another one would let it say things twice.
 const MISSING: &str = "no such file: `bracha init` makes one for a new member, and for no other";
 
 /// The failure of a member's journal that is missing.
@@ -109,8 +112,8 @@ fn missing(alloc: Global, path: &str) -> Failure
     Failure::at(alloc, Fault::File, path, Whereabouts::Open, &MISSING)
 }
 
-/// Refuses a device or a pipe, which might be waited for or read without an end. A file is taken, and so is nothing at all, and a
-/// folder, which the system refuses. [`Fault::File`]: it is one.
+/// Refuses a device or a pipe, which might be waited for or read without an end. A file is taken,
+/// and so is nothing at all, and a folder, which the system refuses. [`Fault::File`]: it is one.
 fn keep_to_files(rt: &HostRuntime, path: &str) -> Result<(), Failure>
     ensures fault { IfErr result (λ failure. IsMeant ends.File failure.fault) }
     ensures named { IfErr result (IsNamed path.now) }
@@ -128,17 +131,18 @@ fn keep_to_files(rt: &HostRuntime, path: &str) -> Result<(), Failure>
 #[derive(Drop)]
 pub struct Source<'a> {
     pub path: &'a str,
-    /// Where the system's error is kept at the first call of the file that fails; none where the file isn't open.
+    /// The place for the system's error at the first call of the file that fails; none where the
+    /// file isn't open.
     pub first_error: Option<Arc<FirstError>>,
 }
 
 impl<'a> Source<'a> {
-    /// What the system said at the first call of the file that failed; none where none has.
+    /// Returns what the system said at the first call of the file that failed; none where none has.
     pub fn error(&self) -> Option<io::Error> {
         first_error_in(&self.first_error)
     }
 
-    /// Where the system's error is kept, for another thread.
+    /// Returns the place for the system's error, for another thread.
     pub fn shared_error(&self) -> Option<Arc<FirstError>> {
         match &self.first_error {
             Some(first) => {
@@ -150,7 +154,7 @@ impl<'a> Source<'a> {
     }
 }
 
-/// What the system said at the first call of a file that failed, where that is kept.
+/// Returns what the system said at the first call of a file that failed, where that is kept.
 pub fn first_error_in(kept: &Option<Arc<FirstError>>) -> Option<io::Error> {
     match kept {
         Some(first) => first.get(),
@@ -158,46 +162,55 @@ pub fn first_error_in(kept: &Option<Arc<FirstError>>) -> Option<io::Error> {
     }
 }
 
-/// The disk in the file of a journal, which is a regular file, and what is told of it.
-pub fn open_disk<'a>(
+/// The disk in the file of a journal, which is a regular file, and what is told of it. It is as it
+/// began.
+pub fn open_disk<'a, P: Premise>(
     rt: &HostRuntime,
     path: &'a str,
     purpose: Purpose,
-) -> Result<(MarkedDisk, Source<'a>), Failure>
+) -> Result<(MarkedDisk<P>, Source<'a>), Failure>
+    ensures as_it_began { IfOk result (λ opened. file_state P.file (marked_file opened.0) ≡ at_rest P.file.start) }
     ensures source { IfOk result (λ opened. opened.1.path.now ≡ path.now) }
     ensures fault { IfErr result (λ failure. IsMeant ends.File failure.fault) }
     ensures named { IfErr result (IsNamed path.now) }
 {
-    let mut disk = open_file(rt, path, purpose)?;
+    let mut disk = open_file::<P>(rt, path, purpose)?;
     let first_error = disk.keep_first_error(rt.alloc()).ok();
     let disk = MarkedDisk::new(rt, disk, path);
     Ok((disk, Source { path, first_error }))
 }
 
-/// The disk in the file of a journal that is to be relied on: of which no sync failed since the machine was started.
+/// The disk in the file of a journal that is to be relied on: of which no sync failed since the
+/// machine was started.
 ///
 /// [`Fault::Journal`] with [`JournalFault::Device`]: one did.
-pub fn open_good_disk<'a>(
+pub fn open_good_disk<'a, P: Premise>(
     rt: &HostRuntime,
     path: &'a str,
     purpose: Purpose,
-) -> Result<(MarkedDisk, Source<'a>), Failure>
+) -> Result<(MarkedDisk<P>, Source<'a>), Failure>
+    ensures as_it_began { IfOk result (λ opened. file_state P.file (marked_file opened.0) ≡ at_rest P.file.start) }
     ensures source { IfOk result (λ opened. opened.1.path.now ≡ path.now) }
 {
     refuse_unsynced(rt, path)?;
-    let opened = open_disk(rt, path, purpose)?;
+    let opened = open_disk::<P>(rt, path, purpose)?;
     // Who had the file until now may have left the mark meanwhile.
     refuse_unsynced(rt, path)?;
     Ok(opened)
 }
 
 /// The disk in the file of a journal, which is a regular file.
-fn open_file(rt: &HostRuntime, path: &str, purpose: Purpose) -> Result<FileDisk, Failure>
+fn open_file<P: Premise>(
+    rt: &HostRuntime,
+    path: &str,
+    purpose: Purpose,
+) -> Result<FileDisk<P>, Failure>
+    ensures as_it_began { IfOk result (λ disk. file_state P.file disk ≡ at_rest P.file.start) }
     ensures fault { IfErr result (λ failure. IsMeant ends.File failure.fault) }
     ensures named { IfErr result (IsNamed path.now) }
 {
     keep_to_files(rt, path)?;
-    match FileDisk::open(rt, path, purpose == Purpose::Make) {
+    match FileDisk::<P>::open(rt, path, purpose == Purpose::Make) {
         Ok(disk) => Ok(disk),
         // Its lock is held.
         Err(error) if error.kind() == io::ErrorKind::WouldBlock => {
@@ -218,11 +231,11 @@ fn open_file(rt: &HostRuntime, path: &str, purpose: Purpose) -> Result<FileDisk,
 }
 
 /// Makes the journal that the settings in the file name.
-pub fn init_file(rt: &HostRuntime, path: &str) -> Result<u8, Failure> {
+pub fn init_file<P: Premise>(rt: &HostRuntime, path: &str) -> Result<u8, Failure> {
     let settings = read_settings(rt, path)?;
     let journal = settings.journal.as_str();
     refuse_forgotten(rt, journal, settings.header.me())?;
-    let (mut disk, source) = open_good_disk(rt, journal, Purpose::Make)?;
+    let (mut disk, source) = open_good_disk::<P>(rt, journal, Purpose::Make)?;
     match init_disk(&mut disk, &settings) {
         Ok(status) => Ok(status),
         Err(fault) => {
@@ -238,9 +251,10 @@ pub fn init_file(rt: &HostRuntime, path: &str) -> Result<u8, Failure> {
 /// The most bytes of a file that are read for a second line: those of more than 2,700,000 records.
 const MOST: u64 = 1 << 24;
 
-/// How many bytes of a journal's file of that length the second line of that fault is told from: where the header is wrong, it
-/// and one more; of a file that is too long to go through, these too where they tell whose it is. None where the fault isn't
-/// the file's, or a file that is too long goes wrong somewhere.
+/// Returns how many bytes of a journal's file of that length the second line of that fault is told
+/// from: where the header is wrong, it and one more; of a file that is too long to go through,
+/// these too where they tell whose it is. None where the fault isn't the file's, or a file that is
+/// too long goes wrong somewhere.
 fn needed(found: JournalFault, length: u64) -> Option<u64> {
     match found {
         JournalFault::BadHeader | JournalFault::OtherHeader | JournalFault::OldVersion => Some(25),
@@ -252,8 +266,8 @@ fn needed(found: JournalFault, length: u64) -> Option<u64> {
     }
 }
 
-/// The bytes of the file from which the second line of that fault is told, and how many it has; none where it is no regular
-/// file, or too long.
+/// The bytes of the file from which the second line of that fault is told, and how many it has;
+/// none where it is no regular file, or too long.
 fn read_needed(
     rt: &HostRuntime,
     path: &str,
@@ -266,8 +280,9 @@ fn read_needed(
     }
 }
 
-/// The failure of the journal in the file, in which that was found, where the one of this header was asked for, if one was: in
-/// the system's words where a call of the file failed, else by its bytes, which are read anew, as many as are needed.
+/// The failure of the journal in the file, in which that was found, where the one of this header
+/// was asked for, if one was: in the system's words where a call of the file failed, else by its
+/// bytes, which are read anew, as many as are needed.
 pub fn failure_for(
     rt: &HostRuntime,
     source: &Source<'_>,
@@ -286,8 +301,8 @@ pub fn failure_for(
     }
 }
 
-/// The failure of the journal in the file, in which that was found, where the one of this header was asked for, if one was, by
-/// its bytes.
+/// The failure of the journal in the file, in which that was found, where the one of this header
+/// was asked for, if one was, by its bytes.
 fn failure_by_bytes(
     rt: &HostRuntime,
     path: &str,
@@ -307,8 +322,8 @@ fn failure_by_bytes(
     }
 }
 
-/// The failure of a journal that was to be printed, counted or checked; the one of this header, if one was asked for. A write
-/// that failed is not the journal's.
+/// The failure of a journal that was to be printed, counted or checked; the one of this header, if
+/// one was asked for. A write that failed is not the journal's.
 fn dump_failure(
     rt: &HostRuntime,
     source: &Source<'_>,
@@ -332,8 +347,9 @@ fn dump_failure(
     }
 }
 
-/// The bytes of the file, or so many of them, which is opened for reading and writing as `run` does it. No lock is taken, and
-/// nothing written. A device has no length, so none of it is read; a journal's disk sees it so too.
+/// The bytes of the file, or so many of them, which is opened for reading and writing as `run` does
+/// it. No lock is taken, and nothing written. A device has no length, so none of it is read; a
+/// journal's disk sees it so too.
 fn read_unlocked(rt: &HostRuntime, path: &str, most: u64) -> io::Result<Vec<u8>> {
     let mut options = OpenOptions::new();
     let file = options.read(true).write(true).open(rt, path)?;
@@ -366,7 +382,8 @@ fn copied_disk(rt: &HostRuntime, journal: &str) -> Result<MemDisk, Failure>
     Ok(disk)
 }
 
-/// Prints how many records the journal on the disk has, behind what the settings say; or both as one object of JSON.
+/// Prints how many records the journal on the disk has, behind what the settings say; or both as
+/// one object of JSON.
 fn print_records<D: Disk>(
     rt: &HostRuntime,
     settings: &Settings,
@@ -383,8 +400,8 @@ fn print_records<D: Disk>(
     }
 }
 
-/// Says what the settings in the file say, and how many records their journal has, if the member can run on it. As an object of
-/// JSON it is said once all of it is known.
+/// Says what the settings in the file say, and how many records their journal has, if the member
+/// can run on it. As an object of JSON it is said once all of it is known.
 pub fn check_file(rt: &HostRuntime, path: &str, json: bool) -> Result<u8, Failure> {
     let settings = read_settings(rt, path)?;
     let journal = settings.journal.as_str();
@@ -411,8 +428,8 @@ pub fn check_file(rt: &HostRuntime, path: &str, json: bool) -> Result<u8, Failur
     }
 }
 
-/// Prints the journal on the disk, or only how many records it has; as lines, or as objects of JSON. However it ends, no byte
-/// of the disk's file is changed.
+/// Prints the journal on the disk, or only how many records it has; as lines, or as objects of
+/// JSON. However it ends, no byte of the disk's file is changed.
 fn dump_disk<D: Disk>(
     rt: &HostRuntime,
     disk: &mut D,
@@ -430,11 +447,17 @@ fn dump_disk<D: Disk>(
     }
 }
 
-/// Prints the journal in the file, or only how many records it has; as lines, or as objects of JSON.
-pub fn dump_file(rt: &HostRuntime, path: &str, count: bool, json: bool) -> Result<u8, Failure>
+/// Prints the journal in the file, or only how many records it has; as lines, or as objects of
+/// JSON.
+pub fn dump_file<P: Premise>(
+    rt: &HostRuntime,
+    path: &str,
+    count: bool,
+    json: bool,
+) -> Result<u8, Failure>
     ensures named { IfErr result (IsNamed path.now) }
 {
-    let (mut disk, source) = open_disk(rt, path, Purpose::Look)?;
+    let (mut disk, source) = open_disk::<P>(rt, path, Purpose::Look)?;
     match dump_disk(rt, &mut disk, count, json) {
         Ok(status) => Ok(status),
         Err(fault) => Err(dump_failure(rt, &source, fault, None)),
@@ -451,7 +474,8 @@ fn not_old(rt: &HostRuntime, fault: Fault, path: &str) -> Failure
     }
 }
 
-/// Tells of a journal of version 1 in which that was found, by its bytes, which are read anew if they aren't too many.
+/// Tells of a journal of version 1 in which that was found, by its bytes, which are read anew if
+/// they aren't too many.
 fn damaged_old(rt: &HostRuntime, path: &str, fault: Fault, found: MigrateFault) -> Failure
     ensures fault { result.fault ≡ fault }
     ensures named { IsNamed path.now result }
@@ -487,11 +511,11 @@ fn migration_failure(
     }
 }
 
-/// What is told of a new file that was made in vain and couldn't be removed.
+/// The words on a new file that was made in vain and couldn't be removed.
 const LEFT: &str = "is no journal: remove it";
 
-/// The failure of a journal that wasn't brought over, once the file at `new` is gone, if it was made for it. Where it can't be
-/// removed that is told in place of the cause.
+/// The failure of a journal that wasn't brought over, once the file at `new` is gone, if it was
+/// made for it. Where it can't be removed that is told in place of the cause.
 fn unmade(rt: &HostRuntime, new: &str, made: bool, failure: Failure) -> Failure {
     if !made || fs::remove_file(rt, new).is_ok() {
         return failure;
@@ -499,17 +523,22 @@ fn unmade(rt: &HostRuntime, new: &str, made: bool, failure: Failure) -> Failure 
     Failure::at(rt.alloc(), failure.fault, new, Whereabouts::Whole, &LEFT)
 }
 
-/// Brings the journal of version 1 in the file at `old` over into the one at `new`, which is made, or is there and empty, and
-/// prints how many records it has. The old file is never written. After a fault of the migration a new file that was made for
-/// it is gone, and one that was there is left; after one of the printing it is whole. The status is 0.
+/// Brings the journal of version 1 in the file at `old` over into the one at `new`, which is made,
+/// or is there and empty, and prints how many records it has. The old file is never written. After
+/// a fault of the migration a new file that was made for it is gone, and one that was there is
+/// left; after one of the printing it is whole. The status is 0.
 ///
 /// [`Fault::SameFile`]: the two paths name one file.
-pub fn migrate_file(rt: &HostRuntime, old: &str, new: &str) -> Result<u8, Failure> {
+pub fn migrate_file<P: Premise, Q: Premise>(
+    rt: &HostRuntime,
+    old: &str,
+    new: &str,
+) -> Result<u8, Failure> {
     keep_two_apart(rt, new, old)?;
     refuse_unsynced(rt, new)?;
-    let (mut from, old_source) = open_good_disk(rt, old, Purpose::Look)?;
+    let (mut from, old_source) = open_good_disk::<P>(rt, old, Purpose::Look)?;
     let made = fs::metadata(rt, new).is_err();
-    let (to, new_source) = open_disk(rt, new, Purpose::Make)?;
+    let (to, new_source) = open_disk::<Q>(rt, new, Purpose::Make)?;
     match migrate_disks(rt.alloc(), &mut from, to, &mut io::writer(rt)) {
         Ok(_disk) => Ok(0),
         Err((MigrationFault::Stream, _)) => {
@@ -522,7 +551,8 @@ pub fn migrate_file(rt: &HostRuntime, old: &str, new: &str) -> Result<u8, Failur
     }
 }
 
-/// Where the pages of a simulation go: into the files at these paths, or to the standard output where a path is `-`.
+/// The places for the pages of a simulation: the files at these paths, or the standard output where
+/// a path is `-`.
 #[derive(Drop)]
 struct PageFiles<'a> {
     rt: &'a HostRuntime,
@@ -558,9 +588,9 @@ fn script_path(path: &str) -> &str
     if path == "-" { "/dev/stdin" } else { path }
 }
 
-/// Runs the script in the file, or the one on the standard input where its path is `-`, and writes those pages of it that have a
-/// path, the chart with the events that are chosen. Only then the verdicts are printed; they go to the standard error
-/// where a page takes the standard output.
+/// Runs the script in the file, or the one on the standard input where its path is `-`, and writes
+/// those pages of it that have a path, the chart with the events that are chosen. Only then the
+/// verdicts are printed; they go to the standard error where a page takes the standard output.
 pub fn simulate_file(
     rt: &HostRuntime,
     path: &str,

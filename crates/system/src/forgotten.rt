@@ -1,7 +1,8 @@
 //! A journal that was put aside, since its member was forgotten.
 //!
-//! A member of which the others have heard more than its journal holds may never run again. Its journal is renamed, which needs
-//! no room on the disk, and while the renamed file is there neither `run` nor `init` gives the member another life.
+//! A member of which the others have heard more than its journal holds may never run again. Its
+//! journal is renamed, which needs no room on the disk, and while the renamed file is there neither
+//! `run` nor `init` gives the member another life.
 
 ghost use Rattle.std.specs.Prelude.{ℕ, ◌≡◌, ◌≤◌, ◌++◌, codes, string_bytes, IfErr, IfOk};
 ghost use Rattle.std.specs.Fmt.{decimal};
@@ -22,14 +23,15 @@ fn first_path(alloc: Global, journal: &str) -> Result<String, AllocError>
     format!(in alloc; "{journal}.forgotten")
 }
 
-/// The path of a journal that was put aside beside others, of which it is the one of that number, counted from 1.
+/// The path of a journal that was put aside beside others, of which it is the one of that number,
+/// counted from 1.
 fn other_path(alloc: Global, journal: &str, number: u32) -> Result<String, AllocError>
     ensures { IfOk result (λ path. string_bytes path ≡ journal.now ++ (codes ".forgotten-" ++ decimal number)) }
 {
     format!(in alloc; "{journal}.forgotten-{number}")
 }
 
-/// What is told of a journal that was put aside, whose member this is.
+/// Returns what is told of a journal that was put aside, whose member this is.
 fn cause(alloc: Global, member: u8) -> Result<String, AllocError>
     ensures { IfOk result (λ text. string_bytes text ≡ codes "member " ++ (decimal member ++ codes " has said more than this journal holds, which was put aside: it may never run again; leave it down, and take the file away only to give its place to a member of another cluster")) }
 {
@@ -38,7 +40,7 @@ fn cause(alloc: Global, member: u8) -> Result<String, AllocError>
     )
 }
 
-/// What is told of this file, which was put aside.
+/// Returns what is told of this file, which was put aside.
 fn told(alloc: Global, path: &str, member: u8) -> Option<Trouble> {
     match cause(alloc, member) {
         Ok(words) => trouble_of(alloc, path, Whereabouts::Whole, &words),
@@ -46,7 +48,8 @@ fn told(alloc: Global, path: &str, member: u8) -> Option<Trouble> {
     }
 }
 
-/// Refuses the place of a journal beside which one stands that was put aside: its member may never run again.
+/// Refuses the place of a journal beside which one stands that was put aside: its member may never
+/// run again.
 ///
 /// [`Fault::Run`] with [`RunFault::Forgotten`]: one stands there.
 pub fn refuse_forgotten(host: &HostRuntime, journal: &str, member: u8) -> Result<(), Failure>
@@ -62,7 +65,7 @@ pub fn refuse_forgotten(host: &HostRuntime, journal: &str, member: u8) -> Result
     })
 }
 
-/// Whether nothing has this name.
+/// Returns `true` if nothing has this name.
 fn is_free(host: &HostRuntime, path: &str) -> bool {
     match fs::symlink_metadata(host, path) {
         Ok(_) => false,
@@ -95,7 +98,7 @@ fn renamed(host: &HostRuntime, journal: &str) -> io::Result<String> {
     Ok(path)
 }
 
-/// What is told where a journal can't be put aside.
+/// Returns what is told where a journal can't be put aside.
 fn unmoved(alloc: Global, journal: &str, error: &io::Error) -> Option<Trouble> {
     let words = format!(in alloc;
         "it couldn't be put aside ({error}): rename it by hand, and never run this member again"

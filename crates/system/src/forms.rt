@@ -5,7 +5,8 @@ ghost use Rattle.system.specs.Forms.{begins, form_text, head_order, name_text, n
 
 use crate::status::rest_of;
 
-/// What a line of a script is to be: one of the first five, or, by how it begins, one of the events.
+/// What a line of a script is to be: one of the first five, or, by how it begins, one of the
+/// events.
 #[derive(Clone, Copy, Debug, PartialEq, Eq)]
 pub enum Order {
     /// `n N`, the first line.
@@ -35,7 +36,7 @@ pub enum Order {
     Other,
 }
 
-/// Whether the line begins with this word.
+/// Returns `true` if the line begins with this word.
 fn begins(line: &[u8], word: &str) -> bool
     ensures { result ≡ begins word.now line.now }
 {
@@ -45,7 +46,7 @@ fn begins(line: &[u8], word: &str) -> bool
     }
 }
 
-/// What the line is to be.
+/// Returns what the line is to be.
 pub fn order_of(line: &[u8]) -> Order
     ensures { result ≡ order_of line.now }
 {
@@ -70,7 +71,7 @@ pub fn order_of(line: &[u8]) -> Order
     network_order(line)
 }
 
-/// What the line is to be, where it is none of a member's.
+/// Returns what the line is to be, where it is none of a member's.
 fn network_order(line: &[u8]) -> Order
     ensures { result ≡ network_order line.now }
 {
@@ -92,7 +93,7 @@ fn network_order(line: &[u8]) -> Order
     Order::Other
 }
 
-/// Which of the first five lines follows so many of them; none where all of them stand.
+/// Returns which of the first five lines follows so many of them; none where all of them stand.
 pub fn head_order(before: usize) -> Option<Order>
     ensures { result ≡ head_order before }
 {
@@ -132,7 +133,7 @@ pub fn name_of(order: Order) -> &'static str
     }
 }
 
-/// How such a line is written, and what its words may be.
+/// Returns how such a line is written, and what its words may be.
 pub fn form_of(order: Order) -> &'static str
     ensures { result.now ≡ form_text order }
 {

@@ -117,7 +117,8 @@ fn token_in(text: &[u8]) -> Option<&[u8]>
     if is_token(line) { Some(line) } else { None }
 }
 
-/// Returns `true` if a file of this mode may be read or written by others than its owner and its group.
+/// Returns `true` if a file of this mode may be read or written by others than its owner and its
+/// group.
 fn is_open_mode(mode: u32) -> bool
     ensures { result ≡ is_open_mode mode }
 {
@@ -137,7 +138,8 @@ fn read_secret(host: &HostRuntime, path: &str) -> io::Result<(Vec<u8>, bool)> {
 ///
 /// # Errors
 ///
-/// [`Fault::File`] if the file can't be read; [`Fault::Token`] if others may read or write it, or if it holds no token.
+/// [`Fault::File`] if the file can't be read; [`Fault::Token`] if others may read or write it, or
+/// if it holds no token.
 fn read_token(host: &HostRuntime, path: &str) -> Result<Vec<u8>, Failure>
     ensures { IfErr result (IsNamed path.now) }
 {
@@ -254,7 +256,8 @@ fn warn_of_closed(host: &HostRuntime, is_closed: bool) {
     }
 }
 
-/// Returns once SIGTERM or SIGINT waits, at most half a second late. Where neither is blocked, one ends the process.
+/// Returns once SIGTERM or SIGINT waits, at most half a second late. Where neither is blocked, one
+/// ends the process.
 fn wait_for_signal<R: Caller>(rt: &R, host: &HostRuntime) {
     let blocked = blocks_signals(host);
     for _ in 0..u64::MAX {
@@ -282,12 +285,13 @@ fn serve_on<R: Caller>(
     Ok(0)
 }
 
-/// Serves the cluster of the client's settings over HTTP until SIGTERM or SIGINT comes, and prints a line once it listens. The
-/// status is 0. A signal that isn't blocked ends the process at once.
+/// Serves the cluster of the client's settings over HTTP until SIGTERM or SIGINT comes, and prints
+/// a line once it listens. The status is 0. A signal that isn't blocked ends the process at once.
 ///
 /// # Errors
 ///
-/// - [`Fault::File`] if the settings or the token can't be read, or the system draws no random bytes;
+/// - [`Fault::File`] if the settings or the token can't be read, or the system draws no random
+///   bytes;
 /// - [`Fault::Settings`] if the settings aren't a client's;
 /// - [`Fault::Address`] if the address to listen at isn't one;
 /// - [`Fault::Token`] if others may read or write the token's file, or it holds no token;

@@ -79,8 +79,8 @@ fn print_transcript(host: &HostRuntime, news: &News, bit: bool) -> Result<(), Fa
     Ok(())
 }
 
-/// Prints the first transcript of the question among these; true where there is one. Standard error says what the members before
-/// it sent.
+/// Prints the first transcript of the question among these; true where there is one. Standard error
+/// says what the members before it sent.
 fn print_first(host: &HostRuntime, news: &[News], question: u16) -> Result<bool, Failure> {
     for one in news {
         match bit_of(host.alloc(), one, question)? {
@@ -94,8 +94,9 @@ fn print_first(host: &HostRuntime, news: &[News], question: u16) -> Result<bool,
     Ok(false)
 }
 
-/// Prints the first transcript of the question that a member of the cluster sends, and says on standard error whose it is. The
-/// status is 0; 1 where none sends one, and then standard error says what each sent.
+/// Prints the first transcript of the question that a member of the cluster sends, and says on
+/// standard error whose it is. The status is 0; 1 where none sends one, and then standard error
+/// says what each sent.
 pub fn transcript_of_all<R: Caller>(
     rt: &R,
     host: &HostRuntime,
@@ -210,8 +211,8 @@ impl Audit {
         Ok(())
     }
 
-    /// Takes what members send until all is known or the time is over, and prints `yes` as soon as more than t proved one bit. True
-    /// where they did.
+    /// Takes what members send until all is known or the time is over, and prints `yes` as soon as
+    /// more than t proved one bit. True where they did.
     fn run<R: Caller>(
         &mut self,
         rt: &R,
@@ -237,9 +238,9 @@ impl Audit {
     }
 }
 
-/// Fetches the transcript of the question from each member of the cluster, all at once, and prints `yes` if those of more than t
-/// members are proof of one bit, and else `no`. The status is 0 for `yes` and 1 for `no`. Standard error says what each member's
-/// is worth.
+/// Fetches the transcript of the question from each member of the cluster, all at once, and prints
+/// `yes` if those of more than t members are proof of one bit, and else `no`. The status is 0 for
+/// `yes` and 1 for `no`. Standard error says what each member's is worth.
 pub fn audit_all<R: Caller>(
     rt: &R,
     host: &HostRuntime,

@@ -22,12 +22,12 @@ impl Input {
         }
     }
 
-    /// Whether the input has ended, or a read of it failed.
+    /// Returns `true` if the input has ended, or a read of it failed.
     pub fn has_ended(&self) -> bool {
         self.ended.load(Ordering::SeqCst)
     }
 
-    /// Whether a read of the input failed.
+    /// Returns `true` if a read of the input failed.
     pub fn has_failed(&self) -> bool {
         self.failed.load(Ordering::SeqCst)
     }
@@ -49,8 +49,8 @@ impl Input {
     }
 }
 
-/// Has a thread read the standard input to its end; none where the system refuses it. Nobody waits for that thread: the end of
-/// the program ends it.
+/// Has a thread read the standard input to its end; none where the system refuses it. Nobody waits
+/// for that thread: the end of the program ends it.
 pub fn read_aside<R: Threads>(rt: &R, alloc: Global, input: Stdin) -> Option<Arc<Input>> {
     let Ok(ours) = Arc::new(alloc, Input::new()) else {
         return None;

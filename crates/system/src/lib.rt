@@ -1,5 +1,5 @@
-//! The commands over the files, sockets and standard streams that their words name, and what is told of a fault. The words
-//! themselves are read above it.
+//! The commands over the files, sockets and standard streams that their words name, and what is
+//! told of a fault. The words themselves are read above it.
 #![tactic(auto)]
 
 mod addresses;

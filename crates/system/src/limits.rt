@@ -21,8 +21,8 @@ fn first_number(text: &[u8]) -> Option<u64>
     }
 }
 
-/// The most files that the process of this `/proc/self/limits` may have open; none where it may have any number, or none is
-/// said.
+/// The most files that the process of this `/proc/self/limits` may have open; none where it may
+/// have any number, or none is said.
 pub fn open_limit(alloc: Global, limits: &[u8]) -> Result<Option<u64>, AllocError>
     ensures some { IfOk result (λ found. IfSome found (HasLimit limits.now)) }
     ensures exact { (limit : ℕ) → HasLimit limits.now limit → IfOk result (λ found. found ≡ Some limit) }
@@ -33,7 +33,7 @@ pub fn open_limit(alloc: Global, limits: &[u8]) -> Result<Option<u64>, AllocErro
     }
 }
 
-/// What is said of so many files, which are too few.
+/// Returns what is said of so many files, which are too few.
 fn lack_words(alloc: Global, limit: u64, links: u64) -> Result<String, AllocError>
     ensures { IfOk result (λ text. string_bytes text ≡ lack_text limit links) }
 {
@@ -42,7 +42,7 @@ fn lack_words(alloc: Global, limit: u64, links: u64) -> Result<String, AllocErro
     )
 }
 
-/// What is said of so many files, which are enough for some of the clients.
+/// Returns what is said of so many files, which are enough for some of the clients.
 fn fewer_words(alloc: Global, limit: u64, links: u64, clients: u8) -> Result<String, AllocError>
     ensures { IfOk result (λ text. string_bytes text ≡ fewer_text limit links clients) }
 {
@@ -51,7 +51,8 @@ fn fewer_words(alloc: Global, limit: u64, links: u64, clients: u8) -> Result<Str
     )
 }
 
-/// Returns what is said of so many files, which are enough for all clients and some of the followers.
+/// Returns what is said of so many files, which are enough for all clients and some of the
+/// followers.
 fn followers_words(
     alloc: Global,
     limit: u64,
@@ -65,16 +66,18 @@ fn followers_words(
     )
 }
 
-/// How many files the links of a member of so many want: four for each member, nine for its streams, its journal and its two
-/// doors, two that the doors hold for who comes next, and two for a client that comes in the place of another.
+/// Returns how many files the links of a member of so many want: four for each member, nine for its
+/// streams, its journal and its two doors, two that the doors hold for who comes next, and two for
+/// a client that comes in the place of another.
 fn wanted_by_links(n: u8) -> u64
     ensures { result ≡ wanted n 0 }
 {
     4 * u64::from(n) + 13
 }
 
-/// How many clients at once a member of so many lets in, where it may have so many files open: those for whom files are left,
-/// but one at least and 32 at most; 32 where no limit is known.
+/// Returns how many clients at once a member of so many lets in, where it may have so many files
+/// open: those for whom files are left, but one at least and 32 at most; 32 where no limit is
+/// known.
 pub fn clients_within(limit: Option<u64>, n: u8) -> u8
     ensures { result ≡ clients_within limit n }
 {
@@ -84,8 +87,9 @@ pub fn clients_within(limit: Option<u64>, n: u8) -> u8
     }
 }
 
-/// Returns how many clients may follow decisions at once at a member of so many, if it may have `limit` files open: those for whom
-/// files are left if 32 clients are in, but one at least and 1,024 at most; 1,024 if no limit is known.
+/// Returns how many clients may follow decisions at once at a member of so many, if it may have
+/// `limit` files open: those for whom files are left if 32 clients are in, but one at least and
+/// 1,024 at most; 1,024 if no limit is known.
 pub fn followers_within(limit: Option<u64>, n: u8) -> u16
     ensures { result ≡ followers_within limit n }
 {
@@ -95,16 +99,16 @@ pub fn followers_within(limit: Option<u64>, n: u8) -> u16
     }
 }
 
-/// Returns the least number of open files with which a member can take part that needs links with so many members: four for
-/// each of these and twelve more, and what a member alone wants.
+/// Returns the least number of open files with which a member can take part that needs links with
+/// so many members: four for each of these and twelve more, and what a member alone wants.
 fn least_wanted(needed: u8) -> u64
     ensures { result ≡ least_wanted needed }
 {
     wanted_by_links(1).max(4 * u64::from(needed) + 12)
 }
 
-/// Returns `true` if so many open files are too few for a member to take part that needs links with so many members, n - t. If no
-/// limit is known they aren't.
+/// Returns `true` if so many open files are too few for a member to take part that needs links with
+/// so many members, n - t. If no limit is known they aren't.
 pub fn is_starved(limit: Option<u64>, needed: u8) -> bool
     ensures unknown { limit ≡ None → result ≡ false }
     ensures known { IfSome limit (λ limit. IsTrue result ↔ (limit < least_wanted needed)) }
@@ -115,7 +119,8 @@ pub fn is_starved(limit: Option<u64>, needed: u8) -> bool
     }
 }
 
-/// Returns what is told of so many open files, which are too few for a member that needs links with so many.
+/// Returns what is told of so many open files, which are too few for a member that needs links with
+/// so many.
 pub fn starved_words(alloc: Global, limit: Option<u64>, needed: u8) -> Result<String, AllocError>
     ensures { IfOk result (λ text. IfSome limit (λ limit. string_bytes text ≡ starved_text limit needed)) }
 {
@@ -130,8 +135,9 @@ pub fn starved_words(alloc: Global, limit: Option<u64>, needed: u8) -> Result<St
     }
 }
 
-/// Returns what is said if a member of so many has too few files for its links, 32 clients and 512 followers; none if it has
-/// enough. Of a limit of 1,024 files, as most systems set it, nothing is said.
+/// Returns what is said if a member of so many has too few files for its links, 32 clients and 512
+/// followers; none if it has enough. Of a limit of 1,024 files, as most systems set it, nothing is
+/// said.
 pub fn descriptors_lack(alloc: Global, limit: u64, n: u8) -> Result<Option<String>, AllocError>
     ensures few { limit < wanted n 1 →
         IfOk result (λ said. MatchOption said ⊥ (λ text. string_bytes text ≡ lack_text limit (wanted n 0))) }

@@ -20,7 +20,7 @@ use crate::process::{blocks_signals, is_called_off, most_files, warn_of_files};
 use crate::replaced::Watched;
 use crate::trouble::{Failure, Trouble, Whereabouts, trouble_of};
 use crate::unsynced::remove_old_mark;
-use disk::Disk;
+use disk::{Disk, Premise};
 use member::Member;
 use running::{Machine, Operator, RunFault, run_member};
 use settings::Settings;
@@ -36,8 +36,9 @@ use terms::Header;
 /// What is told of a journal that is gone.
 const GONE: &str = "the file was removed or replaced while the member ran";
 
-/// The standard streams of a member that runs: it prints that it is ready, and ends where the input does; or, where it stays,
-/// once it is stopped. Where signals are blocked it ends once one waits, and in any case once its journal is gone.
+/// The standard streams of a member that runs: it prints that it is ready, and ends where the input
+/// does; or, where it stays, once it is stopped. Where signals are blocked it ends once one waits,
+/// and in any case once its journal is gone.
 #[derive(Drop)]
 struct Console<'a> {
     host: &'a HostRuntime,
@@ -46,13 +47,13 @@ struct Console<'a> {
     stay: bool,
     /// SIGTERM or SIGINT is blocked, and waits once it comes.
     blocked: bool,
-    /// Where the input is looked at: the thread that reads it.
+    /// The input, as the thread that reads it shows it.
     input: Option<Arc<Input>>,
     /// The journal's file.
     journal: Watched<'a>,
-    /// Whether the member is stopped.
+    /// Set once the member is stopped.
     stopped: &'a AtomicBool,
-    /// What can be told of an address at which the member can't listen, or of a journal that is gone.
+    /// The trouble of an address at which the member can't listen, or of a journal that is gone.
     trouble: Option<Trouble>,
 }
 
@@ -71,12 +72,12 @@ impl<'a> Console<'a> {
         Ok(())
     }
 
-    /// Whether the member stays and is stopped.
+    /// Returns `true` if the member stays and is stopped.
     fn is_stopped(&self) -> bool {
         self.stay && self.stopped.load(Ordering::SeqCst)
     }
 
-    /// How the input ended that a thread reads; none where it hasn't, or none does.
+    /// Returns how the input ended that a thread reads; none where it hasn't, or none does.
     fn input_end(&self) -> Option<Result<(), RunFault>> {
         match &self.input {
             Some(input) if input.has_failed() => Some(Err(RunFault::Stream)),
@@ -85,8 +86,8 @@ impl<'a> Console<'a> {
         }
     }
 
-    /// Why the member can't listen at this address: the entry of the settings to look at, where it isn't this host's; else what
-    /// the system said.
+    /// Why the member can't listen at this address: the entry of the settings to look at, where it
+    /// isn't this host's; else what the system said.
     fn unheard_words(&self, address: SocketAddr, error: &io::Error) -> Result<String, AllocError> {
         let alloc = self.host.alloc();
         if error.kind() != io::ErrorKind::AddrNotAvailable {
@@ -99,7 +100,8 @@ impl<'a> Console<'a> {
         foreign_words(alloc, own_door(self.settings))
     }
 
-    /// Whether the journal's path names another file than the one that is open, or none. Then that is told.
+    /// Returns `true` if the journal's path names another file than the one that is open, or none.
+    /// Then that is told.
     fn is_without_journal(&mut self) -> bool {
         if !self.journal.is_replaced(self.host) {
             return false;
@@ -109,8 +111,8 @@ impl<'a> Console<'a> {
         true
     }
 
-    /// What ends the member in this quarter of a second, if something does: the end of the input, that it is stopped, or, at
-    /// the first of four, a signal or a journal that is gone.
+    /// Returns what ends the member in this quarter of a second, if something does: the end of the
+    /// input, that it is stopped, or, at the first of four, a signal or a journal that is gone.
     fn end_at(&mut self, turn: u64) -> Option<Result<(), RunFault>> {
         if let Some(end) = self.input_end() {
             return Some(end);
@@ -130,8 +132,9 @@ impl<'a> Console<'a> {
         None
     }
 
-    /// Returns once the member is stopped, or the input has ended that a thread reads, at most a quarter of a second late; or
-    /// once a signal waits or the journal is gone, at most a second late. Else after more years than any machine lives.
+    /// Returns once the member is stopped, or the input has ended that a thread reads, at most a
+    /// quarter of a second late; or once a signal waits or the journal is gone, at most a second
+    /// late. Else after more years than any machine lives.
     fn wait(&mut self) -> Result<(), RunFault> {
         for turn in 0..u64::MAX {
             if let Some(end) = self.end_at(turn) {
@@ -179,7 +182,7 @@ impl<'a> Operator for Console<'a> {
     }
 }
 
-/// What can be told of the journal of a member that is stopped.
+/// Returns what can be told of the journal of a member that is stopped.
 fn trouble_of_stop(alloc: Global, source: &Source<'_>) -> Option<Trouble>
     ensures { IfSome result (λ trouble. string_bytes trouble.thing ≡ source.now.path.now) }
 {
@@ -192,7 +195,8 @@ fn trouble_of_stop(alloc: Global, source: &Source<'_>) -> Option<Trouble>
     }
 }
 
-/// What can be told of a member that is stopped: what the console was told, or else why its journal ended.
+/// Returns what can be told of a member that is stopped: what the console was told, or else why its
+/// journal ended.
 fn told_of_stop(alloc: Global, source: &Source<'_>, told: Option<Trouble>) -> Option<Trouble>
     ensures told { IsSome told → result ≡ told }
     ensures stopped { told ≡ None → IfSome result (λ trouble. string_bytes trouble.thing ≡ source.now.path.now) }
@@ -203,8 +207,9 @@ fn told_of_stop(alloc: Global, source: &Source<'_>, told: Option<Trouble>) -> Op
     }
 }
 
-/// What can be told of how a run ended: where the member was forgotten, of its journal, which is put aside; where it is stopped
-/// what the console was told, or else why; else what the console was told.
+/// Returns what can be told of how a run ended: where the member was forgotten, of its journal,
+/// which is put aside; where it is stopped what the console was told, or else why; else what the
+/// console was told.
 fn told_at_end(
     host: &HostRuntime,
     run: &Result<(), RunFault>,
@@ -223,7 +228,7 @@ fn told_at_end(
     }
 }
 
-/// How a run ended: with status 0, or a fault and what can be told of it.
+/// Returns how a run ended: with status 0, or a fault and what can be told of it.
 fn ended(run: Result<(), RunFault>, trouble: Option<Trouble>) -> Result<u8, Failure>
     ensures ok { IfOk run (λ _. result ≡ Ok 0) }
     ensures fault { IfErr run (λ fault. result ≡ Err (record { fault = ends.Run fault; trouble = trouble })) }
@@ -245,8 +250,8 @@ fn warn_of_strangers(host: &HostRuntime) {
     );
 }
 
-/// A thread that reads the standard input, where a member would else wait for that input itself; none where the system refuses
-/// it.
+/// A thread that reads the standard input, where a member would else wait for that input itself;
+/// none where the system refuses it.
 fn input_of<R: Machine>(rt: &R, host: &HostRuntime, stay: bool) -> Option<Arc<Input>> {
     if stay {
         None
@@ -255,19 +260,21 @@ fn input_of<R: Machine>(rt: &R, host: &HostRuntime, stay: bool) -> Option<Arc<In
     }
 }
 
-/// Runs the member of the settings in the file until the standard input ends; where it stays, until it is stopped; where the
-/// process was started with SIGTERM or SIGINT blocked, until one comes; and no longer than the journal's path names its file.
-/// The status is 0. Its events are told on the standard error in the form of the log. Links are taken from their members' own
-/// hosts, unless any host may speak for any member, which is told on the standard error first.
+/// Runs the member of the settings in the file until the standard input ends; where it stays, until
+/// it is stopped; where the process was started with SIGTERM or SIGINT blocked, until one comes;
+/// and no longer than the journal's path names its file. The status is 0. Its events are told on
+/// the standard error in the form of the log. Links are taken from their members' own hosts, unless
+/// any host may speak for any member, which is told on the standard error first.
 ///
-/// Files and standard streams are those of the host. Threads and sockets are those of `rt`, under a bound that has
-/// neither files nor input, as threads ask for.
+/// Files and standard streams are those of the host. Threads and sockets are those of `rt`, under a
+/// bound that has neither files nor input, as threads ask for.
 ///
-/// [`Fault::File`]: the settings or the journal can't be opened, or fewer files than a member wants. [`Fault::Settings`],
-/// [`Fault::Journal`]: they are of no use, or a sync of the journal failed since the machine was started. [`Fault::Run`]: no
-/// listener could be had, the member was stopped when the input ended, or its journal is gone; or it was forgotten, in this run
-/// or in an earlier one, and its journal is put aside.
-pub fn run_file<R: Machine>(
+/// [`Fault::File`]: the settings or the journal can't be opened, or fewer files than a member
+/// wants. [`Fault::Settings`], [`Fault::Journal`]: they are of no use, or a sync of the journal
+/// failed since the machine was started. [`Fault::Run`]: no listener could be had, the member was
+/// stopped when the input ended, or its journal is gone; or it was forgotten, in this run or in an
+/// earlier one, and its journal is put aside.
+pub fn run_file<R: Machine, P: Premise + Send>(
     rt: &R,
     host: &HostRuntime,
     path: &str,
@@ -276,7 +283,7 @@ pub fn run_file<R: Machine>(
     any_host: bool,
 ) -> Result<u8, Failure> {
     let settings = read_settings(host, path)?;
-    run_settings(rt, host, &settings, stay, log, any_host)
+    run_settings::<R, P>(rt, host, &settings, stay, log, any_host)
 }
 
 /// Refuses to run with too few open files for a member that needs links with so many.
@@ -293,8 +300,9 @@ fn keep_from_starving(host: &HostRuntime, limit: Option<u64>, needed: u8) -> Res
     Err(Failure::at(alloc, Fault::File, "open files", Whereabouts::Whole, &words))
 }
 
-/// Opens the member of that header on the disk of its journal. A fault hands the disk back beside what is told of it: no byte of
-/// the file was changed, and a crash left nothing of it but what it might have left before.
+/// Opens the member of that header on the disk of its journal. A fault hands the disk back beside
+/// what is told of it: no byte of the file was changed, and a crash left nothing of it but what it
+/// might have left before.
 fn open_member<D: Disk>(
     host: &HostRuntime,
     source: &Source<'_>,
@@ -316,7 +324,7 @@ fn open_member<D: Disk>(
 }
 
 /// Runs the member of these settings, as `run_file` says.
-fn run_settings<'a, R: Machine>(
+fn run_settings<'a, R: Machine, P: Premise + Send>(
     rt: &R,
     host: &'a HostRuntime,
     settings: &'a Settings,
@@ -332,7 +340,7 @@ fn run_settings<'a, R: Machine>(
         |_| Fault::Memory,
     )?;
     refuse_forgotten(host, settings.journal.as_str(), settings.header.me())?;
-    let (disk, source) = open_good_disk(host, settings.journal.as_str(), Purpose::Run)?;
+    let (disk, source) = open_good_disk::<P>(host, settings.journal.as_str(), Purpose::Run)?;
     remove_old_mark(host, source.path);
     let journal = Watched::new(host, source.path);
     let member = match open_member(host, &source, disk, &settings.header) {

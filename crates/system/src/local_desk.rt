@@ -1,4 +1,5 @@
-//! The socket of a member's desk in the file system: who may use it is said by the rights of a file.
+//! The socket of a member's desk in the file system: who may use it is said by the rights of a
+//! file.
 
 ghost use Rattle.system.specs.Faults.{IsMeant};
 ghost use Rattle.system.specs.Troubles.{IsNamed};
@@ -15,7 +16,7 @@ use std::io;
 use std::os::unix::fs::{FileTypeExt, PermissionsExt};
 use std::os::unix::net::{UnixListener, UnixStream};
 
-/// What is at the path of a socket that is to be made.
+/// The thing at the path of a socket that is to be made.
 #[derive(Clone, Copy, Debug, PartialEq, Eq)]
 enum Found {
     Nothing,
@@ -27,7 +28,7 @@ enum Found {
     Other,
 }
 
-/// What is at that path.
+/// Returns what is at that path.
 fn found_at(rt: &HostRuntime, path: &str) -> Found {
     match fs::symlink_metadata(rt, path) {
         Err(_) => Found::Nothing,
@@ -55,10 +56,11 @@ fn unheard<T: std::fmt::Display>(rt: &HostRuntime, path: &str, words: &T) -> Fai
     Failure::at(rt.alloc(), fault, path, Whereabouts::Listen, words)
 }
 
-/// Listens for clients of this machine at that path, at a file that its owner alone can use. A socket that a process left
-/// behind is taken away first.
+/// Listens for clients of this machine at that path, at a file that its owner alone can use. A
+/// socket that a process left behind is taken away first.
 ///
-/// [`Fault::Run`] with [`RunFault::Listen`]: another process listens there, another file is there, or the system refuses it.
+/// [`Fault::Run`] with [`RunFault::Listen`]: another process listens there, another file is there,
+/// or the system refuses it.
 fn listen_locally(rt: &HostRuntime, path: &str) -> Result<UnixListener, Failure>
     ensures fault { IfErr result (λ failure. failure.fault ≡ ends.Run ends_of_run.Listen) }
     ensures named { IfErr result (IsNamed path.now) }
@@ -77,7 +79,8 @@ fn listen_locally(rt: &HostRuntime, path: &str) -> Result<UnixListener, Failure>
     }
 }
 
-/// These addresses, and what listens for clients of this machine where the settings name a path for it.
+/// These addresses, and what listens for clients of this machine where the settings name a path for
+/// it.
 ///
 /// The faults are those of `listen_locally`.
 pub(crate) fn with_socket(

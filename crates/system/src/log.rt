@@ -43,7 +43,8 @@ pub fn log_form(log: bool, log_json: bool) -> LogForm
     }
 }
 
-/// Returns what stands behind an event in its line: what the system said of the journal's file if that is known.
+/// Returns what stands behind an event in its line: what the system said of the journal's file if
+/// that is known.
 fn device_words(alloc: Global, device: Option<&str>) -> Result<String, AllocError>
     ensures { IfOk result (λ words. string_bytes words ≡ device_text (option_map (λ text. text.now) device.entry)) }
 {
@@ -78,7 +79,8 @@ pub fn timed_line(
     format!(in alloc; "{time} {line}")
 }
 
-/// Returns the text of a moment that the clock gives, in UTC. `None` if it gives none, or one past the year 9999.
+/// Returns the text of a moment that the clock gives, in UTC. `None` if it gives none, or one past
+/// the year 9999.
 fn now_text<R: Clock>(clock: &R, alloc: Global) -> Option<String>
     ensures { IfSome result (λ text. (milliseconds : ℕ) × IsMoment milliseconds (string_bytes text)) }
 {
@@ -97,21 +99,22 @@ fn now_text<R: Clock>(clock: &R, alloc: Global) -> Option<String>
     }
 }
 
-/// A log on the standard error: a line for each event, by one write, if lines are wanted. That the member is stopped is told in
-/// any case, with what the system said if a call of its journal's file failed, and is noted.
+/// A log on the standard error: a line for each event, by one write, if lines are wanted. That the
+/// member is stopped is told in any case, with what the system said if a call of its journal's file
+/// failed, and is noted.
 #[derive(Drop)]
 pub struct ErrorLog<'a, R: Clock> {
     /// The clock that tells the time of a line when it is printed.
     pub clock: &'a R,
     /// Memory for lines.
     pub alloc: Global,
-    /// Where lines go.
+    /// The stream to which lines go.
     pub errors: Stderr,
-    /// How events are told.
+    /// The form in which events are told.
     pub form: LogForm,
     /// Set once the member is stopped.
     pub stopped: &'a AtomicBool,
-    /// Where the system's error is kept at the first call of the journal's file that fails.
+    /// The place for the system's error at the first call of the journal's file that fails.
     pub first_error: Option<Arc<FirstError>>,
 }
 

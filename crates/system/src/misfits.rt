@@ -1,4 +1,4 @@
-//! Which word of a line of a script is wrong, and what it has to be.
+//! The word of a line of a script that is wrong, and what it has to be.
 
 ghost use Rattle.std.specs.Prelude.{ℕ, ◌≡◌, ◌⊎◌, ◌<◌, ◌≤◌, true, IfOk, IfSome, option_map, string_bytes};
 ghost use Rattle.std.specs.List.{list_any};
@@ -12,7 +12,7 @@ use crate::forms::{Order, name_of};
 use numerals::{is, number, number8, number16};
 use std::alloc::{AllocError, Global};
 
-/// What a word of a line has to be.
+/// The form of a word of a line.
 #[derive(Clone, Copy, Debug, PartialEq, Eq)]
 pub enum Part {
     /// The name of the line.
@@ -22,13 +22,13 @@ pub enum Part {
     Bit,
     /// `next`, or the number of a statement.
     Which,
-    /// How many statements a group has at most.
+    /// The most statements of a group.
     Count,
     /// The bytes of a lie.
     Digits,
     /// The calls of a fuse, or `off`.
     Calls,
-    /// What a crash leaves.
+    /// The rest that a crash leaves.
     Left,
     /// The byte that a crash fills with.
     Byte,
@@ -38,7 +38,7 @@ pub enum Part {
     Number,
 }
 
-/// What the word has to be, in words.
+/// Returns what the word has to be, in words.
 fn part_text(part: Part) -> &'static str
     ensures { result.now ≡ part_text part }
 {
@@ -58,7 +58,7 @@ fn part_text(part: Part) -> &'static str
     }
 }
 
-/// What the words behind the name of a line have to be.
+/// Returns what the words behind the name of a line have to be.
 fn parts_of(order: Order) -> (Option<Part>, Option<Part>, Option<Part>)
     ensures { result ≡ parts_of order }
 {
@@ -83,7 +83,8 @@ fn parts_of(order: Order) -> (Option<Part>, Option<Part>, Option<Part>)
     }
 }
 
-/// What the word at that place of a line has to be, its name at place 0; none where no word may stand.
+/// Returns what the word at that place of a line has to be, its name at place 0; none where no word
+/// may stand.
 fn part_at(order: Order, place: usize) -> Option<Part>
     ensures { result ≡ part_at order place }
 {
@@ -97,7 +98,7 @@ fn part_at(order: Order, place: usize) -> Option<Part>
     }
 }
 
-/// Whether the word isn't a number below 2^8.
+/// Returns `true` if the word isn't a number below 2^8.
 fn is_no_byte(word: &[u8]) -> bool
     ensures { result ≡ true → (n : ℕ) → IsBelow 8 word.now n → ⊥ }
 {
@@ -107,7 +108,7 @@ fn is_no_byte(word: &[u8]) -> bool
     }
 }
 
-/// Whether the word isn't a number below 2^16.
+/// Returns `true` if the word isn't a number below 2^16.
 fn is_not_small(word: &[u8]) -> bool
     ensures { result ≡ true → (n : ℕ) → IsBelow 16 word.now n → ⊥ }
 {
@@ -117,7 +118,7 @@ fn is_not_small(word: &[u8]) -> bool
     }
 }
 
-/// Whether the word isn't a number below 2^64.
+/// Returns `true` if the word isn't a number below 2^64.
 fn is_no_number(word: &[u8]) -> bool
     ensures { result ≡ true → (n : ℕ) → IsBelow 64 word.now n → ⊥ }
 {
@@ -127,7 +128,7 @@ fn is_no_number(word: &[u8]) -> bool
     }
 }
 
-/// Whether the word is no bit.
+/// Returns `true` if the word is no bit.
 fn is_no_bit(word: &[u8]) -> bool
     ensures { result ≡ true → (n : ℕ) → IsBelow 64 word.now n → n ≤ 1 → ⊥ }
 {
@@ -137,7 +138,7 @@ fn is_no_bit(word: &[u8]) -> bool
     }
 }
 
-/// Whether the word isn't how many statements a group has.
+/// Returns `true` if the word isn't how many statements a group has.
 fn is_no_count(word: &[u8]) -> bool
     ensures { result ≡ true → (n : ℕ) → IsBelow 16 word.now n → 1 ≤ n → n ≤ 256 → ⊥ }
 {
@@ -147,28 +148,28 @@ fn is_no_count(word: &[u8]) -> bool
     }
 }
 
-/// Whether a byte of the word is no hexadecimal digit.
+/// Returns `true` if a byte of the word is no hexadecimal digit.
 fn has_other(word: &[u8]) -> bool
     ensures { result ≡ list_any is_other word.now }
 {
     word.iter().any(|byte| !byte.is_ascii_hexdigit())
 }
 
-/// Whether the word isn't an even count of hexadecimal digits, at least two.
+/// Returns `true` if the word isn't an even count of hexadecimal digits, at least two.
 fn is_no_hex(word: &[u8]) -> bool
     ensures { result ≡ is_no_hex word.now }
 {
     word.len() < 2 || word.len() % 2 == 1 || has_other(word)
 }
 
-/// Whether the word isn't what a crash may leave.
+/// Returns `true` if the word isn't what a crash may leave.
 fn is_nothing_left(word: &[u8]) -> bool
     ensures { result ≡ true → IsPart parts.Left word.now → ⊥ }
 {
     !is(word, "kept") && !is(word, "lost") && !is(word, "fill")
 }
 
-/// Whether the word isn't that one, and no number below 2^64 either.
+/// Returns `true` if the word isn't that one, and no number below 2^64 either.
 fn is_neither(word: &[u8], name: &str) -> bool
     ensures name { result ≡ true → word.now ≡ name.now → ⊥ }
     ensures number { result ≡ true → (n : ℕ) → IsBelow 64 word.now n → ⊥ }
@@ -176,7 +177,7 @@ fn is_neither(word: &[u8], name: &str) -> bool
     !is(word, name) && is_no_number(word)
 }
 
-/// Whether the word is wrong where this has to stand.
+/// Returns `true` if the word is wrong where this has to stand.
 fn is_wrong(part: Part, word: &[u8]) -> bool
     ensures { result ≡ true → IsPart part word.now → ⊥ }
 {
@@ -195,7 +196,7 @@ fn is_wrong(part: Part, word: &[u8]) -> bool
     }
 }
 
-/// Whether what stands at a place isn't what has to stand there.
+/// Returns `true` if what stands at a place isn't what has to stand there.
 fn misfits(part: Option<Part>, word: Option<&[u8]>) -> bool
     ensures { result ≡ true → Misfits part (option_map (λ word. word.now) word.entry) }
 {
@@ -223,7 +224,7 @@ fn misfit(words: &[&[u8]], order: Order) -> Option<usize>
     None
 }
 
-/// What is told of a word that is missing, or isn't empty.
+/// Returns what is told of a word that is missing, or isn't empty.
 fn wrong_words(alloc: Global, number: usize, part: Option<Part>) -> Result<String, AllocError>
     ensures { IfOk result (λ text. string_bytes text ≡ wrong_text number part) }
 {
@@ -233,14 +234,14 @@ fn wrong_words(alloc: Global, number: usize, part: Option<Part>) -> Result<Strin
     }
 }
 
-/// What is told of a word that is empty.
+/// Returns what is told of a word that is empty.
 fn empty_words(alloc: Global, number: usize) -> Result<String, AllocError>
     ensures { IfOk result (λ text. string_bytes text ≡ empty_text number) }
 {
     format!(in alloc; "word {number} is empty: a blank before it is too many")
 }
 
-/// What is told of the word of that number, counted from 1, where this has to stand.
+/// Returns what is told of the word of that number, counted from 1, where this has to stand.
 fn misfit_words(
     alloc: Global,
     number: usize,
@@ -255,7 +256,7 @@ fn misfit_words(
     }
 }
 
-/// What stands before, between and behind the blanks of the line.
+/// Returns what stands before, between and behind the blanks of the line.
 fn words_of(alloc: Global, line: &[u8]) -> Result<Vec<&[u8]>, AllocError>
     ensures { IfOk result (λ words. texts words.items ≡ words_of line.now) }
 {
@@ -272,7 +273,7 @@ fn whole_order(words: &[&[u8]], order: Order) -> Order
     }
 }
 
-/// What is told of the word at that place of a line of this order, and a colon.
+/// Returns what is told of the word at that place of a line of this order, and a colon.
 fn told_words(
     alloc: Global,
     words: &[&[u8]],
@@ -287,7 +288,8 @@ fn told_words(
     format!(in alloc; "{told}: ")
 }
 
-/// What is told of the first of the words of a line of this order that is wrong, and a colon; nothing where none is found.
+/// Returns what is told of the first of the words of a line of this order that is wrong, and a
+/// colon; nothing where none is found.
 fn why_of(alloc: Global, words: &[&[u8]], order: Order) -> Result<String, AllocError>
     ensures { IfOk result (λ text. IsWhyOf order (texts words.now) (string_bytes text)) }
 {
@@ -300,7 +302,8 @@ fn why_of(alloc: Global, words: &[&[u8]], order: Order) -> Result<String, AllocE
     }
 }
 
-/// What is told of the word of a line of this order that is wrong, and a colon; nothing where none is found.
+/// Returns what is told of the word of a line of this order that is wrong, and a colon; nothing
+/// where none is found.
 pub fn why_words(alloc: Global, line: &[u8], order: Order) -> Result<String, AllocError>
     ensures { IfOk result (λ text. IsWhy order line.now (string_bytes text)) }
 {

@@ -272,7 +272,8 @@ fn put_refused(object: &mut Writer, alloc: Global, refused: &RefusalCount) -> Re
     put_number(object, "count", refused.count)
 }
 
-/// Appends what is said of a link that came up to a peer that has heard more than the journal holds.
+/// Appends what is said of a link that came up to a peer that has heard more than the journal
+/// holds.
 fn put_ahead(object: &mut Writer, peer: u8, count: u64, version: Version) -> Result<(), AllocError>
     ensures { Adds result object.old object.new (up_fields (codes "to") peer version ++ number_field (codes "ahead") count) }
 {
@@ -366,8 +367,8 @@ fn put_event(
     object.end_object()
 }
 
-/// Returns the object of an event in a line: its time, its name, its fields, and what the system said of the journal's file
-/// if that is known.
+/// Returns the object of an event in a line: its time, its name, its fields, and what the system
+/// said of the journal's file if that is known.
 pub fn event_object(
     alloc: Global,
     time: Option<&str>,

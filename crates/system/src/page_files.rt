@@ -1,4 +1,4 @@
-//! Where the pages of a simulation go.
+//! The places for the pages of a simulation.
 
 ghost use Rattle.commands.specs.Shows.{path_text};
 ghost use Rattle.system.specs.Faults.{AreApart, ArePagesApart, IsMeant};
@@ -35,9 +35,10 @@ pub fn name_of(path: &str) -> &str {
     }
 }
 
-/// Writes a page of the simulation, where it has a path, into the file there, or to the standard output where the path is
-/// `-`. What was in the file is replaced. The page is written as it is made: where that fails a part of it may be written. The
-/// number of a chart's rows comes out, and 0 for another page and for none.
+/// Writes a page of the simulation, where it has a path, into the file there, or to the standard
+/// output where the path is `-`. What was in the file is replaced. The page is written as it is
+/// made: where that fails a part of it may be written. The number of a chart's rows comes out, and
+/// 0 for another page and for none.
 pub fn write_page(
     rt: &HostRuntime,
     simulation: &Simulation,
@@ -60,7 +61,8 @@ pub fn write_page(
     }
 }
 
-/// The fault of a page that can't be written: that of its file, or of the standard output where the path is `-`.
+/// The fault of a page that can't be written: that of its file, or of the standard output where the
+/// path is `-`.
 pub fn fault_at(path: Option<&str>, of_file: Fault) -> Fault
     ensures output { option_map (λ path. path.now) path.entry ≡ Some (codes "-") → result ≡ ends.Stream }
     ensures file { option_map (λ path. path.now) path.entry ≢ Some (codes "-") → result ≡ of_file }
@@ -122,8 +124,8 @@ fn is_too_long(rows: u64) -> bool
     rows >= LONG
 }
 
-/// Says on the standard error that the chart in the file at this path, of so many rows, is too long for most viewers, if it is.
-/// Nothing is said of one on the standard output.
+/// Says on the standard error that the chart in the file at this path, of so many rows, is too long
+/// for most viewers, if it is. Nothing is said of one on the standard output.
 pub fn warn_of_length(rt: &HostRuntime, rows: u64, path: Option<&str>) {
     let Some(path) = path else {
         return;
@@ -140,7 +142,7 @@ pub fn warn_of_length(rt: &HostRuntime, rows: u64, path: Option<&str>) {
     let _unsaid = errors.write_all(line.as_bytes());
 }
 
-/// Whether what is known of two files is known of one.
+/// Returns `true` if what is known of two files is known of one.
 fn is_one_node(one: &Metadata, other: &Metadata) -> bool {
     one.dev() == other.dev() && one.ino() == other.ino()
 }
@@ -153,7 +155,8 @@ fn folder_of(path: &str) -> Path<'_> {
     }
 }
 
-/// Whether paths at which nothing is would be one file: they have one name, and one folder.
+/// Returns `true` if paths at which nothing is would be one file: they have one name, and one
+/// folder.
 fn would_be_one(rt: &HostRuntime, one: &str, other: &str) -> bool {
     match (
         fs::metadata(rt, folder_of(one)),
@@ -167,7 +170,7 @@ fn would_be_one(rt: &HostRuntime, one: &str, other: &str) -> bool {
     }
 }
 
-/// Whether the paths name one file, be it there or not.
+/// Returns `true` if the paths name one file, be it there or not.
 fn is_one_file(rt: &HostRuntime, one: &str, other: &str) -> bool
     ensures { one.now ≡ other.now → IsTrue result }
 {
@@ -191,7 +194,8 @@ pub fn keep_two_apart(rt: &HostRuntime, path: &str, file: &str) -> Result<(), Fa
     Ok(())
 }
 
-/// Refuses a page that would be written over the file. [`Fault::SameFile`]: its path names that file.
+/// Refuses a page that would be written over the file. [`Fault::SameFile`]: its path names that
+/// file.
 fn keep_off(rt: &HostRuntime, page: Option<&str>, file: &str) -> Result<(), Fault>
     ensures { IsOk result → option_map (λ path. path.now) page.entry ≢ Some file.now }
 {
@@ -201,7 +205,8 @@ fn keep_off(rt: &HostRuntime, page: Option<&str>, file: &str) -> Result<(), Faul
     }
 }
 
-/// Refuses two pages that would be written over one another. [`Fault::SameFile`]: their paths name one file.
+/// Refuses two pages that would be written over one another. [`Fault::SameFile`]: their paths name
+/// one file.
 fn keep_pages_apart(rt: &HostRuntime, one: Option<&str>, other: Option<&str>) -> Result<(), Fault>
     ensures { IsOk result → ArePagesApart (option_map (λ path. path.now) one.entry) (option_map (λ path. path.now) other.entry) }
 {
@@ -211,8 +216,8 @@ fn keep_pages_apart(rt: &HostRuntime, one: Option<&str>, other: Option<&str>) ->
     }
 }
 
-/// Refuses pages that would be written over the script or over one another, before anything is written.
-/// [`Fault::SameFile`]: two of the paths name one file.
+/// Refuses pages that would be written over the script or over one another, before anything is
+/// written. [`Fault::SameFile`]: two of the paths name one file.
 pub fn keep_apart(rt: &HostRuntime, script: &str, paths: &PagePaths<'_>) -> Result<(), Fault>
     ensures { IsOk result → AreApart script.now (path_text paths.now.trace) (path_text paths.now.chart) (path_text paths.now.play) }
 {

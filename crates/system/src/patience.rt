@@ -1,4 +1,4 @@
-//! How long a client waits, as its words say it.
+//! The time that a client waits, as its words say it.
 
 ghost use Rattle.std.specs.Prelude.{◌≡◌, IfErr, IfOk, IsNone, None};
 ghost use Rattle.commands.specs.Patience.{IsPatience};
@@ -9,10 +9,10 @@ use crate::trouble::{Failure, Whereabouts};
 use commands::milliseconds;
 use std::alloc::Global;
 
-/// What is taken.
+/// The form of `--timeout`.
 const WORDS: &str = "--timeout wants seconds from 0 to 65535, as 5, 0.5 or 5s";
 
-/// How many milliseconds a text of seconds says. [`Fault::Timeout`]: the text isn't a time.
+/// Returns how many milliseconds a text of seconds says. [`Fault::Timeout`]: the text isn't a time.
 fn told_patience(alloc: Global, text: &str) -> Result<u32, Failure>
     ensures told { IfOk result (IsPatience text.now) }
     ensures fault { IfErr result (λ failure. failure.fault ≡ ends.Timeout) }
@@ -23,7 +23,8 @@ fn told_patience(alloc: Global, text: &str) -> Result<u32, Failure>
     }
 }
 
-/// Returns how many milliseconds a client is to wait, if it is told. [`Fault::Timeout`]: the text isn't a time.
+/// Returns how many milliseconds a client is to wait, if it is told. [`Fault::Timeout`]: the text
+/// isn't a time.
 pub fn patience_of(alloc: Global, text: Option<&str>) -> Result<Option<u32>, Failure>
     ensures fault { IfErr result (λ failure. failure.fault ≡ ends.Timeout) }
     ensures untold { IfOk result (λ found. IsNone text.entry → found ≡ None) }

@@ -13,19 +13,20 @@ use std::alloc::{AllocError, Global};
 use std::fs::File;
 use std::io::{self, Read};
 
-/// What a file is read for. None that is one is longer than what is read.
+/// The kind of text for which a file is read. None that is one is longer than what is read.
 #[derive(Clone, Copy, Debug, PartialEq, Eq)]
 pub enum Text {
     /// The settings of a member: up to 1 MiB.
     Settings,
-    /// A transcript: up to 32 MiB. The longest true one, of 64 members and all 32 rounds, has 19 MB.
+    /// A transcript: up to 32 MiB. The longest true one, of 64 members and all 32 rounds, has 19
+    /// MB.
     Transcript,
     /// A script: up to 32 MiB. That is enough for 1,000,000 events of one statement each.
     Script,
 }
 
 impl Text {
-    /// How many bytes of it are read at most.
+    /// Returns how many bytes of it are read at most.
     fn most(self) -> u64
         ensures { result ≡ most_of self }
     {
@@ -36,7 +37,7 @@ impl Text {
     }
 }
 
-/// What is told of a file that is longer than what is read.
+/// Returns what is told of a file that is longer than what is read.
 fn long_words(alloc: Global, most: u64) -> Result<String, AllocError>
     ensures { IfOk result (λ text. string_bytes text ≡ codes "longer than " ++ (decimal most ++ codes " bytes, the most that is read")) }
 {
@@ -62,7 +63,7 @@ fn read_some(rt: &HostRuntime, path: &str, most: u64) -> io::Result<Vec<u8>> {
     Ok(bytes)
 }
 
-/// Whether there are more bytes than so many.
+/// Returns `true` if there are more bytes than so many.
 fn is_longer(bytes: &[u8], most: u64) -> bool
     ensures no { result ≡ false → length bytes.now ≤ most }
     ensures yes { result ≡ true → most < length bytes.now }

@@ -1,18 +1,18 @@
-//! Whether the path of a journal still names the file that is open.
+//! The file at the path of a journal, compared with the one that is open.
 
 ghost use Rattle.std.specs.Prelude.{◌≡◌, ◌↔◌, IsTrue};
 
 use std::os::unix::fs::MetadataExt;
 use std::{fs, io};
 
-/// Where the system keeps a file: the device, and the file's number on it.
+/// The identity of a file for the system: the device, and the file's number on it.
 #[derive(Clone, Copy, Debug)]
 pub struct Identity {
     pub device: u64,
     pub number: u64,
 }
 
-/// Whether the two are one file.
+/// Returns `true` if the two are one file.
 fn is_same(one: Identity, other: Identity) -> bool
     ensures { IsTrue result ↔ ((one.device ≡ other.device) × (one.number ≡ other.number)) }
 {
@@ -37,7 +37,7 @@ pub struct Watched<'a> {
 }
 
 impl<'a> Watched<'a> {
-    /// Of a file that was just opened at this path.
+    /// Returns the watch over a file that was just opened at this path.
     pub fn new(host: &HostRuntime, path: &'a str) -> Watched<'a> {
         Watched {
             path,
@@ -50,7 +50,8 @@ impl<'a> Watched<'a> {
         self.path
     }
 
-    /// Whether the path names another file by now, or none. Where the system doesn't say it doesn't.
+    /// Returns `true` if the path names another file by now, or none. Where the system doesn't say
+    /// it doesn't.
     pub fn is_replaced(&self, host: &HostRuntime) -> bool {
         let Some(opened) = self.opened else {
             return false;

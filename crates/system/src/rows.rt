@@ -1,4 +1,5 @@
-//! The rows of a chart that the words ask for: whether there can be such rows, and what is told where there can't.
+//! The rows of a chart that the words ask for: whether there can be such rows, and what is told
+//! where there can't.
 
 ghost use Rattle.system.specs.declared.fault.Fault.TheVariants as ends;
 ghost use Rattle.system.specs.Rows.{AreBounds, IsAll, IsOfSize, IsOfRows};
@@ -67,7 +68,8 @@ fn order_failure(alloc: Global, from: u32, to: u32) -> Failure
     option_failure(alloc, Fault::First, "--from", from, &words)
 }
 
-/// Refuses each option of rows. [`Fault::Question`], [`Fault::Member`], [`Fault::First`] and [`Fault::Last`]: it was given.
+/// Refuses each option of rows. [`Fault::Question`], [`Fault::Member`], [`Fault::First`] and
+/// [`Fault::Last`]: it was given.
 fn refuse_options(alloc: Global, choice: Choice) -> Result<(), Failure>
     ensures ok { IsOk result → IsAll choice }
     ensures fault { IfErr result (λ failure. IsOfRows failure.fault) }
@@ -127,8 +129,9 @@ fn refuse_order(alloc: Global, from: Option<u32>, to: Option<u32>) -> Result<(),
     }
 }
 
-/// Refuses rows that no chart can have, before the script is read: rows without a chart, and numbers that no events have.
-/// [`Fault::Question`], [`Fault::Member`], [`Fault::First`] and [`Fault::Last`]: the option at fault.
+/// Refuses rows that no chart can have, before the script is read: rows without a chart, and
+/// numbers that no events have. [`Fault::Question`], [`Fault::Member`], [`Fault::First`] and
+/// [`Fault::Last`]: the option at fault.
 pub fn check_rows(alloc: Global, chart: Option<&str>, choice: Choice) -> Result<(), Failure>
     ensures chart { IsOk result → chart.entry ≡ None → IsAll choice }
     ensures bounds { IsOk result → AreBounds choice }
@@ -164,7 +167,8 @@ fn refuse_member(alloc: Global, member: Option<u8>, n: u8) -> Result<(), Failure
     }
 }
 
-/// Refuses rows of a question or a member that a script of this size hasn't. [`Fault::Question`] and [`Fault::Member`].
+/// Refuses rows of a question or a member that a script of this size hasn't. [`Fault::Question`]
+/// and [`Fault::Member`].
 pub fn check_size(alloc: Global, size: Size, choice: Choice) -> Result<(), Failure>
     ensures ok { IsOk result → IsOfSize size choice }
     ensures fault { IfErr result (λ failure. IsOfRows failure.fault) }

@@ -1,5 +1,5 @@
-//! The form that a command's words have, where it has two: `audit` of a file or of a cluster, `simulate`
-//! with a script or for ever.
+//! The form that a command's words have, where it has two: `audit` of a file or of a cluster,
+//! `simulate` with a script or for ever.
 
 ghost use Rattle.std.specs.Prelude.{◌≡◌, IfErr, IfOk, Some};
 ghost use Rattle.system.specs.Shapes.{audited_by};
@@ -120,7 +120,8 @@ fn simulated_by<'a>(words: &SimulateWords<'a>) -> Option<Simulated<'a>> {
     }
 }
 
-/// Plays what the words of `simulate` name. [`Fault::Words`]: they have neither form. Rows of a chart are refused for ever too.
+/// Plays what the words of `simulate` name. [`Fault::Words`]: they have neither form. Rows of a
+/// chart are refused for ever too.
 pub fn simulate(rt: &HostRuntime, words: &SimulateWords<'_>) -> Result<u8, Failure> {
     match simulated_by(words) {
         Some(Simulated::Script(script)) => {

@@ -8,7 +8,8 @@ use numerals::bytes;
 use std::alloc::Global;
 use terms::Memory;
 
-/// Whether a mask of signals has SIGTERM, which is number 15, or SIGINT, which is number 2.
+/// Returns `true` if a mask of signals has SIGTERM, which is number 15, or SIGINT, which is number
+/// 2.
 fn has_stop(mask: &[u8]) -> bool
     ensures { result ≡ has_stop mask.now }
 {
@@ -18,7 +19,7 @@ fn has_stop(mask: &[u8]) -> bool
     }
 }
 
-/// Whether the line of that head has such a mask, in hexadecimal digits.
+/// Returns `true` if the line of that head has such a mask, in hexadecimal digits.
 fn says_stop(alloc: Global, status: &[u8], head: &str) -> Result<bool, Memory>
     ensures { IfOk result (λ says. IsTrue says ↔ SaysStop head.now status.now) }
 {
@@ -31,14 +32,14 @@ fn says_stop(alloc: Global, status: &[u8], head: &str) -> Result<bool, Memory>
     }
 }
 
-/// Whether the process of this `/proc/self/status` blocks SIGTERM or SIGINT.
+/// Returns `true` if the process of this `/proc/self/status` blocks SIGTERM or SIGINT.
 pub fn is_blocked(alloc: Global, status: &[u8]) -> Result<bool, Memory>
     ensures { IfOk result (λ blocked. IsTrue blocked ↔ SaysStop (codes "SigBlk:\t") status.now) }
 {
     says_stop(alloc, status, "SigBlk:\t")
 }
 
-/// Whether SIGTERM or SIGINT waits for that process, or for its first thread.
+/// Returns `true` if SIGTERM or SIGINT waits for that process, or for its first thread.
 pub fn is_called(alloc: Global, status: &[u8]) -> Result<bool, Memory>
     ensures { IfOk result (λ called. IsTrue called ↔ (SaysStop (codes "ShdPnd:\t") status.now ⊎ SaysStop (codes "SigPnd:\t") status.now)) }
 {

@@ -1,4 +1,5 @@
-//! A line for all members of a cluster, and the reply of each: begin at `propose_to_all` and `status_of_all`, last.
+//! A line for all members of a cluster, and the reply of each: begin at `propose_to_all` and
+//! `status_of_all`, last.
 
 use crate::board::News;
 use crate::callers::{Caller, Calls, Cluster, Lines};
@@ -103,8 +104,8 @@ fn tell_one(
     }
 }
 
-/// Prints the replies by their members' numbers. The status is the highest of any; of members that are to be ready, that of their
-/// links.
+/// Prints the replies by their members' numbers. The status is the highest of any; of members that
+/// are to be ready, that of their links.
 fn tell_all(host: &HostRuntime, all: &Replies, form: StateForm) -> Result<u8, Failure> {
     let mut status = 0;
     let mut member = 0u8;
@@ -119,8 +120,9 @@ fn tell_all(host: &HostRuntime, all: &Replies, form: StateForm) -> Result<u8, Fa
     Ok(status)
 }
 
-/// Proposes a bit to each member of the cluster, all at once, and prints a line `member M REPLY` for each, where REPLY is
-/// `no answer` for one that doesn't answer in time. The status is 0 where each reply is a good one, and 1 else.
+/// Proposes a bit to each member of the cluster, all at once, and prints a line `member M REPLY`
+/// for each, where REPLY is `no answer` for one that doesn't answer in time. The status is 0 where
+/// each reply is a good one, and 1 else.
 pub fn propose_to_all<R: Caller>(
     rt: &R,
     host: &HostRuntime,
@@ -152,8 +154,8 @@ fn line_for(alloc: Global, form: StateForm) -> Result<String, AllocError> {
     }
 }
 
-/// Asks each member of the cluster for its state, all at once, and prints a line `member M REPLY` for each, as `propose_to_all`
-/// does, or an object of JSON. The status is the highest of any.
+/// Asks each member of the cluster for its state, all at once, and prints a line `member M REPLY`
+/// for each, as `propose_to_all` does, or an object of JSON. The status is the highest of any.
 pub fn status_of_all<R: Caller>(
     rt: &R,
     host: &HostRuntime,

@@ -8,14 +8,14 @@ use commands::lines_in;
 use numerals::behind;
 use std::alloc::{AllocError, Global};
 
-/// What stands behind the head, if the line begins with it.
+/// Returns what stands behind the head, if the line begins with it.
 pub fn rest_of<'a>(line: &'a [u8], head: &str) -> Option<&'a [u8]>
     ensures { option_map (λ rest. rest.now) result ≡ rest_of head.now line.now }
 {
     behind(line, head)
 }
 
-/// What stands behind the head in the first of the lines that begins with it.
+/// Returns what stands behind the head in the first of the lines that begins with it.
 fn first_with<'a>(lines: &[&'a [u8]], head: &str) -> Option<&'a [u8]>
     ensures { option_map (λ rest. rest.now) result ≡ first_with head.now (texts lines.now) }
 {
@@ -27,7 +27,7 @@ fn first_with<'a>(lines: &[&'a [u8]], head: &str) -> Option<&'a [u8]>
     None
 }
 
-/// What stands behind the head in the first line of the text that begins with it.
+/// Returns what stands behind the head in the first line of the text that begins with it.
 pub fn line_with<'a>(
     alloc: Global,
     text: &'a [u8],

@@ -1,4 +1,4 @@
-//! What is told of faults in texts and journals.
+//! The words on faults in texts and journals.
 
 ghost use Rattle.system.specs.Tellings.{IsJournalPlace, IsJournalWords, IsLineOf, IsLongWords, IsOldPlace, IsOwnerWords, IsNotOldWords, IsPlaceOfKey, AreLineWords, IsLineWords, ends_blank, headless_words, is_quoted, AreScriptWords, IsScriptPlace, IsScriptWords, IsOrderOf, IsWhyAt, IsSettingsPlace, IsSettingsWords, IsStrayPlace, IsTranscriptPlace, IsTranscriptWords, is_control, of_settings, place_at, size_key, stray_words};
 ghost use Rattle.system.specs.Troubles.{IsTold};
@@ -62,7 +62,8 @@ pub(crate) fn place_of(alloc: Global, text: &str, key: Key) -> Whereabouts
     }
 }
 
-/// The failure of a text of settings that isn't TOML: the line at which its reader fails, and why it does.
+/// The failure of a text of settings that isn't TOML: the line at which its reader fails, and why
+/// it does.
 fn text_failure(alloc: Global, path: &str, text: &str) -> Failure
     ensures fault { result.fault ≡ ends.Settings unset.Text }
     ensures told { IfSome result.trouble (IsTold path.now (IsLineOf text.now) (λ _. ⊤)) }
@@ -93,7 +94,8 @@ fn key_failure(alloc: Global, path: &str, text: &str, key: Key) -> Failure
     }
 }
 
-/// The failure of settings whose numbers make no size: the line of the key to look at, and what its value has to be.
+/// The failure of settings whose numbers make no size: the line of the key to look at, and what its
+/// value has to be.
 fn size_failure(alloc: Global, path: &str, text: &str, size: SizeFault) -> Failure
     ensures fault { result.fault ≡ ends.Settings (unset.Size size) }
     ensures told { IfSome result.trouble (IsTold path.now (IsPlaceOfKey (size_key size) text.now) (λ words. words ≡ asked_words (size_key size))) }
@@ -107,8 +109,8 @@ fn size_failure(alloc: Global, path: &str, text: &str, size: SizeFault) -> Failu
     }
 }
 
-/// The failure of a text of settings: the key that is wrong, its line, and what its value has to be. No value is told, since
-/// one is a secret.
+/// The failure of a text of settings: the key that is wrong, its line, and what its value has to
+/// be. No value is told, since one is a secret.
 pub fn settings_failure(alloc: Global, path: &str, text: &str, fault: SettingsFault) -> Failure
     ensures fault { result.fault ≡ of_settings fault }
     ensures told { IfSome result.trouble (IsTold path.now (IsSettingsPlace fault text.now) (IsSettingsWords fault text.now)) }
@@ -142,13 +144,13 @@ fn place_at(found: Result<Option<usize>, AllocError>) -> Whereabouts
     }
 }
 
-/// What is told of a key that stands in no table, and is none of a member's.
+/// The words on a key that stands in no table, and is none of a member's.
 const UNKNOWN: &str = "no key of the settings, ignored";
 
-/// What is told of a key that stands in a table.
+/// The words on a key that stands in a table.
 const IN_TABLE: &str = "stands in a table, ignored";
 
-/// What is told of a key that is ignored.
+/// Returns what is told of a key that is ignored.
 fn stray_words(alloc: Global, stray: &Stray) -> Result<String, AllocError>
     ensures { IfOk result (λ text. string_bytes text ≡ stray_words (string_bytes stray.now.name) stray.now.in_table) }
 {
@@ -158,7 +160,8 @@ fn stray_words(alloc: Global, stray: &Stray) -> Result<String, AllocError>
     format!(in alloc; "{}: {UNKNOWN}", stray.name)
 }
 
-/// What can be told of a key of a text of settings that is ignored: its line, its name, and why. The value isn't told.
+/// Returns what can be told of a key of a text of settings that is ignored: its line, its name, and
+/// why. The value isn't told.
 pub fn stray_trouble(alloc: Global, path: &str, text: &str, stray: &Stray) -> Option<Trouble>
     ensures { IfSome result (IsTold path.now (IsStrayPlace (string_bytes stray.now.name) stray.now.in_table text.now)
         (λ words. words ≡ stray_words (string_bytes stray.now.name) stray.now.in_table)) }
@@ -170,8 +173,8 @@ pub fn stray_trouble(alloc: Global, path: &str, text: &str, stray: &Stray) -> Op
     }
 }
 
-/// The place at which a journal with these bytes goes wrong, and the words for it: the bytes that stand there, and the
-/// fault. None where the fault isn't the file's, or there is no memory.
+/// The place at which a journal with these bytes goes wrong, and the words for it: the bytes that
+/// stand there, and the fault. None where the fault isn't the file's, or there is no memory.
 fn journal_words(
     alloc: Global,
     fault: &Fault,
@@ -186,8 +189,8 @@ fn journal_words(
     Some((place, words))
 }
 
-/// The failure of a journal in which that was found: the place at which its file goes wrong, and the bytes there. Where
-/// these aren't known the fault is told of the whole file.
+/// The failure of a journal in which that was found: the place at which its file goes wrong, and
+/// the bytes there. Where these aren't known the fault is told of the whole file.
 fn bytes_failure(
     alloc: Global,
     path: &str,
@@ -204,8 +207,9 @@ fn bytes_failure(
     }
 }
 
-/// Returns the place at which the file of a journal of version 1 goes wrong, and the words for it: the bytes that stand there,
-/// and the fault. Returns None if the fault isn't that file's, or there is no memory.
+/// Returns the place at which the file of a journal of version 1 goes wrong, and the words for it:
+/// the bytes that stand there, and the fault. Returns None if the fault isn't that file's, or there
+/// is no memory.
 fn old_words(
     alloc: Global,
     fault: &Fault,
@@ -220,8 +224,8 @@ fn old_words(
     Some((place, words))
 }
 
-/// Tells of a journal of version 1 in which that was found: the place at which its file goes wrong, and the bytes there. If
-/// these aren't known the fault is told of the whole file.
+/// Tells of a journal of version 1 in which that was found: the place at which its file goes wrong,
+/// and the bytes there. If these aren't known the fault is told of the whole file.
 pub fn old_failure(
     alloc: Global,
     path: &str,
@@ -238,7 +242,8 @@ pub fn old_failure(
     Failure::at(alloc, fault, path, Whereabouts::Byte(place), &words)
 }
 
-/// The failure of a journal of another header than the one that was asked for: whose it is, and in what they differ.
+/// The failure of a journal of another header than the one that was asked for: whose it is, and in
+/// what they differ.
 fn other_failure(alloc: Global, path: &str, fault: Fault, asked: &Header, file: &[u8]) -> Failure
     ensures fault { result.fault ≡ fault }
     ensures told { IfSome result.trouble (IsTold path.now (IsJournalPlace OtherHeader file.now) (λ words. IsOtherOwner file.now asked.now words ⊎ IsHeadless file.now)) }
@@ -250,8 +255,8 @@ fn other_failure(alloc: Global, path: &str, fault: Fault, asked: &Header, file: 
     }
 }
 
-/// The failure of a file that should have been empty: whose journal it is; where it is none, whose it begins as, or that it is no
-/// journal of bracha.
+/// The failure of a file that should have been empty: whose journal it is; where it is none, whose
+/// it begins as, or that it is no journal of bracha.
 fn owner_failure(alloc: Global, path: &str, fault: Fault, file: &[u8]) -> Failure
     ensures fault { result.fault ≡ fault }
     ensures told { IfSome result.trouble (IsTold path.now (IsJournalPlace NotEmpty file.now) (IsOwnerWords file.now)) }
@@ -263,8 +268,9 @@ fn owner_failure(alloc: Global, path: &str, fault: Fault, file: &[u8]) -> Failur
     }
 }
 
-/// The failure of a file that should have been empty and is too long for its records to be counted, by its first bytes: whose
-/// journal it begins as, or that it is no journal of bracha where it begins as none.
+/// The failure of a file that should have been empty and is too long for its records to be counted,
+/// by its first bytes: whose journal it begins as, or that it is no journal of bracha where it
+/// begins as none.
 pub fn long_failure(alloc: Global, path: &str, fault: Fault, front: &[u8], length: u64) -> Failure
     ensures fault { result.fault ≡ fault }
     ensures told { IfSome result.trouble (IsTold path.now (λ at. at ≡ whereabouts.Whole) (IsLongWords front.now length)) }
@@ -276,13 +282,13 @@ pub fn long_failure(alloc: Global, path: &str, fault: Fault, front: &[u8], lengt
     }
 }
 
-/// What is told of a journal of version 1.
+/// The words on a journal of version 1.
 const OLD: &str = "a journal of version 1: `bracha migrate OLD NEW` brings it over into a new file";
 
-/// What is told of an empty file.
+/// The words on an empty file.
 const EMPTY: &str = "empty: `bracha init` makes the journal of a new member, and of no other";
 
-/// What is told of a file that begins with no header.
+/// Returns what is told of a file that begins with no header.
 fn headless_words(alloc: Global, file: &[u8]) -> Result<String, AllocError>
     ensures { IfOk result (λ text. string_bytes text ≡ headless_words file.now) }
 {
@@ -303,10 +309,10 @@ fn headless_failure(alloc: Global, path: &str, fault: Fault, file: &[u8]) -> Fai
     }
 }
 
-/// What is told of a journal of version 2 that should have been one of version 1.
+/// The words on a journal of version 2 that should have been one of version 1.
 const NEW: &str = "is version 2 already, and needs no migration";
 
-/// What is told of a file that should have been a journal of version 1, and is none.
+/// The words on a file that should have been a journal of version 1, and is none.
 const NOT_OLD: &str = "no journal of version 1";
 
 /// The failure of a file that should have been a journal of version 1, and begins with these bytes.
@@ -321,9 +327,10 @@ pub fn not_old_failure(alloc: Global, path: &str, fault: Fault, front: &[u8]) ->
     }
 }
 
-/// The failure of a journal in which that was found, where the one of this header was asked for, if one was: whose it is, where
-/// it is another's or should have been empty; how it is brought over, where it is of version 1; that the file is none, where it
-/// begins with no header; else the place at which its file goes wrong, and the bytes there.
+/// The failure of a journal in which that was found, where the one of this header was asked for, if
+/// one was: whose it is, where it is another's or should have been empty; how it is brought over,
+/// where it is of version 1; that the file is none, where it begins with no header; else the place
+/// at which its file goes wrong, and the bytes there.
 pub fn journal_failure(
     alloc: Global,
     path: &str,
@@ -353,14 +360,14 @@ pub fn journal_failure(
     }
 }
 
-/// Whether one of the bytes is a control character.
+/// Returns `true` if one of the bytes is a control character.
 fn has_control(bytes: &[u8]) -> bool
     ensures { result ≡ list_any is_control bytes.now }
 {
     bytes.iter().any(|byte| byte.is_ascii_control())
 }
 
-/// Whether the last byte is a blank.
+/// Returns `true` if the last byte is a blank.
 fn ends_blank(bytes: &[u8]) -> bool
     ensures { result ≡ ends_blank bytes.now }
 {
@@ -370,15 +377,16 @@ fn ends_blank(bytes: &[u8]) -> bool
     }
 }
 
-/// Whether the line is shown in quotes: it has a control byte, such as the 0D of another system's line end, or a blank at its end,
-/// which nobody would see.
+/// Returns `true` if the line is shown in quotes: it has a control byte, such as the 0D of another
+/// system's line end, or a blank at its end, which nobody would see.
 fn is_quoted(line: &[u8]) -> bool
     ensures { result ≡ is_quoted line.now }
 {
     has_control(line) || ends_blank(line)
 }
 
-/// The words for a line of a script or a transcript that isn't empty: the line, in quotes and with escapes where that shows more.
+/// The words for a line of a script or a transcript that isn't empty: the line, in quotes and with
+/// escapes where that shows more.
 fn words_of(alloc: Global, line: &[u8]) -> Result<String, AllocError>
     ensures { IfOk result (λ text. IsLineWords line.now (string_bytes text)) }
 {
@@ -389,10 +397,11 @@ fn words_of(alloc: Global, line: &[u8]) -> Result<String, AllocError>
     }
 }
 
-/// What is told of a line that isn't there.
+/// The words on a line that isn't there.
 const ENDS: &str = "the text ends before this line";
 
-/// The words for a line, or for none. An empty line behind all others is none; others follow it or not.
+/// The words for a line, or for none. An empty line behind all others is none; others follow it or
+/// not.
 fn words_by(alloc: Global, line: Option<&[u8]>, followed: bool) -> Result<String, AllocError>
     ensures { IfOk result (λ text. AreLineWords (option_map (λ line. line.now) line.entry) followed (string_bytes text)) }
 {
@@ -408,7 +417,7 @@ fn words_by(alloc: Global, line: Option<&[u8]>, followed: bool) -> Result<String
     String::from_str(alloc, ENDS)
 }
 
-/// How many lines there are.
+/// Returns how many lines there are.
 fn count_lines(alloc: Global, text: &[u8]) -> Result<usize, AllocError>
     ensures { IfOk result (λ count. count ≡ length (lines_in text.now)) }
 {
@@ -423,7 +432,7 @@ fn words_at(alloc: Global, text: &[u8], number: usize) -> Result<String, AllocEr
     words_by(alloc, line_at(alloc, text, number)?, number < count)
 }
 
-/// Whether the line says something: it isn't empty, and no comment.
+/// Returns `true` if the line says something: it isn't empty, and no comment.
 fn is_said(line: &[u8]) -> bool {
     match line.first() {
         Some(byte) => *byte != b'#',
@@ -431,12 +440,13 @@ fn is_said(line: &[u8]) -> bool {
     }
 }
 
-/// How many of the lines say something.
+/// Returns how many of the lines say something.
 fn count_said(lines: &[&[u8]]) -> usize {
     lines.iter().filter(|line| is_said(line)).count()
 }
 
-/// What the line of that number of a script is to be: one of the first five that say something, or an event.
+/// Returns what the line of that number of a script is to be: one of the first five that say
+/// something, or an event.
 fn order_at(alloc: Global, text: &[u8], number: usize) -> Result<Order, AllocError>
     ensures { IfOk result (λ order. IsOrderOf (slice_get (lines_in text.now) (number - 1)) order) }
 {
@@ -450,7 +460,8 @@ fn order_at(alloc: Global, text: &[u8], number: usize) -> Result<Order, AllocErr
     }
 }
 
-/// What is told of the word of the line of that number that is wrong, and a colon; nothing where none is found.
+/// Returns what is told of the word of the line of that number that is wrong, and a colon; nothing
+/// where none is found.
 fn why_at(alloc: Global, text: &[u8], number: usize, order: Order) -> Result<String, AllocError>
     ensures { IfOk result (λ why. IsWhyAt order (slice_get (lines_in text.now) (number - 1)) (string_bytes why)) }
 {
@@ -460,7 +471,8 @@ fn why_at(alloc: Global, text: &[u8], number: usize, order: Order) -> Result<Str
     }
 }
 
-/// The words for the line of that number of a script, which of its words is wrong, and how it is to be written.
+/// The words for the line of that number of a script, which of its words is wrong, and how it is to
+/// be written.
 fn script_words(alloc: Global, text: &[u8], number: usize) -> Result<String, AllocError>
     ensures { IfOk result (λ words. AreScriptWords (slice_get (lines_in text.now) (number - 1)) (nat_lt number (length (lines_in text.now))) (string_bytes words)) }
 {
@@ -485,7 +497,8 @@ fn script_line_failure(alloc: Global, path: &str, text: &[u8], number: u64) -> F
     }
 }
 
-/// The failure of a script whose first three lines make no size: which of them is to be looked at, and what it has to be.
+/// The failure of a script whose first three lines make no size: which of them is to be looked at,
+/// and what it has to be.
 fn script_size_failure(alloc: Global, path: &str, size: SizeFault) -> Failure
     ensures fault { result.fault ≡ ends.Simulate (unplayed.Size size) }
     ensures told { IfSome result.trouble (IsTold path.now (λ at. at ≡ whereabouts.Whole) (λ words. words ≡ asked_words (size_key size))) }
@@ -497,14 +510,14 @@ fn script_size_failure(alloc: Global, path: &str, size: SizeFault) -> Failure
     }
 }
 
-/// What is told of a script of too many events.
+/// The words on a script of too many events.
 const EVENTS: &str = "more than 1000000 events, the most that are taken";
 
-/// What is told of a script whose liars can't be.
+/// The words on a script whose liars can't be.
 const LIARS: &str = "the liars have to ascend, each below n, and to be t at most";
 
-/// The failure of a script: its text where it is about a line, and how that is to be written; what its size, its events and its
-/// liars have to be, where they are at fault.
+/// The failure of a script: its text where it is about a line, and how that is to be written; what
+/// its size, its events and its liars have to be, where they are at fault.
 pub fn script_failure(alloc: Global, path: &str, text: &[u8], fault: SimulateFault) -> Failure
     ensures fault { result.fault ≡ ends.Simulate fault }
     ensures told { IfSome result.trouble (IsTold path.now (IsScriptPlace fault) (IsScriptWords fault text.now)) }

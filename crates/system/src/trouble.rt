@@ -1,4 +1,4 @@
-//! What can be told of the thing that a fault is about.
+//! The thing that a fault is about, and what is wrong with it.
 
 ghost use Rattle.system.specs.Faults.{IsMeant, IsFileFault};
 ghost use Rattle.system.specs.Troubles.{IsPrinted, IsTold};
@@ -9,7 +9,7 @@ use crate::fault::Fault;
 use std::alloc::Global;
 use std::{fmt, io};
 
-/// Where a thing went wrong, or what was tried on it.
+/// The place where a thing went wrong, or what was tried on it.
 #[derive(Clone, Copy, Debug, PartialEq, Eq)]
 pub enum Whereabouts {
     /// All of it.
@@ -18,11 +18,11 @@ pub enum Whereabouts {
     Line(usize),
     /// This byte, counted from 0.
     Byte(usize),
-    /// It was to be opened for reading and writing.
+    /// The thing was to be opened for reading and writing.
     Open,
-    /// It was to be read.
+    /// The thing was to be read.
     Read,
-    /// It was to be written.
+    /// The thing was to be written.
     Write,
     /// A connection to it was to be made.
     Connect,
@@ -50,14 +50,15 @@ impl fmt::Display for Whereabouts {
     }
 }
 
-/// What can be told of the thing that a fault is about. Its text is the second line that is printed of a fault where the
-/// words ask for it: the thing, the place, and what is wrong there, as in `a.toml: read: Permission denied (os error 13)`.
+/// What can be told of the thing that a fault is about. Its text is the second line that is printed
+/// of a fault where the words ask for it: the thing, the place, and what is wrong there, as in
+/// `a.toml: read: Permission denied (os error 13)`.
 #[derive(Debug, Drop)]
 pub struct Trouble {
     /// The path of a file, or an address.
     pub thing: String,
     pub place: Whereabouts,
-    /// What is wrong, in the system's words or the program's own.
+    /// The words for what is wrong: the system's, or the program's own.
     pub words: String,
 }
 
@@ -137,7 +138,8 @@ impl Failure {
         }
     }
 
-    /// The failure as it is told: its fault, and what can be told of it, but where that isn't wanted.
+    /// The failure as it is told: its fault, and what can be told of it, but where that isn't
+    /// wanted.
     pub fn told(self, quiet: bool) -> Failure
         ensures fault { result.fault ≡ self.fault }
         ensures told { quiet ≡ false → result ≡ self }
@@ -150,7 +152,7 @@ impl Failure {
     }
 }
 
-/// What can be told at a place of a thing, where there is memory for it.
+/// Returns what can be told at a place of a thing, where there is memory for it.
 pub fn trouble_of<T: fmt::Display>(
     alloc: Global,
     thing: &str,

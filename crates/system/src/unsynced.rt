@@ -1,21 +1,22 @@
 //! The mark of a sync that failed, and the disk that leaves it.
 //!
-//! After a write-back that failed Linux takes the pages for clean, so that reads give what no disk has, and the next sync says
-//! that all is well. A file of which a sync failed is therefore not to be trusted until the machine has started anew. The mark
-//! is a symbolic link beside the journal whose target is the boot's id: it takes no block of the disk.
+//! After a write-back that failed Linux takes the pages for clean, so that reads give what no disk
+//! has, and the next sync says that all is well. A file of which a sync failed is therefore not to
+//! be trusted until the machine has started anew. The mark is a symbolic link beside the journal
+//! whose target is the boot's id: it takes no block of the disk.
 
 ghost use Rattle.std.specs.Prelude.{◌≡◌, ◌↔◌, ◌++◌, Some, None, codes, slice_get, string_bytes, IfErr, IfOk, IfSome, IsTrue};
 ghost use Rattle.disk.specs.File.{file_failures};
-ghost use Rattle.disk.specs.Model.{CountsFailures};
 ghost use Rattle.journal.specs.declared.fault.JournalFault.TheVariants.{Device};
 ghost use Rattle.commands.specs.TextLines.{lines_in};
+ghost use Rattle.system.specs.Disks.{marked_file};
 ghost use Rattle.system.specs.Faults.{IsMeant};
 ghost use Rattle.system.specs.declared.fault.Fault.TheVariants as ends;
 
 use crate::fault::Fault;
 use crate::trouble::{Failure, Whereabouts};
 use commands::line_at;
-use disk::{DeviceFault, Disk, FileDisk};
+use disk::{DeviceFault, Disk, FileDisk, Premise};
 use journal::JournalFault;
 use std::alloc::{AllocError, Global};
 use std::os::unix;
@@ -24,7 +25,7 @@ use std::{fs, io};
 /// The file of the system that has the boot's id.
 const BOOT: &str = "/proc/sys/kernel/random/boot_id";
 
-/// What is told of a journal with a mark of this boot.
+/// The words on a journal with a mark of this boot.
 const CAUSE: &str =
     "a sync of this journal failed since the machine started: restart the machine, or copy the file past the cache to another disk (see OPERATING)";
 
@@ -48,14 +49,14 @@ fn mark_path(alloc: Global, journal: &str) -> Result<String, AllocError>
     format!(in alloc; "{journal}.unsynced")
 }
 
-/// Whether a mark with this target was left in the boot of this id.
+/// Returns `true` if a mark with this target was left in the boot of this id.
 fn is_of(target: &str, boot: &str) -> bool
     ensures { IsTrue result ↔ (target.now ≡ boot.now) }
 {
     target == boot
 }
 
-/// Where the mark of a journal stands, and what it says in this boot.
+/// The place of a journal's mark, and what it says in this boot.
 #[derive(Drop)]
 struct Mark {
     path: String,
@@ -79,7 +80,7 @@ impl Mark {
         Ok(Some(Mark { path, boot }))
     }
 
-    /// Whether the mark is there, and of which boot: this one, or another.
+    /// Returns if the mark is there, and of which boot: `true` for this one, `false` for another.
     fn found(&self, host: &HostRuntime) -> Result<Option<bool>, AllocError> {
         match fs::read_link(host, self.path.as_str()) {
             Ok(target) => Ok(Some(is_of(target.as_str(), self.boot.as_str()))),
@@ -128,19 +129,21 @@ pub fn remove_old_mark(host: &HostRuntime, journal: &str) {
     }
 }
 
-/// The disk in a journal's file, which leaves a mark beside it before it answers that a sync failed. What is said of the disk of
-/// a file holds of it, and no more.
+/// The disk in a journal's file, which leaves a mark beside it before it answers that a sync
+/// failed. What is said of the disk of a file holds of it.
 #[derive(Drop)]
-pub struct MarkedDisk {
-    disk: FileDisk,
+pub struct MarkedDisk<P: Premise> {
+    disk: FileDisk<P>,
     host: HostRuntime,
     /// None where the system tells no id of the boot, or memory was refused.
     mark: Option<Mark>,
 }
 
-impl MarkedDisk {
+impl<P: Premise> MarkedDisk<P> {
     /// The disk of the journal's file at this path.
-    pub fn new(host: &HostRuntime, disk: FileDisk, journal: &str) -> MarkedDisk {
+    pub fn new(host: &HostRuntime, disk: FileDisk<P>, journal: &str) -> MarkedDisk<P>
+        ensures { marked_file result ≡ disk }
+    {
         MarkedDisk {
             disk,
             host: *host,
@@ -156,47 +159,44 @@ impl MarkedDisk {
     }
 }
 
-impl Disk for MarkedDisk {
-    ghost use Rattle.disk.specs.Model.{at_rest};
-    ghost use Rattle.std.specs.Prelude.{[]};
+impl<P: Premise> Disk for MarkedDisk<P> {
+    ghost use Rattle.disk.specs.File.{AnswersAs, file_moment, file_past, file_since, file_state};
+    ghost use Rattle.disk.specs.Laws.{counts_now, only_now, may_leave_seen};
 
-    ghost keeps = { λ _. ⊥ };
+    ghost keeps = { λ marked. AnswersAs P.file (marked_file marked) };
 
-    ghost state = { λ _. at_rest [] };
+    ghost begun = { λ _. P.file.start };
 
-    ghost moment = { λ _. 0 };
+    ghost state = { λ marked. file_state P.file (marked_file marked) };
 
-    ghost since = { λ _ t file. ⊥ };
+    ghost moment = { λ marked. file_moment P.file (marked_file marked) };
 
-    ghost failures = { λ marked. file_failures marked.disk };
+    ghost since = { λ marked. file_since P.file (marked_file marked) };
 
-    ghost counts_now = { λ disk t file keeps le may. absurd keeps };
+    ghost failures = { λ marked. file_failures (marked_file marked) };
 
-    ghost only_now = { λ disk file keeps left. absurd keeps };
+    ghost counts_now = { λ d t file keeps le may. counts_now (file_past P.file (marked_file d)).start
+        (file_past P.file (marked_file d)).calls t file le may };
 
-    ghost may_leave_seen = { λ disk keeps. absurd keeps };
+    ghost only_now = { λ d file keeps left. only_now (file_past P.file (marked_file d)).start
+        (file_past P.file (marked_file d)).calls file left };
 
-    fn len(&mut self) -> Result<usize, DeviceFault>
-        ensures cause { CountsFailures (file_failures self.old.disk) (file_failures self.new.disk) result }
-    {
+    ghost may_leave_seen = { λ d keeps. may_leave_seen (file_past P.file (marked_file d)).start
+        (file_past P.file (marked_file d)).calls };
+
+    fn len(&mut self) -> Result<usize, DeviceFault> {
         self.disk.len()
     }
 
-    fn read_at(&mut self, at: usize, buf: &mut [u8]) -> Result<(), DeviceFault>
-        ensures cause { CountsFailures (file_failures self.old.disk) (file_failures self.new.disk) result }
-    {
+    fn read_at(&mut self, at: usize, buf: &mut [u8]) -> Result<(), DeviceFault> {
         self.disk.read_at(at, buf)
     }
 
-    fn write_at(&mut self, at: usize, bytes: &[u8]) -> Result<(), DeviceFault>
-        ensures cause { CountsFailures (file_failures self.old.disk) (file_failures self.new.disk) result }
-    {
+    fn write_at(&mut self, at: usize, bytes: &[u8]) -> Result<(), DeviceFault> {
         self.disk.write_at(at, bytes)
     }
 
-    fn sync(&mut self) -> Result<(), DeviceFault>
-        ensures cause { CountsFailures (file_failures self.old.disk) (file_failures self.new.disk) result }
-    {
+    fn sync(&mut self) -> Result<(), DeviceFault> {
         match self.disk.sync() {
             Ok(()) => Ok(()),
             Err(fault) => {

@@ -1,5 +1,5 @@
-//! What is told of faults of the words: what is no number, numbers that make no size, a member that there is not, and lines of
-//! `hear`.
+//! What is told of faults of the words: what is no number, numbers that make no size, a member that
+//! there is not, and lines of `hear`.
 
 ghost use Rattle.system.specs.declared.fault.Fault.{Fault};
 ghost use Rattle.system.specs.declared.fault.Fault.TheVariants as ends;
@@ -15,7 +15,7 @@ use numerals::size_from;
 use std::alloc::Global;
 use terms::{Size, SizeFault};
 
-/// What has to hold where it doesn't.
+/// Returns what has to hold where it doesn't.
 fn rule_of(fault: SizeFault) -> &'static str {
     match fault {
         SizeFault::NoMembers | SizeFault::TooManyMembers => "1 <= n <= 64 has to hold",
@@ -86,7 +86,8 @@ fn line_failure(alloc: Global, line: u64) -> Failure
     }
 }
 
-/// The failure of `hear` as a member `me` of `n`: of a member that there is not, or a line that is none, with words.
+/// The failure of `hear` as a member `me` of `n`: of a member that there is not, or a line that is
+/// none, with words.
 fn hear_failure(alloc: Global, n: u8, me: u8, fault: HearFault) -> Failure
     ensures { result.fault ≡ ends.Hear fault }
 {
@@ -98,7 +99,8 @@ fn hear_failure(alloc: Global, n: u8, me: u8, fault: HearFault) -> Failure
     }
 }
 
-/// Returns how `hear` as a member `me` of `n` ended, with words for a member that there is not and a line that is none.
+/// Returns how `hear` as a member `me` of `n` ended, with words for a member that there is not and
+/// a line that is none.
 pub fn hear_end(alloc: Global, n: u8, me: u8, ended: Result<u8, Fault>) -> Result<u8, Failure>
     ensures done { (status : ℕ) → ended ≡ Ok status → result ≡ Ok status }
     ensures fault { (fault : Fault) → ended ≡ Err fault → IsErrAnd result (λ failure. failure.fault ≡ fault) }
@@ -127,7 +129,7 @@ enum Number {
     Last,
 }
 
-/// How the reader of the command line names the number where the word is none.
+/// Returns how the reader of the command line names the number where the word is none.
 fn mark_of(number: Number) -> &'static str
     ensures { result.now ≡ mark_text number }
 {
@@ -147,7 +149,7 @@ fn mark_of(number: Number) -> &'static str
     }
 }
 
-/// What the number has to be.
+/// Returns what the number has to be.
 fn number_text(number: Number) -> &'static str
     ensures { result.now ≡ number_text number }
 {
@@ -169,14 +171,15 @@ fn number_text(number: Number) -> &'static str
     }
 }
 
-/// Whether the fault of the command line is about the number.
+/// Returns `true` if the fault of the command line is about the number.
 fn is_about(said: &str, number: Number) -> bool
     ensures { (result ≡ true) ↔ HasPart said.now (mark_text number) }
 {
     said.contains(mark_of(number))
 }
 
-/// Returns what the number has to be that this fault of the command line is about; none if it is about none.
+/// Returns what the number has to be that this fault of the command line is about; none if it is
+/// about none.
 pub fn number_words(said: &str) -> Option<&'static str>
     ensures { IfSome result (λ words. IsNumberWords said.now words.now) }
 {

@@ -1,8 +1,10 @@
-//! Files of the system as disks: what was written is read, what is no open file is refused, and a file has one disk at a time.
+//! Files of the system as disks: what was written is read, what is no open file is refused, and a
+//! file has one disk at a time.
 
 use disk::{DeviceFault, Disk, FileDisk};
 use std::fs;
 use std::fs::Permissions;
+use std::marker::Brand;
 use std::os::unix::fs::PermissionsExt;
 use std::test::Fail;
 
@@ -15,7 +17,7 @@ enum Step {
 }
 
 /// Makes one call, or two where a write is not at the start of the file.
-fn device(disk: &mut FileDisk, step: Step) -> Result<(), DeviceFault> {
+fn device(disk: &mut FileDisk<Brand>, step: Step) -> Result<(), DeviceFault> {
     match step {
         Step::Measure => disk.len().map(|_| ()),
         Step::Write(0, bytes) => disk.write_at(0, bytes),
@@ -45,8 +47,9 @@ fn clean(rt: &HostRuntime) {
 /// The seven bytes that the tests write.
 const WRITTEN: [u8; 7] = *b"AbcdXYZ";
 
-/// Whether the disk has the bytes that were written, from the first on and from a later one, and no more.
-fn has_written(disk: &mut FileDisk) -> Result<bool, DeviceFault> {
+/// Whether the disk has the bytes that were written, from the first on and from a later one, and no
+/// more.
+fn has_written(disk: &mut FileDisk<Brand>) -> Result<bool, DeviceFault> {
     let mut all = [0; 7];
     let mut some = [0; 3];
     disk.read_at(0, &mut all)?;
@@ -55,7 +58,7 @@ fn has_written(disk: &mut FileDisk) -> Result<bool, DeviceFault> {
 }
 
 /// Writes to a new file. The length after each call is as wanted.
-fn fill(disk: &mut FileDisk) -> bool {
+fn fill(disk: &mut FileDisk<Brand>) -> bool {
     [
         (Step::Measure, 0),
         (Step::Write(0, b"abcdef"), 6),
@@ -68,18 +71,18 @@ fn fill(disk: &mut FileDisk) -> bool {
     .all(|(step, length)| device(disk, *step).is_ok() && disk.len() == Ok(*length))
 }
 
-/// Whether there is no file of that name, and a disk that isn't to make one makes none.
+/// Returns `true` if there is no file of that name, and a disk that isn't to make one makes none.
 fn stays_missing(rt: &HostRuntime, path: &str) -> bool {
-    FileDisk::open(rt, path, false).is_err() && fs::metadata(rt, path).is_err()
+    FileDisk::<Brand>::open(rt, path, false).is_err() && fs::metadata(rt, path).is_err()
 }
 
 /// Whether a new file has what is written to it, also where it is opened again.
 fn is_kept(rt: &HostRuntime, path: &str) -> Result<bool, Fail> {
-    let mut made = FileDisk::open(rt, path, true)?;
+    let mut made = FileDisk::<Brand>::open(rt, path, true)?;
     let is_made = fill(&mut made) && has_written(&mut made)?;
     drop(made);
-    let is_found = has_written(&mut FileDisk::open(rt, path, false)?)?;
-    Ok(is_made && is_found && has_written(&mut FileDisk::open(rt, path, true)?)?)
+    let is_found = has_written(&mut FileDisk::<Brand>::open(rt, path, false)?)?;
+    Ok(is_made && is_found && has_written(&mut FileDisk::<Brand>::open(rt, path, true)?)?)
 }
 
 /// Whether a file keeps what was written, in a folder of its own and in the working one.
@@ -99,17 +102,18 @@ const CLOSED: &str = "disk_tests_closed";
 
 const CLOSED_FILE: &str = "disk_tests_closed/file";
 
-/// Whether no disk is had at the path, whether it is to be made or not.
+/// Returns `true` if no disk is had at the path, whether it is to be made or not.
 fn is_refused(rt: &HostRuntime, path: &str) -> bool {
-    FileDisk::open(rt, path, false).is_err() && FileDisk::open(rt, path, true).is_err()
+    FileDisk::<Brand>::open(rt, path, false).is_err()
+        && FileDisk::<Brand>::open(rt, path, true).is_err()
 }
 
 /// Takes away all leave to open the file. Permissions don't hold for the superuser.
 fn is_refused_without_leave(rt: &HostRuntime) -> Result<bool, Fail> {
-    drop(FileDisk::open(rt, CLOSED_FILE, true)?);
+    drop(FileDisk::<Brand>::open(rt, CLOSED_FILE, true)?);
     fs::set_permissions(rt, CLOSED_FILE, Permissions::from_mode(0))?;
     let is_superuser = fs::open(rt, CLOSED_FILE).is_ok();
-    let is_refused = FileDisk::open(rt, CLOSED_FILE, false).is_err();
+    let is_refused = FileDisk::<Brand>::open(rt, CLOSED_FILE, false).is_err();
     fs::remove_file(rt, CLOSED_FILE)?;
     Ok(is_superuser || is_refused)
 }
@@ -125,16 +129,17 @@ fn refuses_what_is_no_file(rt: &HostRuntime) -> Result<bool, Fail> {
     Ok(all)
 }
 
-/// The length of a file at whose disk two others were refused, and its length as another disk then has it.
+/// The length of a file at whose disk two others were refused, and its length as another disk then
+/// has it.
 fn lengths(rt: &HostRuntime, path: &str) -> Result<[usize; 2], Fail> {
-    let mut first = FileDisk::open(rt, path, true)?;
+    let mut first = FileDisk::<Brand>::open(rt, path, true)?;
     first.write_at(0, b"ab")?;
     if !is_refused(rt, path) {
         return Err("a second disk")?;
     }
     let length = first.len()?;
     drop(first);
-    Ok([length, FileDisk::open(rt, path, false)?.len()?])
+    Ok([length, FileDisk::<Brand>::open(rt, path, false)?.len()?])
 }
 
 /// Whether a file has one disk at a time.
@@ -150,7 +155,7 @@ fn has_one_disk_at_a_time(rt: &HostRuntime) -> Result<bool, Fail> {
 fn ends_where_it_ends(rt: &HostRuntime) -> Result<bool, Fail> {
     let path = "disk_tests_short";
     let _ = fs::remove_file(rt, path);
-    let mut disk = FileDisk::open(rt, path, true)?;
+    let mut disk = FileDisk::<Brand>::open(rt, path, true)?;
     disk.write_at(0, b"ab")?;
     let past = disk.read_at(1, &mut [0; 2]);
     let within = disk.read_at(1, &mut [0; 1]);

@@ -1,7 +1,9 @@
-//! A journal that is appended to and stopped. How it is made, and openings of whole, cut and changed files, are rows.
+//! A journal that is appended to and stopped. How it is made, and openings of whole, cut and
+//! changed files, are rows.
 //!
-//! Where `rt try --test --fail-alloc N` refuses an allocation, a row that comes out otherwise is played again, and is
-//! then to come out as with ample memory. A journal that was refused memory itself appends the same batch at once.
+//! Where `rt try --test --fail-alloc N` refuses an allocation, a row that comes out otherwise is
+//! played again, and is then to come out as with ample memory. A journal that was refused memory
+//! itself appends the same batch at once.
 ghost use Rattle.std.specs.Prelude.{◌≡◌, IfOk};
 ghost use Rattle.terms_prelude.specs.Terms.{Echo, One, Record, Said, Header, new_place, new_statement, new_size, new_header};
 
@@ -11,7 +13,8 @@ use std::alloc::Global;
 use std::test::Fail;
 use terms::{Header, Kind, Place, Record, Size, Statement, Value};
 
-/// The file of cluster 7, of four members of whom one may lie, and one question; the member 1; no record.
+/// The file of cluster 7, of four members of whom one may lie, and one question; the member 1; no
+/// record.
 const EMPTY: [u8; 25] = *b"BRACHAJ2\0\0\0\0\0\0\0\x07\x04\x01\0\x01\x01\0\0\0\0";
 
 /// The same with the Echo One at question 0, origin 0, round 1, step 1.
@@ -41,7 +44,7 @@ fn disk_of(alloc: Global, bytes: &[u8]) -> Result<MemDisk, JournalFault> {
     Ok(disk)
 }
 
-/// What reads give of it.
+/// Returns what reads give of it.
 fn content(alloc: Global, disk: &mut MemDisk) -> Result<Vec<u8>, JournalFault> {
     let len = disk.len()?;
     let mut bytes = vec![in alloc; 0; len]?;
@@ -55,7 +58,7 @@ fn opening(alloc: Global, header: Header, bytes: &[u8]) -> Result<Vec<Record>, J
     Ok(records)
 }
 
-/// How many records it gives, once more where it isn't as wanted.
+/// Returns how many records it gives, once more where it isn't as wanted.
 fn count_of(
     alloc: Global,
     header: Header,
@@ -69,8 +72,8 @@ fn count_of(
     opening(alloc, header, bytes).map(|records| records.len())
 }
 
-/// The answers to appends of no record and of the echo where no call of the device passes, and then to one of the echo
-/// where all pass.
+/// The answers to appends of no record and of the echo where no call of the device passes, and then
+/// to one of the echo where all pass.
 type Answers = (
     Result<(), JournalFault>,
     Result<(), JournalFault>,
@@ -107,7 +110,8 @@ fn stays_stopped(alloc: Global) -> Result<bool, Fail> {
     Ok(answers == wanted)
 }
 
-/// The file after a creation and an append of the echo. Memory that the journal itself is refused leaves it as it was.
+/// The file after a creation and an append of the echo. Memory that the journal itself is refused
+/// leaves it as it was.
 fn one_echo_file(alloc: Global, header: Header, echo: Record) -> Result<Vec<u8>, JournalFault>
     requires header { header ≡ new_header 7 (new_size 4 1 1) 1 }
     requires echo { echo ≡ Said (new_statement Echo (new_place 0 0 1 1) One) }
@@ -140,7 +144,8 @@ fn adds_one_echo(alloc: Global) -> Result<bool, Fail> {
     Ok(bytes.as_slice() == ONE_ECHO.as_slice() && count == Ok(1))
 }
 
-/// How many records there are after a batch of two. It is played once: with ample memory nothing is refused.
+/// Returns how many records there are after a batch of two. It is played once: with ample memory
+/// nothing is refused.
 fn two_at_once(alloc: Global, header: Header, echo: Record) -> Result<usize, JournalFault>
     requires header { header ≡ new_header 7 (new_size 4 1 1) 1 }
     requires echo { echo ≡ Said (new_statement Echo (new_place 0 0 1 1) One) }

@@ -1,4 +1,5 @@
-//! Tests of a journal by itself, and of disks that are files. What else libraries up to the member do is played by `rows`.
+//! Tests of a journal by itself, and of disks that are files. What else libraries up to the member
+//! do is played by `rows`.
 #![tactic(auto)]
 
 #[cfg(test)]

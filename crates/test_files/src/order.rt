@@ -1,10 +1,12 @@
-//! The folder of a file is looked at before the file is made, whoever asks: a process that may open one file more opens the
-//! folder, and makes no file.
+//! The folder of a file is looked at before the file is made, whoever asks: a process that may open
+//! one file more opens the folder, and makes no file.
 //!
-//! The program of the tests starts itself by the name of the test [`a_process`], which may have few files open.
+//! The program of the tests starts itself by the name of the test [`a_process`], which may have few
+//! files open.
 
 use disk::FileDisk;
 use std::fs::File;
+use std::marker::Brand;
 use std::process::Command;
 use std::test::Fail;
 use std::{env, fs};
@@ -34,7 +36,7 @@ fn hold_all_but(rt: &HostRuntime, free: usize) -> Result<Vec<File>, Fail> {
 /// Whether a disk was had where so many files may be opened, and whether its file was made.
 fn opens_with(rt: &HostRuntime, free: usize) -> Result<[bool; 2], Fail> {
     let held = hold_all_but(rt, free)?;
-    let is_had = FileDisk::open(rt, PATH, true).is_ok();
+    let is_had = FileDisk::<Brand>::open(rt, PATH, true).is_ok();
     drop(held);
     Ok([is_had, fs::remove_file(rt, PATH).is_ok()])
 }

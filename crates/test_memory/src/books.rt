@@ -25,7 +25,8 @@ fn board(alloc: Global) -> Option<NewBoard>
     NewBoard::new(alloc, 1).ok()
 }
 
-/// Whether the book is of a member that is stopped and has said nothing, and nothing happened to it.
+/// Returns `true` if the book is of a member that is stopped and has said nothing, and nothing
+/// happened to it.
 fn is_stopped<D: Disk, J: Naming>(book: &mut Book<D, J>, seat: &mut Seat<J>, of: &Subject) -> bool {
     let is_silent = book.is_stopped() && book.records().is_empty() && book.outbox().is_empty();
     let is_as_before = book.events() == 0 && seat.next() == 0;
@@ -34,7 +35,7 @@ fn is_stopped<D: Disk, J: Naming>(book: &mut Book<D, J>, seat: &mut Seat<J>, of:
     is_silent && is_as_before && refuses && book.events() == 0 && book.status().is_none()
 }
 
-/// How the call ended that the book refused so.
+/// Returns how the call ended that the book refused so.
 fn refused<D: Disk, J: Naming>(
     book: &mut Book<D, J>,
     seat: &mut Seat<J>,
@@ -86,7 +87,7 @@ fn proposes<D: Disk, J: Naming>(book: &mut Book<D, J>, seat: &mut Seat<J>, of: &
     }
 }
 
-/// What a client proposes is answered.
+/// Returns what a client proposes is answered.
 fn answers<D: Disk, J: Naming>(book: &mut Book<D, J>, seat: &mut Seat<J>, of: &Subject) -> Ending {
     let command = Command::Propose {
         question: 0,
@@ -249,7 +250,7 @@ const FILE: &str = "refused-memory.journal";
 pub(crate) fn opens_over_a_file(host: &HostRuntime, of: &Subject) -> Ending {
     let alloc = host.alloc();
     let _old = fs::remove_file(host, FILE);
-    let Ok(disk) = FileDisk::open(host, FILE, true) else {
+    let Ok(disk) = FileDisk::<Brand>::open(host, FILE, true) else {
         return Ending::Before;
     };
     let Some(member) = start(alloc, disk, &of.header) else {
@@ -258,7 +259,7 @@ pub(crate) fn opens_over_a_file(host: &HostRuntime, of: &Subject) -> Ending {
     let Some(board) = board(alloc) else {
         return Ending::Before;
     };
-    let ending = opens::<FileDisk, Brand>(alloc, member, board);
+    let ending = opens::<FileDisk<Brand>, Brand>(alloc, member, board);
     match fs::read(host, FILE) {
         Ok(bytes) => ending.if_so(bytes.as_slice() == JOURNAL.as_slice(), "file changed"),
         Err(_) => Ending::Before,

@@ -7,7 +7,8 @@ pub(crate) enum Ending {
     Ample,
     /// With the answer for want of memory, and all that stands after it is what should.
     Refused,
-    /// Memory was refused within the disk or the stream in memory that the call is over, which failed by that.
+    /// Memory was refused within the disk or the stream in memory that the call is over, which
+    /// failed by that.
     Failed,
     /// Memory was refused before the call.
     Before,

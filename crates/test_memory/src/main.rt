@@ -1,8 +1,10 @@
-//! Each call that takes memory, once, on a value that is made for it: what it answers, and what stands after it.
+//! Each call that takes memory, once, on a value that is made for it: what it answers, and what
+//! stands after it.
 //!
-//! With a row's name the program does that call alone, prints how it ended and says so by its status too, since a refusal
-//! may hit the printing. With no name it does all of them in turn. `tests/refused-memory.sh` runs each row with its Nth
-//! request for memory refused, N = 1, 2, and so on, until a run meets none.
+//! With a row's name the program does that call alone, prints how it ended and says so by its
+//! status too, since a refusal may hit the printing. With no name it does all of them in turn.
+//! `tests/refused-memory.sh` runs each row with its Nth request for memory refused, N = 1, 2, and
+//! so on, until a run meets none.
 #![tactic(auto)]
 
 mod books;
@@ -104,7 +106,8 @@ fn do_all<R: Wait + Clock>(rt: &R, host: &HostRuntime, of: &Subject) -> io::Resu
     Ok(code)
 }
 
-/// The name among the words of the program, and its length; none where there is no word. It takes no memory.
+/// The name among the words of the program, and its length; none where there is no word. It takes
+/// no memory.
 fn own_word(host: &HostRuntime, word: &mut [u8; 32]) -> Option<usize> {
     match host.arg(1, word) {
         Ok(length) => Some(length),

@@ -34,13 +34,14 @@ pub(crate) fn start<D: Disk + Drop>(alloc: Global, disk: D, header: &Header) -> 
     }
 }
 
-/// Whether the disk has just these bytes.
+/// Returns `true` if the disk has just these bytes.
 fn has_bytes<D: Disk>(disk: &mut D, bytes: &[u8; 25]) -> bool {
     let mut found = [0u8; 25];
     disk.len() == Ok(25) && disk.read_at(0, &mut found).is_ok() && found == *bytes
 }
 
-/// Whether the member is stopped and has said nothing: it refuses what it is handed, and its outbox is empty.
+/// Returns `true` if the member is stopped and has said nothing: it refuses what it is handed, and
+/// its outbox is empty.
 fn is_stopped<D: Disk>(member: &mut Member<D>, of: &Subject) -> bool
     requires { IsSound D.Disk member.old }
 {
@@ -52,7 +53,7 @@ fn is_stopped<D: Disk>(member: &mut Member<D>, of: &Subject) -> bool
     is_silent && refuses && member.verdict(0).is_none()
 }
 
-/// How the call ended that this member refused so.
+/// Returns how the call ended that this member refused so.
 fn refused<D: Disk + Drop>(mut member: Member<D>, of: &Subject, fault: MemberFault) -> Ending
     requires { IsSound D.Disk member }
 {
@@ -68,7 +69,7 @@ fn refused<D: Disk + Drop>(mut member: Member<D>, of: &Subject, fault: MemberFau
     }
 }
 
-/// Whether the answer has just this statement.
+/// Returns `true` if the answer has just this statement.
 pub(crate) fn says_just(answer: &Answer, statement: Statement) -> bool {
     match answer {
         Answer::Taken(records) => records.as_slice() == [Record::Said(statement)].as_slice(),
@@ -76,7 +77,7 @@ pub(crate) fn says_just(answer: &Answer, statement: Statement) -> bool {
     }
 }
 
-/// Whether the answer is taken, and has no record.
+/// Returns `true` if the answer is taken, and has no record.
 pub(crate) fn says_nothing(answer: &Answer) -> bool {
     match answer {
         Answer::Taken(records) => records.is_empty(),
@@ -106,7 +107,7 @@ pub(crate) fn proposes(alloc: Global, of: &Subject) -> Ending {
     }
 }
 
-/// Whether these are the answers to an Initial and two Readys: an Echo, nothing, a Ready.
+/// Returns `true` if these are the answers to an Initial and two Readys: an Echo, nothing, a Ready.
 pub(crate) fn are_of_group(answers: &[Answer], of: &Subject) -> bool {
     match answers {
         [first, second, third] => {

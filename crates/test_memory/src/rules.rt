@@ -39,7 +39,8 @@ pub(crate) fn encodes(alloc: Global, of: &Subject) -> Ending {
     ending.if_so(out.as_slice() == FRAMES.as_slice(), "other bytes")
 }
 
-/// Whether these are an Idle and then five times that statement alone and twice in one frame.
+/// Returns `true` if these are an Idle and then five times that statement alone and twice in one
+/// frame.
 fn are_fifteen(out: &[Message], statement: Statement) -> bool {
     out.len() == 11
         && out.iter().enumerate().skip(1).all(|(at, it)| match it {
@@ -183,12 +184,13 @@ pub(crate) fn question_accepts(alloc: Global) -> Ending {
     )
 }
 
-/// Whether these are just that statement.
+/// Returns `true` if these are just that statement.
 fn are_just(records: &[Record], statement: Statement) -> bool {
     records == [Record::Said(statement)].as_slice()
 }
 
-/// Whether the core is failed: it refuses to hear and to be proposed to, and has no verdict.
+/// Returns `true` if the core is failed: it refuses to hear and to be proposed to, and has no
+/// verdict.
 fn is_failed(core: &mut Core, of: &Subject) -> bool {
     let hears = matches!(core.hear(0, &of.initial, Toss(6)), Err(CoreFault::Failed));
     let proposes = matches!(core.propose(0, true, Toss(7)), Err(CoreFault::Failed));

@@ -43,7 +43,7 @@ fn stream(alloc: Global, input: &[u8]) -> Option<MemStream> {
     }
 }
 
-/// How a session ended.
+/// Returns how a session ended.
 fn ending_of(why: LinkEnd) -> Ending {
     match why {
         LinkEnd::Ended => Ending::Ample,
@@ -92,8 +92,8 @@ pub(crate) fn reads<D: Disk + Drop, J: Naming, R: Wait + Clock>(
     ending.if_so(is_so, "something else was handed in")
 }
 
-/// The one statement of an outbox is written to a peer, at a hub that is shut: what is written begins the Hello and the
-/// frame.
+/// The one statement of an outbox is written to a peer, at a hub that is shut: what is written
+/// begins the Hello and the frame.
 pub(crate) fn writes<D: Disk + Drop, J: Naming, R: Wait>(
     rt: &R,
     alloc: Global,

@@ -7,8 +7,8 @@ use sim::{Event, SimFault, Which, run};
 use std::alloc::Global;
 use terms::Size;
 
-/// The script of a member that is alone: a proposal of One, and as many deliveries of its own statements as it says; none
-/// where memory is refused.
+/// The script of a member that is alone: a proposal of One, and as many deliveries of its own
+/// statements as it says; none where memory is refused.
 fn script(alloc: Global) -> Option<Vec<Event>> {
     let mut events = Vec::new(alloc);
     let proposal = Event::Propose {

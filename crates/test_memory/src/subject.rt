@@ -36,7 +36,7 @@ fn said(kind: Kind, origin: u8, round: u8) -> Option<Statement>
     Statement::new(kind, Place::new(0, origin, round, 1)?, Value::One)
 }
 
-/// What the calls are about; there always is. It takes no memory.
+/// Returns what the calls are about; there always is. It takes no memory.
 pub(crate) fn make_subject() -> Option<Subject>
     ensures { IfSome result (λ of. of.header.size.questions ≡ 1) }
 {

@@ -1,10 +1,12 @@
 //! What a book answers, call by call: rows of sessions that need no stream.
 //!
-//! `hear PEER FRAME TOSS` hands a statement in, and `all PEER FRAME TOSS FRAME TOSS ..` a group: they answer what the member does, and
-//! behind it the number with which the peer goes on. `tell NUMBER TOSS` has the member hear what it said by that number. `propose
-//! QUESTION BIT TOSS` answers. `verdict QUESTION` is what the book has, and `ask QUESTION` what the board says to one who asks for the
-//! first time, each a bit or `none`. `state QUESTION` is how it stands there: `unproposed`, `open ROUND STEP`, `spent`, `decided BIT`, or
-//! `none`. `pull FROM MOST` are the statements from a number on, each behind its number.
+//! `hear PEER FRAME TOSS` hands a statement in, and `all PEER FRAME TOSS FRAME TOSS ..` a group:
+//! they answer what the member does, and behind it the number with which the peer goes on. `tell
+//! NUMBER TOSS` has the member hear what it said by that number. `propose QUESTION BIT TOSS`
+//! answers. `verdict QUESTION` is what the book has, and `ask QUESTION` what the board says to one
+//! who asks for the first time, each a bit or `none`. `state QUESTION` is how it stands there:
+//! `unproposed`, `open ROUND STEP`, `spent`, `decided BIT`, or `none`. `pull FROM MOST` are the
+//! statements from a number on, each behind its number.
 ghost use Rattle.std.specs.Prelude.{◌≤◌, length};
 
 use disk::MemDisk;
@@ -22,7 +24,7 @@ fn said_of(alloc: Global, frame: &str) -> Option<Statement> {
     statement_of(alloc, Size::new(64, 0, 4096).ok()?, frame)
 }
 
-/// What is said of an answer, or of the fault.
+/// Returns what is said of an answer, or of the fault.
 fn told_of(alloc: Global, answer: Result<Answer, MemberFault>) -> Option<String> {
     match answer {
         Ok(answer) => answer_text(alloc, &answer).ok(),
@@ -30,7 +32,7 @@ fn told_of(alloc: Global, answer: Result<Answer, MemberFault>) -> Option<String>
     }
 }
 
-/// What is said of the answers to a group, or of the fault.
+/// Returns what is said of the answers to a group, or of the fault.
 fn all_told(alloc: Global, answers: Result<Vec<Answer>, MemberFault>) -> Option<String> {
     let answers = match answers {
         Ok(answers) => answers,
@@ -137,7 +139,7 @@ fn state_text(alloc: Global, state: Option<QuestionState>) -> Option<String> {
     }
 }
 
-/// What the board says to one who asks for the first time.
+/// Returns what the board says to one who asks for the first time.
 fn ask(alloc: Global, board: &Board, question: u16) -> Option<String> {
     let mut pass = board.pass().ok()?;
     bit_text(alloc, board.ask(&mut pass, question))
@@ -161,7 +163,7 @@ fn hand_in<J: Naming, R: Wait>(
     told
 }
 
-/// What is answered to a row: none where it says nothing of a book.
+/// Returns what is answered to a row: none where it says nothing of a book.
 pub fn told<J: Naming, R: Wait>(
     rt: &R,
     alloc: Global,

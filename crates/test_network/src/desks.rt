@@ -1,7 +1,8 @@
 //! Which line asks for what, and what the replies are.
 //!
-//! `size N T QUESTIONS` says for which cluster. `line TEXT` answers what a line asks for, in its own words, or the refusal; `bytes
-//! DIGITS` the same of bytes. `reply NAME ..` is the line of a reply.
+//! `size N T QUESTIONS` says for which cluster. `line TEXT` answers what a line asks for, in its
+//! own words, or the refusal; `bytes DIGITS` the same of bytes. `reply NAME ..` is the line of a
+//! reply.
 
 use desk::{Command, Reply, parse};
 use node::{LinkCount, QuestionState};
@@ -80,7 +81,7 @@ impl Desk {
         Desk { alloc, size: None }
     }
 
-    /// What a line asks for.
+    /// Returns what a line asks for.
     fn line(&self, line: &[u8]) -> Option<String> {
         match parse(line, self.size?) {
             Ok(command) => command_text(self.alloc, command),

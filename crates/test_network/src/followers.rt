@@ -1,10 +1,10 @@
 //! A follower of decisions, over a stream that takes what its row says.
 //!
-//! `follows NUMBER STEPS` tells a new follower the decisions from that number on. A step is `COUNT`,
-//! at which the follower is told once, and the stream takes so many bytes at most; `fail`, the same
-//! with a write that fails; `+SECONDS`, after which so many seconds more have passed; or `left`,
-//! from which on the client's input has ended. The answer is what the last call said, and all that
-//! was written, with `|` for each end of a line.
+//! `follows NUMBER STEPS` tells a new follower the decisions from that number on. A step is
+//! `COUNT`, at which the follower is told once, and the stream takes so many bytes at most; `fail`,
+//! the same with a write that fails; `+SECONDS`, after which so many seconds more have passed; or
+//! `left`, from which on the client's input has ended. The answer is what the last call said, and
+//! all that was written, with `|` for each end of a line.
 
 use desk::{Follower, Outlet, Telling};
 use disk::MemDisk;

@@ -1,4 +1,5 @@
-//! Players of rows on books, sessions of links and clients, and logs. The head of each module says what its rows are.
+//! Players of rows on books, sessions of links and clients, and logs. The head of each module says
+//! what its rows are.
 #![tactic(auto)]
 
 mod books;

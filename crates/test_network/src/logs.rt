@@ -1,21 +1,25 @@
 //! What a member that runs tells its log, and the places that its peers and clients get.
 //!
-//! `event NAME ..` answers an event's line, and `refused CAUSE HOST COUNT CALLER ..` that of refusals of a host `10.0.0.HOST`, or `refused
-//! by MEMBER COUNT`; `unheard`, `unanswered`, `unknown` and `failed` are the causes for which a member can't be reached. A caller is
-//! `none`, `member` of itself, or that and in what it differs. `closed HOST SLOT SILENT` is the line of a client that was closed for
-//! another, `HOST` a dash where it isn't known.
+//! `event NAME ..` answers an event's line, and `refused CAUSE HOST COUNT CALLER ..` that of
+//! refusals of a host `10.0.0.HOST`, or `refused by MEMBER COUNT`; `unheard`, `unanswered`,
+//! `unknown` and `failed` are the causes for which a member can't be reached. A caller is `none`,
+//! `member` of itself, or that and in what it differs. `closed HOST SLOT SILENT` is the line of a
+//! client that was closed for another, `HOST` a dash where it isn't known.
 //!
-//! `refusals` begins with none. `count SECOND CAUSE HOST MEMBER`, or `count SECOND by PEER MEMBER`, answers what is told then: of
-//! another refusal that gave its place, and of this one; each is a dash, or the refusal, the member and the count. `due SECOND` answers
-//! the counts that are due. `queue` begins an empty one, `put COUNT` puts so many decisions in, and `drain` answers how many there
-//! are, how many are missed, and the first and the last.
+//! `refusals` begins with none. `count SECOND CAUSE HOST MEMBER`, or `count SECOND by PEER MEMBER`,
+//! answers what is told then: of another refusal that gave its place, and of this one; each is a
+//! dash, or the refusal, the member and the count. `due SECOND` answers the counts that are due.
+//! `queue` begins an empty one, `put COUNT` puts so many decisions in, and `drain` answers how many
+//! there are, how many are missed, and the first and the last.
 //!
-//! `crowd MOST` begins one of so many followers: `comes` answers whether one more may follow, and at `goes` one goes.
-//! `quota` begins one of two: `enter` answers whether one more may enter, and at `leave` one leaves. `slots COUNT` are those of a
-//! member that lets so many clients in: `slot SECOND` takes one, `heard SECOND SLOT` and `left SLOT` are what comes of a client. `standing` is
-//! that of a link that is written, from which nothing was read; `reads` and `writes` answer how far it has come then, and whether
-//! the next write brings it up.
-//! `tosser BYTE RECORDS PLACE` is the first toss of a life that begins with so many records, at a place, of a seed of that byte 32 times.
+//! `crowd MOST` begins one of so many followers: `comes` answers whether one more may follow, and
+//! at `goes` one goes. `quota` begins one of two: `enter` answers whether one more may enter, and
+//! at `leave` one leaves. `slots COUNT` are those of a member that lets so many clients in: `slot
+//! SECOND` takes one, `heard SECOND SLOT` and `left SLOT` are what comes of a client. `standing` is
+//! that of a link that is written, from which nothing was read; `reads` and `writes` answer how far
+//! it has come then, and whether the next write brings it up. `tosser BYTE RECORDS PLACE` is the
+//! first toss of a life that begins with so many records, at a place, of a seed of that byte 32
+//! times.
 
 use links::LinkEnd;
 use rounds::Tosser;
@@ -153,7 +157,8 @@ fn caller_of(words: &[&str]) -> Option<Option<Caller>> {
     }))
 }
 
-/// What is told of a refusal, in words: its cause, the host's last number or the peer's, the member and the count.
+/// Returns what is told of a refusal, in words: its cause, the host's last number or the peer's,
+/// the member and the count.
 fn count_text(alloc: Global, told: Option<RefusalCount>) -> Option<String> {
     let Some(told) = told else {
         return format!(in alloc; "-").ok();
@@ -169,7 +174,7 @@ fn count_text(alloc: Global, told: Option<RefusalCount>) -> Option<String> {
     }
 }
 
-/// What a queue has, and how many are missed.
+/// Returns what a queue has, and how many are missed.
 fn queue_text(alloc: Global, queue: &mut Queue) -> Option<String> {
     let (events, missed) = queue.drain(alloc);
     let count = events.len();
@@ -210,7 +215,7 @@ impl Logs {
         }
     }
 
-    /// What is said of a row that answers nothing.
+    /// Returns what is said of a row that answers nothing.
     fn nothing(&self) -> Option<String> {
         Some(String::new(self.alloc))
     }
@@ -223,7 +228,7 @@ impl Logs {
         format!(in self.alloc; "{left}, {line}").ok()
     }
 
-    /// What is due at a second.
+    /// Returns what is due at a second.
     fn due(&mut self, now: u64) -> Option<String> {
         let mut queue = Queue::new(self.alloc);
         self.refusals.tell_due(now, &mut queue);
@@ -241,7 +246,7 @@ impl Logs {
         }
     }
 
-    /// How far the link has come.
+    /// Returns how far the link has come.
     fn stands(&mut self, standing: Standing) -> Option<String> {
         self.standing = standing;
         format!(in self.alloc; "{standing:?} {}", standing.comes_up()).ok()

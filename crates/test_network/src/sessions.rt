@@ -1,26 +1,31 @@
-//! Sessions of links and of clients over streams in memory: how each ends, what was handed in, what was written, and where the
-//! next one goes on.
+//! Sessions of links and of clients over streams in memory: how each ends, what was handed in, what
+//! was written, and where the next one goes on.
 //!
-//! `size N T QUESTIONS me M` is the member M of cluster 7, on a new disk that has its journal; `passes CALLS` behind it lets
-//! so many calls of the disk pass once the member is open, and `file DIGITS` is its journal. `give DIGITS` gives the next stream these bytes at once, `give
-//! DIGITS TIMES` so many times over, `pieces COUNT DIGITS` in pieces of so many, and `line TEXT` a text and the end of a line.
-//! `take COUNT` lets its writes take so many bytes at most, `fail CALL` lets that call of it fail, counted from 0, and `fail
-//! from CALL` all from that one on; `none from CALL` lets its writes take nothing from that call on.
+//! `size N T QUESTIONS me M` is the member M of cluster 7, on a new disk that has its journal;
+//! `passes CALLS` behind it lets so many calls of the disk pass once the member is open, and `file
+//! DIGITS` is its journal. `give DIGITS` gives the next stream these bytes at once, `give DIGITS
+//! TIMES` so many times over, `pieces COUNT DIGITS` in pieces of so many, and `line TEXT` a text
+//! and the end of a line. `take COUNT` lets its writes take so many bytes at most, `fail CALL` lets
+//! that call of it fail, counted from 0, and `fail from CALL` all from that one on; `none from
+//! CALL` lets its writes take nothing from that call on.
 //!
-//! Then a session has it: `greet` answers the peer and the version, or the end; `read PEER VERSION` the end, the number that
-//! the link's next session begins with, and what was written; `write PEER VERSION` the end, whether it was welcomed, and what
-//! was written; `serve` the end and the replies, with `|` for each end of a line. Behind the others stands how many bytes of
-//! the stream weren't read, if any weren't. Whoever writes does so at a hub that is shut,
-//! and comes to an end. The tosses of a link count on from a hundred times its peer's number, a client's from 9,000.
+//! Then a session has it: `greet` answers the peer and the version, or the end; `read PEER VERSION`
+//! the end, the number that the link's next session begins with, and what was written; `write PEER
+//! VERSION` the end, whether it was welcomed, and what was written; `serve` the end and the
+//! replies, with `|` for each end of a line. Behind the others stands how many bytes of the stream
+//! weren't read, if any weren't. Whoever writes does so at a hub that is shut, and comes to an end.
+//! The tosses of a link count on from a hundred times its peer's number, a client's from 9,000.
 //!
-//! `fill COUNT` is so many proposals, of 0 and 1 in turn on the questions from 0 on, and `hears COUNT` has the member hear so
-//! much of what it said; `stop` stops the member. `status` are the statements and decisions of the member, `records` its records, `history` its events,
-//! and `fits` whether these are those of its seats; `lacks` is the same where a seat is missing. Rows of `src/books.rt` and `src/followers.rt` are answered too. `tossers BYTE`
-//! are those of the member's life, of a seed of that byte 32 times: how many there are of links, and the last one's first toss, and the same
-//! of the desk.
+//! `fill COUNT` is so many proposals, of 0 and 1 in turn on the questions from 0 on, and `hears
+//! COUNT` has the member hear so much of what it said; `stop` stops the member. `status` are the
+//! statements and decisions of the member, `records` its records, `history` its events, and `fits`
+//! whether these are those of its seats; `lacks` is the same where a seat is missing. Rows of
+//! `src/books.rt` and `src/followers.rt` are answered too. `tossers BYTE` are those of the member's
+//! life, of a seed of that byte 32 times: how many there are of links, and the last one's first
+//! toss, and the same of the desk.
 //!
-//! What prepares a stream is done once the session comes. Each other row is played behind all before it, from `size` on, at
-//! a member of its own.
+//! What prepares a stream is done once the session comes. Each other row is played behind all
+//! before it, from `size` on, at a member of its own.
 ghost use Rattle.std.specs.Prelude.{◌≡◌, IfSome, [], length};
 ghost use Rattle.member.specs.Memory.{memory_disk};
 ghost use Rattle.member.specs.Sound.{IsSound};
@@ -95,7 +100,7 @@ fn nothing(alloc: Global) -> Option<String> {
     Some(String::new(alloc))
 }
 
-/// Whether the disk has a journal then: that file, or a new one where it has no byte.
+/// Returns `true` if the disk has a journal then: that file, or a new one where it has no byte.
 fn is_prepared(disk: &mut MemDisk, header: &Header, file: &[u8]) -> bool {
     if file.is_empty() {
         return journal::create(disk, header).is_ok();
@@ -120,7 +125,8 @@ fn start(alloc: Global, beginning: &Beginning, file: &[u8]) -> Option<Member<Mem
     }
 }
 
-/// The tossers of a member's life: how many there are, and the first toss of the last one, of links and of the desk.
+/// The tossers of a member's life: how many there are, and the first toss of the last one, of links
+/// and of the desk.
 fn tossers_text(alloc: Global, (beginning, file): (&Beginning, &[u8]), byte: u8) -> Option<String> {
     let member = start(alloc, beginning, file)?;
     let Ok(mut tossers) = tossers_of(alloc, [byte; 32], &member) else {
@@ -141,8 +147,8 @@ fn board(alloc: Global, questions: u16) -> Option<NewBoard>
     NewBoard::new(alloc, questions).ok()
 }
 
-/// How a session ended and what comes with that, and behind it what was written, whether it was left open, and how many
-/// bytes weren't read.
+/// Returns how a session ended and what comes with that, and behind it what was written, whether it
+/// was left open, and how many bytes weren't read.
 fn ended(alloc: Global, how: String, scant: &Scant) -> Option<String> {
     let stream = &scant.inner;
     let written = hex::encode(alloc, stream.output()).ok()?;
@@ -290,7 +296,7 @@ fn history_text<J: Naming>(alloc: Global, book: &Book<MemDisk, J>) -> Option<Str
     Some(text)
 }
 
-/// What is answered of the member: none where the words ask nothing of it.
+/// Returns what is answered of the member: none where the words ask nothing of it.
 fn looks<J: Naming, R: Wait>(
     rt: &R,
     alloc: Global,
@@ -309,7 +315,7 @@ fn looks<J: Naming, R: Wait>(
     }
 }
 
-/// What a row answers that isn't of the next stream, which it takes where it is a session.
+/// Returns what a row answers that isn't of the next stream, which it takes where it is a session.
 fn answers<J: Naming, R: Wait + Clock>(
     rt: &R,
     alloc: Global,
@@ -426,7 +432,8 @@ fn ending_of(action: &str) -> Ending {
     }
 }
 
-/// Plays all rows at a member that was just opened: what the last one answers, or whether its seats fit then.
+/// Plays all rows at a member that was just opened: what the last one answers, or whether its seats
+/// fit then.
 fn play_at<J: Naming, R: Wait + Clock>(
     rt: &R,
     alloc: Global,

@@ -1,9 +1,11 @@
 //! Clusters over disks that rows prepare, and events that are played one after another.
 //!
-//! `disks COUNT` are so many empty disks. `fuse PLACE CALLS` lets so many calls of one pass, and `used PLACE` writes a byte to it.
-//! `run N T QUESTIONS LIAR ..` runs no event over them, and answers how many verdicts there are, or the fault; `open` of the same
-//! opens the cluster. `propose MEMBER QUESTION BIT TOSS`, `deliver FROM TO WHICH TOSS` and `group FROM TO COUNT TOSS` play an event,
-//! and answer what became of it and what it saved, as a trace has it. `verdicts` answers how many there are.
+//! `disks COUNT` are so many empty disks. `fuse PLACE CALLS` lets so many calls of one pass, and
+//! `used PLACE` writes a byte to it. `run N T QUESTIONS LIAR ..` runs no event over them, and
+//! answers how many verdicts there are, or the fault; `open` of the same opens the cluster.
+//! `propose MEMBER QUESTION BIT TOSS`, `deliver FROM TO WHICH TOSS` and `group FROM TO COUNT TOSS`
+//! play an event, and answer what became of it and what it saved, as a trace has it. `verdicts`
+//! answers how many there are.
 
 use disk::{Disk, MemDisk};
 use report::write_trace;
@@ -21,7 +23,7 @@ pub struct Played {
     cluster: Option<Cluster>,
 }
 
-/// Which statement is delivered.
+/// Returns which statement is delivered.
 fn which_of(word: &str) -> Option<Which> {
     match word {
         "next" => Some(Which::Next),
@@ -84,7 +86,7 @@ fn play(alloc: Global, cluster: &mut Cluster, event: Event) -> Option<String> {
     String::from_str(alloc, told.trim_end()).ok()
 }
 
-/// How many there are, or the fault.
+/// Returns how many there are, or the fault.
 fn count_text(alloc: Global, count: Result<usize, SimFault>) -> Option<String> {
     match count {
         Ok(count) => format!(in alloc; "{count}").ok(),

@@ -1,13 +1,14 @@
 //! Settings as they are read, and the journal that `init` makes for them.
 //!
-//! `line NAME TEXT` has the document's line of that name be that text, behind those before it; `line NAME` leaves it out. `keep`
-//! has what then stands be the usual lines, and `usual` goes back to these. `read` reads the document, and answers the cluster,
-//! the size and the member, or the fault; `journal`, `peers`, `desk`, `seed`, `listen` and `desk-socket` answer its other values,
-//! or `none`. `client` reads it as a client's, and answers the cluster, the size and the desks, or the fault. `address TEXT` answers the
-//! four numbers and the port, or `none`.
+//! `line NAME TEXT` has the document's line of that name be that text, behind those before it;
+//! `line NAME` leaves it out. `keep` has what then stands be the usual lines, and `usual` goes back
+//! to these. `read` reads the document, and answers the cluster, the size and the member, or the
+//! fault; `journal`, `peers`, `desk`, `seed`, `listen` and `desk-socket` answer its other values,
+//! or `none`. `client` reads it as a client's, and answers the cluster, the size and the desks, or
+//! the fault. `address TEXT` answers the four numbers and the port, or `none`.
 //!
-//! `empty` is a new disk, and `fuse CALLS` one that lets so many calls pass. `init` makes the journal, and answers `0` or the fault;
-//! `file` are its bytes.
+//! `empty` is a new disk, and `fuse CALLS` one that lets so many calls pass. `init` makes the
+//! journal, and answers `0` or the fault; `file` are its bytes.
 
 use crate::works::ending;
 use commands::init_disk;
@@ -33,13 +34,13 @@ pub struct Document {
     disk: MemDisk,
 }
 
-/// What is said of an address.
+/// Returns what is said of an address.
 fn address_text(alloc: Global, address: Address) -> Option<String> {
     let [a, b, c, d] = address.octets;
     format!(in alloc; "{a}.{b}.{c}.{d}:{}", address.port).ok()
 }
 
-/// What is said of addresses, one after another.
+/// Returns what is said of addresses, one after another.
 fn addresses_text(alloc: Global, addresses: &[Address]) -> Option<String> {
     let mut text = String::new(alloc);
     for address in addresses {
@@ -51,7 +52,7 @@ fn addresses_text(alloc: Global, addresses: &[Address]) -> Option<String> {
     Some(text)
 }
 
-/// What is said of a client's settings.
+/// Returns what is said of a client's settings.
 fn client_text(alloc: Global, client: &ClientSettings) -> Option<String> {
     let desks = addresses_text(alloc, &client.desks)?;
     let cluster = client.cluster;

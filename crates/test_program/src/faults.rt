@@ -1,6 +1,6 @@
-//! The texts of faults: `TYPE NAME` answers the text of that fault, and `TYPE from OTHER NAME` that of the fault which another one
-//! becomes. A number behind a name is what the fault has. `Fault NAME ..` answers the status with which the program ends for its
-//! fault, and what it prints of it.
+//! The texts of faults: `TYPE NAME` answers the text of that fault, and `TYPE from OTHER NAME` that
+//! of the fault which another one becomes. A number behind a name is what the fault has. `Fault
+//! NAME ..` answers the status with which the program ends for its fault, and what it prints of it.
 
 use commands::{DumpFault, InitFault, SimulateFault, TalkFault};
 use hearing::HearFault;

@@ -1,17 +1,21 @@
 //! Commands over texts: what goes in, how it ends, and what comes out, line by line.
 //!
-//! `hear N T QUESTIONS ME`, `dump`, `dump count`, `simulate`, `trace`, which is a script's trace and then what `simulate` prints,
-//! `chart`, with a choice of rows behind it (`question`, `member`, `from` and `to`, each with its number), `settings` and
-//! `check N T QUESTIONS ME`, which are the parts of `check`, and `ask QUESTION`, `propose QUESTION BIT` and `status`, which get the
-//! input as the reply, begin one. `< LINE` is a line of its input, `<< DIGITS` are bytes of it, and `many COUNT LINE` is a line so
-//! many times. `torn` has the input end with a failure, `fuse CALLS` lets so many calls of the disk
-//! pass, `room COUNT` so many bytes of the output, `shut` none without a failure, and `refused` none of what a client sends.
+//! `hear N T QUESTIONS ME`, `dump`, `dump count`, `simulate`, `trace`, which is a script's trace
+//! and then what `simulate` prints, `chart`, with a choice of rows behind it (`question`, `member`,
+//! `from` and `to`, each with its number), `settings` and `check N T QUESTIONS ME`, which are the
+//! parts of `check`, and `ask QUESTION`, `propose QUESTION BIT` and `status`, which get the input
+//! as the reply, begin one. `< LINE` is a line of its input, `<< DIGITS` are bytes of it, and `many
+//! COUNT LINE` is a line so many times. `torn` has the input end with a failure, `fuse CALLS` lets
+//! so many calls of the disk pass, `room COUNT` so many bytes of the output, `shut` none without a
+//! failure, and `refused` none of what a client sends.
 //!
-//! `ends` runs it and answers `0`, or the fault. Then each row `-> LINE` is a line of its output, and `no more` that there is
-//! no other. `taken` answers all that was written, in digits, and `sent` what a client sent. `times TEXT` answers how often a text
-//! stands in the output, `begins TEXT` and `closes TEXT` whether its first line begins so and its last one ends so.
+//! `ends` runs it and answers `0`, or the fault. Then each row `-> LINE` is a line of its output,
+//! and `no more` that there is no other. `taken` answers all that was written, in digits, and
+//! `sent` what a client sent. `times TEXT` answers how often a text stands in the output, `begins
+//! TEXT` and `closes TEXT` whether its first line begins so and its last one ends so.
 //!
-//! `takes TRACE CHART` answers whether a page takes the output, and `put ASIDE TEXT` what then stands in the output and the errors.
+//! `takes TRACE CHART` answers whether a page takes the output, and `put ASIDE TEXT` what then
+//! stands in the output and the errors.
 
 use crate::works::{Place, Work, put, takes, work_of};
 use std::alloc::Global;
@@ -43,7 +47,7 @@ impl Job {
         }
     }
 
-    /// What is said of a row that answers nothing.
+    /// Returns what is said of a row that answers nothing.
     fn nothing(&self) -> Option<String> {
         Some(String::new(self.alloc))
     }
@@ -121,7 +125,7 @@ impl Job {
         }
     }
 
-    /// What the output has of a text.
+    /// Returns what the output has of a text.
     fn look(&self, how: &str, text: &str) -> Option<String> {
         let output = self.output.text()?;
         match how {

@@ -1,13 +1,15 @@
-//! Questions that are played in an order, the adversary's rule, how questions end, and the judge of traces.
+//! Questions that are played in an order, the adversary's rule, how questions end, and the judge of
+//! traces.
 //!
-//! `play N T LIARS ORDER SEED` answers how the question ends: `decided R`, `open`, or the fault. `order N T STEP RECEIVER VALUES`
-//! answers the origins in the order in which the adversary brings them; VALUES has a sign for each member: `0`, `1`, `z` (sure of
-//! 0), `o` (sure of 1), `u` (unsure), `-` (nothing said). `lie N T STEP VALUES` answers the sign of a liar's value. `end VERDICT ..`
-//! answers how a question ends of these decisions, each `ROUND:BIT` or `-`. `table END ..` answers the lines of a table, with `|`
-//! between them, each END a round or `-`.
+//! `play N T LIARS ORDER SEED` answers how the question ends: `decided R`, `open`, or the fault.
+//! `order N T STEP RECEIVER VALUES` answers the origins in the order in which the adversary brings
+//! them; VALUES has a sign for each member: `0`, `1`, `z` (sure of 0), `o` (sure of 1), `u`
+//! (unsure), `-` (nothing said). `lie N T STEP VALUES` answers the sign of a liar's value. `end
+//! VERDICT ..` answers how a question ends of these decisions, each `ROUND:BIT` or `-`. `table END
+//! ..` answers the lines of a table, with `|` between them, each END a round or `-`.
 //!
-//! `judge LEAST LINES` judges a trace of these lines, with `|` between them, and answers the count of decisions and what was found,
-//! or `fine`.
+//! `judge LEAST LINES` judges a trace of these lines, with `|` between them, and answers the count
+//! of decisions and what was found, or `fine`.
 
 ghost use Rattle.std.specs.Prelude.{◌≤◌, IfSome};
 

@@ -1,4 +1,5 @@
-//! Players of rows on clusters, scripts, settings, commands, the command line and what the system says of a process. The head of each module says what its rows are.
+//! Players of rows on clusters, scripts, settings, commands, the command line and what the system
+//! says of a process. The head of each module says what its rows are.
 #![tactic(auto)]
 
 mod clusters;

@@ -1,10 +1,13 @@
-//! What the system says of a process, and what a member makes of it. Lines of a file of the system stand with `|` between them.
+//! What the system says of a process, and what a member makes of it. Lines of a file of the system
+//! stand with `|` between them.
 //!
-//! `files LINES` answers how many files the process of this `/proc/self/limits` may have open, or `none`. `clients FILES N` answers
-//! how many clients a member of so many lets in at once, where FILES may be `none` too, `followers FILES N` how many may follow
-//! decisions, and `lack FILES N` what it says of too few files, or `enough`. `quiet VALUE` answers whether the value of `BRACHA_QUIET` takes second lines away, and `loud` whether its
-//! absence does. `blocked LINES` and `called LINES` answer whether the process of this `/proc/self/status` blocks a signal
-//! that ends a member, and whether one waits.
+//! `files LINES` answers how many files the process of this `/proc/self/limits` may have open, or
+//! `none`. `clients FILES N` answers how many clients a member of so many lets in at once, where
+//! FILES may be `none` too, `followers FILES N` how many may follow decisions, and `lack FILES N`
+//! what it says of too few files, or `enough`. `quiet VALUE` answers whether the value of
+//! `BRACHA_QUIET` takes second lines away, and `loud` whether its absence does. `blocked LINES` and
+//! `called LINES` answer whether the process of this `/proc/self/status` blocks a signal that ends
+//! a member, and whether one waits.
 
 use std::alloc::Global;
 use std::env::FillError;
@@ -71,7 +74,7 @@ fn files_text(alloc: Global, files: Option<u64>) -> Option<String> {
     }
 }
 
-/// What is said of so many files, without the end of its line, or `enough`.
+/// Returns what is said of so many files, without the end of its line, or `enough`.
 fn lack_of(alloc: Global, files: u64, n: u8) -> Option<String> {
     match descriptors_lack(alloc, files, n).ok()? {
         Some(said) => format!(in alloc; "{}", said.as_str().trim_end()).ok(),

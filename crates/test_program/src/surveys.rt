@@ -1,10 +1,12 @@
 //! Members' words, and what the commands over a whole cluster print of them.
 //!
-//! `reply LINE` answers the word that a desk's reply is, and what the member is sent after it, as a reply to the first line and to
-//! the one that waits: `begin`, `wait` or `end`. `then WORD WORD` answers the word that counts after both. `tell BIT WORD ..` answers
-//! what is printed of a decision, which may be `none`, and of members' words: the status, the line, and the lines on the standard
-//! error, with `|` before each. A WORD is `silent`, `undecided`, `other`, or the bit that was told. `head Q TEXT` answers the bit of
-//! a text that begins as a transcript of question Q, or `none`.
+//! `reply LINE` answers the word that a desk's reply is, and what the member is sent after it, as a
+//! reply to the first line and to the one that waits: `begin`, `wait` or `end`. `then WORD WORD`
+//! answers the word that counts after both. `tell BIT WORD ..` answers what is printed of a
+//! decision, which may be `none`, and of members' words: the status, the line, and the lines on the
+//! standard error, with `|` before each. A WORD is `silent`, `undecided`, `other`, or the bit that
+//! was told. `head Q TEXT` answers the bit of a text that begins as a transcript of question Q, or
+//! `none`.
 
 use commands::{Next, Word, later_word, next_of, remarks, tell_decision, transcript_bit, word_of};
 use std::alloc::Global;

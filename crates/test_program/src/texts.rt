@@ -1,11 +1,13 @@
 //! Scripts as they are read, and traces of marks and records that rows give.
 //!
-//! `new` begins a text, `< LINE` is a line of it, and `many COUNT LINE` a line so many times. `read` reads it, and answers the
-//! count of its events, or the fault. `liars` answers those it lists, `event NUMBER` the line of an event, counted from 1, and the
-//! toss of one that has it. `source` makes the events a few at a time, and answers how many are those that were read.
+//! `new` begins a text, `< LINE` is a line of it, and `many COUNT LINE` a line so many times.
+//! `read` reads it, and answers the count of its events, or the fault. `liars` answers those it
+//! lists, `event NUMBER` the line of an event, counted from 1, and the toss of one that has it.
+//! `source` makes the events a few at a time, and answers how many are those that were read.
 //!
-//! `marks MARK ..` are what became of the events, `done`, `failed`, or the reason for which one was skipped; `saves RECORD ..` are
-//! the records that the next one saved, as `lives` writes them. `trace` writes their trace, and each row `-> LINE` is a line of it.
+//! `marks MARK ..` are what became of the events, `done`, `failed`, or the reason for which one was
+//! skipped; `saves RECORD ..` are the records that the next one saved, as `lives` writes them.
+//! `trace` writes their trace, and each row `-> LINE` is a line of it.
 
 use report::write_trace;
 use rounds::Toss;
@@ -59,7 +61,7 @@ pub fn mark_of(name: &str) -> Option<Mark> {
     }
 }
 
-/// How many of the source's events are those of the list at their places.
+/// Returns how many of the source's events are those of the list at their places.
 fn as_listed(alloc: Global, source: &mut Source, events: &[Event]) -> Result<usize, ScriptFault> {
     let mut place = 0usize;
     let mut same = 0usize;
@@ -74,7 +76,8 @@ fn as_listed(alloc: Global, source: &mut Source, events: &[Event]) -> Result<usi
     Ok(same)
 }
 
-/// How many events a source of the text makes that are the script's, and whether its size and its liars are.
+/// Returns how many events a source of the text makes that are the script's, and whether its size
+/// and its liars are.
 fn compared(alloc: Global, text: &[u8], script: &Script) -> Result<(usize, bool), ScriptFault> {
     let mut source = Source::of(alloc, text)?;
     let is_alike = source.size() == script.size && source.liars() == script.liars.as_slice();
@@ -144,7 +147,7 @@ impl Texts {
         event_text(self.alloc, events.get(number.saturating_sub(1))?)
     }
 
-    /// What a source of the text makes.
+    /// Returns what a source of the text makes.
     fn source(&self) -> Option<String> {
         let script = self.script.as_ref()?;
         match compared(self.alloc, &self.text, script) {

@@ -1,14 +1,14 @@
 //! What the words of the command line ask for.
 //!
-//! A row is the words, with a space between each two. It answers the task: its name, its values, and then what was asked for
-//! beside them; before it stands `quiet` where faults are to be told in one line. Where nothing is to be done it answers `ends`
-//! and the status.
+//! A row is the words, with a space between each two. It answers the task: its name, its values,
+//! and then what was asked for beside them; before it stands `quiet` where faults are to be told in
+//! one line. Where nothing is to be done it answers `ends` and the status.
 
 use command_line::{Request, Task, command};
 use std::alloc::Global;
 use test_words::words_of;
 
-/// What is asked for, or the status with which the program ends.
+/// Returns what is asked for, or the status with which the program ends.
 fn asked<'a>(alloc: Global, words: &'a [&'a str]) -> Result<Request<'a>, i32> {
     match command(alloc, words) {
         Ok(request) => Ok(request),

@@ -96,13 +96,13 @@ pub struct Place<'a> {
     pub alloc: Global,
     /// The bytes of its input, of its disk, or of its connection.
     pub bytes: &'a [u8],
-    /// Whether the input ends with a failure.
+    /// Set if the input ends with a failure.
     pub torn: bool,
     /// How many calls of the disk pass.
     pub fuse: Option<u64>,
 }
 
-/// How a command ends: its status, or its fault.
+/// Returns how a command ends: its status, or its fault.
 pub fn ending<F: Display + Drop>(alloc: Global, ended: Result<u8, F>) -> Option<String> {
     match ended {
         Ok(status) => format!(in alloc; "{status}").ok(),
@@ -118,7 +118,7 @@ impl<'a> Place<'a> {
         Some(disk)
     }
 
-    /// What `hear` answers to the input, and how it ends.
+    /// Returns what `hear` answers to the input, and how it ends.
     fn hear(&self, size: (u16, u16, u16), me: u8, output: &mut Output) -> Option<String> {
         let (n, t, questions) = size;
         let size = match size_from(n, t, questions) {
@@ -132,7 +132,8 @@ impl<'a> Place<'a> {
         )
     }
 
-    /// A script's trace and what is printed behind it, or its chart with the events that are chosen, and how that ends.
+    /// A script's trace and what is printed behind it, or its chart with the events that are
+    /// chosen, and how that ends.
     fn pages(&self, chart: Option<Choice>, output: &mut Output) -> Option<String> {
         let ran = match Simulation::run(self.alloc, self.bytes) {
             Ok(ran) => ran,
@@ -151,7 +152,7 @@ impl<'a> Place<'a> {
         format!(in self.alloc; "0").ok()
     }
 
-    /// What is written of settings, and how that ends.
+    /// Returns what is written of settings, and how that ends.
     fn settings(&self, output: &mut Output) -> Option<String> {
         let text = str::from_utf8(self.bytes).ok()?;
         match Settings::parse(self.alloc, text) {
@@ -163,7 +164,7 @@ impl<'a> Place<'a> {
         }
     }
 
-    /// What a client makes of the reply to its line.
+    /// Returns what a client makes of the reply to its line.
     fn talk(&self, line: &str, sent: &mut Output, output: &mut Output) -> Option<String> {
         let mut reply = Input::new(self.bytes, self.torn);
         ending(self.alloc, talk(self.alloc, line, sent, &mut reply, output))
@@ -217,7 +218,8 @@ pub fn takes(alloc: Global, trace: &str, chart: &str) -> Option<String> {
     format!(in alloc; "{}", takes_output(path_of(trace), path_of(chart))).ok()
 }
 
-/// What stands in the output and among the errors, where verdicts are printed, or put aside.
+/// Returns what stands in the output and among the errors, where verdicts are printed, or put
+/// aside.
 pub fn put(alloc: Global, aside: bool, verdicts: &str) -> Option<String> {
     let (mut output, mut errors) = (Output::new(alloc), Output::new(alloc));
     print_verdicts(aside, verdicts, &mut output, &mut errors).ok()?;

@@ -1,8 +1,9 @@
-//! Plays rows over the libraries. A row is a line of a file in `data`: what is done, ` -> `, and what is answered. Blank lines
-//! and lines that begin with `#` are passed over.
+//! Plays rows over the libraries. A row is a line of a file in `data`: what is done, ` -> `, and
+//! what is answered. Blank lines and lines that begin with `#` are passed over.
 //!
-//! The file `index` has a line for each file: its player, and its name. Of each file is printed how many of its rows are as
-//! they say, and before that each row that isn't, with its line. The file `stdout` beside `src` has what a good run prints.
+//! The file `index` has a line for each file: its player, and its name. Of each file is printed how
+//! many of its rows are as they say, and before that each row that isn't, with its line. The file
+//! `stdout` beside `src` has what a good run prints.
 #![tactic(auto)]
 
 mod player;
@@ -12,7 +13,7 @@ use std::sync::Wait;
 use std::time::Clock;
 use std::{fs, io};
 
-/// What a row says is done, and what it says is answered: nothing where it has no arrow.
+/// Returns what a row says is done, and what it says is answered: nothing where it has no arrow.
 fn parts(line: &str) -> (&str, &str) {
     if let Some(answer) = line.strip_prefix("-> ") {
         return ("", answer);

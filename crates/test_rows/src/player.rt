@@ -5,7 +5,7 @@ use std::sync::Wait;
 use std::time::Clock;
 use test_network::{Desk, Logs, Sessions};
 use test_program::{Document, Job, Played, Texts, faults, judgements, processes, surveys, words};
-use test_rules::{Audit, Ballots, Casts, Cores, Questions, Stream, numbers};
+use test_rules::{Audit, Ballots, Casts, Cores, Questions, Stream, chains, numbers};
 use test_storage::{Disks, File, Life, Migration};
 
 /// The player of a file.
@@ -14,6 +14,7 @@ pub enum Player {
     Audits(Audit),
     Ballots(Ballots),
     Broadcasts(Casts),
+    Chains(Global),
     Clusters(Played),
     Cores(Cores),
     Desks(Desk),
@@ -45,6 +46,7 @@ impl Player {
             "audits" => Player::Audits(Audit::new(alloc)),
             "votes" => Player::Ballots(Ballots::new(alloc)),
             "broadcasts" => Player::Broadcasts(Casts::new(alloc)),
+            "chains" => Player::Chains(alloc),
             "clusters" => Player::Clusters(Played::new(alloc)),
             "cores" => Player::Cores(Cores::new(alloc)),
             "desks" => Player::Desks(Desk::new(alloc)),
@@ -69,12 +71,14 @@ impl Player {
         }
     }
 
-    /// Does what a row says, and gives what is answered: none where it says nothing that can be done.
+    /// Does what a row says, and gives what is answered: none where it says nothing that can be
+    /// done.
     pub fn told<R: Wait + Clock>(&mut self, rt: &R, action: &str) -> Option<String> {
         match self {
             Player::Audits(audit) => audit.told(action),
             Player::Ballots(ballots) => ballots.told(action),
             Player::Broadcasts(casts) => casts.told(action),
+            Player::Chains(alloc) => chains::told(*alloc, action),
             Player::Clusters(played) => played.told(action),
             Player::Cores(cores) => cores.told(action),
             Player::Desks(desk) => desk.told(action),

@@ -1,7 +1,8 @@
 //! What an audit says of a transcript.
 //!
-//! `new N T QUESTIONS` begins a text for a cluster of that size. `line TEXT` puts a line behind it, `end TEXT` the same without
-//! the byte that ends it, `bytes HEX` these bytes. `audit` answers what is written of the text so far, or the fault.
+//! `new N T QUESTIONS` begins a text for a cluster of that size. `line TEXT` puts a line behind it,
+//! `end TEXT` the same without the byte that ends it, `bytes HEX` these bytes. `audit` answers what
+//! is written of the text so far, or the fault.
 
 use std::alloc::{AllocError, Global};
 use terms::Size;
@@ -16,7 +17,7 @@ pub struct Audit {
     text: Vec<u8>,
 }
 
-/// What is written of the text, without the byte that ends its line, or the fault.
+/// Returns what is written of the text, without the byte that ends its line, or the fault.
 fn audited(alloc: Global, text: &[u8], size: Size) -> Result<String, AllocError> {
     let mut output = Vec::new(alloc);
     match audit_text(alloc, text, size, &mut output) {

@@ -1,7 +1,7 @@
 //! Who sent which value, in step 3 or in another.
 //!
-//! `none` begins, and `third` the same in step 3. `with MEMBER VALUE` adds a vote. `value MEMBER` answers what the member sent, or a
-//! dash, and `count N VALUE` how many of n members sent a value.
+//! `none` begins, and `third` the same in step 3. `with MEMBER VALUE` adds a vote. `value MEMBER`
+//! answers what the member sent, or a dash, and `count N VALUE` how many of n members sent a value.
 ghost use Rattle.std.specs.Prelude.{◌<◌, IfSome};
 
 use std::alloc::Global;
@@ -42,7 +42,7 @@ impl Ballots {
         Some(String::new(self.alloc))
     }
 
-    /// What a member sent.
+    /// Returns what a member sent.
     fn value(&self, member: &str) -> Option<String> {
         match self.votes.value(self.third, member_of(member)?) {
             Some(value) => format!(in self.alloc; "{value:?}").ok(),

@@ -1,9 +1,10 @@
 //! Reliable broadcast at one place.
 //!
-//! `at N T STEP` is member 1 of a cluster at the place of question 0, origin 0, round 1 and that step. `hear FROM KIND VALUE`
-//! answers how the statement is taken, and what then stands: the value of the Echo that is due, of the Ready that is due, and
-//! the one that is accepted. `say KIND VALUE` answers what then stands. `receive FROM KIND VALUE` answers how the statement is
-//! taken and what it brings, and says at once what is due for it.
+//! `at N T STEP` is member 1 of a cluster at the place of question 0, origin 0, round 1 and that
+//! step. `hear FROM KIND VALUE` answers how the statement is taken, and what then stands: the value
+//! of the Echo that is due, of the Ready that is due, and the one that is accepted. `say KIND
+//! VALUE` answers what then stands. `receive FROM KIND VALUE` answers how the statement is taken
+//! and what it brings, and says at once what is due for it.
 ghost use Rattle.std.specs.Prelude.{◌≡◌, ◌<◌};
 ghost use Rattle.rbc.specs.Readers.{broadcasts_size};
 
@@ -54,7 +55,7 @@ fn names(
 }
 
 impl Cast {
-    /// What stands at the place.
+    /// Returns what stands at the place.
     fn state(&self, alloc: Global) -> Option<String> {
         let due = self.broadcasts.due(self.place);
         names(

@@ -1,7 +1,8 @@
 //! A core by itself, over records that rows give.
 //!
-//! `core N T QUESTIONS ME RECORD ..` opens one, and answers the fault where there is one. `propose QUESTION BIT TOSS` and `hear FROM
-//! FRAME TOSS` answer as `lives` has it, `verdict QUESTION` the round and the bit, or `none`.
+//! `core N T QUESTIONS ME RECORD ..` opens one, and answers the fault where there is one. `propose
+//! QUESTION BIT TOSS` and `hear FROM FRAME TOSS` answer as `lives` has it, `verdict QUESTION` the
+//! round and the bit, or `none`.
 
 use questions::{Answer, Core, CoreFault};
 use std::alloc::Global;
@@ -24,7 +25,7 @@ fn records_of(alloc: Global, words: &[&str]) -> Option<Vec<Record>> {
     Some(records)
 }
 
-/// What is said of an answer, or of the fault.
+/// Returns what is said of an answer, or of the fault.
 fn told_of(alloc: Global, answer: Result<Answer, CoreFault>) -> Option<String> {
     match answer {
         Ok(answer) => answer_text(alloc, &answer).ok(),
@@ -32,7 +33,7 @@ fn told_of(alloc: Global, answer: Result<Answer, CoreFault>) -> Option<String> {
     }
 }
 
-/// What is said of a decision.
+/// Returns what is said of a decision.
 fn verdict_text(alloc: Global, verdict: Option<(u8, bool)>) -> Option<String> {
     match verdict {
         Some((round, bit)) => format!(in alloc; "{round} {}", u8::from(bit)).ok(),

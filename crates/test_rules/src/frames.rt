@@ -1,10 +1,12 @@
 //! What a feeder makes of bytes, however they are cut.
 //!
-//! `size N T QUESTIONS` says for which cluster. A row of hexadecimal digits answers the messages in words, each before a
-//! comma, and how the stream ends: `More`, or the fault. It is fed whole, cut in two at every byte, and byte by byte; and the
-//! messages, encoded again, are to be the bytes that they were read from. Several statements of one frame stand in brackets,
-//! with semicolons between them, and a hello of version 2 is a `Hello-2`. `encode KIND QUESTION ORIGIN ROUND STEP VALUE` answers
-//! a statement's frame, and `several` with six words for each statement the frame of several, or `back`.
+//! `size N T QUESTIONS` says for which cluster. A row of hexadecimal digits answers the messages in
+//! words, each before a comma, and how the stream ends: `More`, or the fault. It is fed whole, cut
+//! in two at every byte, and byte by byte; and the messages, encoded again, are to be the bytes
+//! that they were read from. Several statements of one frame stand in brackets, with semicolons
+//! between them, and a hello of version 2 is a `Hello-2`. `encode KIND QUESTION ORIGIN ROUND STEP
+//! VALUE` answers a statement's frame, and `several` with six words for each statement the frame of
+//! several, or `back`.
 
 use std::alloc::Global;
 use terms::{Memory, Place, Size, Statement};
@@ -89,7 +91,7 @@ fn shown(alloc: Global, messages: &[Message], fed: Fed) -> Result<String, Memory
     Ok(text)
 }
 
-/// What a feeder tells of the bytes in pieces of that length, the first of another one.
+/// Returns what a feeder tells of the bytes in pieces of that length, the first of another one.
 fn in_pieces(
     alloc: Global,
     size: Size,
@@ -120,7 +122,7 @@ fn is_spelled(alloc: Global, size: Size, bytes: &[u8]) -> Result<bool, Memory> {
     Ok(bytes.starts_with(&again))
 }
 
-/// What a feeder tells of the bytes, if it tells the same however they are cut.
+/// Returns what a feeder tells of the bytes, if it tells the same however they are cut.
 fn however_cut(alloc: Global, size: Size, bytes: &[u8]) -> Result<String, Memory> {
     let whole = in_pieces(alloc, size, bytes, bytes.len(), 1)?;
     for cut in 0..bytes.len() {

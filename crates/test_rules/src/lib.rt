@@ -1,9 +1,11 @@
-//! Players of rows on numbers, frames and the rules of one member. The head of each module says what its rows are.
+//! Players of rows on numbers, frames and the rules of one member. The head of each module says
+//! what its rows are.
 #![tactic(auto)]
 
 mod audits;
 mod ballots;
 mod broadcasts;
+pub mod chains;
 mod cores;
 mod frames;
 pub mod numbers;

@@ -1,8 +1,9 @@
 //! Sizes and their thresholds, places, statements and headers, and the words of lines.
 //!
-//! `size N T QUESTIONS` answers the numbers again, the echo quorum, the help set, the accept set and the wait set, or the
-//! fault; `wide` is the same of larger numbers, and answers the size alone. `place`, `statement` and `header` give back what
-//! they were made of. `number`, `number16`, `number8`, `bytes`, `byte`, `split` and `is` read a text in quotes.
+//! `size N T QUESTIONS` answers the numbers again, the echo quorum, the help set, the accept set
+//! and the wait set, or the fault; `wide` is the same of larger numbers, and answers the size
+//! alone. `place`, `statement` and `header` give back what they were made of. `number`, `number16`,
+//! `number8`, `bytes`, `byte`, `split` and `is` read a text in quotes.
 
 use numerals::{byte, bytes, is, number, number8, number16, size_from, split_at_space};
 use std::alloc::{AllocError, Global};
@@ -38,7 +39,7 @@ fn size_text(alloc: Global, size: Result<Size, SizeFault>) -> Result<String, All
     }
 }
 
-/// What a place of these numbers gives back.
+/// Returns what a place of these numbers gives back.
 fn place_text(alloc: Global, place: Place) -> Result<String, AllocError> {
     let (question, origin, round, step) = (
         place.question(),
@@ -64,7 +65,7 @@ fn place_of(words: &[&str]) -> Option<Place> {
     }
 }
 
-/// What a statement of these words gives back.
+/// Returns what a statement of these words gives back.
 fn statement_text(alloc: Global, kind: &str, place: &[&str], value: &str) -> Option<String> {
     let said = Statement::new(kind_of(kind)?, place_of(place)?, value_of(value)?)?;
     let place = place_text(alloc, said.place()).ok()?;
@@ -72,7 +73,7 @@ fn statement_text(alloc: Global, kind: &str, place: &[&str], value: &str) -> Opt
     format!(in alloc; "{kind:?} {place} {value:?}").ok()
 }
 
-/// What a header of these words gives back.
+/// Returns what a header of these words gives back.
 fn header_text(alloc: Global, cluster: &str, size: Size, me: &str) -> Option<String> {
     let header = Header::new(cluster.parse().ok()?, size, me.parse().ok()?)?;
     let (cluster, size, me) = (header.cluster(), header.size(), header.me());
@@ -80,7 +81,7 @@ fn header_text(alloc: Global, cluster: &str, size: Size, me: &str) -> Option<Str
     format!(in alloc; "{cluster} {n} {t} {questions} {me}").ok()
 }
 
-/// What is read of a text in quotes.
+/// Returns what is read of a text in quotes.
 fn read(alloc: Global, word: &str, text: &[u8]) -> Option<String> {
     match word {
         "number" => number_text(alloc, number(text)),

@@ -1,12 +1,15 @@
-//! What follows from the messages of a step, what is valid, and what a member says and decides by it.
+//! What follows from the messages of a step, what is valid, and what a member says and decides by
+//! it.
 //!
-//! `follow N T STEP ZERO ONE UNSURE` answers the values that follow from so many messages for 0, for 1 and for neither.
-//! `question N T` is question 0 at member 0 of a cluster. `accept ROUND STEP VALUE ..` accepts the values of a step, from
-//! origin 0 on, with `-` for none; `fill ROUND STEP COUNT VALUE` that value of so many origins. `valid ROUND STEP` answers the
-//! values of all origins that are valid, and `tally ROUND STEP` how many are for 0, for 1 and for neither. `say ROUND STEP
-//! VALUE` is an Initial of its own, `heard KIND ORIGIN VALUE` another statement that is noted, `decide QUESTION ROUND BIT` a
-//! decision. `next TOSS` answers the Initial that is due, `due` the decision that is due, `verdict` the one that was made.
-//! `toss BYTE STREAM` is the first toss of a stream, whose seed has that byte 32 times.
+//! `follow N T STEP ZERO ONE UNSURE` answers the values that follow from so many messages for 0,
+//! for 1 and for neither. `question N T` is question 0 at member 0 of a cluster. `accept ROUND STEP
+//! VALUE ..` accepts the values of a step, from origin 0 on, with `-` for none; `fill ROUND STEP
+//! COUNT VALUE` that value of so many origins. `valid ROUND STEP` answers the values of all origins
+//! that are valid, and `tally ROUND STEP` how many are for 0, for 1 and for neither. `say ROUND
+//! STEP VALUE` is an Initial of its own, `heard KIND ORIGIN VALUE` another statement that is noted,
+//! `decide QUESTION ROUND BIT` a decision. `next TOSS` answers the Initial that is due, `due` the
+//! decision that is due, `verdict` the one that was made. `toss BYTE STREAM` is the first toss of a
+//! stream, whose seed has that byte 32 times.
 ghost use Rattle.std.specs.Prelude.{◌≡◌};
 ghost use Rattle.validate.specs.Readers.{steps_size, steps_question};
 ghost use Rattle.rounds.specs.Readers.{question_size, question_number};

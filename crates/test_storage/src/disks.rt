@@ -1,10 +1,12 @@
 //! A disk in memory: its calls, its fuse, and what crashes leave of it.
 //!
-//! `new` is an empty one. `len` answers the length, `read PLACE COUNT` the bytes, `write PLACE DIGITS` nothing, `sync` nothing; each
-//! `device` where it fails. Those of another place than the start, and a read of some bytes, ask for the length before, which is a
-//! call as well, and answer `past` where the file ends before. `many COUNT DIGITS` writes so often at the end, with a sync each
-//! time. `fuse CALLS` lets so many calls pass, and `fuse out` all. `crash kept`, `crash lost` and `crash fill BYTE` are a crash.
-//! `look` takes the fuse out, and answers all bytes; `fused` answers whether a fuse is in, and `empty` whether there is no byte.
+//! `new` is an empty one. `len` answers the length, `read PLACE COUNT` the bytes, `write PLACE
+//! DIGITS` nothing, `sync` nothing; each `device` where it fails. Those of another place than the
+//! start, and a read of some bytes, ask for the length before, which is a call as well, and answer
+//! `past` where the file ends before. `many COUNT DIGITS` writes so often at the end, with a sync
+//! each time. `fuse CALLS` lets so many calls pass, and `fuse out` all. `crash kept`, `crash lost`
+//! and `crash fill BYTE` are a crash. `look` takes the fuse out, and answers all bytes; `fused`
+//! answers whether a fuse is in, and `empty` whether there is no byte.
 
 use disk::{DeviceFault, Disk, MemDisk};
 use std::alloc::Global;
@@ -62,7 +64,7 @@ fn append(disk: &mut MemDisk, bytes: &[u8]) -> Result<(), DeviceFault> {
     disk.sync()
 }
 
-/// What is said of a call that gives nothing else.
+/// Returns what is said of a call that gives nothing else.
 fn told_of(alloc: Global, came: Result<Came, DeviceFault>) -> Option<String> {
     match came.unwrap_or(Came::Failed) {
         Came::Well => Some(String::new(alloc)),
@@ -105,7 +107,7 @@ fn append_many(alloc: Global, disk: &mut MemDisk, count: u32, bytes: &[u8]) -> O
     Some(String::new(alloc))
 }
 
-/// What a disk answers to these words.
+/// Returns what a disk answers to these words.
 fn call(alloc: Global, disk: &mut MemDisk, words: &[&str]) -> Option<String> {
     match words {
         ["len"] => len_text(alloc, disk),

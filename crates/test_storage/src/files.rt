@@ -1,11 +1,13 @@
 //! What an opening answers to a journal's file, whole, cut and changed.
 //!
-//! `file DIGITS` is a file's bytes, and `more DIGITS` lengthens it. `open N T QUESTIONS ME` opens it for a member of cluster
-//! 7: the records, or the fault. `open` opens it for the member that its header names, and answers the count of records.
-//! `header` tells that member. `set PLACE DIGITS` opens it with that byte at that place, `cut LENGTH` opens its front.
-//! `cuts` opens every front, and `bytes PLACE` the file with each value at that place: each answers its runs, a first number,
-//! a last one, and what is answered to all of them. `place FAULT` answers the byte at which the file goes wrong by that fault, or
-//! `none`, `old place FAULT` the same of a journal of version 1, and `shown PLACE` the bytes from a place on, as people see them.
+//! `file DIGITS` is a file's bytes, and `more DIGITS` lengthens it. `open N T QUESTIONS ME` opens
+//! it for a member of cluster 7: the records, or the fault. `open` opens it for the member that its
+//! header names, and answers the count of records. `header` tells that member. `set PLACE DIGITS`
+//! opens it with that byte at that place, `cut LENGTH` opens its front. `cuts` opens every front,
+//! and `bytes PLACE` the file with each value at that place: each answers its runs, a first number,
+//! a last one, and what is answered to all of them. `place FAULT` answers the byte at which the
+//! file goes wrong by that fault, or `none`, `old place FAULT` the same of a journal of version 1,
+//! and `shown PLACE` the bytes from a place on, as people see them.
 
 use commands::{bytes_at as shown, fault_place, old_fault_place};
 use disk::{Disk, MemDisk};
@@ -27,7 +29,7 @@ pub struct File {
 /// The number of records that an opening gives, or its fault.
 type Answer = Result<usize, JournalFault>;
 
-/// What is said of an answer.
+/// Returns what is said of an answer.
 fn answer_text(alloc: Global, answer: Answer) -> Result<String, AllocError> {
     match answer {
         Ok(count) => format!(in alloc; "{count}"),
@@ -35,7 +37,7 @@ fn answer_text(alloc: Global, answer: Answer) -> Result<String, AllocError> {
     }
 }
 
-/// What an opening of a file of these bytes answers: for that header, or for its own.
+/// Returns what an opening of a file of these bytes answers: for that header, or for its own.
 fn opening(alloc: Global, header: Option<Header>, bytes: &[u8]) -> Answer {
     let mut disk = disk_of(alloc, bytes)?;
     let header = match header {
@@ -153,7 +155,7 @@ impl File {
         Some(String::new(self.alloc))
     }
 
-    /// What is answered with a byte changed.
+    /// Returns what is answered with a byte changed.
     fn set(&mut self, at: &str, digits: &str) -> Option<Answer> {
         let header = self.header().ok()?;
         let bytes = bytes_of(self.alloc, digits)?;

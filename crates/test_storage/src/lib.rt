@@ -1,4 +1,5 @@
-//! Players of rows on disks, journals, migrations and the life of a member. The head of each module says what its rows are.
+//! Players of rows on disks, journals, migrations and the life of a member. The head of each module
+//! says what its rows are.
 #![tactic(auto)]
 
 mod disks;

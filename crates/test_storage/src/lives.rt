@@ -1,11 +1,14 @@
-//! The life of a member over a disk in memory: what it hears and is proposed, what its disk does, and its restarts.
+//! The life of a member over a disk in memory: what it hears and is proposed, what its disk does,
+//! and its restarts.
 //!
-//! `size N T QUESTIONS me M` is the member M of cluster 7, on a new disk that has its journal. `open` opens it there, or
-//! once more, and answers its records; `crash kept`, `crash lost` and `crash fill BYTE` open what a crash leaves. `hear FROM
-//! FRAME TOSS` and `propose QUESTION BIT TOSS` answer; `all FROM FRAME TOSS, ..` hears a group, and answers all in turn.
-//! `fuse CALLS` lets so many calls of the device pass, `fuse out` all. `outbox`, `verdict QUESTION`, `stopped`, `stop` are as
-//! the member has it, and `len` is its file's length. `empty` is a disk of nothing, and `disk DIGITS` one that has these
-//! bytes; `create` makes a journal there, and `create with CALLS` where so many calls of the device pass.
+//! `size N T QUESTIONS me M` is the member M of cluster 7, on a new disk that has its journal.
+//! `open` opens it there, or once more, and answers its records; `crash kept`, `crash lost` and
+//! `crash fill BYTE` open what a crash leaves. `hear FROM FRAME TOSS` and `propose QUESTION BIT
+//! TOSS` answer; `all FROM FRAME TOSS, ..` hears a group, and answers all in turn. `fuse CALLS`
+//! lets so many calls of the device pass, `fuse out` all. `outbox`, `verdict QUESTION`, `stopped`,
+//! `stop` are as the member has it, and `len` is its file's length. `empty` is a disk of nothing,
+//! and `disk DIGITS` one that has these bytes; `create` makes a journal there, and `create with
+//! CALLS` where so many calls of the device pass.
 
 use disk::{Disk, MemDisk};
 use journal::create;
@@ -46,7 +49,7 @@ pub struct Life {
     up: Option<Up>,
 }
 
-/// What is said of an answer, or of the fault.
+/// Returns what is said of an answer, or of the fault.
 fn told_of(alloc: Global, answer: Result<Answer, MemberFault>) -> Option<String> {
     match answer {
         Ok(answer) => answer_text(alloc, &answer).ok(),
@@ -54,7 +57,7 @@ fn told_of(alloc: Global, answer: Result<Answer, MemberFault>) -> Option<String>
     }
 }
 
-/// What is said of the answers to a group, or of the fault.
+/// Returns what is said of the answers to a group, or of the fault.
 fn all_told(alloc: Global, answers: Result<Vec<Answer>, MemberFault>) -> Option<String> {
     let answers = match answers {
         Ok(answers) => answers,
@@ -110,7 +113,7 @@ impl Up {
         all_told(alloc, self.member.hear_all(events))
     }
 
-    /// What its outbox has: the number and the record of each statement.
+    /// Returns what its outbox has: the number and the record of each statement.
     fn outbox(&self, alloc: Global) -> Option<String> {
         let mut text = String::new(alloc);
         for sealed in self.member.outbox() {
@@ -185,7 +188,8 @@ impl Life {
         }
     }
 
-    /// Makes its journal on the disk that is there, where so many calls of it pass, and tells the fault. It is down then.
+    /// Makes its journal on the disk that is there, where so many calls of it pass, and tells the
+    /// fault. It is down then.
     fn make(&mut self, calls: Option<u64>) -> Option<String> {
         let (mut disk, header) = (self.take_disk()?, self.header?);
         disk.fuse(calls);

@@ -1,18 +1,21 @@
-//! Bringing a journal of version 1 over: what is answered, the new file's bytes, and what a crash at each call leaves of it.
+//! Bringing a journal of version 1 over: what is answered, the new file's bytes, and what a crash
+//! at each call leaves of it.
 //!
-//! `old DIGITS` is the old file; `more DIGITS` lengthens it, `more DIGITS TIMES` so many times. `peek` tells the member that
-//! its header names. `migrate` brings it over into an empty file for that member, `migrate N T QUESTIONS ME` for a member of
-//! cluster 7, and `migrate over DIGITS` into a file that has these bytes: the number of records, or the fault. `cuts` brings
-//! every front of it over, and `bytes PLACE` the file with each value at that place, for the member that the whole one
-//! names: each answers its runs.
+//! `old DIGITS` is the old file; `more DIGITS` lengthens it, `more DIGITS TIMES` so many times.
+//! `peek` tells the member that its header names. `migrate` brings it over into an empty file for
+//! that member, `migrate N T QUESTIONS ME` for a member of cluster 7, and `migrate over DIGITS`
+//! into a file that has these bytes: the number of records, or the fault. `cuts` brings every front
+//! of it over, and `bytes PLACE` the file with each value at that place, for the member that the
+//! whole one names: each answers its runs.
 //!
-//! `stop begin CALLS PICK` lets so many calls of the new disk pass in beginning; `stop new CALLS PICK` and `stop old CALLS
-//! PICK` let so many of that disk pass in finishing. Then comes a crash of the new disk with that pick. What is answered is
-//! how it ended, and what opening the new file then gives: the number of its records, or the fault. `stops new PICK` and the
-//! like do it with every number of calls until it doesn't fail: the runs of answers.
+//! `stop begin CALLS PICK` lets so many calls of the new disk pass in beginning; `stop new CALLS
+//! PICK` and `stop old CALLS PICK` let so many of that disk pass in finishing. Then comes a crash
+//! of the new disk with that pick. What is answered is how it ended, and what opening the new file
+//! then gives: the number of its records, or the fault. `stops new PICK` and the like do it with
+//! every number of calls until it doesn't fail: the runs of answers.
 //!
-//! `new` is the new file's bytes, `part PLACE LEN` some of them, `len` its length, `open` its records, and `again` what
-//! beginning another one there answers.
+//! `new` is the new file's bytes, `part PLACE LEN` some of them, `len` its length, `open` its
+//! records, and `again` what beginning another one there answers.
 
 use disk::{Disk, MemDisk, Pick};
 use journal::Journal;
@@ -45,7 +48,7 @@ pub struct Migration {
     new: Option<MemDisk>,
 }
 
-/// What is said of an answer.
+/// Returns what is said of an answer.
 fn answer_text(alloc: Global, answer: Answer) -> Result<String, AllocError> {
     match answer {
         Ok(count) => format!(in alloc; "{count}"),
@@ -98,7 +101,7 @@ fn stopped(
     }
 }
 
-/// What opening a disk gives: the number of records, or the fault. And the disk.
+/// Returns what opening a disk gives: the number of records, or the fault. And the disk.
 fn opened(alloc: Global, disk: MemDisk, header: &Header) -> Option<(String, MemDisk)> {
     match Journal::adopt(alloc, disk, header) {
         Ok((journal, records)) => {

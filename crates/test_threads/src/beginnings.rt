@@ -27,7 +27,8 @@ impl Tosser for Counting {
     }
 }
 
-/// Whether the book's history from a place on is these events, each once, with their tosses.
+/// Returns `true` if the book's history from a place on is these events, each once, with their
+/// tosses.
 pub(crate) fn goes_on_with<D: Disk, J: Naming>(
     book: &Book<D, J>,
     from: usize,

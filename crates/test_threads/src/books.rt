@@ -1,4 +1,5 @@
-//! A book over a file, and one that several threads use. What a book answers over a disk in memory is played by rows.
+//! A book over a file, and one that several threads use. What a book answers over a disk in memory
+//! is played by rows.
 ghost use Rattle.std.specs.Prelude.{◌≡◌, ◌<◌, length};
 ghost use Rattle.terms_prelude.specs.Terms.{new_header, new_size};
 
@@ -43,7 +44,7 @@ enum Told {
     Have(bool),
 }
 
-/// What the answer tells.
+/// Returns what the answer tells.
 fn told_by(answered: Result<Answer, MemberFault>) -> Result<Told, MemberFault> {
     Ok(match answered? {
         Answer::Taken(records) => match records.as_slice() {
@@ -110,7 +111,8 @@ fn said_at<D: Disk, J: Naming, R: Wait>(
     Ok(*pulled.first().ok_or("a statement of that number")?)
 }
 
-/// Whether the statement of that number is so numbered and counts, and a verdict stood before it as wanted.
+/// Whether the statement of that number is so numbered and counts, and a verdict stood before it as
+/// wanted.
 fn is_told<D: Disk, J: Naming, R: Wait>(
     rt: &R,
     hub: &Hub<D, J>,
@@ -140,7 +142,7 @@ fn tell<D: Disk, J: Naming, R: Wait + Abort>(
     Ok(())
 }
 
-/// What the board says of a question to one who asks for the first time.
+/// Returns what the board says of a question to one who asks for the first time.
 fn asked(board: &Board, question: u16) -> Result<Option<bool>, Memory> {
     let mut pass = board.pass()?;
     Ok(board.ask(&mut pass, question))
@@ -217,8 +219,8 @@ fn settles<D: Disk + Drop, J: Naming, R: Wait + Abort + AllocGlobal>(
 fn it_settles_over_a_file(rt: HostRuntime) -> Result<(), Fail> {
     let path = "node_tests_file";
     let _ = fs::remove_file(&rt, path);
-    let disk = FileDisk::open(&rt, path, true)?;
-    settles::<FileDisk, Brand, _>(&rt, disk, board(&rt, 1)?)?;
+    let disk = FileDisk::<Brand>::open(&rt, path, true)?;
+    settles::<FileDisk<Brand>, Brand, _>(&rt, disk, board(&rt, 1)?)?;
     fs::remove_file(&rt, path)?;
     Ok(())
 }
@@ -292,7 +294,8 @@ fn has_noted<J: Naming, R: Wait + Abort>(
     Ok(())
 }
 
-/// One thread keeps the book until a third has read the verdict, and hands in; a second hands in after that.
+/// One thread keeps the book until a third has read the verdict, and hands in; a second hands in
+/// after that.
 fn hand_in_at_once<J: Naming + Send + Sync, R: Threads + Wait + Clock + Abort + Sync>(
     rt: &R,
     hub: &Hub<MemDisk, J>,

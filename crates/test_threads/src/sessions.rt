@@ -1,4 +1,5 @@
-//! Sessions in several threads over streams in memory, and over TCP on this machine. Others are rows.
+//! Sessions in several threads over streams in memory, and over TCP on this machine. Others are
+//! rows.
 ghost use Rattle.std.specs.Prelude.{◌≡◌, length, []};
 ghost use Rattle.terms_prelude.specs.Terms.{new_header, new_size};
 ghost use Rattle.links.specs.Mem.{told_by, is_closed_mem};
@@ -84,7 +85,7 @@ fn greets_over_tcp(rt: HostRuntime) -> Result<(), Fail> {
     Ok(())
 }
 
-/// Whether a write fails before the stream has taken more than sockets hold.
+/// Returns `true` if a write fails before the stream has taken more than sockets hold.
 fn fills_up(stream: &mut NetStream) -> bool {
     let piece = [0u8; 8192];
     for _ in 0..65_536u32 {
@@ -113,7 +114,8 @@ fn a_stalled_peer_holds_no_writer(rt: HostRuntime) -> Result<(), Fail> {
     Ok(())
 }
 
-/// A client, too, isn't waited for without an end: ten minutes for what it asks, and ten seconds until it takes a reply.
+/// A client, too, isn't waited for without an end: ten minutes for what it asks, and ten seconds
+/// until it takes a reply.
 #[test]
 fn a_client_has_limits(rt: HostRuntime) -> Result<(), Fail> {
     let (_client, socket) = connected(&rt)?;
@@ -341,7 +343,8 @@ fn writes_on<J: Naming, R: Wait + AllocGlobal>(
     (Vec::from_slice(alloc, watched.inner.output()).ok(), end)
 }
 
-/// Rings until two Idles were written behind the Hello, hands two origins' Readys in, rings on, and shuts the hub.
+/// Rings until two Idles were written behind the Hello, hands two origins' Readys in, rings on, and
+/// shuts the hub.
 fn rings_and_shuts<J: Naming, R: Wait + Clock>(
     rt: &R,
     hub: &Hub<MemDisk, J>,
@@ -395,7 +398,7 @@ fn has_two<J: Naming, R: Wait + Abort>(
     Ok(())
 }
 
-/// What was written behind the Hello of member 1 to member 0.
+/// Returns what was written behind the Hello of member 1 to member 0.
 fn behind_the_greeting(
     rt: &(impl Abort + AllocGlobal),
     output: Option<Vec<u8>>,
@@ -406,7 +409,8 @@ fn behind_the_greeting(
     Ok(Vec::from_slice(rt.alloc(), &output.as_slice()[18..])?)
 }
 
-/// What a writer wrote behind its Hello while it was woken, before four more statements were in the outbox and behind them.
+/// Returns what a writer wrote behind its Hello while it was woken, before four more statements
+/// were in the outbox and behind them.
 fn wakes<J: Naming + Send + Sync, R: Threads + Wait + Clock + Abort + AllocGlobal + Sync>(
     rt: &R,
     hub: &Hub<MemDisk, J>,
@@ -454,7 +458,7 @@ fn a_woken_writer_with_nothing_new_writes_idles(rt: HostRuntime) -> Result<(), F
     Ok(())
 }
 
-/// Whether there are Idles, then a frame of ten bytes, which is this one, and then Idles.
+/// Returns `true` if there are Idles, then a frame of ten bytes, which is this one, and then Idles.
 fn stands_between_idles(written: &[u8], frame: &[u8]) -> bool {
     let rest = behind_idles(written);
     written.len() > rest.len()

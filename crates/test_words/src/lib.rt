@@ -1,4 +1,5 @@
-//! Words of rows and what they stand for, runs of answers, and readers and writers that fail where a row says so.
+//! Words of rows and what they stand for, runs of answers, and readers and writers that fail where
+//! a row says so.
 #![tactic(auto)]
 
 mod outputs;

@@ -1,4 +1,5 @@
-//! Readers and writers of jobs: bytes that end, or that end with a failure, and a list that has room for all, or for so many.
+//! Readers and writers of jobs: bytes that end, or that end with a failure, and a list that has
+//! room for all, or for so many.
 
 use std::alloc::Global;
 use std::io::{self, BufRead, Read, Write};
@@ -77,7 +78,7 @@ impl Output {
         self.told = 0;
     }
 
-    /// How many of so many bytes it takes now: none where it fails.
+    /// Returns how many of so many bytes it takes now: none where it fails.
     fn takes(&self, count: usize) -> Option<usize> {
         match self.room {
             Room::Ample => Some(count),
@@ -87,7 +88,7 @@ impl Output {
         }
     }
 
-    /// What wasn't told yet.
+    /// Returns what wasn't told yet.
     fn rest(&self) -> &[u8] {
         let (_, rest) = self
             .taken
@@ -96,7 +97,7 @@ impl Output {
         rest
     }
 
-    /// Whether all was told.
+    /// Returns `true` if all was told.
     pub fn is_told(&self) -> bool {
         self.told >= self.taken.len()
     }
@@ -111,13 +112,13 @@ impl Output {
         String::from_utf8(line).ok()
     }
 
-    /// What it took, in digits. All is told then.
+    /// Returns what it took, in digits. All is told then.
     pub fn digits(&mut self, alloc: Global) -> Option<String> {
         self.told = self.taken.len();
         hex::encode(alloc, &self.taken).ok()
     }
 
-    /// What it took, as text.
+    /// Returns what it took, as text.
     pub fn text(&self) -> Option<&str> {
         str::from_utf8(&self.taken).ok()
     }

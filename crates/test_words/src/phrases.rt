@@ -111,8 +111,8 @@ pub fn record_of(alloc: Global, digits: &str) -> Option<Record> {
     }
 }
 
-/// The digits of a record: of a statement those that a frame has, of a decision 04, the question, 00, the round, 00 and
-/// the bit.
+/// The digits of a record: of a statement those that a frame has, of a decision 04, the question,
+/// 00, the round, 00 and the bit.
 fn record_text(alloc: Global, record: &Record) -> Result<String, Memory> {
     match *record {
         Record::Said(statement) => {
@@ -141,7 +141,7 @@ pub fn records_text(alloc: Global, word: &str, records: &[Record]) -> Result<Str
     Ok(text)
 }
 
-/// What is said of an answer.
+/// Returns what is said of an answer.
 pub fn answer_text(alloc: Global, answer: &Answer) -> Result<String, Memory> {
     match answer {
         Answer::Taken(records) => records_text(alloc, "taken", records.as_slice()),

@@ -36,7 +36,7 @@ impl Runs {
         Ok(())
     }
 
-    /// Whether the run has that answer.
+    /// Returns `true` if the run has that answer.
     fn has(&self, answer: &str) -> bool {
         match &self.answer {
             Some(own) => own.as_str() == answer,

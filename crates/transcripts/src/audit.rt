@@ -17,7 +17,8 @@ use std::alloc::Global;
 use std::io::Write;
 use terms::{Size, Statement};
 
-/// Reads so many lines, and no more, each a sender and a statement. The first of them is line 2 of its transcript.
+/// Reads so many lines, and no more, each a sender and a statement. The first of them is line 2 of
+/// its transcript.
 fn read_pairs(
     alloc: Global,
     size: Size,
@@ -52,7 +53,7 @@ fn read_pairs(
     Err(AuditFault::Memory)
 }
 
-/// Whether a text is a transcript whose audit is true.
+/// Returns `true` if a text is a transcript whose audit is true.
 fn is_proof(alloc: Global, size: Size, text: &[u8]) -> Result<bool, AuditFault>
     ensures ok { IfOk result (λ yes. (shown : Shown) × Reads size text.now shown
         × (IsTrue yes ↔ IsProof size shown.question shown.bit shown.pairs)) }
@@ -73,12 +74,13 @@ fn is_proof(alloc: Global, size: Size, text: &[u8]) -> Result<bool, AuditFault>
     Ok(audit(alloc, size, head.question, head.bit, &pairs)?)
 }
 
-/// Reads a transcript of a cluster of that size, and writes `yes` where its statements are proof of its bit
-/// ([`questions::audit`]), else `no`. The status is 0 for `yes` and 1 for `no`.
+/// Reads a transcript of a cluster of that size, and writes `yes` where its statements are proof of
+/// its bit ([`questions::audit`]), else `no`. The status is 0 for `yes` and 1 for `no`.
 ///
-/// [`AuditFault::Line`]: the first line that is missing, or with which the lines no longer begin a transcript; nothing was
-/// written. Lines end at the byte 10, and bytes behind the last one are a line too. [`AuditFault::Memory`]: memory was
-/// refused. [`AuditFault::Stream`]: a write failed, after a beginning of the answer was perhaps written.
+/// [`AuditFault::Line`]: the first line that is missing, or with which the lines no longer begin a
+/// transcript; nothing was written. Lines end at the byte 10, and bytes behind the last one are a
+/// line too. [`AuditFault::Memory`]: memory was refused. [`AuditFault::Stream`]: a write failed,
+/// after a beginning of the answer was perhaps written.
 pub fn audit_text<W: Write>(
     alloc: Global,
     text: &[u8],

@@ -1,4 +1,4 @@
-//! What ends an audit.
+//! The faults that end an audit.
 
 ghost use Rattle.std.specs.Prelude.{◌≡◌};
 ghost use Rattle.transcripts.specs.declared.fault.AuditFault.TheVariants as fault;

@@ -79,8 +79,8 @@ pub(crate) fn put_words(block: &mut Block, pair: &(u8, Statement))
     put(block, &hex_digits(&frame(&pair.1)));
 }
 
-/// Puts the first line of a transcript into the block, with the byte 10 at its end: the question, the bit that it was
-/// decided for, and how many lines follow. It has at most 50 bytes.
+/// Puts the first line of a transcript into the block, with the byte 10 at its end: the question,
+/// the bit that it was decided for, and how many lines follow. It has at most 50 bytes.
 pub fn put_head(block: &mut Block, question: u16, bit: bool, count: u64)
     requires { array_vec_len block.old + 64 ≤ 4096 }
     ensures items { block.new.items ≡ block.old.items ++ line (head_line question bit count) }
@@ -90,7 +90,8 @@ pub fn put_head(block: &mut Block, question: u16, bit: bool, count: u64)
     put(block, b"\n");
 }
 
-/// Puts the line of one statement and its sender into the block, with the byte 10 at its end. It has at most 25 bytes.
+/// Puts the line of one statement and its sender into the block, with the byte 10 at its end. It
+/// has at most 25 bytes.
 pub fn put_pair(block: &mut Block, pair: &(u8, Statement))
     requires { array_vec_len block.old + 32 ≤ 4096 }
     ensures items { block.new.items ≡ block.old.items ++ line (pair_line pair.now) }

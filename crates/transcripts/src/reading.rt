@@ -1,5 +1,5 @@
-//! The lines of a transcript, as they are read. What is read off a line is written again, and counts where that gives
-//! the line: so each line has one spelling.
+//! The lines of a transcript, as they are read. What is read off a line is written again, and
+//! counts where that gives the line: so each line has one spelling.
 
 ghost use Rattle.std.specs.Prelude.{ℕ, ◌≡◌, ◌<◌, ◌^◌, ◌∷◌, ◌++◌, List, Bool, Some, length, IfSome, IsTrue, ◌↔◌, MatchOption};
 ghost use Rattle.std.specs.List.{position_from};
@@ -18,18 +18,18 @@ use numerals::{behind, number, number8, number16, split_at_space};
 use statement_codec::{kind_of, value_of};
 use terms::{Place, Size, Statement};
 
-/// What the first line says.
+/// A head: what the first line says.
 #[derive(Clone, Copy, Debug, PartialEq, Eq)]
 pub(crate) struct Head {
     /// The question.
     pub(crate) question: u16,
     /// The bit that it was decided for.
     pub(crate) bit: bool,
-    /// How many lines follow.
+    /// The number of lines that follow.
     pub(crate) count: u64,
 }
 
-/// Where the first byte 10 stands.
+/// Returns the place of the first byte 10.
 fn first_end(text: &[u8]) -> Option<usize>
     ensures value { result ≡ position_from is_end 0 text.now }
     ensures within { IfSome result (λ at. at < length text.now) }
@@ -62,7 +62,7 @@ fn bit_of(words: &[u8]) -> Option<(bool, &[u8])>
     }
 }
 
-/// What the words of a first line say.
+/// Returns what the words of a first line say.
 fn head_of(line: &[u8]) -> Option<Head>
     ensures { (question : ℕ) (bit : Bool) (count : ℕ) → question < 2 ^ 16 → count < 2 ^ 64 → line.now ≡ head_line question bit count →
         result ≡ Some (record { question = question; bit = bit; count = count }) }
@@ -76,7 +76,7 @@ fn head_of(line: &[u8]) -> Option<Head>
     })
 }
 
-/// Whether the line is spelled as the first line that says this.
+/// Returns `true` if the line is spelled as the first line that says this.
 fn is_spelled(line: &[u8], head: Head) -> bool
     ensures { IsTrue result ↔ (line.now ≡ head_line head.question head.bit head.count) }
 {
@@ -85,7 +85,7 @@ fn is_spelled(line: &[u8], head: Head) -> bool
     line == spelled.as_slice()
 }
 
-/// How many lines follow a first line, of whatever cluster; none where the line is none.
+/// Returns how many lines follow a first line, of whatever cluster; none where the line is none.
 pub fn count_in(line: &[u8]) -> Option<u64>
     ensures some { IfSome result (λ count. (question : ℕ) × (bit : Bool) × (line.now ≡ head_line question bit count)) }
     ensures exact { (question : ℕ) (bit : Bool) (count : ℕ) → question < 2 ^ 16 → count < 2 ^ 64 → line.now ≡ head_line question bit count →
@@ -97,7 +97,7 @@ pub fn count_in(line: &[u8]) -> Option<u64>
     }
 }
 
-/// What a first line says, for a cluster of that size; none where it is no such line.
+/// Returns what a first line says, for a cluster of that size; none where it is no such line.
 pub(crate) fn head_from(size: Size, line: &[u8]) -> Option<Head>
     ensures some { IfSome result (λ head. (head.question < size.questions) × (line.now ≡ head_line head.question head.bit head.count)) }
     ensures counted { IfSome result (λ head. head.count < 2 ^ 64) }
@@ -148,7 +148,7 @@ fn pair_of(size: Size, line: &[u8]) -> Option<(u8, Statement)>
     Some((from, statement))
 }
 
-/// Whether the line is spelled as that of this sender and statement.
+/// Returns `true` if the line is spelled as that of this sender and statement.
 fn is_pair_spelled(line: &[u8], pair: &(u8, Statement)) -> bool
     ensures { IsTrue result ↔ (line.now ≡ pair_line pair.now) }
 {
@@ -157,7 +157,8 @@ fn is_pair_spelled(line: &[u8], pair: &(u8, Statement)) -> bool
     line == spelled.as_slice()
 }
 
-/// The sender and the statement of a line, for a cluster of that size; none where it is no such line.
+/// The sender and the statement of a line, for a cluster of that size; none where it is no such
+/// line.
 pub(crate) fn pair_from(size: Size, line: &[u8]) -> Option<(u8, Statement)>
     ensures some { IfSome result (λ pair. FitsPair size pair × (line.now ≡ pair_line pair)) }
     ensures exact { (pair : ℕ × Statement) → FitsPair size pair → line.now ≡ pair_line pair → result ≡ Some pair }

@@ -26,7 +26,8 @@ impl fmt::Display for FrameDigits<'_> {
     }
 }
 
-/// The lines of a transcript. Its text has a byte 10 between two lines, and none behind the last one. It takes no memory.
+/// The lines of a transcript. Its text has a byte 10 between two lines, and none behind the last
+/// one. It takes no memory.
 #[derive(Drop)]
 pub struct TranscriptText<'a> {
     /// The question.

@@ -10,7 +10,8 @@ use std::alloc::{AllocError, Global};
 pub struct Trial {
     /// The script.
     pub text: String,
-    /// The number of decisions that its run has at least: one for each correct member and question if it settles them, else 0.
+    /// The number of decisions that its run has at least: one for each correct member and question
+    /// if it settles them, else 0.
     pub least: usize,
 }
 
@@ -89,7 +90,8 @@ fn head_text(alloc: Global, cast: Cast, seed: u64) -> Result<String, AllocError>
     Ok(text)
 }
 
-/// Adds at most three lines of drawn events, each `random` or `fair`. Without any, all members may propose one bit.
+/// Adds at most three lines of drawn events, each `random` or `fair`. Without any, all members may
+/// propose one bit.
 fn add_troubles(
     text: &mut String,
     alloc: Global,
@@ -117,7 +119,8 @@ fn add_repairs(text: &mut String, alloc: Global, correct: u32) -> Result<(), All
     Ok(())
 }
 
-/// Adds a proposal to each correct member on this question, each with a bit of its own, or all with one.
+/// Adds a proposal to each correct member on this question, each with a bit of its own, or all with
+/// one.
 fn add_proposals(
     text: &mut String,
     alloc: Global,
@@ -141,8 +144,8 @@ fn drawn_bits(draw: &mut ChaChaTosser) -> u64 {
     }
 }
 
-/// Adds the lines that settle each question: repairs, a proposal to each correct member on each, and a fair part of 400 passes
-/// of the deck of links.
+/// Adds the lines that settle each question: repairs, a proposal to each correct member on each,
+/// and a fair part of 400 passes of the deck of links.
 fn add_settling(
     text: &mut String,
     alloc: Global,
@@ -161,8 +164,8 @@ fn add_settling(
     text.push_str(format!(in alloc; "fair {events}\n")?.as_str())
 }
 
-/// Returns the script of this number that is drawn by the seed: up to three lines of `random` and `fair` events; in three of
-/// four scripts the lines that settle each question follow.
+/// Returns the script of this number that is drawn by the seed: up to three lines of `random` and
+/// `fair` events; in three of four scripts the lines that settle each question follow.
 pub fn drawn(alloc: Global, seed: u64, number: u64) -> Result<Trial, AllocError> {
     let mut draw = draw_of(seed, number);
     let cast = drawn_cast(&mut draw);

@@ -141,7 +141,8 @@ fn is_decided(words: &[&[u8]]) -> bool
     is_word(word_at(words, 0), "decided")
 }
 
-/// Returns `true` if the words begin with the first Initial of a member, `initial QUESTION MEMBER 1 1 VALUE`.
+/// Returns `true` if the words begin with the first Initial of a member, `initial QUESTION MEMBER 1
+/// 1 VALUE`.
 fn is_proposed(words: &[&[u8]]) -> bool
     ensures { result ≡ spec.is_proposed (texts words.now) }
 {

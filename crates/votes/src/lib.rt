@@ -1,9 +1,10 @@
-//! Who sent which value of a step, as masks of members: bit a is member a's. So a vote more and a count cost the same
-//! however many there are.
+//! The senders of each value of a step, as masks of members: bit a is member a's. So a vote more
+//! and a count cost the same however many there are.
 //!
-//! Steps 1 and 2 of a round have the values Zero and One, and step 3 has SureZero, SureOne and Unsure. One mask serves
-//! Zero and SureZero, another One and SureOne, and who sent Unsure stands in both, so who asks says whether the step is a
-//! third one. Callers give a member one vote at most.
+//! Steps 1 and 2 of a round have the values Zero and One, and step 3 has SureZero, SureOne and
+//! Unsure. One mask serves Zero and SureZero, another One and SureOne, and who sent Unsure stands
+//! in both, so who asks says whether the step is a third one. Callers give a member one vote at
+//! most.
 #![tactic(auto)]
 
 ghost use Rattle.std.specs.Prelude.{◌≡◌, ◌<◌, ◌==◌, ◌^◌, ◌-◌, ℕ, Bool, true, None};
@@ -12,12 +13,12 @@ ghost use Rattle.votes.specs.Votes.{has_bit, zero_value, one_value, fits, value_
 
 use terms::{Size, Value};
 
-/// Who sent which value.
+/// The senders of each value.
 #[derive(Clone, Copy, Debug, PartialEq, Eq)]
 pub struct Votes {
-    /// Who sent Zero, or in step 3 SureZero or Unsure: bit a is member a's.
+    /// The senders of Zero, or in step 3 of SureZero or Unsure: bit a is member a's.
     zero: u64,
-    /// Who sent One, or in step 3 SureOne or Unsure.
+    /// The senders of One, or in step 3 of SureOne or Unsure.
     one: u64,
 }
 
@@ -35,7 +36,7 @@ pub fn one_value(third: bool) -> Value
     if third { Value::SureOne } else { Value::One }
 }
 
-/// Whether it is a value of step 3, or of another.
+/// Returns `true` if it is a value of step 3, or of another.
 pub fn fits(third: bool, value: Value) -> bool
     ensures { result ≡ fits third value }
 {
@@ -94,14 +95,14 @@ impl Votes {
         }
     }
 
-    /// How many members sent the value.
+    /// Returns how many members sent the value.
     pub fn count(self, size: Size, third: bool, value: Value) -> u8
         ensures { result ≡ count_below size.n (λ member. value_is (value_of third self member) value) }
     {
         (self.senders(third, value) & everyone(size)).count_ones() as u8
     }
 
-    /// Who sent the value, as a mask.
+    /// Returns who sent the value, as a mask.
     fn senders(self, third: bool, value: Value) -> u64
         ensures { (member : ℕ) → has_bit result member ≡ value_is (value_of third self member) value }
     {
@@ -109,7 +110,7 @@ impl Votes {
         if fits(third, value) { senders } else { 0 }
     }
 
-    /// Who sent the value, as a mask, where it fits the step.
+    /// Returns who sent the value, as a mask, where it fits the step.
     fn senders_in_its_step(self, value: Value) -> u64
         ensures { (third : Bool) → fits third value ≡ true → (member : ℕ) →
             has_bit result member ≡ value_is (value_of third self member) value }
@@ -124,7 +125,7 @@ impl Votes {
     }
 }
 
-/// Whether the member's bit is set.
+/// Returns `true` if the member's bit is set.
 fn has_bit(mask: u64, member: u8) -> bool
     requires { member < 64 }
     ensures { result ≡ has_bit mask member }

@@ -9,8 +9,8 @@ use terms::Statement;
 /// The most statements of a frame.
 pub const MOST_STATEMENTS: usize = 99;
 
-/// Several statements that go in one frame: 2 to 99 of them, in order. One alone goes as a `Message::Statement`, so
-/// that each message has one spelling.
+/// Several statements that go in one frame: 2 to 99 of them, in order. One alone goes as a
+/// `Message::Statement`, so that each message has one spelling.
 ///
 /// In contracts it is the list of its statements. Two are equal exactly where their lists are.
 #[derive(Debug, Drop)]

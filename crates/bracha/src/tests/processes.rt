@@ -1,7 +1,8 @@
 //! The program as processes: a cluster of four, and streams that are closed.
 //!
-//! The program of the tests starts itself, by the name of the test [`a_process`], which then is the program. The status
-//! that the program would end with is its last line, since a test ends with one of its own.
+//! The program of the tests starts itself, by the name of the test [`a_process`], which then is the
+//! program. The status that the program would end with is its last line, since a test ends with one
+//! of its own.
 
 mod steps;
 
@@ -47,7 +48,7 @@ fn a_process(rt: HostRuntime) -> Result<(), Fail> {
 /// Set where a test asks for the words that its process was started with.
 const ASKED: &str = "BRACHA_TEST_ASKED";
 
-/// How many bytes the last of the words has.
+/// Returns how many bytes the last of the words has.
 fn last_length(words: &[String]) -> usize {
     match words.last() {
         Some(word) => word.as_str().len(),
@@ -74,7 +75,7 @@ fn the_words_of_a_process(rt: HostRuntime) -> Result<(), Fail> {
     Ok(())
 }
 
-/// What was printed, and what was said on the standard error.
+/// Returns what was printed, and what was said on the standard error.
 fn texts(output: Output) -> Result<(String, String), Fail> {
     let printed = String::from_utf8(output.stdout).ok().ok_or("text")?;
     let said = String::from_utf8(output.stderr).ok().ok_or("text")?;
@@ -89,7 +90,7 @@ fn shell(rt: &HostRuntime, script: &str) -> Result<Command, Fail> {
     Ok(command)
 }
 
-/// What a command prints and says that has this in its environment.
+/// Returns what a command prints and says that has this in its environment.
 fn told_with(
     rt: &HostRuntime,
     mut command: Command,
@@ -140,7 +141,7 @@ fn program(rt: &HostRuntime, words: &str) -> Result<Command, Fail> {
     Ok(command)
 }
 
-/// What the program prints, and last the status that it ends with.
+/// Returns what the program prints, and last the status that it ends with.
 fn ended(rt: &HostRuntime, words: &str) -> Result<String, Fail> {
     let output = program(rt, words)?.stdin(Stdio::null()).output(rt)?;
     Ok(String::from_utf8(output.stdout).ok().ok_or("text")?)
@@ -167,7 +168,7 @@ fn has(rt: &HostRuntime, path: &str, bytes: &[u8]) -> Result<bool, Fail> {
     Ok(fs::read(rt, path)?.as_slice() == bytes)
 }
 
-/// Whether there is a file of that name.
+/// Returns `true` if there is a file of that name.
 fn is_there(rt: &HostRuntime, path: &str) -> bool {
     fs::metadata(rt, path).is_ok()
 }
@@ -186,7 +187,7 @@ const EMPTY: [u8; 25] = *b"BRACHAJ2\0\0\0\0\0\0\0\x07\x04\x01\0\x01\x01\0\0\0\0"
 /// A script of a member by itself, which proposes once.
 const ONE_PROPOSAL: &str = "n 1\nt 0\nquestions 1\nliars\nseed 1\npropose 0 0 1\n";
 
-/// What the program says on its standard error, started with its input and output closed.
+/// Returns what the program says on its standard error, started with its input and output closed.
 fn said_when_closed(rt: &HostRuntime, words: &str) -> Result<String, Fail> {
     said_beside(rt, words, "exec \"$0\" tests::processes::a_process <&- >&-")
 }
@@ -198,7 +199,7 @@ fn run_closed(rt: &HostRuntime, words: &str) -> Result<(), Fail> {
     Ok(())
 }
 
-/// What the program says on its standard error, started by that script.
+/// Returns what the program says on its standard error, started by that script.
 fn said_beside(rt: &HostRuntime, words: &str, script: &str) -> Result<String, Fail> {
     let words = format!(in rt.alloc(); "bracha {words}")?;
     let (_, said) = told_with(rt, shell(rt, script)?, WORDS, words.as_str())?;
@@ -235,7 +236,8 @@ fn closed_streams_leave_files_alone(rt: HostRuntime) -> Result<(), Fail> {
     remove(&rt, &[settings, journal, script])
 }
 
-/// What the program prints on its standard output, with its status last, and on its standard error.
+/// Returns what the program prints on its standard output, with its status last, and on its
+/// standard error.
 fn told(rt: &HostRuntime, words: &str) -> Result<(String, String), Fail> {
     texts(program(rt, words)?.stdin(Stdio::null()).output(rt)?)
 }
@@ -302,7 +304,8 @@ fn faults_of_words_and_files(rt: HostRuntime) -> Result<(), Fail> {
     remove(&rt, &[bytes])
 }
 
-/// What the program says on its standard error, with the option `--quiet` or with the environment's word.
+/// Returns what the program says on its standard error, with the option `--quiet` or with the
+/// environment's word.
 fn told_less(rt: &HostRuntime, words: &str, by_environment: bool) -> Result<String, Fail> {
     let mut command = if by_environment {
         program(rt, words)?
@@ -575,7 +578,7 @@ fn a_journal_of_version_1_is_brought_over(rt: HostRuntime) -> Result<(), Fail> {
     remove(&rt, &[old, new])
 }
 
-/// What is no regular file is not read for a second line: this one has no end.
+/// Returns what is no regular file is not read for a second line: this one has no end.
 #[test]
 fn a_second_line_reads_no_device(rt: HostRuntime) -> Result<(), Fail> {
     let path = "bracha_tests_device.toml";
@@ -608,8 +611,8 @@ fn a_journal_that_is_a_pipe_is_refused(rt: HostRuntime) -> Result<(), Fail> {
 const TWINS: &str =
     "cluster = 7\nn = 2\nt = 0\nquestions = 1\nme = 1\njournal = 'bracha_tests_twins.journal'\npeers = ['127.0.0.1:27138', '127.0.0.1:27138']\ndesk = '127.0.0.1:27139'\nseed = '0000000000000000000000000000000000000000000000000000000000000001'\n";
 
-/// `check` says of settings whose desk and links are at one address what `run` says of them, and of two members at one address
-/// what the second one would say.
+/// `check` says of settings whose desk and links are at one address what `run` says of them, and of
+/// two members at one address what the second one would say.
 #[test]
 fn check_finds_a_desk_at_the_links(rt: HostRuntime) -> Result<(), Fail> {
     let (path, journal) = ("bracha_tests_clash.toml", "bracha_tests_clash.journal");
@@ -655,7 +658,8 @@ fn a_script_comes_by_the_input(rt: HostRuntime) -> Result<(), Fail> {
     play(&rt, &steps)
 }
 
-/// Settings of which a second line tells: their numbers, their peers, what stands behind them, and both lines.
+/// Settings of which a second line tells: their numbers, their peers, what stands behind them, and
+/// both lines.
 #[derive(Clone, Copy)]
 struct Wrong<'a>(&'a str, &'a str, &'a str, &'a str);
 
@@ -767,7 +771,8 @@ fn piped(rt: &HostRuntime, words: &str, input: Stdio) -> Result<Child, Fail> {
     Ok(command.spawn(rt)?)
 }
 
-/// What a client of the desk prints and says that gets this reply, behind which the connection ends.
+/// Returns what a client of the desk prints and says that gets this reply, behind which the
+/// connection ends.
 fn told_by(
     rt: &HostRuntime,
     desk: &TcpListener,
@@ -885,7 +890,8 @@ fn a_client_waits_as_long_as_it_is_told(rt: HostRuntime) -> Result<(), Fail> {
 const OF_CLIENTS: &[u8] =
     b"cluster = 7\nn = 2\nt = 0\nquestions = 1\ndesks = ['127.0.0.1:27191', '127.0.0.1:27192']\n";
 
-/// Each member is told of, also one that doesn't answer. A member's settings are refused, and an address.
+/// Each member is told of, also one that doesn't answer. A member's settings are refused, and an
+/// address.
 #[test]
 fn a_proposal_goes_to_all(rt: HostRuntime) -> Result<(), Fail> {
     let (path, clients) = ("bracha_tests_all.toml", "bracha_tests_all_clients.toml");
@@ -1057,7 +1063,8 @@ fn a_slow_desk_is_waited_for(rt: HostRuntime) -> Result<(), Fail> {
     Ok(())
 }
 
-/// What holds the standard streams of a client that was started with all of them closed, and waits for a reply.
+/// Returns what holds the standard streams of a client that was started with all of them closed,
+/// and waits for a reply.
 fn held_streams(rt: &HostRuntime) -> Result<String, Fail> {
     let script =
         "\"$0\" tests::processes::a_process <&- >&- 2>&- & sleep 1; for n in 0 1 2; do readlink /proc/$!/fd/$n; done; kill $!";
@@ -1066,8 +1073,8 @@ fn held_streams(rt: &HostRuntime) -> Result<String, Fail> {
     Ok(printed)
 }
 
-/// A desk that takes connections and says nothing is waited for, but not for ever. None of a client's streams has the number
-/// of a standard stream.
+/// A desk that takes connections and says nothing is waited for, but not for ever. None of a
+/// client's streams has the number of a standard stream.
 #[test]
 fn a_silent_desk_is_given_up(rt: HostRuntime) -> Result<(), Fail> {
     let address = SocketAddr::new(IpAddr::V4(Ipv4Addr::new(127, 0, 0, 1)), 27134);
@@ -1121,7 +1128,8 @@ fn is_proposed(rt: &HostRuntime, words: &str) -> Result<bool, Fail> {
     Ok(false)
 }
 
-/// What a member by itself says on the standard error, which takes a proposal and whose input then ends.
+/// Returns what a member by itself says on the standard error, which takes a proposal and whose
+/// input then ends.
 fn said_in_a_life(rt: &HostRuntime) -> Result<String, Fail> {
     let mut child = piped(rt, "run --log bracha_tests_alone.toml", Stdio::piped())?;
     // What comes in doesn't end the member; only that no more comes does.
@@ -1189,8 +1197,8 @@ fn a_member_alone_tells_its_life(rt: HostRuntime) -> Result<(), Fail> {
     remove(&rt, &[path, journal])
 }
 
-/// A member by itself that a shell starts behind these words, and to which it sends SIGTERM once it is ready: what it prints
-/// from then on, and says.
+/// A member by itself that a shell starts behind these words, and to which it sends SIGTERM once it
+/// is ready: what it prints from then on, and says.
 fn called_off(rt: &HostRuntime, front: &str, words: &str) -> Result<(String, String), Fail> {
     let script = format!(in rt.alloc(); "exec {front} \"$0\" {NAME}")?;
     let words = format!(in rt.alloc(); "bracha {words}")?;
@@ -1256,7 +1264,8 @@ fn init_makes_the_journal_once(rt: HostRuntime) -> Result<(), Fail> {
 /// A journal of no records: cluster 7, one member, one question.
 const ALONE: [u8; 25] = *b"BRACHAJ2\0\0\0\0\0\0\0\x07\x01\0\0\x01\0\0\0\0\0";
 
-/// A member whose journal is missing says who may make one; a second member at a port that is taken says so.
+/// A member whose journal is missing says who may make one; a second member at a port that is taken
+/// says so.
 fn takes_no_port_twice(rt: &HostRuntime) -> Result<(), Fail> {
     let (path, journal) = ("bracha_tests_taken.toml", "bracha_tests_taken.journal");
     let settings = settings_alone(rt, journal, 27136)?;
@@ -1663,7 +1672,8 @@ fn a_chart_has_the_rows_that_are_asked_for(rt: HostRuntime) -> Result<(), Fail> 
     remove(&rt, &[script])
 }
 
-/// Tells if the words behind the program's name are taken, without the file that the output goes to.
+/// Tells if the words behind the program's name are taken, without the file that the output goes
+/// to.
 fn is_taken(rt: &HostRuntime, rest: &str) -> Result<bool, Fail> {
     let own = match rest.split_once(" > ") {
         Some((own, _file)) => own,
@@ -1721,9 +1731,9 @@ fn help_shows_what_is_taken(rt: HostRuntime) -> Result<(), Fail> {
 /// The folder of the cluster's files.
 const FOLDER: &str = "bracha_tests_cluster";
 
-/// The first digits of the ports of a cluster: peers at 47100 to 47103, desks at 47110 to 47113. The system gives such ports
-/// to connections that go out, too. Where one has a port that a member wants, the cluster lives at 27100 on, which the system
-/// gives to nobody.
+/// The first digits of the ports of a cluster: peers at 47100 to 47103, desks at 47110 to 47113.
+/// The system gives such ports to connections that go out, too. Where one has a port that a member
+/// wants, the cluster lives at 27100 on, which the system gives to nobody.
 const FRONTS: [u16; 2] = [471, 271];
 
 /// The settings of a member of the cluster, in its file.
@@ -1754,7 +1764,8 @@ fn is_ready(child: &mut Child, member: u8, rt: &HostRuntime) -> Result<bool, Fai
     Err("a line")?
 }
 
-/// Starts a member, and waits until it is ready; none where another has its port. Its input ends where this process does.
+/// Starts a member, and waits until it is ready; none where another has its port. Its input ends
+/// where this process does.
 fn start(rt: &HostRuntime, member: u8) -> Result<Option<Child>, Fail> {
     let words = format!(in rt.alloc(); "run {FOLDER}/{member}.toml")?;
     let mut command = program(rt, words.as_str())?;
@@ -1853,8 +1864,8 @@ fn init_all(rt: &HostRuntime, front: u16) -> Result<(), Fail> {
     Ok(())
 }
 
-/// Member 2 settles question 0 with the others, ends with its input, is started again, and still knows. Then it is killed.
-/// False where another has its port.
+/// Member 2 settles question 0 with the others, ends with its input, is started again, and still
+/// knows. Then it is killed. False where another has its port.
 fn settle_and_be_killed(rt: &HostRuntime, front: u16) -> Result<bool, Fail> {
     let Some(second) = start(rt, 2)? else {
         return Ok(false);
@@ -1873,7 +1884,8 @@ fn settle_and_be_killed(rt: &HostRuntime, front: u16) -> Result<bool, Fail> {
     Ok(true)
 }
 
-/// The member's journal has two decisions, for 0 and then for 1, and as many records as are counted.
+/// The member's journal has two decisions, for 0 and then for 1, and as many records as are
+/// counted.
 fn has_decided_twice(rt: &HostRuntime, member: u8) -> Result<(), Fail> {
     let found = decisions(rt, member)?;
     want(found.len() == 2, "two decisions")?;

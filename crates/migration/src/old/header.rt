@@ -5,7 +5,7 @@ ghost use Rattle.migration.specs.Old.{old_header_text, IsOldHeader};
 
 use terms::{Header, Size};
 
-/// How many bytes a header has.
+/// The number of bytes of a header.
 pub(crate) const HEADER: usize = 24;
 
 /// The place of the byte that tells the version.
@@ -17,8 +17,8 @@ const OLD_MEMBERS: u8 = 32;
 /// The most questions that it has there.
 const OLD_QUESTIONS: u16 = 256;
 
-/// The header of these bytes, if they are one: but for the byte that tells the version it is a header of version 2, and
-/// its size is within the bounds of version 1.
+/// The header of these bytes, if they are one: but for the byte that tells the version it is a
+/// header of version 2, and its size is within the bounds of version 1.
 pub(crate) fn header_of(bytes: &[u8; 24]) -> Option<Header>
     ensures some { IfSome result (λ header. IsOldHeader header × (bytes.now ≡ old_header_text header)) }
     ensures none { IsNone result → (header : Header) → IsOldHeader header → bytes.now ≡ old_header_text header → ⊥ }
@@ -34,7 +34,7 @@ pub(crate) fn header_of(bytes: &[u8; 24]) -> Option<Header>
     }
 }
 
-/// Whether a size is within the bounds of version 1.
+/// Returns `true` if a size is within the bounds of version 1.
 fn is_old_size(size: Size) -> bool
     ensures { IsTrue result ↔ ((size.n ≤ 32) × (size.questions ≤ 256)) }
 {

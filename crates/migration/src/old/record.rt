@@ -6,11 +6,11 @@ ghost use Rattle.migration.specs.Old.{old_record_bytes};
 
 use terms::{Header, Record};
 
-/// How many bytes a record has.
+/// The number of bytes of a record.
 pub(crate) const RECORD: usize = 7;
 
-/// The record of these bytes, if they are one that is well formed for the header: but for the last two, which are one byte
-/// in version 2, it is a record of version 2.
+/// The record of these bytes, if they are one that is well formed for the header: but for the last
+/// two, which are one byte in version 2, it is a record of version 2.
 pub(crate) fn record_of(header: &Header, bytes: &[u8; 7]) -> Option<Record>
     ensures some { IfSome result (λ r. IsWellFormedFor header.now r × (bytes.now ≡ old_record_bytes r)) }
     ensures none { IsNone result → (r : Record) → IsWellFormedFor header.now r → bytes.now ≢ old_record_bytes r }

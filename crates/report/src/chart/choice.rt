@@ -13,13 +13,13 @@ use sim::{Event, Mark, Which};
 use std::alloc::{AllocError, Global};
 use terms::{Record, Size, Statement};
 
-/// The events that a chart shows: those of a question, those of a member, and those from a number on and up to one. Each part
-/// that is missing leaves all events.
+/// The events that a chart shows: those of a question, those of a member, and those from a number
+/// on and up to one. Each part that is missing leaves all events.
 #[derive(Clone, Copy, Debug, PartialEq, Eq)]
 pub struct Choice {
-    /// The question that an event is about: a proposal on it, a statement on it that arrives, alone or in a group, a lie that is
-    /// no statement on another one, or an event because of which something on it was saved. A crash, a restart, a fuse and a
-    /// reset belong to every question.
+    /// The question that an event is about: a proposal on it, a statement on it that arrives, alone
+    /// or in a group, a lie that is no statement on another one, or an event because of which
+    /// something on it was saved. A crash, a restart, a fuse and a reset belong to every question.
     pub question: Option<u16>,
     /// The member that an event is for or comes from.
     pub member: Option<u8>,
@@ -250,7 +250,8 @@ impl Chooser {
         self.has_question(event, saved)
     }
 
-    /// Takes the event of that number: follows it unless it was skipped, and says whether it is chosen.
+    /// Takes the event of that number: follows it unless it was skipped, and says whether it is
+    /// chosen.
     fn take(
         &mut self,
         number: usize,

@@ -23,14 +23,16 @@ pub(crate) fn member_of(event: &Event) -> u8
     }
 }
 
-/// How many statements come as one group of at most so many, of all that their sender has said, over a link at that place.
+/// Returns how many statements come as one group of at most so many, of all that their sender has
+/// said, over a link at that place.
 fn group_count(said: usize, place: usize, count: u16) -> usize
     ensures { result ≡ group_count said place count }
 {
     usize::from(count.min(MOST_IN_GROUP)).min(said.saturating_sub(place))
 }
 
-/// Where the link from a sender to the event's member is after the event. A group's sender had said so many statements.
+/// Returns the place of the link from a sender to the event's member after the event. A group's
+/// sender had said so many
 fn place_after(said: usize, event: &Event, mark: Mark, sender: usize, place: usize) -> usize
     ensures { place + 1 < 2 ^ 64 → result ≡ place_after said event.now mark sender place }
 {
@@ -52,7 +54,8 @@ fn place_after(said: usize, event: &Event, mark: Mark, sender: usize, place: usi
     }
 }
 
-/// Moves the links from all senders to the event's member. A group's sender had said so many statements.
+/// Moves the links from all senders to the event's member. A group's sender had said so many
+/// statements.
 fn move_links(said: usize, event: &Event, mark: Mark, places: &mut [usize])
     ensures { AreMoved said event.now mark places.old places.new }
 {
@@ -73,7 +76,8 @@ fn add_statements(said: &mut Vec<Statement>, saved: &[Record]) -> Result<(), All
     Ok(())
 }
 
-/// The statements of a group of at most so many, of all that their sender has said, over a link at that place.
+/// The statements of a group of at most so many, of all that their sender has said, over a link at
+/// that place.
 fn group_at(said: &[Statement], place: usize, count: u16) -> &[Statement]
     ensures { result.now ≡ take (group_count (length said.now) place count) (drop place said.now) }
 {
@@ -83,7 +87,7 @@ fn group_at(said: &[Statement], place: usize, count: u16) -> &[Statement]
     &said[place..place + group_count(said.len(), place, count)]
 }
 
-/// Which statement a delivery is of, over a link that is at that place.
+/// Returns which statement a delivery is of, over a link that is at that place.
 fn delivered(said: &[Statement], place: usize, which: Which) -> Option<Statement>
     ensures { result ≡ delivered said.now place which }
 {
@@ -127,7 +131,7 @@ impl Column {
         self.places.get(usize::from(from)).copied()
     }
 
-    /// Which statement of a sender's column is delivered here.
+    /// Returns which statement of a sender's column is delivered here.
     pub(crate) fn takes(&self, from: u8, sender: &Column, which: Which) -> Option<Statement>
         ensures { result ≡ brought_over sender.now.said.items (slice_get self.now.places.items from) which }
     {
@@ -147,7 +151,7 @@ impl Column {
         }
     }
 
-    /// How many statements of a sender's column come here as one group of at most so many.
+    /// Returns how many statements of a sender's column come here as one group of at most so many.
     pub(crate) fn takes_together(&self, from: u8, sender: &Column, count: u16) -> usize
         ensures { (place : ℕ) → slice_get self.now.places.items from ≡ Some place →
             result ≡ group_count (length sender.now.said.items) place count }
@@ -158,14 +162,14 @@ impl Column {
         }
     }
 
-    /// How many statements it has said.
+    /// Returns how many statements it has said.
     pub(crate) fn said_count(&self) -> usize
         ensures { result ≡ length self.now.said.items }
     {
         self.said.len()
     }
 
-    /// Whether it lies.
+    /// Returns `true` if it lies.
     pub(crate) fn is_liar(&self) -> bool
         ensures { result ≡ self.now.is_liar }
     {

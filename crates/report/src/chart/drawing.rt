@@ -5,22 +5,23 @@ ghost use Rattle.report.specs.Drawings.{arrow_class, arrow_head, half_badge, pla
 
 use std::alloc::{AllocError, Global};
 
-/// What words are about. It says how they look and where they stand, seen from a point of a lifeline.
+/// The subject of words. It says how they look and where they stand, seen from a point of a
+/// lifeline.
 #[derive(Clone, Copy)]
 pub(crate) enum Words {
     /// A column's name.
     Head,
     /// An event's number.
     Number,
-    /// What an arrow to the right carries.
+    /// The load of an arrow to the right.
     Rightward,
-    /// What an arrow to the left carries.
+    /// The load of an arrow to the left.
     Leftward,
     /// The bytes of a lie to the right.
     LieRightward,
     /// The bytes of a lie to the left.
     LieLeftward,
-    /// What a delivery to oneself carries.
+    /// The load of a delivery to oneself.
     Turn,
     /// A proposal.
     Proposal,
@@ -28,9 +29,9 @@ pub(crate) enum Words {
     Crash,
     /// An opening.
     Restart,
-    /// What changes no member.
+    /// An event that changes no member.
     Note,
-    /// What a member said, or its disk has kept.
+    /// A record that a member said, or its disk has kept.
     Said,
     /// A disk that failed.
     Failure,
@@ -104,14 +105,14 @@ impl Sign {
     }
 }
 
-/// How a piece of a lifeline looks.
+/// The look of a piece of a lifeline.
 #[derive(Clone, Copy)]
 pub(crate) enum Lifeline {
-    /// Of a member that runs.
+    /// The member runs.
     Runs,
-    /// Of one that is down or stopped.
+    /// The member is down or stopped.
     Down,
-    /// Of a liar.
+    /// The member is a liar.
     Lies,
 }
 

@@ -1,4 +1,4 @@
-//! What a liar's arrow carries.
+//! The load of a liar's arrow.
 
 ghost use Rattle.std.specs.Prelude.{◌≡◌, None, Some, IfOk, IfSome, slice_get, string_bytes};
 ghost use Rattle.wire.specs.declared.message.Message.TheVariants as message;
@@ -10,7 +10,7 @@ use std::alloc::{AllocError, Global};
 use terms::{Size, Statement};
 use wire::{Feeder, Message};
 
-/// How many bytes the frame of a statement has.
+/// The number of bytes of the frame of a statement.
 const STATEMENT_FRAME: usize = 10;
 
 /// The first message, where it is a statement.

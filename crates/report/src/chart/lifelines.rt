@@ -1,4 +1,5 @@
-//! The members' lifelines: the pieces that each of them has, from an opening to a crash or a failure.
+//! The members' lifelines: the pieces that each of them has, from an opening to a crash or a
+//! failure.
 
 ghost use Rattle.std.specs.Prelude.{◌≡◌, ◌+◌, ◌<◌, ◌≤◌, ◌++◌, if◌then◌else◌, IfOk, OnOk, Some, length, slice_get, string_bytes};
 ghost use Rattle.sim.specs.declared.TheConstants.{MOST_EVENTS};
@@ -13,7 +14,7 @@ use crate::trace::is_skipped;
 use sim::{Event, Mark};
 use std::alloc::{AllocError, Global};
 
-/// Whether the event's member runs after it, if it ran before or not.
+/// Returns `true` if the event's member runs after it, if it ran before or not.
 fn runs_after(event: &Event, mark: Mark, runs: bool) -> bool
     ensures { result ≡ runs_after event.now mark runs }
 {
@@ -59,7 +60,7 @@ impl Life {
         }
     }
 
-    /// How its lifeline looks.
+    /// Returns how its lifeline looks.
     fn line(self) -> Lifeline
         ensures { result ≡ line_of self.is_liar self.runs }
     {
@@ -70,7 +71,7 @@ impl Life {
         }
     }
 
-    /// Whether another piece of its lifeline begins with the event.
+    /// Returns `true` if another piece of its lifeline begins with the event.
     fn turns(self, event: &Event, mark: Mark) -> bool
         ensures { result ≡ turns event.now mark self.runs }
     {
@@ -81,7 +82,7 @@ impl Life {
         }
     }
 
-    /// It behind an event that is so far down.
+    /// Returns the lifeline after an event that is so far down.
     fn after(self, event: &Event, mark: Mark, y: u64) -> Life
         ensures { result ≡ life_after event.now mark y self }
     {
@@ -180,7 +181,7 @@ impl Lifelines {
         })
     }
 
-    /// How many rows there are.
+    /// Returns how many rows there are.
     pub(crate) fn rows(&self) -> u64
         ensures { result ≡ self.now.rows }
     {
@@ -211,8 +212,8 @@ impl Lifelines {
         Ok(())
     }
 
-    /// Follows an event, which has a row of its own if it is chosen and wasn't skipped. A lifeline turns at that row, or where the
-    /// next one stands.
+    /// Follows an event, which has a row of its own if it is chosen and wasn't skipped. A lifeline
+    /// turns at that row, or where the next one stands.
     fn follow(&mut self, event: &Event, mark: Mark, is_chosen: bool) -> Result<(), AllocError>
         ensures { self.old.rows < MOST_EVENTS →
             OnOk result (drawn_lines self.new ≡ lines_behind event.now mark is_chosen (drawn_lines self.old)) }

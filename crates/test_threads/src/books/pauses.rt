@@ -1,5 +1,6 @@
-//! When what waits in the line is heard: behind a pause that goes on while others have the book or propose, by a link that
-//! finds nobody serving the line. And that the bell rings behind several groups.
+//! When what waits in the line is heard: behind a pause that goes on while others have the book or
+//! propose, by a link that finds nobody serving the line. And that the bell rings behind several
+//! groups.
 ghost use Rattle.std.specs.Prelude.{◌≡◌, length};
 ghost use Rattle.terms_prelude.specs.Terms.{new_header, new_size};
 
@@ -30,8 +31,8 @@ enum Scene {
     Lent,
     /// A client proposes on one question after the other, and both links hand in meanwhile.
     Client,
-    /// A writer waits for the bell, and one has the book. Both links hand in meanwhile, together more than a group takes, and
-    /// only the first makes the member say something.
+    /// A writer waits for the bell, and one has the book. Both links hand in meanwhile, together
+    /// more than a group takes, and only the first makes the member say something.
     Full,
 }
 
@@ -99,8 +100,8 @@ fn write<D: Disk, J: Naming, R: Wait>(rt: &R, hub: &Hub<D, J>, play: &Play) -> b
     }
 }
 
-/// Hands in what the link has: once, or 150 times, which alone doesn't fill a group, and with another such is more than one.
-/// Whether it was taken.
+/// Hands in what the link has: once, or 150 times, which alone doesn't fill a group, and with
+/// another such is more than one. Whether it was taken.
 fn hands_in<D: Disk, J: Naming, R: Wait + Clock>(
     rt: &R,
     hub: &Hub<D, J>,
@@ -158,7 +159,7 @@ fn hand_in<D: Disk + Send, J: Naming + Send + Sync, R: Threads + Wait + Clock + 
     first && second
 }
 
-/// How many statements the member said in the scene.
+/// Returns how many statements the member said in the scene.
 fn said_in(scene: Scene) -> u64 {
     match scene {
         Scene::Lent => 2,
@@ -167,8 +168,8 @@ fn said_in(scene: Scene) -> u64 {
     }
 }
 
-/// The bytes of the journal where both links were heard together: a header of 24 bytes; three bytes in front of each batch, and
-/// six for each of its records; a gate behind the last.
+/// The bytes of the journal where both links were heard together: a header of 24 bytes; three bytes
+/// in front of each batch, and six for each of its records; a gate behind the last.
 fn length_of(scene: Scene) -> u64 {
     match scene {
         Scene::Lent => 24 + 15 + 1,
@@ -217,10 +218,11 @@ fn are_played<D: Disk + Send, J: Naming + Send + Sync, R: Threads + Wait + Clock
     Ok(used && written && handed && hub.said() == said_in(play.scene))
 }
 
-/// Opens member 1 of 16, 40 questions, over a file, and plays the scene. Whether it came out as it should.
+/// Opens member 1 of 16, 40 questions, over a file, and plays the scene. Whether it came out as it
+/// should.
 fn open_and_play<J: Naming + Send + Sync, R: Threads + Wait + Clock + AllocGlobal + Sync>(
     rt: &R,
-    disk: FileDisk,
+    disk: FileDisk<Brand>,
     board: NewBoard,
     scene: Scene,
 ) -> Result<bool, Fail>
@@ -229,7 +231,7 @@ fn open_and_play<J: Naming + Send + Sync, R: Threads + Wait + Clock + AllocGloba
     requires cells { length board.cells ≡ 40 }
 {
     let header = header(16, 5, PROPOSALS, 1)?;
-    let (hub, rack) = open::<FileDisk, J>(rt.alloc(), disk, &header, false, board)?;
+    let (hub, rack) = open::<FileDisk<Brand>, J>(rt.alloc(), disk, &header, false, board)?;
     let play = Play {
         scene,
         begun: AtomicBool::new(false),
@@ -242,7 +244,7 @@ fn open_and_play<J: Naming + Send + Sync, R: Threads + Wait + Clock + AllocGloba
 #[test]
 fn a_link_pauses_while_another_has_the_book(rt: HostRuntime) -> Result<(), Fail> {
     let path = "pauses_tests_lent";
-    let disk = FileDisk::open(&rt, path, true)?;
+    let disk = FileDisk::<Brand>::open(&rt, path, true)?;
     let played = open_and_play::<Brand, _>(&rt, disk, board(&rt, 40)?, Scene::Lent)?;
     let length = fs::metadata(&rt, path)?.len();
     fs::remove_file(&rt, path)?;
@@ -254,9 +256,10 @@ fn a_link_pauses_while_another_has_the_book(rt: HostRuntime) -> Result<(), Fail>
 fn a_link_pauses_while_a_client_proposes(rt: HostRuntime) -> Result<(), Fail> {
     let path = "pauses_tests_client";
     let mut are_together = false;
-    // A client that the system holds up for longer than a pause is waited for no more: one time in ten it isn't.
+    // A client that the system holds up for longer than a pause is waited for no more: one time in
+    // ten it isn't.
     for _ in 0..10u32 {
-        let disk = FileDisk::open(&rt, path, true)?;
+        let disk = FileDisk::<Brand>::open(&rt, path, true)?;
         let played = open_and_play::<Brand, _>(&rt, disk, board(&rt, 40)?, Scene::Client)?;
         let length = fs::metadata(&rt, path)?.len();
         fs::remove_file(&rt, path)?;
@@ -269,7 +272,7 @@ fn a_link_pauses_while_a_client_proposes(rt: HostRuntime) -> Result<(), Fail> {
 #[test]
 fn the_bell_rings_behind_what_a_group_leaves(rt: HostRuntime) -> Result<(), Fail> {
     let path = "pauses_tests_full";
-    let disk = FileDisk::open(&rt, path, true)?;
+    let disk = FileDisk::<Brand>::open(&rt, path, true)?;
     let played = open_and_play::<Brand, _>(&rt, disk, board(&rt, 40)?, Scene::Full)?;
     let length = fs::metadata(&rt, path)?.len();
     fs::remove_file(&rt, path)?;

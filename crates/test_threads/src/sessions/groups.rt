@@ -24,7 +24,8 @@ use wire::{Message, Version, encode};
 /// What two threads see of a row.
 #[derive(Drop)]
 struct Seen {
-    /// The points that were passed, a digit each: 1 before a group of member 0, 2 after one, 9 for another.
+    /// The points that were passed, a digit each: 1 before a group of member 0, 2 after one, 9 for
+    /// another.
     points: AtomicUsize,
     /// Whether a thread waits for the bell.
     waits: AtomicBool,
@@ -57,7 +58,8 @@ impl Gate for Seen {
     }
 }
 
-/// A statement at a question, origin 0, round 1 and step 1, with the value One at question 0 and Zero at another.
+/// A statement at a question, origin 0, round 1 and step 1, with the value One at question 0 and
+/// Zero at another.
 fn one_of_three(question: u16, kind: Kind) -> Result<Statement, Fail> {
     at(question, 0, kind, if question == 0 { One } else { Zero })
 }
@@ -84,7 +86,8 @@ fn behind_an_idle(alloc: Global, bytes: &[u8]) -> Result<MemStream, Memory> {
     Ok(stream)
 }
 
-/// Waits for the bell until the hub is shut, and counts how often it was woken. Nothing that it waits for ever comes.
+/// Waits for the bell until the hub is shut, and counts how often it was woken. Nothing that it
+/// waits for ever comes.
 fn counts_wakes<J: Naming, R: Wait>(rt: &R, hub: &Hub<MemDisk, J>, seen: &Seen) {
     seen.waits.store(true, Ordering::SeqCst);
     for _ in 0..100u32 {
@@ -96,7 +99,8 @@ fn counts_wakes<J: Naming, R: Wait>(rt: &R, hub: &Hub<MemDisk, J>, seen: &Seen) 
     }
 }
 
-/// Waits until a thread waits for the bell, or was woken by it; at most 10,000 turns of a millisecond.
+/// Waits until a thread waits for the bell, or was woken by it; at most 10,000 turns of a
+/// millisecond.
 fn waits_until<R: Clock>(rt: &R, seen: &Seen, wakes: usize) -> bool {
     for _ in 0..10_000u32 {
         if seen.waits.load(Ordering::SeqCst) && seen.wakes.load(Ordering::SeqCst) >= wakes {
@@ -131,7 +135,8 @@ fn reads<J: Naming, R: Wait + Clock + AllocGlobal>(
     )
 }
 
-/// A session while another thread waits for the bell: how it ended, and how often that thread was woken by then.
+/// A session while another thread waits for the bell: how it ended, and how often that thread was
+/// woken by then.
 fn reads_and_shuts<J: Naming, R: Wait + Clock + AllocGlobal>(
     rt: &R,
     hub: &Hub<MemDisk, J>,
@@ -150,7 +155,8 @@ fn reads_and_shuts<J: Naming, R: Wait + Clock + AllocGlobal>(
     (seat, end, if woken { wakes } else { 0 })
 }
 
-/// Whether the book heard the three statements and nothing else, each with the toss that was drawn for it.
+/// Whether the book heard the three statements and nothing else, each with the toss that was drawn
+/// for it.
 fn are_noted<J: Naming, R: Wait>(rt: &R, hub: &Hub<MemDisk, J>) -> Result<bool, Fail> {
     let noted = [
         entry(0, one_of_three(0, Initial)?, 41),
@@ -160,7 +166,7 @@ fn are_noted<J: Naming, R: Wait>(rt: &R, hub: &Hub<MemDisk, J>) -> Result<bool, 
     Ok(goes_on_with(&*hub.lock(rt), 0, &noted))
 }
 
-/// What comes from member 0 is handed in as one group, and wakes a thread once.
+/// Returns what comes from member 0 is handed in as one group, and wakes a thread once.
 fn reads_one_group<J: Naming + Send + Sync, R: Threads + Wait + Clock + Abort + AllocGlobal + Sync>(
     rt: &R,
     hub: &Hub<MemDisk, J>,

@@ -20,7 +20,8 @@ use terms::Statement;
 use terms::Value::One;
 use wire::Message;
 
-/// Waits, and rings no bell, until there were so many writes; at most 10,000 turns of a millisecond.
+/// Waits, and rings no bell, until there were so many writes; at most 10,000 turns of a
+/// millisecond.
 fn waits_until<R: Clock>(rt: &R, writes: &Writes, wanted: usize) -> bool {
     for _ in 0..10_000u32 {
         if writes.count.load(Ordering::SeqCst) >= wanted {
@@ -31,8 +32,9 @@ fn waits_until<R: Clock>(rt: &R, writes: &Writes, wanted: usize) -> bool {
     false
 }
 
-/// Keeps the book while the bell rings, until three Idles were written behind the Hello, hands a statement of two members in,
-/// shows what the member says of it, and gives the book back. Says whether the writer then wrote with no other ring.
+/// Keeps the book while the bell rings, until three Idles were written behind the Hello, hands a
+/// statement of two members in, shows what the member says of it, and gives the book back. Says
+/// whether the writer then wrote with no other ring.
 fn keeps_the_book<J: Naming, R: Wait + Clock>(
     rt: &R,
     hub: &Hub<MemDisk, J>,
@@ -56,7 +58,8 @@ fn keeps_the_book<J: Naming, R: Wait + Clock>(
     idles && second && third && written
 }
 
-/// What a writer wrote behind its Hello while another thread kept the book, and behind that.
+/// Returns what a writer wrote behind its Hello while another thread kept the book, and behind
+/// that.
 fn writes_beside<J: Naming + Send + Sync, R: Threads + Wait + Clock + Abort + AllocGlobal + Sync>(
     rt: &R,
     hub: &Hub<MemDisk, J>,
@@ -95,7 +98,8 @@ fn stalled<J: Naming + Send + Sync, R: Threads + Wait + Clock + Abort + AllocGlo
     writes_beside(rt, &hub, &rack)
 }
 
-/// Whether there are three Idles at least, then a frame of ten bytes, which is this one, and then Idles at most.
+/// Returns `true` if there are three Idles at least, then a frame of ten bytes, which is this one,
+/// and then Idles at most.
 fn stands_behind_idles(written: &[u8], frame: &[u8]) -> bool {
     let rest = behind_idles(written);
     written.len().saturating_sub(rest.len()) >= 9

@@ -7,7 +7,8 @@ use super::*;
 pub(super) enum Step<'a> {
     /// A file with these bytes is written.
     Put(&'a str, &'a [u8]),
-    /// The settings of member 1 of four are written to that file: its journal, and the number of its cluster.
+    /// The settings of member 1 of four are written to that file: its journal, and the number of
+    /// its cluster.
     PutSettings(&'a str, &'a str, u8),
     /// The file has these bytes.
     Has(&'a str, &'a [u8]),
@@ -19,7 +20,8 @@ pub(super) enum Step<'a> {
     Lacks(&'a str),
     /// The file is removed, if it is there.
     Clear(&'a str),
-    /// The program prints this, among what else it prints. The status that it ends with is its last line.
+    /// The program prints this, among what else it prints. The status that it ends with is its last
+    /// line.
     Prints(&'a str, &'a str),
     /// The program doesn't print this.
     Omits(&'a str, &'a str),

@@ -18,7 +18,7 @@ returns-in_err-header-clause-fault g c = λ keeps.
 -- the file is still as it was when the header was read
 pub returns-in-Err-clause-fault : goal.returns-in-Err-clause-fault
 returns-in-Err-clause-fault g c = λ keeps.
-    unreadable c.in_ok-header.header c.in-Err.fault (g.D.Disk.state c.args.disk.now).seen (c.in_ok-header.ensures.header keeps)
-    (λ of. subst (λ (s : State). RefusesFile c.in_ok-header.header c.in-Err.fault s.seen) (c.in_ok-header.ensures.same keeps)
-    (c.in-Err.ensures.fault.refused (c.in_ok-header.ensures.kept.0 keeps) of))
+    unreadable c.in_ok-header.header c.in-Err.fault (g.D.Disk.state c.args.disk.now).seen (c.in_ok-header.ensures.header (c.in-Err.ensures.fault.kept keeps))
+    (λ of. subst (λ (s : State). RefusesFile c.in_ok-header.header c.in-Err.fault s.seen) (c.in_ok-header.ensures.same (c.in-Err.ensures.fault.kept keeps))
+    (c.in-Err.ensures.fault.refused keeps of))
     c.in-Err.ensures.fault.only

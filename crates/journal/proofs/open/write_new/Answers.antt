@@ -7,28 +7,30 @@ use Rattle.journal.proofs.Opened.{over_nothing}
 use Rattle.journal.proofs.open.write_new.Goals as goal
 
 pub returns-in_err-len-clause-any_moment : goal.returns-in_err-len-clause-any_moment
-returns-in_err-len-clause-any_moment g c keeps =
+returns-in_err-len-clause-any_moment g c keeps1 =
+    let keeps0 = c.len.ensures.kept keeps1 in
     let old = c.args.disk.now in
     let text : List ℕ = c.args.bytes.now in
     let P : List ℕ → Type 0 = MayLeave (after_write (g.D.Disk.state old) 0 text) in
-    let at_start = started g.D.Disk.moment g.D.Disk.since g.D.Disk.state old P (λ f left. widen (g.D.Disk.state old) 0 text f (g.met.D.Disk.only_now old f keeps left)) in
-    goes_on g.D.Disk.moment g.D.Disk.since g.D.Disk.state old old c.len.new.self P c.len.result at_start (c.len.ensures.time keeps)
-    (λ f may. widen (g.D.Disk.state old) 0 text f (subst (λ (s : State). MayLeave s f) (c.len.ensures.same keeps) may))
+    let at_start = started g.D.Disk.moment g.D.Disk.since g.D.Disk.state old P (λ f left. widen (g.D.Disk.state old) 0 text f (g.met.D.Disk.only_now old f keeps0 left)) in
+    goes_on g.D.Disk.moment g.D.Disk.since g.D.Disk.state old old c.len.new.self P c.len.result at_start (c.len.ensures.time keeps1)
+    (λ f may. widen (g.D.Disk.state old) 0 text f (subst (λ (s : State). MayLeave s f) (c.len.ensures.same keeps1) may))
 
 pub returns-then-branch-ne0-clause-any_moment : goal.returns-then-branch-ne0-clause-any_moment
-returns-then-branch-ne0-clause-any_moment g c keeps =
+returns-then-branch-ne0-clause-any_moment g c keeps1 =
+    let keeps0 = c.len.ensures.kept keeps1 in
     let old = c.args.disk.now in
     let text : List ℕ = c.args.bytes.now in
     let P : List ℕ → Type 0 = MayLeave (after_write (g.D.Disk.state old) 0 text) in
-    let at_start = started g.D.Disk.moment g.D.Disk.since g.D.Disk.state old P (λ f left. widen (g.D.Disk.state old) 0 text f (g.met.D.Disk.only_now old f keeps left)) in
-    goes_on g.D.Disk.moment g.D.Disk.since g.D.Disk.state old old c.len.new.self P c.len.result at_start (c.len.ensures.time keeps)
-    (λ f may. widen (g.D.Disk.state old) 0 text f (subst (λ (s : State). MayLeave s f) (c.len.ensures.same keeps) may))
+    let at_start = started g.D.Disk.moment g.D.Disk.since g.D.Disk.state old P (λ f left. widen (g.D.Disk.state old) 0 text f (g.met.D.Disk.only_now old f keeps0 left)) in
+    goes_on g.D.Disk.moment g.D.Disk.since g.D.Disk.state old old c.len.new.self P c.len.result at_start (c.len.ensures.time keeps1)
+    (λ f may. widen (g.D.Disk.state old) 0 text f (subst (λ (s : State). MayLeave s f) (c.len.ensures.same keeps1) may))
 
 pub returns-clause-file : goal.returns-clause-file
-returns-clause-file g c keeps =
-    let keeps1 = c.len.ensures.kept.0 keeps in
-    let keeps2 = c.write_at.ensures.kept.0 keeps1 in
+returns-clause-file g c keeps3 =
+    let keeps2 = c.sync.ensures.kept keeps3 in
+    let keeps1 = c.write_at.ensures.kept keeps2 in
     let seen = (g.D.Disk.state c.len.new.self).seen in
-    let none : seen ≡ [] = nil_from_length seen (omega (arith, c.in_ok-len.ensures.answer keeps, ap (λ (s : State). length s.seen) (c.len.ensures.same keeps), c.if-branch-ne0.false)) in
-    c.in_ok-sync.ensures.synced keeps2 ∙ ap (λ (s : State). at_rest s.seen) (c.in_ok-write_at.ensures.written keeps1)
+    let none : seen ≡ [] = nil_from_length seen (omega (arith, c.in_ok-len.ensures.answer keeps1, ap (λ (s : State). length s.seen) (c.len.ensures.same keeps1), c.if-branch-ne0.false)) in
+    c.in_ok-sync.ensures.synced keeps3 ∙ ap (λ (s : State). at_rest s.seen) (c.in_ok-write_at.ensures.written keeps2)
     ∙ ap (λ (l : List ℕ). at_rest (overwritten l 0 c.args.bytes.now)) none ∙ ap at_rest (over_nothing c.args.bytes.now)

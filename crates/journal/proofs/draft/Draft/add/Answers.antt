@@ -13,13 +13,13 @@ add-requires-clause-shut g c keeps =
 pub returns-in_err-add-clause-any_moment : goal.returns-in_err-add-clause-any_moment
 unfolding draft_disk draft_header draft_gate
 returns-in_err-add-clause-any_moment g c keeps =
-    let d = c.requires.drafted keeps in
+    let d = c.requires.drafted (c.add.ensures.kept keeps) in
     leaves_more IsNoJournal (commit_no_journal g.D.Disk.state d.0 c.args.self.now d.1 _) (c.add.ensures.any_moment keeps)
 
 pub returns-clause-any_moment : goal.returns-clause-any_moment
 unfolding draft_disk draft_header draft_gate
 returns-clause-any_moment g c keeps =
-    let d = c.requires.drafted keeps in
+    let d = c.requires.drafted (c.add.ensures.kept keeps) in
     leaves_more IsNoJournal (commit_no_journal g.D.Disk.state d.0 c.args.self.now d.1 _) (c.add.ensures.any_moment keeps)
 
 pub returns-clause-added : goal.returns-clause-added

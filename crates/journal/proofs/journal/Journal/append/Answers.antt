@@ -23,7 +23,7 @@ returns-in-Ok-clause-added g c =
     let records : List Record = c.args.records.now in
     let some : 1 ≤ length records = grind (arith, nat_tests) in
     let now = g.D.Disk.state c.add.new.self.disk in
-    let held : g.D.Disk.keeps old.tail.disk → (header : Header) (all : List Record) → IsAtRest g.D.Disk.state header all old → IsHeld now header c.add.new.self.gate (all ++ records) =
+    let held : g.D.Disk.keeps c.add.new.self.disk → (header : Header) (all : List Record) → IsAtRest g.D.Disk.state header all old → IsHeld now header c.add.new.self.gate (all ++ records) =
     λ keeps header all settled.
     now_held (g.D.Disk.state old.tail.disk) header old.tail.gate all settled.held records some c.requires.count
     (subst (λ (h : Header). AreWellFormedFor h records) settled.header_is c.requires.well_formed) now c.add.new.self.gate (c.in-Ok.ensures.done keeps) c.in-Ok.ensures.gate in

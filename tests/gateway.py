@@ -1,0 +1,704 @@
+#!/usr/bin/env python3
+"""tests/gateway.py [PROGRAM]
+
+Runs clusters of four with a gateway in front of them, one desk of which lies, and looks at each answer over HTTP: questions, proposals,
+events, transcripts, members, metrics, health, the page in headless Chromium; at what is refused, at members that are killed, and at
+clients that send garbage, stall or stay idle. PROGRAM is crates/bracha/out/bracha unless another is named. It takes the ports 28310 to
+28409 and a minute. What Chromium or promtool would look at is left out, which is said, where they are missing. Prints what is wrong, and
+in its last line `N passed, M failed`; the status is 1 where M isn't 0.
+"""
+import concurrent.futures
+import contextlib
+import http.client
+import json
+import os
+import re
+import resource
+import shutil
+import signal
+import socket
+import subprocess
+import sys
+import tempfile
+import threading
+import time
+
+import browser
+
+TOP = os.path.dirname(os.path.dirname(os.path.realpath(__file__)))
+PROGRAM = os.path.realpath(sys.argv[1] if len(sys.argv) > 1 else f"{TOP}/crates/bracha/out/bracha")
+PICTURES = os.environ.get("GATEWAY_PICTURES")
+TOKEN = "a-token-of-32-characters-0123456"
+CHECKS = []
+
+
+def check(function):
+    """A function that gives what is wrong, if anything is. It has a folder of its own, and a number for ports of its own."""
+    CHECKS.append(function)
+    return function
+
+
+def differs(what, is_so, should):
+    return [] if is_so == should else [f"{what}: {is_so!r}, and not {should!r}"]
+
+
+def soon(tries, seconds=8):
+    """What comes of one of some tries in so many seconds, if anything does."""
+    end = time.monotonic() + seconds
+    while time.monotonic() < end:
+        found = tries()
+        if found:
+            return found
+        time.sleep(0.05)
+    return tries()
+
+
+class LyingDesk:
+    """The desk of a member that tells the other bit of each decision, and a decision of a question that nobody proposed."""
+
+    def __init__(self, port, real, made_up=None):
+        self.real, self.made_up, self.lines = real, made_up, []
+        self.listener = socket.create_server(("127.0.0.1", port), backlog=64)
+        threading.Thread(target=self.accept, daemon=True).start()
+
+    def accept(self):
+        while True:
+            try:
+                link, _ = self.listener.accept()
+                desk = socket.create_connection(("127.0.0.1", self.real))
+            except OSError:
+                return
+            threading.Thread(target=self.ask, args=(link, desk), daemon=True).start()
+            threading.Thread(target=self.tell, args=(link, desk), daemon=True).start()
+
+    def ask(self, link, desk):
+        with contextlib.suppress(OSError), link.makefile("rb") as lines:
+            for line in lines:
+                self.lines.append(line.decode().strip())
+                desk.sendall(line)
+                if line.startswith(b"FOLLOW") and self.made_up is not None:
+                    link.sendall(b"DECIDED %d 1\n" % self.made_up)
+        with contextlib.suppress(OSError):
+            desk.shutdown(socket.SHUT_RDWR)
+
+    def tell(self, link, desk):
+        with contextlib.suppress(OSError), desk.makefile("rb") as lines:
+            for line in lines:
+                words = line.split()
+                if words[:1] == [b"DECIDED"]:
+                    line = b" ".join([*words[:-1], b"10"[int(words[-1]) : int(words[-1]) + 1]]) + b"\n"
+                link.sendall(line)
+        with contextlib.suppress(OSError):
+            link.shutdown(socket.SHUT_RDWR)
+
+    def close(self):
+        with contextlib.suppress(OSError):
+            self.listener.shutdown(socket.SHUT_RDWR)
+        self.listener.close()
+
+
+class Cluster:
+    """Four members and a client's settings of them, in which the desk of the last one lies."""
+
+    def __init__(self, folder, port, questions=512, made_up=None):
+        self.folder, self.port, self.members = folder, port, {}
+        peers = [f"127.0.0.1:{port + it}" for it in range(4)]
+        for me in range(4):
+            with open(self.path(me), "w", encoding="ascii") as file:
+                file.write(f'cluster = 7\nn = 4\nt = 1\nquestions = {questions}\nme = {me}\njournal = "{folder}/member-{me}.journal"\n'
+                           f'peers = {json.dumps(peers)}\ndesk = "127.0.0.1:{port + 4 + me}"\nseed = "{me + 1:064x}"\n')
+            subprocess.run([PROGRAM, "init", self.path(me)], check=True)
+            self.start(me)
+        self.liar = LyingDesk(port + 8, port + 7, made_up)
+        desks = [f"127.0.0.1:{port + 4 + it}" for it in (0, 1, 2, 4)]
+        with open(f"{folder}/client.toml", "w", encoding="ascii") as file:
+            file.write(f"cluster = 7\nn = 4\nt = 1\nquestions = {questions}\ndesks = {json.dumps(desks)}\n")
+
+    def path(self, me):
+        return f"{self.folder}/member-{me}.toml"
+
+    def start(self, me):
+        process = subprocess.Popen([PROGRAM, "run", "--stay", self.path(me)], stdin=subprocess.DEVNULL, stdout=subprocess.PIPE,
+                                   stderr=subprocess.DEVNULL)
+        self.members[me] = process
+        assert b"ready" in process.stdout.readline(), f"member {me} isn't ready"
+
+    def kill(self, me):
+        process = self.members.pop(me)
+        process.kill()
+        process.wait()
+        process.stdout.close()
+
+    def close(self):
+        for me in list(self.members):
+            self.kill(me)
+        self.liar.close()
+
+
+@contextlib.contextmanager
+def clusters(folder, port, **more):
+    cluster = Cluster(folder, port, **more)
+    try:
+        yield cluster
+    finally:
+        cluster.close()
+
+
+def blocking():
+    """Blocks the signals that end a gateway cleanly, as its unit does."""
+    signal.pthread_sigmask(signal.SIG_BLOCK, {signal.SIGTERM, signal.SIGINT})
+
+
+class Gateway:
+    """The gateway of a cluster, and a client of it."""
+
+    def __init__(self, cluster, *words, host="127.0.0.1", port=None):
+        self.port = port or cluster.port + 9
+        command = [PROGRAM, "gateway", "--listen", f"{host}:{self.port}", *words, f"{cluster.folder}/client.toml"]
+        self.log = open(f"{cluster.folder}/gateway.log", "ab")
+        self.process = subprocess.Popen(command, stdin=subprocess.DEVNULL, stdout=subprocess.PIPE, stderr=self.log, preexec_fn=blocking)
+        self.line = self.process.stdout.readline().decode()
+        assert f":{self.port}" in self.line, f"the gateway isn't ready: {self.line!r}"
+
+    def ask(self, method, target, body=None, timeout=20, **heads):
+        """The status, the fields and the body of an answer. An underscore in a field's name stands for a hyphen."""
+        link = http.client.HTTPConnection("127.0.0.1", self.port, timeout=timeout)
+        try:
+            link.putrequest(method, target, skip_host="Host" in heads, skip_accept_encoding=True)
+            for name, value in heads.items():
+                link.putheader(name.replace("_", "-"), value)
+            if body is not None:
+                link.putheader("Content-Length", str(len(body)))
+            link.endheaders(body)
+            answer = link.getresponse()
+            return answer.status, dict((name.lower(), value) for name, value in answer.getheaders()), answer.read()
+        finally:
+            link.close()
+
+    def json(self, target, status=200, **heads):
+        """The object of an answer; the whole answer if its status is another one."""
+        found = self.ask("GET", target, **heads)
+        return json.loads(found[2]) if found[0] == status else found
+
+    def propose(self, question, bit, target="", token=None, **heads):
+        if token:
+            heads["Authorization"] = f"Bearer {token}"
+        heads.setdefault("Content_Type", "application/json")
+        status, _, body = self.ask("POST", f"/v1/questions/{question}{target}", f'{{"bit":{bit}}}'.encode(), **heads)
+        return status, json.loads(body)
+
+    def memory(self):
+        """The kilobytes that it has in memory."""
+        with open(f"/proc/{self.process.pid}/status", encoding="ascii") as file:
+            return int(re.search(r"VmRSS:\s+(\d+)", file.read())[1])
+
+    def threads(self):
+        return len(os.listdir(f"/proc/{self.process.pid}/task"))
+
+    def end(self, number=signal.SIGTERM):
+        """The status and the seconds that it takes to end."""
+        begun = time.monotonic()
+        self.process.send_signal(number)
+        try:
+            status = self.process.wait(15)
+        except subprocess.TimeoutExpired:
+            status = "goes on"
+        return status, time.monotonic() - begun
+
+    def close(self):
+        self.process.kill()
+        self.process.wait()
+        self.process.stdout.close()
+        self.log.close()
+
+
+@contextlib.contextmanager
+def gateways(cluster, *words, **more):
+    gateway = Gateway(cluster, *words, **more)
+    try:
+        yield gateway
+    finally:
+        gateway.close()
+
+
+class Events:
+    """A stream of server-sent events, which a thread reads."""
+
+    def __init__(self, gateway, target="/v1/decisions", **heads):
+        self.link = http.client.HTTPConnection("127.0.0.1", gateway.port, timeout=30)
+        self.link.request("GET", target, headers={name.replace("_", "-"): value for name, value in heads.items()})
+        self.socket = self.link.sock
+        self.answer, self.heard, self.ended = self.link.getresponse(), [], False
+        self.thread = threading.Thread(target=self.read, daemon=True)
+        self.thread.start()
+
+    def read(self):
+        event = {}
+        with contextlib.suppress(OSError, ValueError, http.client.HTTPException, AttributeError):
+            for line in self.answer:
+                name, _, value = line.decode().rstrip("\n").partition(": ")
+                if name:
+                    event[name] = value
+                elif "event" in event:
+                    self.heard.append((event.get("id"), event["event"], json.loads(event["data"])))
+                    event = {}
+        self.ended = True
+
+    def of(self, kind):
+        return [data for _, name, data in list(self.heard) if name == kind]
+
+    def close(self):
+        with contextlib.suppress(OSError):
+            self.socket.shutdown(socket.SHUT_RDWR)
+        self.link.close()
+        self.thread.join(5)
+
+
+def decide(gateway, first, last):
+    """Has these questions decided, each by the bit of its number, and gives what is wrong."""
+    found = []
+    for question in range(first, last):
+        status, said = gateway.propose(question, question % 2, "?wait=20")
+        found += differs(f"proposal of {question}", (status, said.get("state"), said.get("bit")), (200, "decided", question % 2))
+    return found
+
+
+@check
+def questions_are_told_by_more_than_t(folder, port):
+    """A decision is that of t + 1 members, whatever one desk says; each member's word is told, and who contradicts."""
+    with clusters(folder, port, made_up=300) as cluster, gateways(cluster) as gateway:
+        found = differs("health", gateway.json("/health"), {"ok": True})
+        found += differs("ready", soon(lambda: gateway.json("/ready") == {"ready": True}), True)
+        found += differs("a question before", gateway.json("/v1/questions/5"),
+                         {"question": 5, "state": "unproposed", "members": [{"member": it, "says": None} for it in range(4)]})
+        begun = time.monotonic()
+        found += differs("one that nobody proposes, waited for", gateway.json("/v1/questions/5?wait=1")["state"], "unproposed")
+        found += differs("a wait of a second", 0.9 < time.monotonic() - begun < 2.5, True)
+        with concurrent.futures.ThreadPoolExecutor(4) as pool:
+            waiting = pool.submit(gateway.json, "/v1/questions/7?wait=30")
+            time.sleep(0.3)
+            status, said = gateway.propose(7, 1)
+            begun = time.monotonic()
+            found += differs("a proposal", (status in (200, 202), said["question"], said["taken"]), (True, 7, 4))
+            found += differs("a wait for a decision", (waiting.result()["state"], waiting.result()["bit"]), ("decided", 1))
+            found += differs("the wait ends with it", time.monotonic() - begun < 3, True)
+        found += decide(gateway, 20, 40)
+        words = soon(lambda: [it["says"] for it in gateway.json("/v1/questions/20")["members"]] == [0, 0, 0, 1])
+        found += differs("the words on 20", words, True)
+        found += differs("a made-up decision", gateway.json("/v1/questions/300"),
+                         {"question": 300, "state": "proposed", "members": [{"member": it, "says": 1 if it == 3 else None} for it in range(4)]})
+        found += differs("proposed twice", gateway.propose(20, 1), (200, {"question": 20, "state": "decided", "bit": 0, "taken": 0, "have": 4}))
+        states = gateway.json("/v1/questions?from=0&to=512")
+        letters = "".join("1" if it == 7 else "01"[it % 2] if 20 <= it < 40 else "p" if it == 300 else "-" for it in range(512))
+        found += differs("the letters", (states["questions"], states["from"], states["to"], states["states"]), (512, 0, 512, letters))
+        found += differs("a range", gateway.json("/v1/questions?from=18&to=24")["states"], letters[18:24])
+        members = gateway.json("/v1/members")
+        told = [it["question"] for it in members["members"][3]["contradicts"]]
+        found += differs("who contradicts", [len(it["contradicts"]) for it in members["members"]], [0, 0, 0, 21])
+        found += differs("on what", told, [7, *range(20, 40)])
+        found += differs("the members", [(it["member"], it["state"]) for it in members["members"]], [(it, "up") for it in range(4)])
+        found += differs("links", soon(lambda: all(it["in"] >= 3 and it["out"] >= 3 for it in gateway.json("/v1/members")["members"])), True)
+        found += differs("counts", soon(lambda: [it["decided"] for it in gateway.json("/v1/members")["members"]][:3] == [21] * 3), True)
+        found += differs("the cluster", [members[it] for it in ("cluster", "n", "t", "questions", "propose")], [7, 4, 1, 512, "open"])
+        _, heads, _ = gateway.ask("HEAD", "/v1/questions/7")
+        found += differs("HEAD", heads["content-type"], "application/json")
+        if shutil.which("curl"):
+            said = subprocess.run(["curl", "-fsS", f"http://localhost:{gateway.port}/v1/questions/7"], capture_output=True, text=True, check=False)
+            found += differs("curl", said.stdout.startswith('{"question":7,"state":"decided","bit":1'), True)
+        said = subprocess.run([PROGRAM, "ask", "--all", f"{folder}/client.toml", "7"], capture_output=True, text=True, check=False)
+        found += differs("ask beside it", said.stdout, "DECIDED 1\n")
+        status, took = gateway.end()
+        return found + differs("the end", (status, took < 3), (0, True))
+
+
+@check
+def events_come_without_a_gap(folder, port):
+    """Events come in one order, each once, from a position on; who comes back from another life loads everything anew."""
+    with clusters(folder, port) as cluster, gateways(cluster) as gateway:
+        soon(lambda: gateway.json("/ready") == {"ready": True})
+        found = decide(gateway, 0, 5)
+        moment = gateway.json("/v1/questions")
+        found += differs("decided by then", moment["states"][:5], "01010")
+        whole, late = Events(gateway, f"/v1/decisions?after={moment['life']}.0"), Events(gateway, f"/v1/decisions?after={moment['life']}.{moment['after']}")
+        lost = Events(gateway, Last_Event_ID="12345.3")
+        found += differs("the type", whole.answer.headers["content-type"], "text/event-stream")
+        found += decide(gateway, 5, 10)
+        for stream, first in ((whole, 0), (late, 5)):
+            soon(lambda s=stream, f=first: len(s.of("decision")) >= 10 - f)
+            found += differs(f"decisions from {first}", [(it["question"], it["bit"]) for it in stream.of("decision")],
+                             [(it, it % 2) for it in range(first, 10)])
+            found += differs(f"times from {first}", all(isinstance(it["ms"], int) and it["time"] > 1.7e12 for it in stream.of("decision")), True)
+        found += differs("who comes from another life", soon(lambda: [it[1] for it in lost.heard[:1]]), ["restarted"])
+        found += differs("it goes on", soon(lambda: [it["question"] for it in lost.of("decision")] == list(range(5, 10))), True)
+        found += differs("the liar is told of", soon(lambda: len(whole.of("contradiction")) == 10), True)
+        found += differs("by its number", {it["member"] for it in whole.of("contradiction")}, {3})
+        numbers = [int(it[0].partition(".")[2]) for it in whole.heard if it[0]]
+        found += differs("numbers", numbers, list(range(1, len(numbers) + 1)))
+        again = Events(gateway, Last_Event_ID=f"{moment['life']}.{numbers[-3]}")
+        found += differs("who comes back has the rest", soon(lambda: [it[0] for it in again.heard] == [it[0] for it in whole.heard if it[0]][-2:]), True)
+        cluster.kill(1)
+        found += differs("a member that is gone", soon(lambda: {"member": 1, "state": "silent"} in late.of("member")), True)
+        cluster.start(1)
+        found += differs("it is back", soon(lambda: {"member": 1, "state": "up"} in late.of("member")[-1:], 10), True)
+        found += differs("a beat", soon(lambda: late.of("beat"), 8) != [], True)
+        begun = time.monotonic()
+        found += differs("the end", gateway.end()[0], 0)
+        found += differs("streams end with it", soon(lambda: whole.ended and late.ended, 5) and time.monotonic() - begun < 8, True)
+        for stream in (whole, late, lost, again):
+            stream.close()
+        with gateways(cluster, port=port + 10) as other:
+            found += differs("a life of its own", other.json("/v1/questions")["life"] != moment["life"], True)
+            found += differs("what was decided before", soon(lambda: other.json("/v1/questions?from=0&to=11")["states"]), "0101010101-")
+        return found
+
+
+@check
+def what_is_refused_is_named(folder, port):
+    """Each request that isn't answered has its status and its word, and proposes nothing."""
+    with open(f"{folder}/token", "w", encoding="ascii", opener=lambda path, flags: os.open(path, flags, 0o600)) as file:
+        file.write(TOKEN + "\n")
+    with clusters(folder, port) as cluster, gateways(cluster, "--token", f"{folder}/token") as gateway:
+        here, good = f"127.0.0.1:{gateway.port}", {"Content_Type": "application/json", "Authorization": f"Bearer {TOKEN}"}
+        body = b'{"bit":1}'
+        rows = [
+            (404, "path", "GET", "/nothing", None, {}),
+            (404, "path", "GET", "/v1/questions/", None, {}),
+            (404, "path", "GET", "/v1/questions/x", None, {}),
+            (404, "path", "GET", "/v1/questions/65536", None, {}),
+            (404, "path", "GET", "/v1/questions/-7", None, {}),
+            (404, "question", "GET", "/v1/questions/512", None, {}),
+            (404, "question", "GET", "/v1/questions/512/transcript", None, {}),
+            (404, "question", "POST", "/v1/questions/512", body, good),
+            (400, "query", "GET", "/v1/questions/1?wait=61", None, {}),
+            (400, "query", "GET", "/v1/questions/1?wait=x", None, {}),
+            (400, "query", "GET", "/v1/questions?from=5&to=4", None, {}),
+            (400, "query", "GET", "/v1/questions?from=0&to=513", None, {}),
+            (400, "query", "POST", "/v1/questions/1?wait=61", body, good),
+            (405, "method", "DELETE", "/v1/questions/1", None, {}),
+            (405, "method", "POST", "/metrics", body, good),
+            (405, "method", "PUT", "/v1/questions/1", body, good),
+            (421, "host", "GET", "/v1/questions/1", None, {"Host": "elsewhere.example"}),
+            (421, "host", "POST", "/v1/questions/1", body, {**good, "Host": "elsewhere.example"}),
+            (421, "host", "GET", "/v1/questions/1", None, {"Host": "127.0.0.1"}),
+            (403, "origin", "POST", "/v1/questions/1", body, {**good, "Origin": "http://elsewhere.example"}),
+            (403, "origin", "POST", "/v1/questions/1", body, {**good, "Origin": "null"}),
+            (415, "content-type", "POST", "/v1/questions/1", body, {**good, "Content_Type": "text/plain"}),
+            (415, "content-type", "POST", "/v1/questions/1", body, {"Authorization": good["Authorization"]}),
+            (401, "token", "POST", "/v1/questions/1", body, {"Content_Type": "application/json"}),
+            (401, "token", "POST", "/v1/questions/1", body, {**good, "Authorization": f"Bearer {TOKEN[:-1]}"}),
+            (401, "token", "POST", "/v1/questions/1", body, {**good, "Authorization": f"Bearer {TOKEN}x"}),
+            (401, "token", "POST", "/v1/questions/1", body, {**good, "Authorization": f"Bearer {TOKEN[:-1]}x"}),
+            (401, "token", "POST", "/v1/questions/1", body, {**good, "Authorization": f"Basic {TOKEN}"}),
+            (400, "body", "POST", "/v1/questions/1", b'{"bit":2}', good),
+            (400, "body", "POST", "/v1/questions/1", b'{"bit":true}', good),
+            (400, "body", "POST", "/v1/questions/1", b'{"bit":1', good),
+            (400, "body", "POST", "/v1/questions/1", b"", good),
+        ]
+        found = []
+        for status, word, method, target, body, heads in rows:
+            is_so = gateway.ask(method, target, body, **heads)
+            found += differs(f"{method} {target} {body} {heads}", (is_so[0], is_so[2]), (status, f'{{"error":"{word}"}}\n'.encode()))
+        found += differs("nothing was proposed", gateway.json("/v1/questions")["states"], "-" * 512)
+        found += differs("nor handed on", [it for it in cluster.liar.lines if it.startswith("PROPOSE")], [])
+        for heads in ({}, {"Origin": f"http://{here}"}, {"Content_Type": "application/json; charset=utf-8"}):
+            found += differs(f"with its token and {heads}", gateway.propose(1, 0, "?wait=20", TOKEN, **heads)[0], 200)
+        found += differs("refusals", f"bracha_gateway_refusals_total {len(rows)}\n" in gateway.ask("GET", "/metrics")[2].decode(), True)
+        found += differs("who may propose", gateway.json("/v1/members")["propose"], "token")
+        with gateways(cluster, host="0.0.0.0", port=port + 10) as closed:
+            found += differs("at any address without a token", closed.propose(2, 1), (403, {"error": "closed"}))
+            found += differs("what it tells", closed.json("/v1/members")["propose"], "never")
+            found += differs("what it answers", closed.json("/v1/questions/1")["state"], "decided")
+        with gateways(cluster, "--token", f"{folder}/token", host="0.0.0.0", port=port + 11) as opened:
+            found += differs("at any address with it", opened.propose(2, 1, "?wait=20", TOKEN)[0], 200)
+            found += differs("without it there", opened.propose(3, 1), (401, {"error": "token"}))
+        return found
+
+
+def transcript(gateway, question):
+    status, heads, body = gateway.ask("GET", f"/v1/questions/{question}/transcript", timeout=40)
+    return status, heads.get("content-type"), body
+
+
+@check
+def kills_are_seen(folder, port):
+    """Members that are killed are silent, the cluster is ready while n - t have n - t links, and transcripts prove what was decided."""
+    with clusters(folder, port) as cluster, gateways(cluster) as gateway:
+        found = differs("ready", soon(lambda: gateway.json("/ready") == {"ready": True}), True)
+        found += decide(gateway, 0, 8)
+        for question in (0, 1):
+            status, kind, body = transcript(gateway, question)
+            found += differs(f"the transcript of {question}", (status, kind), (200, "application/json"))
+            told = json.loads(body) if status == 200 else {}
+            found += differs("what audit says of it", told.get("audit"), "yes")
+            with open(f"{folder}/told", "w", encoding="ascii") as file:
+                file.write(told.get("transcript", ""))
+            said = subprocess.run([PROGRAM, "audit", "--n", "4", "--t", "1", "--questions", "512", f"{folder}/told"], capture_output=True, text=True,
+                                  check=False).stdout
+            found += differs("what the program's audit says", said, "yes\n")
+        found += differs("a transcript of what isn't decided", transcript(gateway, 400)[0], 404)
+        cluster.kill(0)
+        found += differs("a member is silent", soon(lambda: gateway.json("/v1/members")["members"][0]["state"] == "silent"), True)
+        found += differs("three are enough", soon(lambda: gateway.json("/ready") == {"ready": True}), True)
+        found += decide(gateway, 8, 12)
+        found += differs("a transcript of the others", transcript(gateway, 9)[0], 200)
+        found += differs("three that are asked", gateway.propose(12, 0, "?wait=20")[1].get("taken"), 3)
+        cluster.kill(1)
+        found += differs("two aren't", soon(lambda: gateway.ask("GET", "/ready")[0] == 503, 12), True)
+        found += differs("healthy all the same", gateway.json("/health"), {"ok": True})
+        begun = time.monotonic()
+        status, said = gateway.propose(13, 1, "?wait=2")
+        found += differs("a proposal to two", (status, said.get("state"), said.get("taken")), (202, "proposed", 2))
+        found += differs("it takes its time", time.monotonic() - begun < 6, True)
+        found += differs("a decision is kept", gateway.json("/v1/questions/9").get("bit"), 1)
+        for me in (2, 3):
+            cluster.kill(me)
+        found += differs("nobody is there", soon(lambda: {it["state"] for it in gateway.json("/v1/members")["members"]} == {"silent"}, 12), True)
+        begun = time.monotonic()
+        found += differs("a proposal to nobody", gateway.propose(14, 1), (503, {"error": "silent"}))
+        found += differs("a transcript of nobody", transcript(gateway, 9)[0], 503)
+        found += differs("both in time", time.monotonic() - begun < 20, True)
+        for me in range(4):
+            cluster.start(me)
+        found += differs("ready again", soon(lambda: gateway.json("/ready") == {"ready": True}, 20), True)
+        found += differs("what waited is decided", (gateway.propose(13, 1, "?wait=20")[1].get("bit"), gateway.propose(14, 1, "?wait=20")[1].get("bit")), (1, 1))
+        return found
+
+
+def samples(text):
+    """The samples of a text for Prometheus, and the names that were declared."""
+    values, kinds = {}, {}
+    for line in text.splitlines():
+        if line.startswith("# TYPE "):
+            _, _, name, kind = line.split(" ")
+            kinds[name] = kind
+        elif not line.startswith("#"):
+            name, _, value = line.rpartition(" ")
+            values[name] = float(value)
+    return values, kinds
+
+
+@check
+def metrics_are_right(folder, port):
+    """The numbers for Prometheus are those of the cluster, and promtool has nothing against them."""
+    with clusters(folder, port) as cluster, gateways(cluster) as gateway:
+        soon(lambda: gateway.json("/ready") == {"ready": True})
+        found = decide(gateway, 0, 30)
+        soon(lambda: gateway.json("/v1/members")["members"][0]["decided"] == 30)
+        status, heads, body = gateway.ask("GET", "/metrics")
+        text = body.decode()
+        found += differs("the type", (status, heads["content-type"]), (200, "text/plain; version=0.0.4; charset=utf-8"))
+        values, kinds = samples(text)
+        wanted = {"bracha_questions": 512, "bracha_questions_open": 0, "bracha_decisions_total": 30, "bracha_gateway_refusals_total": 0,
+                  'bracha_member_up{member="0"}': 1, 'bracha_member_decided{member="0"}': 30, 'bracha_member_contradictions{member="3"}': 30,
+                  'bracha_member_contradictions{member="0"}': 0, "bracha_decision_seconds_count": 30, 'bracha_decision_seconds_bucket{le="+Inf"}': 30}
+        found += differs("the numbers", {name: values.get(name) for name in wanted}, wanted)
+        buckets = [value for name, value in values.items() if name.startswith("bracha_decision_seconds_bucket")]
+        found += differs("buckets that grow", buckets, sorted(buckets))
+        found += differs("their sum", 0 < values["bracha_decision_seconds_sum"] < 30, True)
+        found += differs("links", min(values[f'bracha_member_links_in{{member="{it}"}}'] for it in range(4)) >= 3, True)
+        found += differs("kinds", set(kinds.values()), {"gauge", "counter", "histogram"})
+        promtool = shutil.which("promtool")
+        if promtool:
+            checked = subprocess.run([promtool, "check", "metrics"], input=text, capture_output=True, text=True, check=False)
+            found += differs("promtool", (checked.returncode, checked.stdout + checked.stderr), (0, ""))
+        else:
+            print("promtool is missing: the metrics were read by this script alone")
+        with open(f"{TOP}/packaging/grafana.json", encoding="utf-8") as file:
+            board = file.read()
+        used = set(re.findall(r"bracha_[a-z_]+", board))
+        known = {re.sub(r"\{.*", "", it) for it in values}
+        found += differs("metrics of the dashboard that there aren't", used - known, set())
+        return found
+
+
+def idle_links(gateway, count):
+    links = []
+    for _ in range(count):
+        link = socket.socket()
+        link.settimeout(5)
+        with contextlib.suppress(OSError):
+            link.connect(("127.0.0.1", gateway.port))
+        links.append(link)
+    return links
+
+
+def raw(gateway, data, timeout=15.0):
+    """What comes for some bytes until the other end closes; None if it doesn't."""
+    got = b""
+    with socket.create_connection(("127.0.0.1", gateway.port), timeout=timeout) as link:
+        with contextlib.suppress(OSError):
+            for at in range(0, len(data), 65536):
+                link.sendall(data[at:at + 65536])
+        try:
+            while piece := link.recv(65536):
+                got += piece
+        except TimeoutError:
+            return None
+        except OSError:
+            pass
+    return got
+
+
+@check
+def hostile_clients_harm_nobody(folder, port):
+    """Garbage, slow heads, idle connections, bodies and paths that are too long, and pipelines: memory and members stay as they were."""
+    with clusters(folder, port) as cluster, gateways(cluster) as gateway:
+        soon(lambda: gateway.json("/ready") == {"ready": True})
+        found = decide(gateway, 0, 4)
+        head = f"Host: 127.0.0.1:{gateway.port}\r\n".encode()
+        many = b"".join(b"GET /v1/questions/%d HTTP/1.1\r\n" % it + head + b"\r\n" for it in range(100))
+        answers = raw(gateway, many[:-2] + b"Connection: close\r\n\r\n")
+        found += differs("a pipeline of a hundred", (answers or b"").count(b"HTTP/1.1 200"), 100)
+        before = gateway.memory()
+
+        def garbage(number):
+            data = [os.urandom(64), b"GET / HTTP/9.9\r\n\r\n", b"\x16\x03\x01\x02", b"GET\r\n\r\n", b"PROPOSE 9 1\n\r\n\r\n", b"POST /v1/questions/9 HTTP/1.1\r\n\r\n",
+                    b"GET / HTTP/1.1\r\nContent-Length: -1\r\n" + head + b"\r\n", b"A" * 9000 + b"\r\n\r\n"][number % 8]
+            with contextlib.suppress(OSError):
+                with socket.create_connection(("127.0.0.1", gateway.port), timeout=10) as link:
+                    link.sendall(data)
+                    link.shutdown(socket.SHUT_WR)
+                    return link.recv(64)
+            return b""
+
+        with concurrent.futures.ThreadPoolExecutor(16) as pool:
+            said = list(pool.map(garbage, range(10_000)))
+        found += differs("garbage that was answered well", sum(it.startswith(b"HTTP/1.1 2") for it in said), 0)
+        found += differs("garbage that was refused", sum(it.startswith((b"HTTP/1.1 4", b"HTTP/1.1 5")) for it in said) > 4000, True)
+        found += differs("a path of 64 KiB", (raw(gateway, b"GET /" + b"a" * 65536 + b" HTTP/1.1\r\n" + head + b"\r\n") or b"")[:12] in
+                         (b"HTTP/1.1 414", b"HTTP/1.1 431", b"HTTP/1.1 400", b""), True)
+        long = b"POST /v1/questions/9 HTTP/1.1\r\n" + head + b"Content-Type: application/json\r\nContent-Length: 2000000\r\n\r\n" + b" " * 2_000_000
+        found += differs("a body of 2 MB", (raw(gateway, long) or b"")[:12] in (b"HTTP/1.1 413", b""), True)
+        links = idle_links(gateway, min(1000, resource.getrlimit(resource.RLIMIT_NOFILE)[0] - 200))
+        begun = time.monotonic()
+        time.sleep(0.5)
+        for link in links[:100]:
+            with contextlib.suppress(OSError):
+                link.sendall(b"GET /v1/ques")
+        found += differs("threads beside 1,000 idle connections", gateway.threads() < 300, True)
+        told = subprocess.run([PROGRAM, "ask", "--all", f"{folder}/client.toml", "1"], capture_output=True, text=True, check=False, timeout=10)
+        found += differs("the members meanwhile", told.stdout, "DECIDED 1\n")
+        found += differs("it answers again", soon(lambda: answered(gateway), 25), True)
+        found += differs(f"in time ({time.monotonic() - begun:.1f} s)", time.monotonic() - begun < 20, True)
+        for link in links:
+            link.close()
+        found += differs(f"memory ({before} kB before, {gateway.memory()} kB then)", gateway.memory() < before + 8192, True)
+        found += decide(gateway, 4, 8)
+        found += differs("nothing of it was proposed", gateway.json("/v1/questions/9")["state"], "unproposed")
+        found += differs("threads then", soon(lambda: gateway.threads() < 20, 15), True)
+        return found
+
+
+def answered(gateway):
+    with contextlib.suppress(OSError, http.client.HTTPException):
+        return gateway.json("/health", timeout=2) == {"ok": True}
+    return False
+
+
+def starts(folder, *words):
+    """What a gateway that doesn't start says, and its status."""
+    try:
+        ran = subprocess.run([PROGRAM, "gateway", *words], cwd=folder, stdin=subprocess.DEVNULL, stdout=subprocess.PIPE,
+                             stderr=subprocess.STDOUT, text=True, timeout=5, check=False)
+    except subprocess.TimeoutExpired:
+        return "goes on", None
+    return ran.stdout, ran.returncode
+
+
+@check
+def what_it_lacks_is_said(folder, port):
+    """A gateway that can't start says what is wrong with which file or address, and what to do."""
+    with clusters(folder, port) as cluster, gateways(cluster) as gateway:
+        rows = [
+            (["none.toml"], "none.toml"),
+            (["member-0.toml"], "member-0.toml"),
+            (["--token", "none", "client.toml"], "none"),
+            (["--token", "short", "client.toml"], "short"),
+            (["--token", "open", "client.toml"], "open"),
+            (["--listen", "nowhere", "client.toml"], "nowhere"),
+            (["--listen", f"127.0.0.1:{gateway.port}", "client.toml"], f"127.0.0.1:{gateway.port}"),
+        ]
+        for name, text, mode in (("short", "abc\n", 0o600), ("open", TOKEN + "\n", 0o644)):
+            with open(f"{folder}/{name}", "w", encoding="ascii", opener=lambda path, flags, m=mode: os.open(path, flags, m)) as file:
+                file.write(text)
+        found = []
+        for words, named in rows:
+            said, status = starts(folder, *words)
+            found += differs(f"{words}: the status ({said!r})", status not in (0, None), True)
+            found += differs(f"{words}: what is named ({said!r})", named in said and said.startswith("bracha: "), True)
+        status, took = gateway.end(signal.SIGINT)
+        found += differs("the end by SIGINT", (status, took < 3), (0, True))
+        return found + differs("what it left to say", os.path.getsize(f"{folder}/gateway.log"), 0)
+
+
+STATE = "window.brachaLive.state()"
+
+
+@check
+def the_page_shows_it(folder, port):
+    """The page of a cluster with a member that was killed and a desk that lies, in Chromium."""
+    program = browser.find()
+    if program is None:
+        print("chromium is missing: the page of a running cluster wasn't looked at")
+        return []
+    with clusters(folder, port, questions=256) as cluster, gateways(cluster) as gateway, contextlib.closing(browser.Browser(program)) as chromium:
+        soon(lambda: gateway.json("/ready") == {"ready": True})
+        found = decide(gateway, 0, 6)
+        found += differs("its policy", "default-src 'none'" in gateway.ask("GET", "/")[1].get("content-security-policy", ""), True)
+        tab = chromium.page(f"http://127.0.0.1:{gateway.port}/", 1920, 1080)
+        found += differs("it is ready", tab.until('document.documentElement.dataset.ready === "yes"'), True)
+        found += differs("its squares", tab.until(f'{STATE}.states.slice(0, 8) === "010101--"'), True)
+        cluster.kill(1)
+        ring = 'document.querySelectorAll("#ring svg g > circle, #ring svg g > polygon, #ring svg g > rect").length'
+        found += differs("its ring", tab.run(ring), 4)
+        row = "document.querySelector(\"tr[data-m='{}']\").textContent"
+        found += differs("a member that was killed", tab.until(row.format(1) + '.includes("gone")'), True)
+        found += differs("a member that lies", tab.until(row.format(3) + '.includes("6")'), True)
+        found += differs("a line for each event", tab.until('document.querySelectorAll("#feed li").length > 0'), True)
+        tab.run("(() => { const $ = (id) => document.getElementById(id); $('pq').value = 100; "
+                "document.querySelector('[name=bit][value=\"1\"]').checked = true; $('send').click(); })()")
+        found += differs("its form", tab.until(f'{STATE}.states[100] === "1"'), True)
+        found += differs("of all members", gateway.json("/v1/questions/100").get("bit"), 1)
+        tab.run('document.getElementById("grid").focus()')
+        tab.press("Home", "ArrowRight", "Enter")
+        found += differs("a square by keys", tab.until('document.getElementById("says").textContent.startsWith("Question 1 is ")'), True)
+        found += differs("it has no faults", tab.faults(), [])
+        for width, height in ((360, 780), (900, 900), (1920, 1080)):
+            tab.resize(width, height)
+            time.sleep(0.2)
+            found += differs(f"wider than {width}", tab.sideways(), 0)
+            if PICTURES:
+                tab.picture(f"{PICTURES}/gateway-{width}.png")
+        found += differs("the gateway ends", gateway.end()[0], 0)
+        found += differs("it says that it is gone", tab.until(f'{STATE}.gone && !document.getElementById("gone").hidden'), True)
+        tab.close()
+        return found
+
+
+def main():
+    hard = resource.getrlimit(resource.RLIMIT_NOFILE)[1]
+    resource.setrlimit(resource.RLIMIT_NOFILE, (min(4096, hard), hard))
+    room = tempfile.mkdtemp(prefix="bracha-gateway-")
+
+    def run(numbered):
+        number, function = numbered
+        folder = f"{room}/{function.__name__}"
+        os.makedirs(folder)
+        try:
+            return function, function(folder, 28310 + 12 * number)
+        except Exception as error:  # pylint: disable=broad-except
+            return function, [f"{type(error).__name__}: {error}"]
+
+    failed = 0
+    with concurrent.futures.ThreadPoolExecutor(4) as pool:
+        for function, wrong in pool.map(run, enumerate(CHECKS)):
+            failed += 1 if wrong else 0
+            for line in wrong:
+                print(f"{function.__name__}: {line}"[:600])
+    shutil.rmtree(room)
+    print(f"{len(CHECKS) - failed} passed, {failed} failed")
+    sys.exit(1 if failed else 0)
+
+
+if __name__ == "__main__":
+    main()
