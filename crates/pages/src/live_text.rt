@@ -8,7 +8,7 @@ pub(crate) const LIVE: &str = "<!DOCTYPE html>\n\
 <meta name=\"viewport\" content=\"width=device-width, initial-scale=1\">\n\
 <meta name=\"color-scheme\" content=\"light dark\">\n\
 <meta name=\"referrer\" content=\"no-referrer\">\n\
-<meta http-equiv=\"Content-Security-Policy\" content=\"default-src 'none'; connect-src 'self'; script-src 'sha256-AKTy12DhZDaKtjTVxvQnbP5xJV96W7xuRcfxWC2btdE='; style-src 'sha256-+vw+9zp1i1sOFJyQzpvYNR4SInKG8I5sqmJh1sgYrpc='; img-src data:; base-uri 'none'; form-action 'none'; require-trusted-types-for 'script'; trusted-types 'none'\">\n\
+<meta http-equiv=\"Content-Security-Policy\" content=\"default-src 'none'; connect-src 'self'; script-src 'sha256-AKTy12DhZDaKtjTVxvQnbP5xJV96W7xuRcfxWC2btdE='; style-src 'sha256-XVniBvl1O6+WLDxC9FTeWsTryPkTksJimd839yo/5Fs='; img-src data:; base-uri 'none'; form-action 'none'; require-trusted-types-for 'script'; trusted-types 'none'\">\n\
 <link rel=\"icon\" href=\"data:,\">\n\
 <title>bracha cluster</title>\n\
 <style>\n\
@@ -94,7 +94,8 @@ fieldset legend { float: left; padding: 0; margin-right: .4rem; }\n\
 .sign.sb { background: var(--bad-bg); color: var(--bad); border-color: var(--bad); }\n\
 .sign.sg { color: var(--good); border-color: var(--good); }\n\
 abbr { text-decoration: none; }\n\
-@media (min-width: 641px) { .nar { display: none; } }\n\
+@media (min-width: 641px) and (max-width: 899px), (min-width: 1200px) { .nar { display: none; } }\n\
+@media (min-width: 900px) and (max-width: 1199px) { .den { display: none; } th, td { padding-left: .3rem; padding-right: .3rem; } }\n\
 @media (max-width: 1599px) { .more { display: none; } }\n\
 .vh { position: absolute; width: 1px; height: 1px; overflow: hidden; clip-path: inset(50%); white-space: nowrap; }\n\
 @media (min-width: 900px) {\n\
@@ -567,4 +568,4 @@ window.brachaLive = { state: () => ({ n, t, Q, tally: { ...tally }, after, life,
 
 /// The policy of this page, as a header.
 pub(crate) const LIVE_POLICY: &str =
-    "default-src 'none'; connect-src 'self'; script-src 'sha256-AKTy12DhZDaKtjTVxvQnbP5xJV96W7xuRcfxWC2btdE='; style-src 'sha256-+vw+9zp1i1sOFJyQzpvYNR4SInKG8I5sqmJh1sgYrpc='; img-src data:; base-uri 'none'; form-action 'none'; require-trusted-types-for 'script'; trusted-types 'none'; frame-ancestors 'none'";
+    "default-src 'none'; connect-src 'self'; script-src 'sha256-AKTy12DhZDaKtjTVxvQnbP5xJV96W7xuRcfxWC2btdE='; style-src 'sha256-XVniBvl1O6+WLDxC9FTeWsTryPkTksJimd839yo/5Fs='; img-src data:; base-uri 'none'; form-action 'none'; require-trusted-types-for 'script'; trusted-types 'none'; frame-ancestors 'none'";
