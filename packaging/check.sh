@@ -47,7 +47,7 @@ for line in 'run --stay --log' --ignore-signal=XFSZ StartLimitIntervalSec=0 Rest
     SystemCallFilter=@system-service; do
     has packaging/bracha@.service "$line"
 done
-for line in 'bracha gateway --listen 127.0.0.1:7180 --token' --block-signal=TERM,INT Restart=on-failure RestartPreventExitStatus=2 UMask=0077 PrivateUsers=yes \
+for line in 'bracha gateway --listen 127.0.0.1:7180 --token' --block-signal=TERM,INT StartLimitIntervalSec=0 Restart=on-failure RestartPreventExitStatus=2 UMask=0077 PrivateUsers=yes \
     RestrictAddressFamilies=AF_INET SystemCallFilter=@system-service; do
     has packaging/bracha-gateway.service "$line"
 done

@@ -407,6 +407,8 @@ def what_is_refused_is_named(folder, port):
         with gateways(cluster, host="0.0.0.0", port=port + 10) as closed:
             found += differs("at any address without a token", closed.propose(2, 1), (403, {"error": "closed"}))
             found += differs("what it tells", closed.json("/v1/members")["propose"], "never")
+            with open(f"{folder}/gateway.log", encoding="utf-8") as file:
+                found += differs("what its operator is told", file.read().count("bracha: no proposals are taken"), 1)
             found += differs("what it answers", closed.json("/v1/questions/1")["state"], "decided")
         with gateways(cluster, "--token", f"{folder}/token", host="0.0.0.0", port=port + 11) as opened:
             found += differs("at any address with it", opened.propose(2, 1, "?wait=20", TOKEN)[0], 200)
@@ -494,7 +496,8 @@ def metrics_are_right(folder, port):
         found += differs("the numbers", {name: values.get(name) for name in wanted}, wanted)
         buckets = [value for name, value in values.items() if name.startswith("bracha_decision_seconds_bucket")]
         found += differs("buckets that grow", buckets, sorted(buckets))
-        found += differs("their sum", 0 < values["bracha_decision_seconds_sum"] < 30, True)
+        quick = values['bracha_decision_seconds_bucket{le="0.250"}']
+        found += differs(f"half of the decisions in a quarter of a second ({quick} of 30)", quick >= 15, True)
         found += differs("links", min(values[f'bracha_member_links_in{{member="{it}"}}'] for it in range(4)) >= 3, True)
         found += differs("kinds", set(kinds.values()), {"gauge", "counter", "histogram"})
         promtool = shutil.which("promtool")
@@ -626,6 +629,10 @@ def what_it_lacks_is_said(folder, port):
             said, status = starts(folder, *words)
             found += differs(f"{words}: the status ({said!r})", status not in (0, None), True)
             found += differs(f"{words}: what is named ({said!r})", named in said and said.startswith("bracha: "), True)
+        found += differs("the line once it listens", gateway.line, f"gateway 127.0.0.1:{gateway.port} cluster 7 members 4\n")
+        with contextlib.suppress(OSError), socket.create_server(("127.0.0.1", 7180)):
+            said, _ = starts(folder, "client.toml")
+            found += differs("the address where none is given", "127.0.0.1:7180" in said, True)
         status, took = gateway.end(signal.SIGINT)
         found += differs("the end by SIGINT", (status, took < 3), (0, True))
         return found + differs("what it left to say", os.path.getsize(f"{folder}/gateway.log"), 0)
