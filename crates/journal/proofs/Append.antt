@@ -65,6 +65,7 @@ module _ {D : Type 0} (disk : DiskGhosts D) (old : Journal D) (batch : List Reco
             subst (λ (l : List Record). Holds header l file) (all_is all)
             (left_holds (disk.state (journal_disk old)) header (journal_gate old) all settled.held file may);
         four_calls = λ keeps some. absurd (omega (arith, some, long));
+        calls = λ keeps some. absurd (omega (arith, some, long));
         gate = λ some. absurd (omega (arith, some, long));
         room = λ some. absurd (omega (arith, some, long));
       }

@@ -11,6 +11,7 @@ use Rattle.journal.specs.Texts.{Batch, batch_records, batches_bytes, header_text
 use Rattle.journal.specs.WellFormed.{IsHeader, AreBatches}
 use Rattle.journal.specs.Faults.{IsFaultOfCreate}
 use Rattle.journal.specs.File.{Holds, RefusesFile}
+use Rattle.journal.specs.Outcomes.{SparesBytes}
 use Rattle.journal.specs.Readers.{journal_disk, IsAtRest}
 
 -- the file is no journal's, of this version or of the one before: opening refuses it, by whichever header
@@ -54,6 +55,7 @@ pub record HasNotBegun {D : Type 0} (disk : DiskGhosts D) (before : D) (header :
   pub not_empty : disk.keeps after → fault ≡ NotEmpty → 0 < length (disk.state before).seen
   pub not_empty_same : disk.keeps after → fault ≡ NotEmpty → disk.state after ≡ disk.state before
   pub any_moment : disk.keeps after → LeavesOnly disk.moment disk.since before after (MayLeave (after_write (disk.state before) 0 (draft_text header [])))
+  pub spared : SparesBytes disk before after
   pub device : fault ≡ Device → disk.failures before < disk.failures after
   pub later : disk.failures before ≤ disk.failures after
   pub kept : disk.keeps after → disk.keeps before

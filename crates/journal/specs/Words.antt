@@ -2,13 +2,14 @@
 pub use Rattle.journal.specs.declared.fault.JournalFault.{JournalFault}
 pub use Rattle.journal.specs.declared.fault.JournalFault.TheVariants.{BadHeader, BadRecord, CutShort, Device, Full, Memory, NotEmpty, OldVersion, OtherHeader, Stopped}
 pub use Rattle.journal.specs.declared.journal.Journal.{Journal}
-pub use Rattle.journal.specs.Commit.{IsCommit, IsShut, with_batch}
+pub use Rattle.journal.specs.Commit.{IsCommit, IsShut, bytes_behind, commit_states, gate_opened, with_batch}
 pub use Rattle.journal.specs.declared.draft.Draft.{Draft}
 unfoldable pub use Rattle.journal.specs.Drafts.{draft_disk, draft_gate, draft_header}
 pub use Rattle.journal.specs.Drafts.{HasBegun, HasCompleted, HasNotBegun, HasNotCompleted, HoldsAllOrNothing, IsDraftOf, IsNoJournal}
 pub use Rattle.journal.specs.Faults.{IsFaultOfAdding, IsFaultOfOpening, IsOfFile}
 pub use Rattle.journal.specs.File.{AreBytes, GoesWrong, HasHeader, Holds, IsBad, IsBadIn, IsCut, IsCutIn, IsFrontOf, IsHeld, IsOldVersion, RefusesFile}
-pub use Rattle.journal.specs.Outcomes.{AddsAllOrNothing, HandsBack, HasAdded, HasOpened, WasRead}
+pub use Rattle.journal.specs.Outcomes.{AddsAllOrNothing, HandsBack, HasAdded, HasOpened, SparesBytes, WasRead}
+pub use Rattle.journal.specs.Passing.{OneLeaves, PassesThrough, last_of}
 unfoldable pub use Rattle.journal.specs.Readers.{journal_disk, journal_gate, journal_header, journal_is_stopped}
 pub use Rattle.journal.specs.Readers.{IsAtRest}
 pub use Rattle.journal.specs.Reading.{AreText, AreTextIn, BreaksBatches, HasBytes, HasOddIn, HasOddRecord, ReadsBatches, ReadsIn, Stumbles, StumblesIn, TakesBatches}

@@ -8,6 +8,7 @@ ghost use Rattle.journal.specs.Readers.{journal_disk, journal_header, journal_ga
 
 use crate::JournalFault;
 use crate::open::load;
+use crate::release::Release;
 use crate::tail::Tail;
 use disk::{Disk, MemDisk};
 use std::alloc::Global;
@@ -63,23 +64,27 @@ impl<D: Disk> Journal<D> {
     }
 
     /// Opens a journal's file, which a crash may have left, and gives the records that it holds:
-    /// [`adopt`](Journal::adopt) where the disk isn't wanted back after a fault. The disk is gone
-    /// then, so what a fault left of it is said there alone.
+    /// [`adopt`](Journal::adopt) where the disk isn't wanted back after a fault. What is let go
+    /// then is a disk that `adopt` may hand back.
     pub fn open(
         alloc: Global,
         disk: D,
         header: &Header,
     ) -> Result<(Journal<D>, Vec<Record>), JournalFault>
     where
-        D: Drop,
+        D: Release,
+        requires released { (fault : JournalFault) (after : D) →
+            HandsBack D.Disk disk header.now fault after → D.may_go after }
         ensures opened { IfOk result (λ opened. HasOpened D.Disk disk header.now opened.1.items opened.0) }
-        // The disk that is gone: some disk that this one became, since a fault of a call is one of
-        // a disk.
+        // `released` speaks of the disk that is gone; this is why it is.
         ensures fault { IfErr result (λ fault. (after : D) × HandsBack D.Disk disk header.now fault after) }
     {
         match Journal::adopt(alloc, disk, header) {
             Ok(opened) => Ok(opened),
-            Err((fault, _)) => Err(fault),
+            Err((fault, disk)) => {
+                disk.release();
+                Err(fault)
+            }
         }
     }
 

@@ -46,6 +46,7 @@ pub mod laws;
 mod open;
 mod read;
 mod record;
+mod release;
 mod spare;
 mod tail;
 
@@ -56,3 +57,4 @@ pub use header::header_of;
 pub use journal::Journal;
 pub use open::{create, peek, read_file};
 pub use record::record_of;
+pub use release::Release;

@@ -5,7 +5,7 @@ ghost use Rattle.disk.specs.Model.{State, MayLeave, LeavesOnly, at_rest, after_w
 ghost use Rattle.journal.specs.Texts.{header_text};
 ghost use Rattle.journal.specs.File.{HasHeader, Holds, IsOldVersion, RefusesFile, IsHeld};
 ghost use Rattle.journal.specs.Faults.{IsFaultOfCreate, IsFaultOfPeek, IsOfFile};
-ghost use Rattle.journal.specs.Outcomes.{WasRead, HandsBack};
+ghost use Rattle.journal.specs.Outcomes.{WasRead, HandsBack, SparesBytes};
 ghost use Rattle.journal.specs.declared.fault.JournalFault.TheVariants.{Device, Memory};
 
 use crate::JournalFault;
@@ -36,6 +36,8 @@ pub fn create<D: Disk>(disk: &mut D, header: &Header) -> Result<(), JournalFault
     ensures not_empty { D.keeps disk.new → IsErrOf result JournalFault.NotEmpty → 0 < length (D.state disk.old).seen }
     ensures not_empty_same { D.keeps disk.new → IsErrOf result JournalFault.NotEmpty →
         D.state disk.new ≡ D.state disk.old }
+    // A file that has bytes is never written, whichever the fault.
+    ensures spared { SparesBytes D.Disk disk.old disk.new }
     ensures device { IsErrOf result JournalFault.Device → D.failures disk.old < D.failures disk.new }
     ensures only { IfErr result IsFaultOfCreate }
     ensures later { D.failures disk.old ≤ D.failures disk.new }
@@ -58,6 +60,8 @@ pub(crate) fn write_new<D: Disk>(disk: &mut D, bytes: &[u8]) -> Result<(), Journ
     ensures not_empty { D.keeps disk.new → IsErrOf result JournalFault.NotEmpty → 0 < length (D.state disk.old).seen }
     ensures not_empty_same { D.keeps disk.new → IsErrOf result JournalFault.NotEmpty →
         D.state disk.new ≡ D.state disk.old }
+    // A file that has bytes is never written, whichever the fault.
+    ensures spared { SparesBytes D.Disk disk.old disk.new }
     ensures device { IsErrOf result JournalFault.Device → D.failures disk.old < D.failures disk.new }
     ensures only { IfErr result IsFaultOfCreate }
     ensures later { D.failures disk.old ≤ D.failures disk.new }

@@ -2,8 +2,9 @@
 ghost use Rattle.std.specs.Prelude.{◌≡◌, ◌≢◌, ◌↔◌, ◌+◌, ◌*◌, ◌<◌, ◌≤◌, ◌^◌, [], ◌∷◌, ◌++◌, length, take, IsErrOf, IfOk, IfErr, OnOk};
 ghost use Rattle.disk.specs.Model.{LeavesOnly, at_rest};
 ghost use Rattle.journal.specs.Texts.{batch_body};
-ghost use Rattle.journal.specs.Commit.{IsShut, IsCommit, with_batch};
+ghost use Rattle.journal.specs.Commit.{IsShut, IsCommit, commit_states, with_batch};
 ghost use Rattle.journal.specs.Faults.{IsFaultOfAdding};
+ghost use Rattle.journal.specs.Passing.{PassesThrough};
 
 use crate::JournalFault;
 use crate::commit::commit;
@@ -54,6 +55,8 @@ impl<D: Disk> Tail<D> {
         ensures any_moment { D.keeps self.new.disk → LeavesOnly D.moment D.since self.old.disk self.new.disk
             (IsCommit (take self.old.gate (D.state self.old.disk).seen) (batch_body records.now ++ 0 ∷ [])) }
         ensures four_calls { D.keeps self.new.disk → OnOk result (D.moment self.new.disk ≡ D.moment self.old.disk + 4) }
+        ensures calls { D.keeps self.new.disk → OnOk result (PassesThrough D.Disk self.old.disk
+            (commit_states (D.state self.old.disk) self.old.gate (batch_body records.now ++ 0 ∷ [])) self.new.disk) }
         ensures gate { OnOk result (self.new.gate ≡ self.old.gate + 3 + 6 * length records.now) }
         ensures room { OnOk result (self.old.gate + 3 + 6 * length records.now ≤ 2 ^ 31) }
         ensures quiet { OnOk result (D.failures self.new.disk ≡ D.failures self.old.disk) }

@@ -20,7 +20,7 @@ use crate::fault::MemberFault;
 use crate::save::save;
 use crate::sealed::{Sealed, seal};
 use disk::Disk;
-use journal::{Journal, JournalFault};
+use journal::{Journal, JournalFault, Release};
 use questions::{Answer, Core, CoreFault};
 use rounds::Toss;
 use std::alloc::Global;
@@ -43,20 +43,24 @@ pub struct Member<D: Disk> {
 #[tactic(auto, unfolding(crate::specs::Readers::member_disk, crate::specs::Readers::member_header, crate::specs::Readers::member_gate, crate::specs::Readers::member_saved, crate::specs::Readers::member_outbox, crate::specs::Readers::member_is_stopped, crate::specs::Readers::MemberStandsFor))]
 impl<D: Disk> Member<D> {
     /// Opens a member's journal, which a crash may have left: [`adopt`](Member::adopt) where the
-    /// disk isn't wanted back after a fault. The disk is gone then, so what a fault left of it is
-    /// said there alone.
+    /// disk isn't wanted back after a fault. What is let go then is a disk that `adopt` may hand
+    /// back.
     pub fn open(alloc: Global, disk: D, header: &Header) -> Result<Member<D>, JournalFault>
     where
-        D: Drop,
+        D: Release,
+        requires released { (fault : JournalFault) (after : D) →
+            IsNotOpened D.Disk disk header.now fault after → D.may_go after }
         ensures opened { IfOk result (λ m. IsOpened D.Disk disk header.now m) }
         ensures restart { IfOk result (λ m. IsARestart D.Disk disk header.now m) }
-        // The disk that is gone: some disk that this one became, since a fault of a call is one of
-        // a disk.
+        // `released` speaks of the disk that is gone; this is why it is.
         ensures fault { IfErr result (λ fault. (after : D) × IsNotOpened D.Disk disk header.now fault after) }
     {
         match Member::adopt(alloc, disk, header) {
             Ok(opened) => Ok(opened),
-            Err((fault, _)) => Err(fault),
+            Err((fault, disk)) => {
+                disk.release();
+                Err(fault)
+            }
         }
     }
 

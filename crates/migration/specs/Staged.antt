@@ -7,6 +7,7 @@ use Rattle.journal.specs.declared.draft.Draft.{Draft}
 use Rattle.journal.specs.declared.journal.Journal.{Journal}
 use Rattle.journal.specs.Texts.{Batch, batches_bytes, journal_text, draft_text}
 use Rattle.journal.specs.File.{Holds}
+use Rattle.journal.specs.Outcomes.{SparesBytes}
 use Rattle.journal.specs.Readers.{journal_disk, IsAtRest}
 use Rattle.journal.specs.Drafts.{IsDraftOf, IsNoJournal, draft_disk, draft_header, draft_gate}
 use Rattle.migration.specs.Faults.{IsFaultOfFilling}
@@ -37,6 +38,7 @@ pub record HasNotStaged {E : Type 0} (disk : DiskGhosts E) (before : E) (header 
   pub not_empty : disk.keeps after → fault ≡ NotEmpty → 0 < length (disk.state before).seen
   pub not_empty_same : disk.keeps after → fault ≡ NotEmpty → disk.state after ≡ disk.state before
   pub any_moment : disk.keeps after → LeavesOnly disk.moment disk.since before after (MayLeave (after_write (disk.state before) 0 (draft_text header [])))
+  pub spared : SparesBytes disk before after
   pub device : fault ≡ NewDevice → disk.failures before < disk.failures after
   pub later : disk.failures before ≤ disk.failures after
   pub kept : disk.keeps after → disk.keeps before

@@ -5,11 +5,12 @@ ghost use Rattle.journal.specs.Drafts.{IsDraftOf, HasBegun, draft_disk, draft_he
 ghost use Rattle.migration.specs.Thousands.{in_thousands};
 ghost use Rattle.migration.specs.Staged.{IsStaged, HasNotStaged, HasGrown, HasStopped, HasFilled, HasNotFilled, staging_disk, staging_draft};
 ghost use Rattle.migration.specs.Outcomes.{HasCarried, HasNotCarried};
+ghost use Rattle.migration.specs.declared.fault.MigrateFault.{MigrateFault};
 
 use crate::MigrateFault;
 use crate::old::load;
 use disk::Disk;
-use journal::{Draft, Journal};
+use journal::{Draft, Journal, Release};
 use std::alloc::Global;
 use terms::{Header, Record};
 
@@ -22,19 +23,23 @@ pub struct Staging<E: Disk> {
     draft: Draft<E>,
 }
 
-/// Begins a new file: [`stage`] where the disk isn't wanted back after a fault. What a fault left
-/// of it is said there alone.
+/// Begins a new file: [`stage`] where the disk isn't wanted back after a fault. What is let go then
+/// is a disk that `stage` may hand back.
 pub fn begin<E: Disk>(alloc: Global, new: E, header: &Header) -> Result<Staging<E>, MigrateFault>
 where
-    E: Drop,
+    E: Release,
+    requires released { (fault : MigrateFault) (after : E) →
+        HasNotStaged E.Disk new header.now fault after → E.may_go after }
     ensures begun { IfOk result (λ staging. HasBegun E.Disk new header.now (staging_draft staging)) }
-    // The disk that is gone: some disk that this one became, since a fault of a call is one of a
-    // disk.
+    // `released` speaks of the disk that is gone; this is why it is.
     ensures fault { IfErr result (λ fault. (after : E) × HasNotStaged E.Disk new header.now fault after) }
 {
     match stage(alloc, new, header) {
         Ok(staging) => Ok(staging),
-        Err((fault, _)) => Err(fault),
+        Err((fault, file)) => {
+            file.release();
+            Err(fault)
+        }
     }
 }
 
@@ -61,24 +66,28 @@ pub fn stage<E: Disk>(
 
 impl<E: Disk> Staging<E> {
     /// Brings the old file's records over, and makes the new file a journal:
-    /// [`carry`](Staging::carry) where the new disk isn't wanted back after a fault. What a fault
-    /// left of it is said there alone.
+    /// [`carry`](Staging::carry) where the new disk isn't wanted back after a fault. What is let go
+    /// then is a disk that `carry` may hand back.
     pub fn finish<D: Disk>(
         self,
         alloc: Global,
         old: &mut D,
     ) -> Result<(Journal<E>, u64), MigrateFault>
     where
-        E: Drop,
+        E: Release,
         requires staged { E.keeps (staging_disk self) → IsStaged E.state self }
+        requires released { (fault : MigrateFault) (disk : E) (after : D) →
+            HasNotCarried D.Disk E.Disk self old.old fault disk after → E.may_go disk }
         ensures carried { IfOk result (λ done. HasCarried D.Disk E.Disk self old.old done.0 done.1 old.new) }
-        // The new disk that is gone: some disk that it became, since a fault of a call is one of a
-        // disk.
+        // `released` speaks of the new disk that is gone; this is why it is.
         ensures fault { IfErr result (λ fault. (disk : E) × HasNotCarried D.Disk E.Disk self old.old fault disk old.new) }
     {
         match self.carry(alloc, old) {
             Ok(done) => Ok(done),
-            Err((fault, _)) => Err(fault),
+            Err((fault, disk)) => {
+                disk.release();
+                Err(fault)
+            }
         }
     }
 

@@ -4,6 +4,7 @@ use Rattle.disk.specs.Model.{State, MayLeave, after_write, at_rest, overwritten}
 use Rattle.disk.proofs.Moments.{started, goes_on}
 use Rattle.disk.proofs.Outcomes.{widen}
 use Rattle.journal.proofs.Opened.{over_nothing}
+use Rattle.journal.proofs.Spared.{spared_by_a_look, spared_if_empty}
 use Rattle.journal.proofs.open.write_new.Goals as goal
 
 pub returns-in_err-len-clause-any_moment : goal.returns-in_err-len-clause-any_moment
@@ -34,3 +35,19 @@ returns-clause-file g c keeps3 =
     let none : seen ≡ [] = nil_from_length seen (omega (arith, c.in_ok-len.ensures.answer keeps1, ap (λ (s : State). length s.seen) (c.len.ensures.same keeps1), c.if-branch-ne0.false)) in
     c.in_ok-sync.ensures.synced keeps3 ∙ ap (λ (s : State). at_rest s.seen) (c.in_ok-write_at.ensures.written keeps2)
     ∙ ap (λ (l : List ℕ). at_rest (overwritten l 0 c.args.bytes.now)) none ∙ ap at_rest (over_nothing c.args.bytes.now)
+
+pub returns-in_err-len-clause-spared : goal.returns-in_err-len-clause-spared
+returns-in_err-len-clause-spared g c =
+    spared_by_a_look g.D.Disk c.args.disk.now c.len.new.self c.len.result g.met.D.Disk.only_now c.len.ensures.kept c.len.ensures.same c.len.ensures.time
+
+pub returns-then-branch-ne0-clause-spared : goal.returns-then-branch-ne0-clause-spared
+returns-then-branch-ne0-clause-spared g c =
+    spared_by_a_look g.D.Disk c.args.disk.now c.len.new.self c.len.result g.met.D.Disk.only_now c.len.ensures.kept c.len.ensures.same c.len.ensures.time
+
+pub returns-in_err-write_at-clause-spared : goal.returns-in_err-write_at-clause-spared
+returns-in_err-write_at-clause-spared g c = spared_if_empty g.D.Disk c.args.disk.now c.write_at.new.self (λ keeps2.
+    omega (arith, c.in_ok-len.ensures.answer (c.write_at.ensures.kept keeps2), c.if-branch-ne0.false))
+
+pub returns-clause-spared : goal.returns-clause-spared
+returns-clause-spared g c = spared_if_empty g.D.Disk c.args.disk.now c.sync.new.self (λ keeps3.
+    omega (arith, c.in_ok-len.ensures.answer (c.write_at.ensures.kept (c.sync.ensures.kept keeps3)), c.if-branch-ne0.false))

@@ -33,6 +33,7 @@ returns-in-Ok-clause-added g c =
       settled = λ keeps header all settled. record { running = c.if-self.false; header_is = settled.header_is; held = held keeps header all settled };
       acknowledged = λ keeps header all settled file may. left_holds now header c.add.new.self.gate (all ++ records) (held keeps header all settled) file may;
       four_calls = λ keeps _. c.in-Ok.ensures.four_calls keeps;
+      calls = λ keeps _. c.in-Ok.ensures.calls keeps;
       gate = λ _. c.in-Ok.ensures.gate;
       room = λ _. c.in-Ok.ensures.room;
     }

@@ -1,0 +1,6 @@
+use Rattle.std.proofs.Common.{rules}
+use Rattle.migration.proofs.staging.begin.Goals as goal
+
+-- the disk that is let go is the one that was handed back
+pub release-requires : goal.release-requires
+release-requires g c = search (rules, c.requires.released, c.in-Err.ensures.fault)
