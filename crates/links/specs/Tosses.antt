@@ -11,3 +11,7 @@ tosses_in events = map (λ e. e.1.0) events
 abbrev pub Draws : {T : Type 0} → (T → ℕ → T → Type 0) → T → List ℕ → T → Type 0
 Draws may_toss old [] new = new ≡ old
 Draws {T} may_toss old (toss ∷ tosses) new = (next : T) × may_toss old toss next × Draws may_toss next tosses new
+
+-- one tosser gave some tosses, perhaps none, and is now that one
+abbrev pub DrawsSome : {T : Type 0} → (T → ℕ → T → Type 0) → T → T → Type 0
+DrawsSome may_toss old new = (tosses : List ℕ) × Draws may_toss old tosses new

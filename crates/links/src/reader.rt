@@ -5,7 +5,8 @@ ghost use Rattle.node.specs.Groups.{said_in, heard_from};
 ghost use Rattle.node.specs.Firsts.{IsLawfulSeat};
 ghost use Rattle.node.specs.Lines.{WasHeard};
 ghost use Rattle.links.specs.Groups.{RefusesGroup, end_of};
-ghost use Rattle.links.specs.Tosses.{Draws, tosses_in};
+ghost use Rattle.links.specs.Tosses.{Draws, DrawsSome, tosses_in};
+ghost use Rattle.links.specs.Tossed.{HandsPart, HandsTossed, HandsTossedSome, TossesLink};
 ghost use Rattle.links.specs.Handing.{in_order, all_in_place, HandsInSome, HandsInFewer, HandsInAll, ReadsLink};
 ghost use Rattle.links.specs.Turns.{Waits, ReadsOn, ReadsOff};
 
@@ -78,6 +79,7 @@ fn push_tossed<T: Tosser>(
     ensures said { OnOk result (said_in events.new.items ≡ said_in events.old.items ++ statement ∷ []) }
     ensures toss { OnOk result ((begun : T) → Draws T.may_toss begun (tosses_in events.old.items) tosser.old →
         Draws T.may_toss begun (tosses_in events.new.items) tosser.new) }
+    ensures spent { DrawsSome T.may_toss tosser.old tosser.new }
 {
     let toss = tosser.toss();
     match events.push((statement, toss)) {
@@ -95,6 +97,7 @@ fn push_each<T: Tosser>(
     ensures said { OnOk result (said_in events.new.items ≡ said_in events.old.items ++ statements.now) }
     ensures toss { OnOk result ((begun : T) → Draws T.may_toss begun (tosses_in events.old.items) tosser.old →
         Draws T.may_toss begun (tosses_in events.new.items) tosser.new) }
+    ensures spent { DrawsSome T.may_toss tosser.old tosser.new }
 {
     for statement in statements {
         push_tossed(events, *statement, tosser)?;
@@ -112,6 +115,7 @@ fn gather<T: Tosser>(
 ) -> Result<Vec<(Statement, Toss)>, Memory>
     ensures said { IfOk result (λ events. said_in events.items ≡ in_order version messages.now) }
     ensures tosses { IfOk result (λ events. Draws T.may_toss tosser.old (tosses_in events.items) tosser.new) }
+    ensures spent { DrawsSome T.may_toss tosser.old tosser.new }
 {
     let mut events = Vec::new(alloc);
     for message in messages {
@@ -206,6 +210,8 @@ impl<D: Disk, J: Naming, G: Gate, R: Wait + Clock> Reader<'_, D, J, G, R> {
         ensures ok { OnOk result (HandsInAll seat.old seat.new (said_in events.now)) }
         ensures some { OnErr result (HandsInSome seat.old seat.new (said_in events.now)) }
         ensures refused { OnErr result (HandsInFewer seat.old seat.new (said_in events.now)) }
+        ensures whole { OnOk result (HandsPart seat.old seat.new events.now []) }
+        ensures front { (rest : List (Statement × Toss)) × HandsPart seat.old seat.new events.now rest }
         ensures only { IfErr result (λ why. (why ≡ LinkEnd.Stopped) ⊎ (why ≡ LinkEnd.Memory)) }
     {
         seat.recall();
@@ -234,6 +240,10 @@ impl<D: Disk, J: Naming, G: Gate, R: Wait + Clock> Reader<'_, D, J, G, R> {
         ensures refused { IsErrOf result LinkEnd.Stopped → HandsInFewer seat.old seat.new (in_order self.now.version messages.now) }
         ensures order { IsErrOf result LinkEnd.OutOfOrder → HandsInAll seat.old seat.new (in_order self.now.version messages.now) }
         ensures out_of_order { IsErrOf result LinkEnd.OutOfOrder → all_in_place self.now.version messages.now ≡ false }
+        ensures tossed { OnOk result (HandsTossed T.may_toss tosser.old tosser.new seat.old seat.new
+            (in_order self.now.version messages.now)) }
+        ensures tossed_some { IfErr result (λ why. HandsTossedSome T.may_toss tosser.old tosser.new seat.old seat.new why
+            (in_order self.now.version messages.now)) }
         ensures only { IfErr result (λ why.
             (why ≡ LinkEnd.OutOfOrder) ⊎ ((why ≡ LinkEnd.Stopped) ⊎ (why ≡ LinkEnd.Memory))) }
     {
@@ -262,9 +272,11 @@ impl<D: Disk, J: Naming, G: Gate, R: Wait + Clock> Reader<'_, D, J, G, R> {
         tosser: &mut T,
     ) -> Result<(), LinkEnd>
         ensures on { (rest : List ℕ) → Waits feeder.old rest →
-            OnOk result (ReadsOn self.now.version (S.told stream.old) (S.told stream.new) feeder.old.size rest feeder.new seat.old seat.new) }
+            OnOk result (ReadsOn self.now.version (HandsTossed T.may_toss tosser.old tosser.new seat.old seat.new)
+            (S.told stream.old) (S.told stream.new) feeder.old.size rest feeder.new seat.old seat.new) }
         ensures off { (rest : List ℕ) → Waits feeder.old rest →
-            IfErr result (λ why. ReadsOff self.now.version (S.told stream.old) (S.told stream.new) feeder.old.size rest seat.old seat.new why) }
+            IfErr result (λ why. ReadsOff self.now.version (HandsTossedSome T.may_toss tosser.old tosser.new seat.old seat.new why)
+            (S.told stream.old) (S.told stream.new) feeder.old.size rest seat.old seat.new why) }
     {
         seat.recall();
         let mut piece = [0u8; PIECE];
@@ -295,7 +307,8 @@ impl<D: Disk, J: Naming, G: Gate, R: Wait + Clock> Reader<'_, D, J, G, R> {
         stream: &mut S,
         tosser: &mut T,
     ) -> (Seat<J>, LinkEnd)
-        ensures { ReadsLink self.now.version self.now.hub.now.size (S.told stream.old) (S.told stream.new) seat result.0 result.1 }
+        ensures { TossesLink T.may_toss tosser.old tosser.new self.now.version self.now.hub.now.size
+            (S.told stream.old) (S.told stream.new) seat result.0 result.1 }
     {
         seat.recall();
         let size = self.hub.header().size();
@@ -349,6 +362,10 @@ pub fn read_link<D: Disk, J: Naming, S: Stream, G: Gate, T: Tosser, R: Wait + Cl
     ensures counted { IsLawfulSeat seat }
     // It hands in what it read.
     ensures reads { ReadsLink version hub.now.size (S.told stream.old) (S.told stream.new) seat result.0 result.1 }
+    // The k-th statement that it hands in goes with the k-th toss that it draws, and the hub's book
+    // hears it so.
+    ensures tosses { TossesLink T.may_toss tosser.old tosser.new version hub.now.size
+        (S.told stream.old) (S.told stream.new) seat result.0 result.1 }
     ensures closed { S.is_closed stream.new ≡ true }
 {
     seat.recall();

@@ -1,5 +1,5 @@
 use Rattle.std.proofs.Common.{length}
-use Rattle.links.proofs.Parts.{HandsPart}
+use Rattle.links.specs.Tossed.{HandsPart}
 use Rattle.links.proofs.reader.Reader.hand_in_groups.Given as goal
 
 abbrev pub invariant-loop-rest : goal.invariant-loop-rest
