@@ -12,9 +12,10 @@ use Rattle.desk.specs.declared.serving.DeskEnd.{DeskEnd}
 use Rattle.desk.specs.declared.serving.DeskEnd.TheVariants as end
 use Rattle.desk.specs.Replies.{reply_text}
 use Rattle.desk.specs.Commands.{Parses, command_for}
-use Rattle.desk.specs.Sessions.{Sitting, AnswersRequest, AnswersLine, IsLine, Exchange, IsExchange, InTurn, AllGoOn, GoesOn, asked_in, replied_in, exchanged, BeginsRequest, BeginsToFollow, EndsBy, IsTooLong, Serves}
+use Rattle.desk.specs.Sessions.{Sitting, AnswersRequest, AnswersLine, IsLine, Exchange, IsExchange, InTurn, AllGoOn, GoesOn, asked_in, replied_in, exchanged, BeginsRequest, BeginsToFollow, EndsBy, IsTooLong, LosesReplies, Serves, ServesTogether}
 use Rattle.desk.specs.Lines.{AsksToFollow, IsRequest}
-use Rattle.desk.specs.Turns.{Says, FailsToSay, Refuses, Serving}
+use Rattle.desk.specs.Turns.{Says, FailsToSay, Leaves, Refuses, IsLeft, Serving}
+use Rattle.desk.proofs.Holding.{nothing_broke}
 
 -- the reply to the command or refusal that a line is found to be is the reply to the line
 pub answers_line : {T : Type 0} (D : Type 0) (may_toss : T → ℕ → T → Type 0) (questions count : ℕ) (before after : Sitting T) (asked : List ℕ)
@@ -65,6 +66,18 @@ no_end-append (x ∷ xs) ys p q = (p.0, no_end-append xs ys p.1 q)
 pub no_bytes : (held : List ℕ) → length held ≡ 0 → held ≡ []
 no_bytes [] none = refl
 no_bytes (byte ∷ held) none = absurd (omega arith)
+
+too_long_is_calm : end.TooLong ≡ end.Lost → ⊥
+too_long_is_calm same = absurd (cc (same))
+
+request_is_calm : end.Request ≡ end.Lost → ⊥
+request_is_calm same = absurd (cc (same))
+
+ended_is_calm : end.Ended ≡ end.Lost → ⊥
+ended_is_calm same = absurd (cc (same))
+
+follows_is_calm : (number : ℕ) → end.Follows number ≡ end.Lost → ⊥
+follows_is_calm number same = absurd (cc (same))
 
 module _ {S : Type 0} (Replies : S → List ℕ → Reply → S → Type 0) where
   in_turn-snoc : (before mid after : S) (xs : List Exchange) (x : Exchange) → InTurn Replies before xs mid → IsExchange Replies mid x after
@@ -127,14 +140,18 @@ module _ {S : Type 0} (Replies : S → List ℕ → Reply → S → Type 0) wher
 
   -- its answer wasn't written
   pub answer_lost : (before mid after : S) (old now new : Told) (held more : List ℕ) → Serving Replies before mid old now held (10 ∷ more)
-      → FailsToSay (λ (said : Reply). Replies mid held said after) now new → Serves Replies before after old new end.Lost
+      → FailsToSay (λ (said : Reply). Replies mid held said after) now new → LosesReplies Replies before after old new
   answer_lost before mid after old now new held more s said = record {
-    exchanges = s.exchanges;
-    rest = held ++ 10 ∷ more;
-    between = mid;
-    each = s.each;
-    all_go_on = s.all_go_on;
-    ends = inr (now, said.reply, inl (held, more, sym (append_assoc held (10 ∷ []) more), record { is_line = s.is_line; replied = said.fits }, s.told), said.broke);
+    unsaid = said.broke.unsaid;
+    few = said.broke.few;
+    would = inl (record {
+      exchanges = s.exchanges;
+      rest = held ++ 10 ∷ more;
+      between = mid;
+      each = s.each;
+      all_go_on = s.all_go_on;
+      ends = inr (now, said.reply, inl (held, more, sym (append_assoc held (10 ∷ []) more), record { is_line = s.is_line; replied = said.fits }, s.told), said.broke.broke);
+    });
   }
 
   -- the same, where the byte was a 10 and the line that was answered the one that was held
@@ -148,7 +165,7 @@ module _ {S : Type 0} (Replies : S → List ℕ → Reply → S → Type 0) wher
 
   pub ends_line_lost : (before mid after : S) (old now new : Told) (held asked more : List ℕ) (byte : ℕ)
       → Serving Replies before mid old now held (byte ∷ more) → byte ≡ 10 → asked ≡ held
-      → FailsToSay (λ (said : Reply). Replies mid asked said after) now new → Serves Replies before after old new end.Lost
+      → FailsToSay (λ (said : Reply). Replies mid asked said after) now new → LosesReplies Replies before after old new
   ends_line_lost before mid after old now new held asked more byte s is same said =
       answer_lost before mid after old now new held more (subst (λ (b : ℕ). Serving Replies before mid old now held (b ∷ more)) is s)
       (subst (λ (l : List ℕ). FailsToSay (λ (said : Reply). Replies mid l said after) now new) same said)
@@ -163,38 +180,49 @@ module _ {S : Type 0} (Replies : S → List ℕ → Reply → S → Type 0) wher
   }
 
   -- a line ends the session, for a cause that is answered as a bad line
-  refused : (before after : S) (old now new : Told) (held more : List ℕ) (why ended : DeskEnd) → (s : Serving Replies before after old now held more)
-      → IsTooLong (held ++ more) ⊎ BeginsRequest (held ++ more)
-      → (new ≡ has_written (exchanged old s.exchanges (held ++ more)) (line (reply_text BadLine)) → EndsBy Replies after (exchanged old s.exchanges (held ++ more)) (held ++ more) new why after)
-      → Refuses now new why ended → Serves Replies before after old new ended
-  refused before after old now new held more why ended s cause ends (inl done) = subst (λ (w : DeskEnd). Serves Replies before after old new w) (sym done.0) (record {
-    exchanges = s.exchanges;
-    rest = held ++ more;
-    between = after;
-    each = s.each;
-    all_go_on = s.all_go_on;
-    ends = ends (done.1 ∙ ap (λ (t : Told). has_written t (line (reply_text BadLine))) s.told);
-  })
-  refused before after old now new held more why ended s cause ends (inr broke) = subst (λ (w : DeskEnd). Serves Replies before after old new w) (sym broke.0) (record {
-    exchanges = s.exchanges;
-    rest = held ++ more;
-    between = after;
-    each = s.each;
-    all_go_on = s.all_go_on;
-    ends = inr (now, BadLine, inr (inl (cause, refl, refl, s.told)), broke.1);
-  })
+  refused : (before after : S) (old now new : Told) (kept held more : List ℕ) (why how : DeskEnd) → (s : Serving Replies before after old now held more)
+      → (why ≡ end.Lost → ⊥) → IsTooLong (held ++ more) ⊎ BeginsRequest (held ++ more)
+      → (has_written new kept ≡ has_written (exchanged old s.exchanges (held ++ more)) (line (reply_text BadLine))
+      → EndsBy Replies after (exchanged old s.exchanges (held ++ more)) (held ++ more) (has_written new kept) why after)
+      → Refuses now new kept why how → Leaves Replies before after old new kept how
+  refused before after old now new kept held more why how s calm cause ends (inl done) = subst (λ (w : DeskEnd). Leaves Replies before after old new kept w) (sym done.0) (inl (
+    calm,
+    record {
+      exchanges = s.exchanges;
+      rest = held ++ more;
+      between = after;
+      each = s.each;
+      all_go_on = s.all_go_on;
+      ends = ends (done.1 ∙ ap (λ (t : Told). has_written t (line (reply_text BadLine))) s.told);
+    },
+  ))
+  refused before after old now new kept held more why how s calm cause ends (inr broke) = inr (
+    broke.0,
+    record {
+      unsaid = broke.1.unsaid;
+      few = broke.1.few;
+      would = inl (record {
+        exchanges = s.exchanges;
+        rest = held ++ more;
+        between = after;
+        each = s.each;
+        all_go_on = s.all_go_on;
+        ends = inr (now, BadLine, inr (inl (cause, refl, refl, s.told)), broke.1.broke);
+      });
+    },
+  )
 
   -- a line was too long
-  pub too_long : (before after : S) (old now new : Told) (held more : List ℕ) (byte : ℕ) (ended : DeskEnd) → Serving Replies before after old now held (byte ∷ more)
-      → (byte == 10) ≡ false → 4096 ≤ length held → Refuses now new end.TooLong ended → Serves Replies before after old new ended
-  too_long before after old now new held more byte ended s other long said =
+  pub too_long : (before after : S) (old now new : Told) (kept held more : List ℕ) (byte : ℕ) (how : DeskEnd) → Serving Replies before after old now held (byte ∷ more)
+      → (byte == 10) ≡ false → 4096 ≤ length held → Refuses now new kept end.TooLong how → Leaves Replies before after old new kept how
+  too_long before after old now new kept held more byte how s other long said =
       let is = is_too_long held more byte s.is_line other long in
-      refused before after old now new held (byte ∷ more) end.TooLong ended s (inl is) (λ wrote. (is, refl, wrote)) said
+      refused before after old now new kept held (byte ∷ more) end.TooLong how s too_long_is_calm (inl is) (λ wrote. (is, refl, wrote)) said
 
   -- a line was the first one of a request of HTTP
-  pub is_foreign : (before after : S) (old now new : Told) (held asked more : List ℕ) (byte : ℕ) (ended : DeskEnd) → Serving Replies before after old now held (byte ∷ more)
-      → byte ≡ 10 → asked ≡ held → IsRequest asked → Refuses now new end.Request ended → Serves Replies before after old new ended
-  is_foreign before after old now new held asked more byte ended s is same request said =
+  pub is_foreign : (before after : S) (old now new : Told) (kept held asked more : List ℕ) (byte : ℕ) (how : DeskEnd) → Serving Replies before after old now held (byte ∷ more)
+      → byte ≡ 10 → asked ≡ held → IsRequest asked → Refuses now new kept end.Request how → Leaves Replies before after old new kept how
+  is_foreign before after old now new kept held asked more byte how s is same request said =
       let begins : BeginsRequest (held ++ byte ∷ more) = record {
         asked = held;
         more = more;
@@ -202,19 +230,22 @@ module _ {S : Type 0} (Replies : S → List ℕ → Reply → S → Type 0) wher
         is_line = s.is_line;
         request = subst (λ (l : List ℕ). IsRequest l) same request;
       } in
-      refused before after old now new held (byte ∷ more) end.Request ended s (inr begins) (λ wrote. (begins, refl, wrote)) said
+      refused before after old now new kept held (byte ∷ more) end.Request how s request_is_calm (inr begins) (λ wrote. (begins, refl, wrote)) said
 
   -- a line was one that follows decisions
-  pub followed : (before after : S) (old now : Told) (held asked more : List ℕ) (byte number : ℕ) → Serving Replies before after old now held (byte ∷ more)
-      → byte ≡ 10 → asked ≡ held → AsksToFollow asked number → Serves Replies before after old now (end.Follows number)
-  followed before after old now held asked more byte number s is same asks = record {
-    exchanges = s.exchanges;
-    rest = held ++ byte ∷ more;
-    between = after;
-    each = s.each;
-    all_go_on = s.all_go_on;
-    ends = (begins, refl, s.told);
-  }
+  pub followed : (before after : S) (old now : Told) (kept held asked more : List ℕ) (byte number : ℕ) → Serving Replies before after old (has_written now kept) held (byte ∷ more)
+      → byte ≡ 10 → asked ≡ held → AsksToFollow asked number → Leaves Replies before after old now kept (end.Follows number)
+  followed before after old now kept held asked more byte number s is same asks = inl (
+    follows_is_calm number,
+    record {
+      exchanges = s.exchanges;
+      rest = held ++ byte ∷ more;
+      between = after;
+      each = s.each;
+      all_go_on = s.all_go_on;
+      ends = (begins, refl, s.told);
+    },
+  )
     where
       begins : BeginsToFollow (held ++ byte ∷ more) number
       begins = record {
@@ -225,57 +256,95 @@ module _ {S : Type 0} (Replies : S → List ℕ → Reply → S → Type 0) wher
         follows = subst (λ (l : List ℕ). AsksToFollow l number) same asks;
       }
 
-  -- a read failed
-  pub read_lost : (before after : S) (old now new : Told) (held : List ℕ) → Serving Replies before after old now held []
-      → new ≡ has_failed now → Serves Replies before after old new end.Lost
-  read_lost before after old now new held s failed = record {
-    exchanges = s.exchanges;
-    rest = held;
-    between = after;
-    each = s.each;
-    all_go_on = s.all_go_on;
-    ends = inl (s.is_line, refl, failed ∙ ap has_failed (s.told ∙ ap (exchanged old s.exchanges) (append-nil held)));
+  -- a read failed, or the write of what was held before it
+  pub read_lost : (before after : S) (old now new : Told) (held unsaid : List ℕ) → Serving Replies before after old now held []
+      → length unsaid ≤ 4096 → has_written new unsaid ≡ has_failed now → LosesReplies Replies before after old new
+  read_lost before after old now new held unsaid s few failed = record {
+    unsaid = unsaid;
+    few = few;
+    would = inl (record {
+      exchanges = s.exchanges;
+      rest = held;
+      between = after;
+      each = s.each;
+      all_go_on = s.all_go_on;
+      ends = inl (s.is_line, refl, failed ∙ ap has_failed (s.told ∙ ap (exchanged old s.exchanges) (append-nil held)));
+    });
   }
 
   -- the input ended, and no line was held
-  pub ended : (before after : S) (old now new : Told) (held : List ℕ) → Serving Replies before after old now held []
-      → held ≡ [] → new ≡ has_ended now → Serves Replies before after old new end.Ended
-  ended before after old now new held s none over = record {
-    exchanges = s.exchanges;
-    rest = [];
-    between = after;
-    each = s.each;
-    all_go_on = s.all_go_on;
-    ends = inl (refl, refl, over ∙ ap has_ended (s.told ∙ ap (λ (l : List ℕ). exchanged old s.exchanges (l ++ [])) none));
-  }
+  pub ended : (before after : S) (old now new : Told) (kept held : List ℕ) → Serving Replies before after old now held []
+      → held ≡ [] → has_written new kept ≡ has_ended now → Leaves Replies before after old new kept end.Ended
+  ended before after old now new kept held s none over = inl (
+    ended_is_calm,
+    record {
+      exchanges = s.exchanges;
+      rest = [];
+      between = after;
+      each = s.each;
+      all_go_on = s.all_go_on;
+      ends = inl (refl, refl, over ∙ ap has_ended (s.told ∙ ap (λ (l : List ℕ). exchanged old s.exchanges (l ++ [])) none));
+    },
+  )
 
   ended_at : (before after : S) (old now told : Told) (held : List ℕ) → (s : Serving Replies before after old now held [])
       → told ≡ has_ended now → told ≡ has_ended (exchanged old s.exchanges held)
   ended_at before after old now told held s over = over ∙ ap has_ended (s.told ∙ ap (exchanged old s.exchanges) (append-nil held))
 
   -- the input ended, and the line that was held was answered
-  pub ended_by_line : (before mid after : S) (old now told new : Told) (held : List ℕ) → Serving Replies before mid old now held []
-      → 0 < length held → told ≡ has_ended now → Says (λ (said : Reply). Replies mid held said after) told new → Serves Replies before after old new end.Ended
-  ended_by_line before mid after old now told new held s some over said = record {
-    exchanges = s.exchanges;
-    rest = held;
-    between = mid;
-    each = s.each;
-    all_go_on = s.all_go_on;
-    ends = inr (
-      said.reply,
-      (some, record { is_line = s.is_line; replied = said.fits }),
-      said.wrote ∙ ap (λ (t : Told). has_written t (line (reply_text said.reply))) (ended_at before mid old now told held s over),
-    );
-  }
+  pub ended_by_line : (before mid after : S) (old now told new : Told) (kept held : List ℕ) → Serving Replies before mid old now held []
+      → 0 < length held → told ≡ has_ended now → Says (λ (said : Reply). Replies mid held said after) told (has_written new kept)
+      → Leaves Replies before after old new kept end.Ended
+  ended_by_line before mid after old now told new kept held s some over said = inl (
+    ended_is_calm,
+    record {
+      exchanges = s.exchanges;
+      rest = held;
+      between = mid;
+      each = s.each;
+      all_go_on = s.all_go_on;
+      ends = inr (
+        said.reply,
+        (some, record { is_line = s.is_line; replied = said.fits }),
+        said.wrote ∙ ap (λ (t : Told). has_written t (line (reply_text said.reply))) (ended_at before mid old now told held s over),
+      );
+    },
+  )
 
   pub ended_lost : (before mid after : S) (old now told new : Told) (held : List ℕ) → Serving Replies before mid old now held []
-      → 0 < length held → told ≡ has_ended now → FailsToSay (λ (said : Reply). Replies mid held said after) told new → Serves Replies before after old new end.Lost
+      → 0 < length held → told ≡ has_ended now → FailsToSay (λ (said : Reply). Replies mid held said after) told new → LosesReplies Replies before after old new
   ended_lost before mid after old now told new held s some over said = record {
-    exchanges = s.exchanges;
-    rest = held;
-    between = mid;
-    each = s.each;
-    all_go_on = s.all_go_on;
-    ends = inr (told, said.reply, inr (inr ((some, record { is_line = s.is_line; replied = said.fits }), ended_at before mid old now told held s over)), said.broke);
+    unsaid = said.broke.unsaid;
+    few = said.broke.few;
+    would = inl (record {
+      exchanges = s.exchanges;
+      rest = held;
+      between = mid;
+      each = s.each;
+      all_go_on = s.all_go_on;
+      ends = inr (told, said.reply, inr (inr ((some, record { is_line = s.is_line; replied = said.fits }), ended_at before mid old now told held s over)), said.broke.broke);
+    });
   }
+
+  came : (before after : S) (old now new : Told) (kept : List ℕ) (why how : DeskEnd) → Serves Replies before after old (has_written now kept) why
+      → IsLeft (has_written now kept) new why how → ServesTogether Replies before after old new how
+  came before after old now new kept why how serves (inl written) =
+      inl (subst (λ (w : DeskEnd). Serves Replies before after old new w) (sym written.0)
+      (subst (λ (t : Told). Serves Replies before after old t why) (sym written.1) serves))
+  came before after old now new kept why how serves (inr lost) = inr (
+    lost.0,
+    record {
+      unsaid = lost.1.unsaid;
+      few = lost.1.few;
+      would = inr (has_written now kept, why, serves, nothing_broke (has_written now kept) (has_written new lost.1.unsaid) lost.1.broke);
+    },
+  )
+
+  -- the session comes to its end: what was held was written, or that failed
+  pub left : (before after : S) (old now new : Told) (kept : List ℕ) (why how : DeskEnd) → Leaves Replies before after old now kept why
+      → (why ≡ end.Lost → (how ≡ end.Lost) × (new ≡ now)) → ((why ≡ end.Lost → ⊥) → IsLeft (has_written now kept) new why how)
+      → ServesTogether Replies before after old new how
+  left before after old now new kept why how (inl calm) lost over = came before after old now new kept why how calm.1 (over calm.0)
+  left before after old now new kept why how (inr gone) lost over =
+      let same = lost gone.0 in
+      inr (same.0, subst (λ (t : Told). LosesReplies Replies before after old t) (sym same.1) gone.1)

@@ -1,5 +1,6 @@
 mod Words
 mod Exchanging
+mod Holding
 mod Blocks
 mod Followed
 mod Requests

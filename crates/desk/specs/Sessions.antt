@@ -204,3 +204,17 @@ pub record Serves {S : Type 0} (Replies : S → List ℕ → Reply → S → Typ
   pub each : InTurn Replies before exchanges between
   pub all_go_on : AllGoOn exchanges
   pub ends : EndsBy Replies between (exchanged old exchanges rest) rest now why after
+
+-- A client's session whose stream was lost while it held replies, few bytes that were never written: with these it is one that
+-- lost its stream, or one that came to another end before a write failed.
+pub record LosesReplies {S : Type 0} (Replies : S → List ℕ → Reply → S → Type 0) (before after : S) (old now : Told) : Type 0 where
+  pub unsaid : List ℕ
+  pub few : length unsaid ≤ 4096
+  pub would :
+      Serves Replies before after old (has_written now unsaid) end.Lost
+      ⊎ ((told : Told) × (why : DeskEnd) × Serves Replies before after old told why × (has_written now unsaid ≡ has_failed told))
+
+-- A client's session whose replies are written together: nothing is held at its end, but where its stream was lost.
+abbrev pub ServesTogether : {S : Type 0} → (S → List ℕ → Reply → S → Type 0) → S → S → Told → Told → DeskEnd → Type 0
+ServesTogether Replies before after old now why =
+    Serves Replies before after old now why ⊎ ((why ≡ end.Lost) × LosesReplies Replies before after old now)

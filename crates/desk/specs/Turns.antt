@@ -1,9 +1,9 @@
 -- A client's session under way.
-use Rattle.std.specs.Prelude.{ℕ, ◌≡◌, ◌⊎◌, List, ◌++◌}
+use Rattle.std.specs.Prelude.{ℕ, ◌≡◌, ◌⊎◌, ◌≤◌, List, [], ◌++◌, length}
 use Rattle.numerals.specs.Lines.{line}
 use Rattle.links.specs.Told.{Told, has_written, BreaksOff}
 use Rattle.desk.specs.Replies.{reply_text}
-use Rattle.desk.specs.Sessions.{Exchange, IsLine, InTurn, AllGoOn, exchanged}
+use Rattle.desk.specs.Sessions.{Exchange, IsLine, InTurn, AllGoOn, LosesReplies, Serves, exchanged}
 use Rattle.desk.specs.declared.reply.Reply.{Reply}
 use Rattle.desk.specs.declared.reply.Reply.TheVariants.{BadLine}
 use Rattle.desk.specs.declared.serving.DeskEnd.{DeskEnd}
@@ -15,17 +15,33 @@ pub record Says (Fits : Reply → Type 0) (old new : Told) : Type 0 where
   pub fits : Fits reply
   pub wrote : new ≡ has_written old (line (reply_text reply))
 
--- the write of such a line failed
+-- A write failed, and few bytes that were held weren't written: with these the bytes broke off.
+pub record Loses (old now : Told) (bytes : List ℕ) : Type 0 where
+  pub unsaid : List ℕ
+  pub few : length unsaid ≤ 4096
+  pub broke : BreaksOff old (has_written now unsaid) bytes
+
+-- such a line, or what was held before it, couldn't be written
 pub record FailsToSay (Fits : Reply → Type 0) (old new : Told) : Type 0 where
   pub reply : Reply
   pub fits : Fits reply
-  pub broke : BreaksOff old new (line (reply_text reply))
+  pub broke : Loses old new (line (reply_text reply))
 
--- a line that ends the session was answered as a bad one, and the session ends for that; or the answer wasn't written
-abbrev pub Refuses : Told → Told → DeskEnd → DeskEnd → Type 0
-Refuses old new why ended =
-    ((ended ≡ why) × (new ≡ has_written old (line (reply_text BadLine))))
-    ⊎ ((ended ≡ end.Lost) × BreaksOff old new (line (reply_text BadLine)))
+-- a line that ends the session was answered as a bad one, and the session ends for that; or the answer couldn't be written
+abbrev pub Refuses : Told → Told → List ℕ → DeskEnd → DeskEnd → Type 0
+Refuses old new held why ended =
+    ((ended ≡ why) × (has_written new held ≡ has_written old (line (reply_text BadLine))))
+    ⊎ ((ended ≡ end.Lost) × Loses old new (line (reply_text BadLine)))
+
+-- what was held at a session's end was written, or that failed
+abbrev pub IsLeft : Told → Told → DeskEnd → DeskEnd → Type 0
+IsLeft old new why ended = ((ended ≡ why) × (new ≡ old)) ⊎ ((ended ≡ end.Lost) × Loses old new [])
+
+-- A session that comes to its end: its lines were answered in turn, with the replies that are held; or its stream was lost.
+abbrev pub Leaves : {S : Type 0} → (S → List ℕ → Reply → S → Type 0) → S → S → Told → Told → List ℕ → DeskEnd → Type 0
+Leaves Replies before after old now held why =
+    ((why ≡ end.Lost → ⊥) × Serves Replies before after old (has_written now held) why)
+    ⊎ ((why ≡ end.Lost) × LosesReplies Replies before after old now)
 
 -- Lines were answered, the line that is held isn't yet, and more was read behind it.
 pub record Serving {S : Type 0} (Replies : S → List ℕ → Reply → S → Type 0) (before after : S) (old now : Told) (held more : List ℕ) : Type 0 where

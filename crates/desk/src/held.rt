@@ -1,4 +1,4 @@
-//! The line that is being read.
+//! The things that a session holds: the line that is being read, and replies.
 
 ghost use Rattle.std.specs.Prelude.{◌≡◌, ◌≤◌, []};
 ghost use Rattle.desk.specs.Held.{ReadsByte};
@@ -6,6 +6,7 @@ ghost use Rattle.desk.specs.declared.line.TheConstants.{LONGEST};
 
 use crate::line::LONGEST;
 use std::marker::Model;
+use transcripts::Block;
 
 /// The bytes of a line so far, at most 4,096. Contracts see these bytes, so that a line is the same
 /// in whatever pieces it came. It takes no memory.
@@ -73,5 +74,26 @@ impl HeldLine {
         ensures { self.new ≡ [] }
     {
         self.length = 0;
+    }
+}
+
+/// The things that a session holds: the line that is being read, and replies that were not written
+/// yet. It takes no memory.
+#[derive(Drop)]
+pub(crate) struct Sheet {
+    pub(crate) line: HeldLine,
+    pub(crate) replies: Block,
+}
+
+impl Sheet {
+    /// Nothing is held.
+    pub(crate) fn new() -> Sheet
+        ensures line { result.line ≡ [] }
+        ensures replies { result.replies.items ≡ [] }
+    {
+        Sheet {
+            line: HeldLine::new(),
+            replies: Block::new(),
+        }
     }
 }

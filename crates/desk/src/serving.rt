@@ -1,29 +1,30 @@
 //! A client's session: begin at `serve`, last.
 
-ghost use Rattle.std.specs.Prelude.{◌≡◌, ◌∷◌, ℕ, List, [], None, IfErr, IfSome, OnOk};
+ghost use Rattle.std.specs.Prelude.{◌≡◌, ◌↔◌, ◌∷◌, ℕ, List, [], None, IfErr, IfSome, IsTrue, MatchBool, OnOk};
 ghost use Rattle.node.specs.Verdicts.{KnowsMore, known_at};
-ghost use Rattle.links.specs.Told.{Told, has_ended};
+ghost use Rattle.links.specs.Told.{Told, has_ended, has_written};
 ghost use Rattle.node.specs.Views.{BookView};
 ghost use Rattle.desk.specs.Answers.{IsTranscriptReply, verdict_reply};
-ghost use Rattle.desk.specs.Sessions.{Sitting, sitting, AnswersLine, IsAwaitReply, IsLinksReply, IsProposalReply, IsStateTold, IsStatusReply, Serves};
-ghost use Rattle.desk.specs.Turns.{FailsToSay, Refuses, Says, Serving};
+ghost use Rattle.desk.specs.Sessions.{Sitting, sitting, AnswersCommand, AnswersLine, IsAwaitReply, IsLinksReply, IsProposalReply, IsStateTold, IsStatusReply, ServesTogether};
+ghost use Rattle.desk.specs.Turns.{FailsToSay, IsLeft, Leaves, Loses, Refuses, Says, Serving};
 
 use crate::answering::{
     dossier_of, propose, reply_of, standing_links, standing_reply, state_reply, verdict_reply,
 };
 use crate::command::{Command, parse};
-use crate::held::{HeldLine, LineStep};
+use crate::held::{LineStep, Sheet};
 use crate::line::follows;
 use crate::reply::Reply;
 use crate::request::is_request;
 use crate::turns::{Turn, Turns};
-use crate::writing::write_reply;
+use crate::writing::{write_held, write_reply};
 use disk::Disk;
 use links::Stream;
 use node::{Board, Hub, Naming, Pass};
 use rounds::Tosser;
 use std::sync::Wait;
 use std::time::Clock;
+use transcripts::Block;
 
 /// The most bytes of a read.
 const PIECE: usize = 512;
@@ -69,13 +70,53 @@ fn ask<D: Disk, J: Naming>(hub: &Hub<D, J>, pass: &mut Pass, question: u16) -> R
     verdict_reply(known(hub, pass, question))
 }
 
-/// Answers a line that ends the session with [`Reply::BadLine`], and says why it ended.
-fn refuse<S: Stream>(stream: &mut S, why: DeskEnd) -> DeskEnd
-    ensures { Refuses (S.told stream.old) (S.told stream.new) why result }
+/// Returns `true` if the session ended because its stream failed.
+fn is_lost(end: DeskEnd) -> bool
+    ensures { IsTrue result ↔ (end ≡ DeskEnd.Lost) }
 {
-    match write_reply(stream, &Reply::BadLine) {
+    match end {
+        DeskEnd::Lost => true,
+        DeskEnd::Ended => false,
+        DeskEnd::TooLong => false,
+        DeskEnd::Request => false,
+        DeskEnd::Follows(_) => false,
+    }
+}
+
+/// Writes the replies that are held, and returns `true` if that didn't fail.
+fn tell_held<S: Stream>(stream: &mut S, held: &mut Block) -> bool
+    ensures { MatchBool result
+        (has_written (S.told stream.new) held.new.items ≡ has_written (S.told stream.old) held.old.items)
+        (Loses (has_written (S.told stream.old) held.old.items) (S.told stream.new) []) }
+{
+    match write_held(stream, held) {
+        Ok(()) => true,
+        Err(_) => false,
+    }
+}
+
+/// Answers a line that ends the session with [`Reply::BadLine`], and says why it ended.
+fn refuse<S: Stream>(stream: &mut S, held: &mut Block, why: DeskEnd) -> DeskEnd
+    ensures { Refuses (has_written (S.told stream.old) held.old.items) (S.told stream.new) held.new.items why result }
+{
+    match write_reply(stream, held, &Reply::BadLine) {
         Ok(()) => why,
-        Err(_) => DeskEnd::Lost,
+        Err(end) => end,
+    }
+}
+
+/// Writes the replies that are held at a session's end, and says how it ended. Where its stream
+/// failed it writes nothing.
+fn leave<S: Stream>(stream: &mut S, held: &mut Block, end: DeskEnd) -> DeskEnd
+    ensures lost { end ≡ DeskEnd.Lost → (result ≡ DeskEnd.Lost) × (S.told stream.new ≡ S.told stream.old) }
+    ensures over { (end ≡ DeskEnd.Lost → ⊥) → IsLeft (has_written (S.told stream.old) held.old.items) (S.told stream.new) end result }
+{
+    if is_lost(end) {
+        return DeskEnd::Lost;
+    }
+    match write_held(stream, held) {
+        Ok(()) => end,
+        Err(lost) => lost,
     }
 }
 
@@ -155,21 +196,35 @@ impl<D: Disk, J: Naming, R: Wait + Clock> Server<'_, D, J, R> {
     }
 
     /// The decision of a question once the board has it; or that there is none, after ten seconds
-    /// or at the member's end; or that the member is stopped. It takes no lock while it waits.
-    fn await_decision(&self, pass: &mut Pass, question: u16) -> Reply
+    /// or at the member's end; or that the member is stopped. It takes no lock while it waits. The
+    /// replies that are held are written before it waits: where that fails it says `false`, and
+    /// doesn't wait.
+    fn await_decision<S: Stream>(
+        &self,
+        pass: &mut Pass,
+        question: u16,
+        stream: &mut S,
+        held: &mut Block,
+    ) -> (Reply, bool)
         requires { pass.old.cells ≡ J.names.cells }
         ensures cells { pass.new.cells ≡ J.names.cells }
         ensures more { KnowsMore pass.old.known pass.new.known }
-        ensures reply { IsAwaitReply D (known_at pass.new.known question) result }
+        ensures reply { IsAwaitReply D (known_at pass.new.known question) result.0 }
+        ensures told { MatchBool result.1
+            (has_written (S.told stream.new) held.new.items ≡ has_written (S.told stream.old) held.old.items)
+            (Loses (has_written (S.told stream.old) held.old.items) (S.told stream.new) []) }
     {
         let begun = self.hub.seconds();
         for _ in self.rt.forever() {
             let decided = self.hub.decided();
             match known(self.hub, pass, question) {
-                Some(bit) => return Reply::Decided(bit),
+                Some(bit) => return (Reply::Decided(bit), true),
                 None => {
                     if let Some(reply) = self.without_decision(begun) {
-                        return reply;
+                        return (reply, true);
+                    }
+                    if !tell_held(stream, held) {
+                        return (Reply::Undecided, false);
                     }
                 }
             }
@@ -203,22 +258,74 @@ impl<D: Disk, J: Naming, R: Wait + Clock> Server<'_, D, J, R> {
         standing_links(self.hub.status(self.rt), count, size)
     }
 
-    /// The reply to a line.
-    fn reply_to<T: Tosser>(&self, pass: &mut Pass, tosser: &mut T, line: &[u8]) -> Reply
+    /// Writes the replies that are held, if a proposal has to wait for the member to speak.
+    fn ready_to_propose<S: Stream>(&self, stream: &mut S, held: &mut Block) -> bool
+        ensures { MatchBool result
+            (has_written (S.told stream.new) held.new.items ≡ has_written (S.told stream.old) held.old.items)
+            (Loses (has_written (S.told stream.old) held.old.items) (S.told stream.new) []) }
+    {
+        if !self.hub.is_listening() {
+            return true;
+        }
+        tell_held(stream, held)
+    }
+
+    /// The reply to a command. The replies that are held are written before it waits for what may
+    /// take seconds: it says `false` where that fails.
+    fn reply_to_command<S: Stream, T: Tosser>(
+        &self,
+        pass: &mut Pass,
+        tosser: &mut T,
+        command: Command,
+        stream: &mut S,
+        held: &mut Block,
+    ) -> (Reply, bool)
         requires { pass.old.cells ≡ J.names.cells }
         ensures cells { pass.new.cells ≡ J.names.cells }
-        ensures reply { AnswersLine D T.may_toss self.now.hub.now.size.questions (sitting pass.old.known tosser.old) line.now result
-            (sitting pass.new.known tosser.new) }
+        ensures reply { AnswersCommand D T.may_toss (sitting pass.old.known tosser.old) command result.0 (sitting pass.new.known tosser.new) }
+        ensures told { MatchBool result.1
+            (has_written (S.told stream.new) held.new.items ≡ has_written (S.told stream.old) held.old.items)
+            (Loses (has_written (S.told stream.old) held.old.items) (S.told stream.new) []) }
     {
-        match parse(line, self.hub.header().size()) {
-            Err(refusal) => refusal,
-            Ok(Command::Ask { question }) => ask(self.hub, pass, question),
-            Ok(Command::Await { question }) => self.await_decision(pass, question),
-            Ok(Command::Propose { question, bit }) => self.propose(tosser, question, bit),
-            Ok(Command::Status) => self.status(tosser),
-            Ok(Command::Transcript { question }) => self.transcript_of(question),
-            Ok(Command::Links) => self.links(),
-            Ok(Command::State { question }) => self.state_of(question),
+        match command {
+            Command::Ask { question } => (ask(self.hub, pass, question), true),
+            Command::Await { question } => self.await_decision(pass, question, stream, held),
+            Command::Propose { question, bit } => {
+                let is_told = self.ready_to_propose(stream, held);
+                (self.propose(tosser, question, bit), is_told)
+            }
+            Command::Status => (self.status(tosser), true),
+            Command::Transcript { question } => {
+                let is_told = tell_held(stream, held);
+                (self.transcript_of(question), is_told)
+            }
+            Command::Links => (self.links(), true),
+            Command::State { question } => (self.state_of(question), true),
+        }
+    }
+
+    /// The reply to the line that is held. The replies that are held are written before it waits
+    /// for what may take seconds: it says `false` where that fails.
+    fn reply_to<S: Stream, T: Tosser>(
+        &self,
+        pass: &mut Pass,
+        tosser: &mut T,
+        sheet: &mut Sheet,
+        stream: &mut S,
+    ) -> (Reply, bool)
+        requires { pass.old.cells ≡ J.names.cells }
+        ensures cells { pass.new.cells ≡ J.names.cells }
+        ensures reply { AnswersLine D T.may_toss self.now.hub.now.size.questions (sitting pass.old.known tosser.old) sheet.old.line result.0
+            (sitting pass.new.known tosser.new) }
+        ensures told { MatchBool result.1
+            (has_written (S.told stream.new) sheet.new.replies.items ≡ has_written (S.told stream.old) sheet.old.replies.items)
+            (Loses (has_written (S.told stream.old) sheet.old.replies.items) (S.told stream.new) []) }
+    {
+        match parse(sheet.line.line(), self.hub.header().size()) {
+            Err(refusal) => (refusal, true),
+            Ok(command) => {
+                self.reply_to_command(pass, tosser, command, stream, &mut sheet.replies)
+            }
         }
     }
 
@@ -227,21 +334,25 @@ impl<D: Disk, J: Naming, R: Wait + Clock> Server<'_, D, J, R> {
         &self,
         pass: &mut Pass,
         tosser: &mut T,
-        held: &mut HeldLine,
+        sheet: &mut Sheet,
         stream: &mut S,
     ) -> Result<(), DeskEnd>
         requires { pass.old.cells ≡ J.names.cells }
         ensures cells { pass.new.cells ≡ J.names.cells }
-        ensures held { held.new ≡ [] }
+        ensures line { sheet.new.line ≡ [] }
         ensures ok { OnOk result (Says (λ said. AnswersLine D T.may_toss self.now.hub.now.size.questions (sitting pass.old.known tosser.old)
-            held.old said (sitting pass.new.known tosser.new)) (S.told stream.old) (S.told stream.new)) }
+            sheet.old.line said (sitting pass.new.known tosser.new)) (has_written (S.told stream.old) sheet.old.replies.items)
+            (has_written (S.told stream.new) sheet.new.replies.items)) }
         ensures err { IfErr result (λ why. (why ≡ DeskEnd.Lost)
             × FailsToSay (λ said. AnswersLine D T.may_toss self.now.hub.now.size.questions (sitting pass.old.known tosser.old)
-            held.old said (sitting pass.new.known tosser.new)) (S.told stream.old) (S.told stream.new)) }
+            sheet.old.line said (sitting pass.new.known tosser.new)) (has_written (S.told stream.old) sheet.old.replies.items) (S.told stream.new)) }
     {
-        let reply = self.reply_to(pass, tosser, held.line());
-        held.clear();
-        write_reply(stream, &reply)
+        let (reply, is_told) = self.reply_to(pass, tosser, sheet, stream);
+        sheet.line.clear();
+        if !is_told {
+            return Err(DeskEnd::Lost);
+        }
+        write_reply(stream, &mut sheet.replies, &reply)
     }
 
     /// Reads a byte, and answers the line that it ends.
@@ -249,31 +360,31 @@ impl<D: Disk, J: Naming, R: Wait + Clock> Server<'_, D, J, R> {
         &self,
         pass: &mut Pass,
         tosser: &mut T,
-        held: &mut HeldLine,
+        sheet: &mut Sheet,
         stream: &mut S,
         byte: u8,
     ) -> Result<(), DeskEnd>
         requires { pass.old.cells ≡ J.names.cells }
         ensures cells { pass.new.cells ≡ J.names.cells }
         ensures on { (begun : Sitting T) (old : Told) (more : List ℕ) →
-            Serving (AnswersLine D T.may_toss self.now.hub.now.size.questions) begun (sitting pass.old.known tosser.old) old (S.told stream.old) held.old (byte ∷ more) →
-            OnOk result (Serving (AnswersLine D T.may_toss self.now.hub.now.size.questions) begun (sitting pass.new.known tosser.new) old (S.told stream.new) held.new more) }
+            Serving (AnswersLine D T.may_toss self.now.hub.now.size.questions) begun (sitting pass.old.known tosser.old) old (has_written (S.told stream.old) sheet.old.replies.items) sheet.old.line (byte ∷ more) →
+            OnOk result (Serving (AnswersLine D T.may_toss self.now.hub.now.size.questions) begun (sitting pass.new.known tosser.new) old (has_written (S.told stream.new) sheet.new.replies.items) sheet.new.line more) }
         ensures off { (begun : Sitting T) (old : Told) (more : List ℕ) →
-            Serving (AnswersLine D T.may_toss self.now.hub.now.size.questions) begun (sitting pass.old.known tosser.old) old (S.told stream.old) held.old (byte ∷ more) →
-            IfErr result (Serves (AnswersLine D T.may_toss self.now.hub.now.size.questions) begun (sitting pass.new.known tosser.new) old (S.told stream.new)) }
+            Serving (AnswersLine D T.may_toss self.now.hub.now.size.questions) begun (sitting pass.old.known tosser.old) old (has_written (S.told stream.old) sheet.old.replies.items) sheet.old.line (byte ∷ more) →
+            IfErr result (Leaves (AnswersLine D T.may_toss self.now.hub.now.size.questions) begun (sitting pass.new.known tosser.new) old (S.told stream.new) sheet.new.replies.items) }
     {
-        match held.read(byte) {
+        match sheet.line.read(byte) {
             LineStep::More => Ok(()),
             LineStep::Ends => {
-                if is_request(held.line()) {
-                    return Err(refuse(stream, DeskEnd::Request));
+                if is_request(sheet.line.line()) {
+                    return Err(refuse(stream, &mut sheet.replies, DeskEnd::Request));
                 }
-                match follows(held.line()) {
+                match follows(sheet.line.line()) {
                     Some(number) => Err(DeskEnd::Follows(number)),
-                    None => self.answer_held(pass, tosser, held, stream),
+                    None => self.answer_held(pass, tosser, sheet, stream),
                 }
             }
-            LineStep::TooLong => Err(refuse(stream, DeskEnd::TooLong)),
+            LineStep::TooLong => Err(refuse(stream, &mut sheet.replies, DeskEnd::TooLong)),
         }
     }
 
@@ -282,21 +393,21 @@ impl<D: Disk, J: Naming, R: Wait + Clock> Server<'_, D, J, R> {
         &self,
         pass: &mut Pass,
         tosser: &mut T,
-        held: &mut HeldLine,
+        sheet: &mut Sheet,
         stream: &mut S,
         piece: &[u8],
     ) -> Result<(), DeskEnd>
         requires { pass.old.cells ≡ J.names.cells }
         ensures cells { pass.new.cells ≡ J.names.cells }
         ensures on { (begun : Sitting T) (old : Told) →
-            Serving (AnswersLine D T.may_toss self.now.hub.now.size.questions) begun (sitting pass.old.known tosser.old) old (S.told stream.old) held.old piece.now →
-            OnOk result (Serving (AnswersLine D T.may_toss self.now.hub.now.size.questions) begun (sitting pass.new.known tosser.new) old (S.told stream.new) held.new []) }
+            Serving (AnswersLine D T.may_toss self.now.hub.now.size.questions) begun (sitting pass.old.known tosser.old) old (has_written (S.told stream.old) sheet.old.replies.items) sheet.old.line piece.now →
+            OnOk result (Serving (AnswersLine D T.may_toss self.now.hub.now.size.questions) begun (sitting pass.new.known tosser.new) old (has_written (S.told stream.new) sheet.new.replies.items) sheet.new.line []) }
         ensures off { (begun : Sitting T) (old : Told) →
-            Serving (AnswersLine D T.may_toss self.now.hub.now.size.questions) begun (sitting pass.old.known tosser.old) old (S.told stream.old) held.old piece.now →
-            IfErr result (Serves (AnswersLine D T.may_toss self.now.hub.now.size.questions) begun (sitting pass.new.known tosser.new) old (S.told stream.new)) }
+            Serving (AnswersLine D T.may_toss self.now.hub.now.size.questions) begun (sitting pass.old.known tosser.old) old (has_written (S.told stream.old) sheet.old.replies.items) sheet.old.line piece.now →
+            IfErr result (Leaves (AnswersLine D T.may_toss self.now.hub.now.size.questions) begun (sitting pass.new.known tosser.new) old (S.told stream.new) sheet.new.replies.items) }
     {
         for byte in piece {
-            if let Err(end) = self.serve_byte(pass, tosser, held, stream, *byte) {
+            if let Err(end) = self.serve_byte(pass, tosser, sheet, stream, *byte) {
                 return Err(end);
             }
         }
@@ -308,45 +419,49 @@ impl<D: Disk, J: Naming, R: Wait + Clock> Server<'_, D, J, R> {
         &self,
         pass: &mut Pass,
         tosser: &mut T,
-        held: &mut HeldLine,
+        sheet: &mut Sheet,
         stream: &mut S,
     ) -> DeskEnd
         requires { pass.old.cells ≡ J.names.cells }
         ensures cells { pass.new.cells ≡ J.names.cells }
-        ensures off { (begun : Sitting T) (old : Told) (before : Told) → S.told stream.old ≡ has_ended before →
-            Serving (AnswersLine D T.may_toss self.now.hub.now.size.questions) begun (sitting pass.old.known tosser.old) old before held.old [] →
-            Serves (AnswersLine D T.may_toss self.now.hub.now.size.questions) begun (sitting pass.new.known tosser.new) old (S.told stream.new) result }
+        ensures off { (begun : Sitting T) (old : Told) (before : Told) →
+            has_written (S.told stream.old) sheet.old.replies.items ≡ has_ended before →
+            Serving (AnswersLine D T.may_toss self.now.hub.now.size.questions) begun (sitting pass.old.known tosser.old) old before sheet.old.line [] →
+            Leaves (AnswersLine D T.may_toss self.now.hub.now.size.questions) begun (sitting pass.new.known tosser.new) old (S.told stream.new) sheet.new.replies.items result }
     {
-        if held.line().is_empty() {
+        if sheet.line.line().is_empty() {
             return DeskEnd::Ended;
         }
-        match self.answer_held(pass, tosser, held, stream) {
+        match self.answer_held(pass, tosser, sheet, stream) {
             Ok(()) => DeskEnd::Ended,
             Err(end) => end,
         }
     }
 
-    /// Reads a piece, and answers the lines that it ends.
+    /// Writes the replies that are held, reads a piece, and answers the lines that it ends.
     fn turn<S: Stream, T: Tosser>(
         &self,
         pass: &mut Pass,
         tosser: &mut T,
-        held: &mut HeldLine,
+        sheet: &mut Sheet,
         stream: &mut S,
     ) -> Result<(), DeskEnd>
         requires { pass.old.cells ≡ J.names.cells }
         ensures cells { pass.new.cells ≡ J.names.cells }
         ensures on { (begun : Sitting T) (old : Told) →
-            Serving (AnswersLine D T.may_toss self.now.hub.now.size.questions) begun (sitting pass.old.known tosser.old) old (S.told stream.old) held.old [] →
-            OnOk result (Serving (AnswersLine D T.may_toss self.now.hub.now.size.questions) begun (sitting pass.new.known tosser.new) old (S.told stream.new) held.new []) }
+            Serving (AnswersLine D T.may_toss self.now.hub.now.size.questions) begun (sitting pass.old.known tosser.old) old (has_written (S.told stream.old) sheet.old.replies.items) sheet.old.line [] →
+            OnOk result (Serving (AnswersLine D T.may_toss self.now.hub.now.size.questions) begun (sitting pass.new.known tosser.new) old (has_written (S.told stream.new) sheet.new.replies.items) sheet.new.line []) }
         ensures off { (begun : Sitting T) (old : Told) →
-            Serving (AnswersLine D T.may_toss self.now.hub.now.size.questions) begun (sitting pass.old.known tosser.old) old (S.told stream.old) held.old [] →
-            IfErr result (Serves (AnswersLine D T.may_toss self.now.hub.now.size.questions) begun (sitting pass.new.known tosser.new) old (S.told stream.new)) }
+            Serving (AnswersLine D T.may_toss self.now.hub.now.size.questions) begun (sitting pass.old.known tosser.old) old (has_written (S.told stream.old) sheet.old.replies.items) sheet.old.line [] →
+            IfErr result (Leaves (AnswersLine D T.may_toss self.now.hub.now.size.questions) begun (sitting pass.new.known tosser.new) old (S.told stream.new) sheet.new.replies.items) }
     {
         let mut piece = [0u8; PIECE];
+        if let Err(end) = write_held(stream, &mut sheet.replies) {
+            return Err(end);
+        }
         match stream.read(&mut piece) {
-            Ok(0) => Err(self.finish(pass, tosser, held, stream)),
-            Ok(count) => self.serve_bytes(pass, tosser, held, stream, &piece[..count]),
+            Ok(0) => Err(self.finish(pass, tosser, sheet, stream)),
+            Ok(count) => self.serve_bytes(pass, tosser, sheet, stream, &piece[..count]),
             Err(_) => Err(DeskEnd::Lost),
         }
     }
@@ -355,7 +470,9 @@ impl<D: Disk, J: Naming, R: Wait + Clock> Server<'_, D, J, R> {
 /// Answers the lines of a client in turn, until its input ends, a line is too long or begins a
 /// request of HTTP, one asks to follow decisions, or the stream fails.
 ///
-/// A line ends at the byte 10, and bytes behind the last one are a line too. `ASK` and `AWAIT` go
+/// A line ends at the byte 10, and bytes behind the last one are a line too. The replies to the
+/// lines of one read are held, at most 4,096 bytes of them, and written together: before the next
+/// read, before the session waits for what may take seconds, and at its end. `ASK` and `AWAIT` go
 /// by the board; `ASK` takes no lock, and `AWAIT` only that of what the hub shows, and not while it
 /// waits; `PROPOSE`, which waits until the member speaks, `STATE`, and `TRANSCRIPT`, which waits
 /// for its turn, take the book's; `STATUS` and `LINKS` only that of what the hub shows, behind
@@ -379,15 +496,15 @@ pub fn serve<D: Disk, J: Naming, S: Stream, T: Tosser, R: Wait + Clock>(
     ensures cells { pass.new.cells ≡ J.names.cells }
     // Each reply is that to its line, by what the pass knows then and with the tosses of the
     // tosser, one a command.
-    ensures serves { Serves (AnswersLine D T.may_toss desk.entry.hub.now.size.questions) (sitting pass.old.known tosser.old)
+    ensures serves { ServesTogether (AnswersLine D T.may_toss desk.entry.hub.now.size.questions) (sitting pass.old.known tosser.old)
         (sitting pass.new.known tosser.new) (S.told stream.old) (S.told stream.new) result }
 {
     let Desk { hub, turns } = desk;
     let server = Server { rt, hub, turns };
-    let mut held = HeldLine::new();
+    let mut sheet = Sheet::new();
     for _ in rt.forever() {
-        if let Err(end) = server.turn(pass, tosser, &mut held, stream) {
-            return end;
+        if let Err(end) = server.turn(pass, tosser, &mut sheet, stream) {
+            return leave(stream, &mut sheet.replies, end);
         }
     }
     unreachable!()

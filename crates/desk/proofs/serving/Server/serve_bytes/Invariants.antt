@@ -1,5 +1,5 @@
 use Rattle.std.proofs.Common.{◌≡◌, drop}
-use Rattle.links.specs.Told.{Told}
+use Rattle.links.specs.Told.{Told, has_written}
 use Rattle.desk.specs.Sessions.{Sitting, AnswersLine, sitting}
 use Rattle.desk.specs.Turns.{Serving}
 use Rattle.desk.proofs.serving.Server.serve_bytes.Given as goal
@@ -9,6 +9,6 @@ abbrev pub invariant-loop-byte : goal.invariant-loop-byte
 invariant-loop-byte g l = (l.pass.cells ≡ g.J.Naming.names.cells)
     × ((begun : Sitting g.row.T.Denot) (old : Told)
     → Serving (AnswersLine g.row.D.Denot g.T.Tosser.may_toss l.fn.self.hub.now.size.questions) begun (sitting l.initial.pass.known l.initial.tosser)
-    old (g.S.Stream.told l.initial.stream) l.initial.held l.piece
+    old (has_written (g.S.Stream.told l.initial.stream) l.initial.sheet.replies.items) l.initial.sheet.line l.piece
     → Serving (AnswersLine g.row.D.Denot g.T.Tosser.may_toss l.fn.self.hub.now.size.questions) begun (sitting l.pass.known l.tosser)
-    old (g.S.Stream.told l.stream) l.held (drop l.byte-index l.piece))
+    old (has_written (g.S.Stream.told l.stream) l.sheet.replies.items) l.sheet.line (drop l.byte-index l.piece))
