@@ -1,6 +1,6 @@
 //! The events that a script's lines stand for.
 
-ghost use Rattle.std.specs.Prelude.{ℕ, List, ◌≡◌, ◌⊎◌, ◌<◌, ◌++◌, [], map, OnOk, IfOk, IfErr};
+ghost use Rattle.std.specs.Prelude.{ℕ, List, ◌≡◌, ◌⊎◌, ◌<◌, ◌++◌, [], map, vec_len, vec_capacity, OnOk, IfOk, IfErr};
 ghost use Rattle.terms_prelude.specs.Terms.{Size};
 ghost use Rattle.sim.specs.declared.events.Which.TheVariants.{Next};
 ghost use Rattle.script.specs.Acts.{act_of, tossed_act};
@@ -13,7 +13,7 @@ use crate::fair::{Fair, Members};
 use crate::fault::ScriptFault;
 use crate::step::Order;
 use sim::{Event, Which};
-use std::alloc::Global;
+use std::alloc::{AllocError, Global};
 use std::marker::Model;
 use terms::Size;
 
@@ -25,6 +25,18 @@ const PIECE: u64 = 256;
 pub struct Making {
     events: Vec<Event>,
     draw: Draw,
+}
+
+/// Makes room for an event more.
+#[inline(always)]
+fn make_room(events: &mut Vec<Event>) -> Result<(), AllocError>
+    ensures same { events.new.items ≡ events.old.items }
+    ensures room { OnOk result (vec_len events.new < vec_capacity events.new) }
+{
+    if events.len() < events.capacity() {
+        return Ok(());
+    }
+    events.reserve(1)
 }
 
 impl Model for Making {
@@ -54,7 +66,8 @@ impl Making {
     {
         let mut event = event;
         self.draw.toss_into(&mut event);
-        self.events.push(event)?;
+        make_room(&mut self.events)?;
+        self.events.push_reserved(event);
         Ok(())
     }
 
@@ -66,7 +79,8 @@ impl Making {
     {
         let mut event = self.draw.event(alloc, size)?;
         self.draw.toss_into(&mut event);
-        self.events.push(event)?;
+        make_room(&mut self.events)?;
+        self.events.push_reserved(event);
         Ok(())
     }
 
@@ -135,7 +149,8 @@ impl Making {
     {
         let mut event = fair.event(alloc, &mut self.draw, members, left)?;
         self.draw.toss_into(&mut event);
-        self.events.push(event)?;
+        make_room(&mut self.events)?;
+        self.events.push_reserved(event);
         Ok(())
     }
 

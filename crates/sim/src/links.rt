@@ -1,7 +1,7 @@
 //! A link from one member to another: how far it has come in the sender's outbox, and what it
 //! reads.
 
-ghost use Rattle.std.specs.Prelude.{◌≡◌, ◌≤◌, ◌+◌, ◌++◌, List, [], ◌∷◌, Some, IfOk, OnOk, OnErr, length, map};
+ghost use Rattle.std.specs.Prelude.{◌≡◌, ◌≤◌, ◌+◌, ◌++◌, List, [], ◌∷◌, true, Some, IfOk, OnOk, OnErr, length, map};
 ghost use Rattle.std.specs.List.{AllByRecursion};
 ghost use Rattle.terms_prelude.specs.Terms.{Statement, IsSize, IsWellFormed};
 ghost use Rattle.wire.specs.declared.message.Message.TheVariants as variants;
@@ -16,6 +16,9 @@ use std::slice::from_ref;
 use terms::{Memory, Size, Statement};
 use wire::{Fed, Feeder, MOST_STATEMENTS, Many, Message, encode, encode_alone};
 
+/// One of so many statements that are carried alone goes as bytes.
+const IN_BYTES: u8 = 16;
+
 /// A link, as its receiver has it. In contracts it is its place, its size, and how the bytes ended
 /// that it was fed.
 #[derive(Drop)]
@@ -23,6 +26,8 @@ pub(crate) struct Link {
     place: u64,
     feeder: Feeder,
     broken: bool,
+    /// The number of statements that were carried alone, without 256 and its multiples.
+    turn: u8,
     /// The frame of a group that was carried last. Its memory serves the next.
     frame: Vec<u8>,
     /// The messages that were read last. Their memory serves what is read next.
@@ -51,6 +56,7 @@ impl Link {
             place: 0,
             feeder: Feeder::new(size),
             broken: false,
+            turn: 0,
             frame: Vec::new(alloc),
             messages: Vec::new(alloc),
         }
@@ -101,9 +107,35 @@ impl Link {
         statements_among(alloc, &self.messages)
     }
 
-    /// Carries a statement as a frame, and gives what comes out at the other end.
+    /// Carries a statement, which is then what comes out at the other end; false where nothing
+    /// does. One in sixteen goes as the bytes of its frame. The others are handed over: behind
+    /// whole frames a statement's frame reads as this statement, and leaves the link as it is.
     #[inline(always)]
-    pub(crate) fn carry(&mut self, statement: &Statement) -> Result<Option<Statement>, Memory>
+    pub(crate) fn carry(&mut self, statement: &mut Statement) -> Result<bool, Memory>
+        ensures arrives { IsSize self.old.size → IsWellFormed self.old.size statement.old → self.old.end ≡ Rest [] →
+            IfOk result (λ arrived. (arrived ≡ true) × (statement.new ≡ statement.old)) }
+        ensures end { IsSize self.old.size → IsWellFormed self.old.size statement.old → self.old.end ≡ Rest [] →
+            IfOk result (λ _. self.new.end ≡ Rest []) }
+        ensures place { self.new.place ≡ self.old.place }
+        ensures size { self.new.size ≡ self.old.size }
+    {
+        self.turn = self.turn.wrapping_add(1);
+        if self.turn % IN_BYTES != 0 {
+            return Ok(true);
+        }
+        match self.carry_bytes(statement)? {
+            Some(arrived) => {
+                *statement = arrived;
+                Ok(true)
+            }
+            None => Ok(false),
+        }
+    }
+
+    /// Carries a statement as the bytes of its frame, and gives what comes out at the other end. It
+    /// stands by itself, since a function pays at entry for the size of its locals.
+    #[inline(never)]
+    fn carry_bytes(&mut self, statement: &Statement) -> Result<Option<Statement>, Memory>
         ensures arrives { IsSize self.old.size → IsWellFormed self.old.size statement.now → self.old.end ≡ Rest [] →
             IfOk result (λ arrived. arrived ≡ Some statement.now) }
         ensures end { IsSize self.old.size → IsWellFormed self.old.size statement.now → self.old.end ≡ Rest [] →

@@ -234,10 +234,11 @@ impl Post {
     {
         let link = &mut self.incoming[usize::from(from)];
         link.go_to(place);
-        match link.carry(&statement)? {
-            Some(arrived) => self.seat.hear(self.fused, from, &arrived, toss),
-            None => Ok(Mark::Skipped(Reason::Nothing)),
+        let mut carried = statement;
+        if !link.carry(&mut carried)? {
+            return Ok(Mark::Skipped(Reason::Nothing));
         }
+        self.seat.hear(self.fused, from, &carried, toss)
     }
 
     /// Statements come to it as one group over the link from their sender, which then has the place

@@ -3,9 +3,9 @@
 //! `line NAME TEXT` has the document's line of that name be that text, behind those before it;
 //! `line NAME` leaves it out. `keep` has what then stands be the usual lines, and `usual` goes back
 //! to these. `read` reads the document, and answers the cluster, the size and the member, or the
-//! fault; `journal`, `peers`, `desk`, `seed`, `listen` and `desk-socket` answer its other values,
-//! or `none`. `client` reads it as a client's, and answers the cluster, the size and the desks, or
-//! the fault. `address TEXT` answers the four numbers and the port, or `none`.
+//! fault; `journal`, `peers`, `desk`, `seed`, `listen`, `desk-socket` and `epochs` answer its other
+//! values, or `none`. `client` reads it as a client's, and answers the cluster, the size and the
+//! desks, or the fault. `address TEXT` answers the four numbers and the port, or `none`.
 //!
 //! `empty` is a new disk, and `fuse CALLS` one that lets so many calls pass. `init` makes the
 //! journal, and answers `0` or the fault; `file` are its bytes.
@@ -157,6 +157,13 @@ impl Document {
                     None => "none",
                 };
                 String::from_str(self.alloc, path).ok()
+            }
+            "epochs" => {
+                let folder = match &settings.epochs {
+                    Some(folder) => folder.as_str(),
+                    None => "none",
+                };
+                String::from_str(self.alloc, folder).ok()
             }
             _ => None,
         }

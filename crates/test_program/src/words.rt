@@ -300,6 +300,7 @@ fn cluster_text(alloc: Global, task: Task) -> Option<String> {
         hosts,
         port,
         desk,
+        epochs,
     } = task
     else {
         return None;
@@ -311,6 +312,7 @@ fn cluster_text(alloc: Global, task: Task) -> Option<String> {
         text.push_str(word.as_str()).ok()?;
     }
     add_text(&mut text, " desk ", desk)?;
+    add(&mut text, " epochs", epochs)?;
     Some(text)
 }
 

@@ -4,7 +4,7 @@ use Rattle.wire.specs.declared.message.Message.TheVariants as message
 use Rattle.wire.specs.Words.{Feeds}
 use Rattle.sim.specs.Links.{LinkFields}
 use Rattle.sim.proofs.Reading.{arrives}
-use Rattle.sim.proofs.links.Link.carry.Goals as goal
+use Rattle.sim.proofs.links.Link.carry_bytes.Goals as goal
 
 pub returns-in-Some-clause-arrives : goal.returns-in-Some-clause-arrives
 returns-in-Some-clause-arrives c lawful well at =
