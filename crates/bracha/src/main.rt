@@ -162,6 +162,7 @@ fn work<R: Caller>(rt: &R, host: &HostRuntime, task: Task, quiet: bool) -> Resul
             hosts,
             port,
             desk,
+            epochs,
         } => {
             let size = size_of(host.alloc(), n, t, questions)?;
             let cluster = u64::from(cluster);
@@ -174,6 +175,7 @@ fn work<R: Caller>(rt: &R, host: &HostRuntime, task: Task, quiet: bool) -> Resul
                     hosts,
                     port,
                     desk,
+                    epochs,
                 },
             )
         }

@@ -129,7 +129,10 @@ new_cluster_demands words e =
     let hosts = text_in (codes "hosts") rows in
     let port = may_have 16 65535 (codes "port") rows (omega arith) (perhaps_in (built_at new_cluster_app) words solid e _ (inr (inr (inr (inr (inr (inr (inl refl)))))))) in
     let desk = text_in (codes "desk") rows in
-    (NewCluster n.0 t.0 questions.0 cluster.0 (at_some_place folder.0) hosts.0 port.0 desk.0, (refl, n.1, t.1, questions.1, cluster.1, folder.1, hosts.1, port.1, desk.1))
+    let epochs = flag_in (codes "epochs") rows in (
+      NewCluster n.0 t.0 questions.0 cluster.0 (at_some_place folder.0) hosts.0 port.0 desk.0 epochs.0,
+      (refl, n.1, t.1, questions.1, cluster.1, folder.1, hosts.1, port.1, desk.1, epochs.1),
+    )
 
 init_demands : Demanding init_app
 init_demands words e =

@@ -21,7 +21,7 @@ apart a b differ is =
 pub only_hear : (rows : List Row) → ((n : ℕ) (t : ℕ) (questions : ℕ) (me : ℕ) → Names (codes "hear") rows (Hear n t questions me) → ⊥)
     → (task : Task) → Names (codes "hear") rows task → ⊥
 only_hear rows none (Hear n t questions me) named = none n t questions me named
-only_hear rows none (NewCluster n t questions cluster folder hosts port desk) named = apart (codes "hear") (codes "new-cluster") refl named.0
+only_hear rows none (NewCluster n t questions cluster folder hosts port desk epochs) named = apart (codes "hear") (codes "new-cluster") refl named.0
 only_hear rows none (Init settings) named = apart (codes "hear") (codes "init") refl named.0
 only_hear rows none (Check settings json) named = apart (codes "hear") (codes "check") refl named.0
 only_hear rows none (Run settings stay log log_json any_host) named = apart (codes "hear") (codes "run") refl named.0
@@ -37,10 +37,10 @@ only_hear rows none (Rounds n t liars order seeds chart) named = apart (codes "h
 only_hear rows none (Dump journal count json) named = apart (codes "hear") (codes "dump") refl named.0
 only_hear rows none (Migrate old new) named = apart (codes "hear") (codes "migrate") refl named.0
 
-pub only_new_cluster : (rows : List Row) → ((n t questions cluster : ℕ) (folder : Bor Text) (hosts : Option (Bor Text)) (port : Option ℕ) (desk : Option (Bor Text)) → Names (codes "new-cluster") rows (NewCluster n t questions cluster folder hosts port desk) → ⊥)
+pub only_new_cluster : (rows : List Row) → ((n t questions cluster : ℕ) (folder : Bor Text) (hosts : Option (Bor Text)) (port : Option ℕ) (desk : Option (Bor Text)) (epochs : Bool) → Names (codes "new-cluster") rows (NewCluster n t questions cluster folder hosts port desk epochs) → ⊥)
     → (task : Task) → Names (codes "new-cluster") rows task → ⊥
 only_new_cluster rows none (Hear n t questions me) named = apart (codes "new-cluster") (codes "hear") refl named.0
-only_new_cluster rows none (NewCluster n t questions cluster folder hosts port desk) named = none n t questions cluster folder hosts port desk named
+only_new_cluster rows none (NewCluster n t questions cluster folder hosts port desk epochs) named = none n t questions cluster folder hosts port desk epochs named
 only_new_cluster rows none (Init settings) named = apart (codes "new-cluster") (codes "init") refl named.0
 only_new_cluster rows none (Check settings json) named = apart (codes "new-cluster") (codes "check") refl named.0
 only_new_cluster rows none (Run settings stay log log_json any_host) named = apart (codes "new-cluster") (codes "run") refl named.0
@@ -59,7 +59,7 @@ only_new_cluster rows none (Migrate old new) named = apart (codes "new-cluster")
 pub only_init : (rows : List Row) → ((settings : Bor Text) → Names (codes "init") rows (Init settings) → ⊥)
     → (task : Task) → Names (codes "init") rows task → ⊥
 only_init rows none (Hear n t questions me) named = apart (codes "init") (codes "hear") refl named.0
-only_init rows none (NewCluster n t questions cluster folder hosts port desk) named = apart (codes "init") (codes "new-cluster") refl named.0
+only_init rows none (NewCluster n t questions cluster folder hosts port desk epochs) named = apart (codes "init") (codes "new-cluster") refl named.0
 only_init rows none (Init settings) named = none settings named
 only_init rows none (Check settings json) named = apart (codes "init") (codes "check") refl named.0
 only_init rows none (Run settings stay log log_json any_host) named = apart (codes "init") (codes "run") refl named.0
@@ -78,7 +78,7 @@ only_init rows none (Migrate old new) named = apart (codes "init") (codes "migra
 pub only_check : (rows : List Row) → ((settings : Bor Text) (json : Bool) → Names (codes "check") rows (Check settings json) → ⊥)
     → (task : Task) → Names (codes "check") rows task → ⊥
 only_check rows none (Hear n t questions me) named = apart (codes "check") (codes "hear") refl named.0
-only_check rows none (NewCluster n t questions cluster folder hosts port desk) named = apart (codes "check") (codes "new-cluster") refl named.0
+only_check rows none (NewCluster n t questions cluster folder hosts port desk epochs) named = apart (codes "check") (codes "new-cluster") refl named.0
 only_check rows none (Init settings) named = apart (codes "check") (codes "init") refl named.0
 only_check rows none (Check settings json) named = none settings json named
 only_check rows none (Run settings stay log log_json any_host) named = apart (codes "check") (codes "run") refl named.0
@@ -97,7 +97,7 @@ only_check rows none (Migrate old new) named = apart (codes "check") (codes "mig
 pub only_run : (rows : List Row) → ((settings : Bor Text) (stay log log_json any_host : Bool) → Names (codes "run") rows (Run settings stay log log_json any_host) → ⊥)
     → (task : Task) → Names (codes "run") rows task → ⊥
 only_run rows none (Hear n t questions me) named = apart (codes "run") (codes "hear") refl named.0
-only_run rows none (NewCluster n t questions cluster folder hosts port desk) named = apart (codes "run") (codes "new-cluster") refl named.0
+only_run rows none (NewCluster n t questions cluster folder hosts port desk epochs) named = apart (codes "run") (codes "new-cluster") refl named.0
 only_run rows none (Init settings) named = apart (codes "run") (codes "init") refl named.0
 only_run rows none (Check settings json) named = apart (codes "run") (codes "check") refl named.0
 only_run rows none (Run settings stay log log_json any_host) named = none settings stay log log_json any_host named
@@ -116,7 +116,7 @@ only_run rows none (Migrate old new) named = apart (codes "run") (codes "migrate
 pub only_propose : (rows : List Row) → ((address : Bor Text) (question : ℕ) (bit : ℕ) (all : Bool) (timeout : Option (Bor Text)) → Names (codes "propose") rows (Propose address question bit all timeout) → ⊥)
     → (task : Task) → Names (codes "propose") rows task → ⊥
 only_propose rows none (Hear n t questions me) named = apart (codes "propose") (codes "hear") refl named.0
-only_propose rows none (NewCluster n t questions cluster folder hosts port desk) named = apart (codes "propose") (codes "new-cluster") refl named.0
+only_propose rows none (NewCluster n t questions cluster folder hosts port desk epochs) named = apart (codes "propose") (codes "new-cluster") refl named.0
 only_propose rows none (Init settings) named = apart (codes "propose") (codes "init") refl named.0
 only_propose rows none (Check settings json) named = apart (codes "propose") (codes "check") refl named.0
 only_propose rows none (Run settings stay log log_json any_host) named = apart (codes "propose") (codes "run") refl named.0
@@ -135,7 +135,7 @@ only_propose rows none (Migrate old new) named = apart (codes "propose") (codes 
 pub only_ask : (rows : List Row) → ((address : Bor Text) (question : ℕ) (all : Bool) (wait : Bool) (json : Bool) (timeout : Option (Bor Text)) → Names (codes "ask") rows (Ask address question all wait json timeout) → ⊥)
     → (task : Task) → Names (codes "ask") rows task → ⊥
 only_ask rows none (Hear n t questions me) named = apart (codes "ask") (codes "hear") refl named.0
-only_ask rows none (NewCluster n t questions cluster folder hosts port desk) named = apart (codes "ask") (codes "new-cluster") refl named.0
+only_ask rows none (NewCluster n t questions cluster folder hosts port desk epochs) named = apart (codes "ask") (codes "new-cluster") refl named.0
 only_ask rows none (Init settings) named = apart (codes "ask") (codes "init") refl named.0
 only_ask rows none (Check settings json) named = apart (codes "ask") (codes "check") refl named.0
 only_ask rows none (Run settings stay log log_json any_host) named = apart (codes "ask") (codes "run") refl named.0
@@ -154,7 +154,7 @@ only_ask rows none (Migrate old new) named = apart (codes "ask") (codes "migrate
 pub only_decide : (rows : List Row) → ((file : Bor Text) (question : ℕ) (bit : ℕ) (json : Bool) (timeout : Option (Bor Text)) → Names (codes "decide") rows (Decide file question bit json timeout) → ⊥)
     → (task : Task) → Names (codes "decide") rows task → ⊥
 only_decide rows none (Hear n t questions me) named = apart (codes "decide") (codes "hear") refl named.0
-only_decide rows none (NewCluster n t questions cluster folder hosts port desk) named = apart (codes "decide") (codes "new-cluster") refl named.0
+only_decide rows none (NewCluster n t questions cluster folder hosts port desk epochs) named = apart (codes "decide") (codes "new-cluster") refl named.0
 only_decide rows none (Init settings) named = apart (codes "decide") (codes "init") refl named.0
 only_decide rows none (Check settings json) named = apart (codes "decide") (codes "check") refl named.0
 only_decide rows none (Run settings stay log log_json any_host) named = apart (codes "decide") (codes "run") refl named.0
@@ -173,7 +173,7 @@ only_decide rows none (Migrate old new) named = apart (codes "decide") (codes "m
 pub only_status : (rows : List Row) → ((address : Bor Text) (all : Bool) (links : Bool) (ready : Bool) (json : Bool) (timeout : Option (Bor Text)) (question : Option ℕ) → Names (codes "status") rows (Status address all links ready json timeout question) → ⊥)
     → (task : Task) → Names (codes "status") rows task → ⊥
 only_status rows none (Hear n t questions me) named = apart (codes "status") (codes "hear") refl named.0
-only_status rows none (NewCluster n t questions cluster folder hosts port desk) named = apart (codes "status") (codes "new-cluster") refl named.0
+only_status rows none (NewCluster n t questions cluster folder hosts port desk epochs) named = apart (codes "status") (codes "new-cluster") refl named.0
 only_status rows none (Init settings) named = apart (codes "status") (codes "init") refl named.0
 only_status rows none (Check settings json) named = apart (codes "status") (codes "check") refl named.0
 only_status rows none (Run settings stay log log_json any_host) named = apart (codes "status") (codes "run") refl named.0
@@ -192,7 +192,7 @@ only_status rows none (Migrate old new) named = apart (codes "status") (codes "m
 pub only_transcript : (rows : List Row) → ((address : Bor Text) (question : ℕ) (all : Bool) (timeout : Option (Bor Text)) → Names (codes "transcript") rows (Transcript address question all timeout) → ⊥)
     → (task : Task) → Names (codes "transcript") rows task → ⊥
 only_transcript rows none (Hear n t questions me) named = apart (codes "transcript") (codes "hear") refl named.0
-only_transcript rows none (NewCluster n t questions cluster folder hosts port desk) named = apart (codes "transcript") (codes "new-cluster") refl named.0
+only_transcript rows none (NewCluster n t questions cluster folder hosts port desk epochs) named = apart (codes "transcript") (codes "new-cluster") refl named.0
 only_transcript rows none (Init settings) named = apart (codes "transcript") (codes "init") refl named.0
 only_transcript rows none (Check settings json) named = apart (codes "transcript") (codes "check") refl named.0
 only_transcript rows none (Run settings stay log log_json any_host) named = apart (codes "transcript") (codes "run") refl named.0
@@ -211,7 +211,7 @@ only_transcript rows none (Migrate old new) named = apart (codes "transcript") (
 pub only_audit : (rows : List Row) → ((file : Bor Text) (question : Option ℕ) (all : Bool) (n : Option ℕ) (t : Option ℕ) (questions : Option ℕ) (timeout : Option (Bor Text)) → Names (codes "audit") rows (Audit file question all n t questions timeout) → ⊥)
     → (task : Task) → Names (codes "audit") rows task → ⊥
 only_audit rows none (Hear n t questions me) named = apart (codes "audit") (codes "hear") refl named.0
-only_audit rows none (NewCluster n t questions cluster folder hosts port desk) named = apart (codes "audit") (codes "new-cluster") refl named.0
+only_audit rows none (NewCluster n t questions cluster folder hosts port desk epochs) named = apart (codes "audit") (codes "new-cluster") refl named.0
 only_audit rows none (Init settings) named = apart (codes "audit") (codes "init") refl named.0
 only_audit rows none (Check settings json) named = apart (codes "audit") (codes "check") refl named.0
 only_audit rows none (Run settings stay log log_json any_host) named = apart (codes "audit") (codes "run") refl named.0
@@ -230,7 +230,7 @@ only_audit rows none (Migrate old new) named = apart (codes "audit") (codes "mig
 pub only_gateway : (rows : List Row) → ((file : Bor Text) (listen : Option (Bor Text)) (token : Option (Bor Text)) → Names (codes "gateway") rows (Gateway file listen token) → ⊥)
     → (task : Task) → Names (codes "gateway") rows task → ⊥
 only_gateway rows none (Hear n t questions me) named = apart (codes "gateway") (codes "hear") refl named.0
-only_gateway rows none (NewCluster n t questions cluster folder hosts port desk) named = apart (codes "gateway") (codes "new-cluster") refl named.0
+only_gateway rows none (NewCluster n t questions cluster folder hosts port desk epochs) named = apart (codes "gateway") (codes "new-cluster") refl named.0
 only_gateway rows none (Init settings) named = apart (codes "gateway") (codes "init") refl named.0
 only_gateway rows none (Check settings json) named = apart (codes "gateway") (codes "check") refl named.0
 only_gateway rows none (Run settings stay log log_json any_host) named = apart (codes "gateway") (codes "run") refl named.0
@@ -249,7 +249,7 @@ only_gateway rows none (Migrate old new) named = apart (codes "gateway") (codes 
 pub only_simulate : (rows : List Row) → ((script : Option (Bor Text)) (trace : Option (Bor Text)) (chart : Option (Bor Text)) (page : Option (Bor Text)) (question : Option ℕ) (member : Option ℕ) (from : Option ℕ) (to : Option ℕ) (forever : Bool) (seed : Option ℕ) (seconds : Option ℕ) → Names (codes "simulate") rows (Simulate script trace chart page question member from to forever seed seconds) → ⊥)
     → (task : Task) → Names (codes "simulate") rows task → ⊥
 only_simulate rows none (Hear n t questions me) named = apart (codes "simulate") (codes "hear") refl named.0
-only_simulate rows none (NewCluster n t questions cluster folder hosts port desk) named = apart (codes "simulate") (codes "new-cluster") refl named.0
+only_simulate rows none (NewCluster n t questions cluster folder hosts port desk epochs) named = apart (codes "simulate") (codes "new-cluster") refl named.0
 only_simulate rows none (Init settings) named = apart (codes "simulate") (codes "init") refl named.0
 only_simulate rows none (Check settings json) named = apart (codes "simulate") (codes "check") refl named.0
 only_simulate rows none (Run settings stay log log_json any_host) named = apart (codes "simulate") (codes "run") refl named.0
@@ -268,7 +268,7 @@ only_simulate rows none (Migrate old new) named = apart (codes "simulate") (code
 pub only_rounds : (rows : List Row) → ((n : ℕ) (t : ℕ) (liars : Option ℕ) (order : Option (Bor Text)) (seeds : Option ℕ) (chart : Option (Bor Text)) → Names (codes "rounds") rows (Rounds n t liars order seeds chart) → ⊥)
     → (task : Task) → Names (codes "rounds") rows task → ⊥
 only_rounds rows none (Hear n t questions me) named = apart (codes "rounds") (codes "hear") refl named.0
-only_rounds rows none (NewCluster n t questions cluster folder hosts port desk) named = apart (codes "rounds") (codes "new-cluster") refl named.0
+only_rounds rows none (NewCluster n t questions cluster folder hosts port desk epochs) named = apart (codes "rounds") (codes "new-cluster") refl named.0
 only_rounds rows none (Init settings) named = apart (codes "rounds") (codes "init") refl named.0
 only_rounds rows none (Check settings json) named = apart (codes "rounds") (codes "check") refl named.0
 only_rounds rows none (Run settings stay log log_json any_host) named = apart (codes "rounds") (codes "run") refl named.0
@@ -287,7 +287,7 @@ only_rounds rows none (Migrate old new) named = apart (codes "rounds") (codes "m
 pub only_dump : (rows : List Row) → ((journal : Bor Text) (count : Bool) (json : Bool) → Names (codes "dump") rows (Dump journal count json) → ⊥)
     → (task : Task) → Names (codes "dump") rows task → ⊥
 only_dump rows none (Hear n t questions me) named = apart (codes "dump") (codes "hear") refl named.0
-only_dump rows none (NewCluster n t questions cluster folder hosts port desk) named = apart (codes "dump") (codes "new-cluster") refl named.0
+only_dump rows none (NewCluster n t questions cluster folder hosts port desk epochs) named = apart (codes "dump") (codes "new-cluster") refl named.0
 only_dump rows none (Init settings) named = apart (codes "dump") (codes "init") refl named.0
 only_dump rows none (Check settings json) named = apart (codes "dump") (codes "check") refl named.0
 only_dump rows none (Run settings stay log log_json any_host) named = apart (codes "dump") (codes "run") refl named.0
@@ -306,7 +306,7 @@ only_dump rows none (Migrate old new) named = apart (codes "dump") (codes "migra
 pub only_migrate : (rows : List Row) → ((old : Bor Text) (new : Bor Text) → Names (codes "migrate") rows (Migrate old new) → ⊥)
     → (task : Task) → Names (codes "migrate") rows task → ⊥
 only_migrate rows none (Hear n t questions me) named = apart (codes "migrate") (codes "hear") refl named.0
-only_migrate rows none (NewCluster n t questions cluster folder hosts port desk) named = apart (codes "migrate") (codes "new-cluster") refl named.0
+only_migrate rows none (NewCluster n t questions cluster folder hosts port desk epochs) named = apart (codes "migrate") (codes "new-cluster") refl named.0
 only_migrate rows none (Init settings) named = apart (codes "migrate") (codes "init") refl named.0
 only_migrate rows none (Check settings json) named = apart (codes "migrate") (codes "check") refl named.0
 only_migrate rows none (Run settings stay log log_json any_host) named = apart (codes "migrate") (codes "run") refl named.0

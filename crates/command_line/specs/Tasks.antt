@@ -39,11 +39,12 @@ abbrev pub Names : Text → List Row → Task → Type 0
 Names name rows (Hear n t questions me) = (name ≡ codes "hear") × HasNumberOption 16 (codes "n") rows n
     × HasNumberOption 16 (codes "t") rows t × HasNumberOption 16 (codes "questions") rows questions
     × HasNumberOption 8 (codes "me") rows me
-Names name rows (NewCluster n t questions cluster folder hosts port desk) = (name ≡ codes "new-cluster")
+Names name rows (NewCluster n t questions cluster folder hosts port desk epochs) = (name ≡ codes "new-cluster")
     × HasNumberOption 16 (codes "n") rows n × HasNumberOption 16 (codes "t") rows t
     × HasNumberOption 16 (codes "questions") rows questions × HasNumberOption 32 (codes "cluster") rows cluster
     × HasText (codes "folder") rows folder.now × MayHaveText (codes "hosts") rows (option_map (λ text. text.now) hosts)
     × MayHaveNumber 16 (codes "port") rows port × MayHaveText (codes "desk") rows (option_map (λ text. text.now) desk)
+    × HasFlag (codes "epochs") rows epochs
 Names name rows (Init settings) = (name ≡ codes "init") × HasText (codes "settings") rows settings.now
 Names name rows (Check settings json) = (name ≡ codes "check") × HasText (codes "settings") rows settings.now
     × HasFlag (codes "json") rows json

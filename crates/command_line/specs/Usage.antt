@@ -93,7 +93,7 @@ timeout_rule = option_rule (codes "timeout")
 abbrev pub new_cluster_app : App
 new_cluster_app = taking (codes "new-cluster")
     (size_rules ++ as_u32 (number_rule (codes "cluster")) ∷ word_rule (codes "folder") ∷ last_rule (codes "hosts")
-    ∷ as_u16 (option_rule (codes "port")) ∷ option_rule (codes "desk") ∷ [])
+    ∷ as_u16 (option_rule (codes "port")) ∷ option_rule (codes "desk") ∷ flag_rule (codes "epochs") ∷ [])
 
 -- `bracha init SETTINGS`
 abbrev pub init_app : App

@@ -45,7 +45,8 @@ pub enum Task<'a> {
     },
     /// Writes the settings of each member of a new cluster, and a client's, into files of this
     /// folder. Its members listen to one another at these hosts, with commas between them, at the
-    /// ports from this one on; and to their clients at that host.
+    /// ports from this one on; and to their clients at that host. With `epochs` they run a
+    /// chain.
     NewCluster {
         n: u16,
         t: u16,
@@ -55,6 +56,7 @@ pub enum Task<'a> {
         hosts: Option<&'a str>,
         port: Option<u16>,
         desk: Option<&'a str>,
+        epochs: bool,
     },
     /// Proposes a bit on a question to the member whose desk is at this address; or to all members
     /// of the cluster of the client's settings in this file. Each is waited for as long as this
@@ -379,7 +381,9 @@ fn new_cluster<'a>(alloc: Global) -> Built<'a>
     let command = with_arg(command, folder);
     let command = with_arg(command, hosts);
     let command = with_arg(command, of_u16(port));
-    with_arg(command, desk)
+    let command = with_arg(command, desk);
+    let epochs = "Questions without end: each member runs a chain of clusters, numbered from C on";
+    with_arg(command, flag(alloc, "epochs", epochs))
 }
 
 fn init<'a>(alloc: Global) -> Built<'a>
@@ -807,6 +811,7 @@ fn new_cluster_of<'a>(options: &ArgMatches<'a>) -> Option<Task<'a>>
     let hosts = text_of(options, "hosts");
     let port = u16_of(options, "port");
     let desk = text_of(options, "desk");
+    let epochs = flag_of(options, "epochs");
     Some(Task::NewCluster {
         n,
         t,
@@ -816,6 +821,7 @@ fn new_cluster_of<'a>(options: &ArgMatches<'a>) -> Option<Task<'a>>
         hosts,
         port,
         desk,
+        epochs,
     })
 }
 

@@ -9,7 +9,7 @@ use Rattle.toml.specs.View.{view, items_view}
 use Rattle.toml.specs.declared.value.Value.{Value}
 use Rattle.settings.specs.declared.address.Address.{Address}
 use Rattle.settings.specs.declared.keys.Key.{Key}
-use Rattle.settings.specs.declared.keys.Key.TheVariants.{Cluster, N, T, Questions, Me, Journal, Peers, Desk, Seed, Listen, DeskSocket, Desks}
+use Rattle.settings.specs.declared.keys.Key.TheVariants.{Cluster, N, T, Questions, Me, Journal, Peers, Desk, Seed, Listen, DeskSocket, Epochs, Desks}
 use Rattle.commands.specs.TextLines.{IsFirstLine, SaysKey, lines_in}
 use Rattle.settings.specs.Keys.{key_text}
 use Rattle.settings.specs.Settings.{HasSmall, HasValue, IsAddressText}
@@ -27,6 +27,7 @@ asked_text Desk = codes "localhost or four numbers with points between them, a c
 asked_text Seed = codes "a text of 64 hexadecimal digits"
 asked_text Listen = codes "localhost or four numbers with points between them, a colon and a port from 1 to 65535: no host names, no IPv6"
 asked_text DeskSocket = codes "a path"
+asked_text Epochs = codes "a path"
 asked_text Desks = codes "an array of n texts HOST:PORT"
 
 -- the key, and what its value has to be
@@ -131,6 +132,7 @@ IsValueWords Journal ms words = words ≡ asked_words Journal
 IsValueWords Desk ms words = words ≡ asked_words Desk
 IsValueWords Listen ms words = words ≡ asked_words Listen
 IsValueWords DeskSocket ms words = words ≡ asked_words DeskSocket
+IsValueWords Epochs ms words = words ≡ asked_words Epochs
 
 -- what is said of a key in the table of this text
 abbrev pub IsTableWords : Key → List ℕ → Members → List ℕ → Type 0

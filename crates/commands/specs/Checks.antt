@@ -22,7 +22,8 @@ option_line name (Some value) = line (sentence (name ∷ value ∷ []))
 abbrev pub options_lines : Settings → List ℕ
 options_lines settings =
     option_line (codes "listen") (option_map address_text settings.listen)
-    ++ option_line (codes "desk-socket") (option_map string_bytes settings.desk_socket)
+    ++ (option_line (codes "desk-socket") (option_map string_bytes settings.desk_socket)
+    ++ option_line (codes "epochs") (option_map string_bytes settings.epochs))
 
 -- the line of the header, and those of the journal's path, of the peers, in order, of the desk, and of what may be left out
 abbrev pub settings_text : Settings → List ℕ

@@ -75,16 +75,20 @@ abbrev pub check_doors : Address → Option Address → List ℕ
 check_doors desk None = codes "],\"desk\":\"" ++ (address_text desk ++ codes "\"")
 check_doors desk (Some listen) = codes "],\"desk\":\"" ++ (address_text desk ++ (codes "\",\"listen\":\"" ++ (address_text listen ++ codes "\"")))
 
-abbrev pub socket_field : Option (List ℕ) → List ℕ
-socket_field None = []
-socket_field (Some path) = (codes ",\"desk-socket\":\"" ++ escaped path) ++ codes "\""
+abbrev pub path_field : List ℕ → Option (List ℕ) → List ℕ
+path_field name None = []
+path_field name (Some path) = ((codes ",\"" ++ (name ++ codes "\":\"")) ++ escaped path) ++ codes "\""
+
+abbrev pub check_paths : Settings → List ℕ
+check_paths settings =
+    path_field (codes "desk-socket") (option_map string_bytes settings.desk_socket) ++ path_field (codes "epochs") (option_map string_bytes settings.epochs)
 
 abbrev pub check_end : ℕ → List ℕ
 check_end count = codes ",\"records\":" ++ (decimal count ++ codes "}\n")
 
 abbrev pub check_rest : Settings → ℕ → List ℕ
 check_rest settings count =
-    (check_doors settings.desk settings.listen ++ socket_field (option_map string_bytes settings.desk_socket)) ++ check_end count
+    (check_doors settings.desk settings.listen ++ check_paths settings) ++ check_end count
 
 -- the object of settings and of a number of records, in a line
 abbrev pub check_object : Settings → ℕ → List ℕ

@@ -31,7 +31,7 @@ fn asked(key: Key) -> &'static str
         Key::Desk | Key::Listen => {
             "localhost or four numbers with points between them, a colon and a port from 1 to 65535: no host names, no IPv6"
         }
-        Key::DeskSocket => "a path",
+        Key::DeskSocket | Key::Epochs => "a path",
         Key::Seed => "a text of 64 hexadecimal digits",
     }
 }

@@ -60,13 +60,24 @@ fn socket_line(alloc: Global, socket: &Option<String>) -> Result<String, AllocEr
     }
 }
 
+/// The line of the folder of a chain's journals, if there is one.
+fn epochs_line(alloc: Global, epochs: &Option<String>) -> Result<String, AllocError>
+    ensures { IfOk result (λ text. string_bytes text ≡ option_line (codes "epochs") (option_map string_bytes epochs.now)) }
+{
+    match epochs {
+        Some(folder) => format!(in alloc; "epochs {folder}\n"),
+        None => Ok(String::new(alloc)),
+    }
+}
+
 /// The lines of the keys that may be left out.
 fn options_lines(alloc: Global, settings: &Settings) -> Result<String, AllocError>
     ensures { IfOk result (λ text. string_bytes text ≡ options_lines settings.now) }
 {
     let listen = listen_line(alloc, &settings.listen)?;
     let socket = socket_line(alloc, &settings.desk_socket)?;
-    format!(in alloc; "{listen}{socket}")
+    let epochs = epochs_line(alloc, &settings.epochs)?;
+    format!(in alloc; "{listen}{socket}{epochs}")
 }
 
 /// Returns what the settings say, but for the seed.

@@ -2,7 +2,7 @@
 
 ghost use Rattle.std.specs.Prelude.{ℕ, List, ◌≡◌, ◌<◌, ◌++◌, IfOk, drop, length, option_map, string_bytes};
 ghost use Rattle.std.specs.List.{flat_map};
-ghost use Rattle.commands.specs.Objects.{check_doors, check_end, check_front, check_object, check_rest, count_object, escaped, escaped_byte, header_fields, header_object, hex_digit, listed, peer_item, place_fields, record_object, socket_field, statement_object};
+ghost use Rattle.commands.specs.Objects.{check_doors, check_end, check_front, check_object, check_paths, check_rest, count_object, escaped, escaped_byte, header_fields, header_object, hex_digit, listed, path_field, peer_item, place_fields, record_object, statement_object};
 ghost use Rattle.report.specs.Records.{value_word};
 
 use report::kind_word;
@@ -206,18 +206,29 @@ fn check_doors(
     }
 }
 
-/// The field of the path of a Unix socket, if there is one.
-fn socket_field(alloc: Global, socket: &Option<String>) -> Result<Vec<u8>, AllocError>
-    ensures { IfOk result (λ bytes. bytes.items ≡ socket_field (option_map string_bytes socket.now)) }
+/// The field of the path of that name, if there is one.
+fn path_field(alloc: Global, name: &str, path: &Option<String>) -> Result<Vec<u8>, AllocError>
+    ensures { IfOk result (λ bytes. bytes.items ≡ path_field name.now (option_map string_bytes path.now)) }
 {
     let mut bytes = Vec::new(alloc);
-    let Some(path) = socket else {
+    let Some(path) = path else {
         return Ok(bytes);
     };
     let path = escaped(alloc, path.as_bytes())?;
-    bytes.extend_from_slice(b",\"desk-socket\":\"")?;
+    let front = format!(in alloc; ",\"{name}\":\"")?;
+    bytes.extend_from_slice(front.as_bytes())?;
     bytes.extend_from_slice(&path)?;
     bytes.extend_from_slice(b"\"")?;
+    Ok(bytes)
+}
+
+/// The fields of the paths that may be left out.
+fn check_paths(alloc: Global, settings: &Settings) -> Result<Vec<u8>, AllocError>
+    ensures { IfOk result (λ bytes. bytes.items ≡ check_paths settings.now) }
+{
+    let mut bytes = path_field(alloc, "desk-socket", &settings.desk_socket)?;
+    let epochs = path_field(alloc, "epochs", &settings.epochs)?;
+    bytes.extend_from_slice(&epochs)?;
     Ok(bytes)
 }
 
@@ -233,11 +244,11 @@ fn check_rest(alloc: Global, settings: &Settings, count: usize) -> Result<Vec<u8
     ensures { IfOk result (λ bytes. bytes.items ≡ check_rest settings.now count) }
 {
     let doors = check_doors(alloc, &settings.desk, &settings.listen)?;
-    let socket = socket_field(alloc, &settings.desk_socket)?;
+    let paths = check_paths(alloc, settings)?;
     let end = check_end(alloc, count)?;
     let mut bytes = Vec::new(alloc);
     bytes.extend_from_slice(doors.as_bytes())?;
-    bytes.extend_from_slice(&socket)?;
+    bytes.extend_from_slice(&paths)?;
     bytes.extend_from_slice(end.as_bytes())?;
     Ok(bytes)
 }

@@ -3,17 +3,22 @@
 ghost use Rattle.links.specs.Net.{told_net, is_closed_net};
 
 use crate::doors::Listener;
+use crate::epoch::InChain;
 use crate::followers::hand_on;
 use crate::life::Life;
 use crate::machine::Machine;
 use crate::refusals::Refusal;
 use crate::shared::{Chair, Shared};
-use crate::sockets::client_stream;
+use crate::slot_follow::follow;
+use crate::slot_stream::{Away, SlotStream};
+use crate::sockets::{client_stream, host_of, limit_client};
 use desk::{Desk, DeskEnd, serve};
 use disk::Disk;
+use epochs::{Arrival, Said};
 use links::{NetStream, Stream, StreamFault};
 use member::Sealed;
 use node::Board;
+use std::net::{IpAddr, Ipv4Addr};
 use std::sync::Wait;
 use std::thread;
 
@@ -70,24 +75,14 @@ impl<D: Disk, J: Life, R: Wait> Stream for Client<'_, D, J, R> {
     }
 }
 
-/// Answers the client in a chair; none where there is no memory for its pass, or its socket can't
-/// be set up.
-fn serve_chair<D: Disk, J: Life, R: Machine>(
+/// Answers the client in a chair over its stream; none where there is no memory for its pass.
+fn serve_over<D: Disk, J: Life, S: Stream, R: Machine>(
     rt: &R,
     it: &Shared<D, J>,
-    chair: Chair,
+    slot: u8,
+    stream: &mut S,
 ) -> Option<DeskEnd> {
-    let tosser = it.desk_tossers.get(usize::from(chair.slot.slot()))?;
-    let copy = it.sockets.lock(rt).copy(chair.socket)?;
-    let Ok(stream) = client_stream(copy) else {
-        return None;
-    };
-    let mut client = Client {
-        rt,
-        it,
-        stream,
-        slot: chair.slot.slot(),
-    };
+    let tosser = it.desk_tossers.get(usize::from(slot))?;
     let board: &Board = it.hub.board();
     let Ok(mut pass) = board.pass() else {
         return None;
@@ -98,12 +93,104 @@ fn serve_chair<D: Disk, J: Life, R: Machine>(
         hub: &it.hub,
         turns: &it.turns,
     };
-    Some(serve(rt, desk, &mut pass, &mut *tosser, &mut client))
+    Some(serve(rt, desk, &mut pass, &mut *tosser, stream))
+}
+
+/// Answers the client in a chair; none where there is no memory for its pass, or its socket can't
+/// be set up.
+fn serve_chair<D: Disk, J: Life, R: Machine>(
+    rt: &R,
+    it: &Shared<D, J>,
+    chair: Chair,
+) -> Option<DeskEnd> {
+    let copy = it.sockets.lock(rt).copy(chair.socket)?;
+    let Ok(stream) = client_stream(copy) else {
+        return None;
+    };
+    let mut client = Client {
+        rt,
+        it,
+        stream,
+        slot: chair.slot.slot(),
+    };
+    serve_over(rt, it, chair.slot.slot(), &mut client)
+}
+
+/// Answers the client in a chair of a member of a chain, until it ends or leaves for another epoch;
+/// none where its socket can't be set up, or it only ended.
+fn serve_slots<D: Disk, J: Life, R: Machine>(
+    rt: &R,
+    it: &Shared<D, J>,
+    chain: &InChain,
+    chair: &Chair,
+) -> Option<(Away, Said)> {
+    let copy = it.sockets.lock(rt).copy(chair.socket)?;
+    if limit_client(&copy, 1).is_err() {
+        return None;
+    }
+    let slot = chair.slot.slot();
+    let mut client = SlotStream::new(rt, it, chain, slot, copy, chair.said);
+    let _end = serve_over(rt, it, slot, &mut client);
+    client.leaves()
+}
+
+/// A session of the client in a chair of a member of a chain.
+fn answer_slots<D: Disk, J: Life, R: Machine>(
+    rt: &R,
+    it: &Shared<D, J>,
+    chain: &InChain,
+    chair: Chair,
+) {
+    match serve_slots(rt, it, chain, &chair) {
+        Some((Away::To(epoch), said)) => hand_over(rt, it, chain, chair, Some(epoch), said),
+        Some((Away::ToNewest, said)) => hand_over(rt, it, chain, chair, None, said),
+        Some((Away::Follows(number), _)) => match follow_in(rt, it, chain, &chair, number) {
+            Some((epoch, said)) => hand_over(rt, it, chain, chair, epoch, said),
+            None => it.leave_chair(rt, chair),
+        },
+        None => it.leave_chair(rt, chair),
+    }
+}
+
+/// Tells the client in a chair decisions from that number on, and returns the line by which it goes
+/// on in another epoch.
+fn follow_in<D: Disk, J: Life, R: Machine>(
+    rt: &R,
+    it: &Shared<D, J>,
+    chain: &InChain,
+    chair: &Chair,
+    number: u64,
+) -> Option<(Option<u64>, Said)> {
+    let mut socket = it.sockets.lock(rt).copy(chair.socket)?;
+    follow(rt, it, chain, &mut socket, number)
+}
+
+/// Hands the client in a chair to another epoch, or to the newest.
+fn hand_over<D: Disk, J: Life, R: Machine>(
+    rt: &R,
+    it: &Shared<D, J>,
+    chain: &InChain,
+    chair: Chair,
+    epoch: Option<u64>,
+    said: Said,
+) {
+    let taken = it.sockets.lock(rt).take(chair.socket);
+    it.leave_slot(rt, chair.slot.slot());
+    if let Some(socket) = taken {
+        let host = host_of(&socket).unwrap_or(IpAddr::V4(Ipv4Addr::new(127, 0, 0, 1)));
+        chain
+            .board
+            .hand_client(rt, epoch, Arrival { socket, host, said });
+    }
 }
 
 /// A session of the client in a chair. One that asks to follow decisions leaves the chair, and its
 /// session goes on elsewhere.
 pub(crate) fn answer_client<D: Disk, J: Life, R: Machine>(rt: &R, it: &Shared<D, J>, chair: Chair) {
+    if let Some(chain) = &it.chain {
+        answer_slots(rt, it, chain, chair);
+        return;
+    }
     match serve_chair(rt, it, chair) {
         Some(DeskEnd::Follows(number)) => hand_on(rt, it, chair, number),
         _ => it.leave_chair(rt, chair),
@@ -119,7 +206,7 @@ pub(crate) fn accept_clients<D: Disk + Send, J: Life + Send + Sync, R: Machine>(
 ) {
     thread::scope(thread::scope_env(), rt, |scope| {
         for _ in 0..u64::MAX {
-            let admit = |socket, _| it.admit_client(rt, socket);
+            let admit = |arrival| it.admit_client(rt, arrival);
             let Some(chair) = it.next(rt, listener, admit) else {
                 break;
             };

@@ -127,7 +127,7 @@ impl FollowerSocket {
 }
 
 /// Returns `true` if a call that failed so may be made again.
-fn is_passing(kind: ErrorKind) -> bool {
+pub(crate) fn is_passing(kind: ErrorKind) -> bool {
     matches!(kind, ErrorKind::WouldBlock | ErrorKind::Interrupted)
 }
 

@@ -43,16 +43,22 @@ const PATIENCE: u64 = 10;
 /// The seconds that a link that was dialled waits for its Welcome.
 const WELCOME_PATIENCE: u64 = 4;
 
-/// A stream over the socket of that number.
+/// A stream over the socket of that number, whose reads give first what was read of it before.
 fn stream_at<D: Disk, J: Life, R: Machine>(
     rt: &R,
     it: &Shared<D, J>,
     socket: usize,
+    said: Option<[u8; 18]>,
 ) -> Option<NetStream>
     ensures { IfSome result (λ stream. told_net stream ≡ nothing) }
 {
     let copy = it.sockets.lock(rt).copy(socket)?;
-    match NetStream::with_limit(copy, Duration::from_secs(PATIENCE)) {
+    let limit = Duration::from_secs(PATIENCE);
+    let stream = match said {
+        Some(said) => NetStream::behind(copy, said, limit),
+        None => NetStream::with_limit(copy, limit),
+    };
+    match stream {
         Ok(stream) => Some(stream),
         Err(_) => None,
     }
@@ -98,7 +104,7 @@ fn write_at<D: Disk, J: Life, R: Machine>(
     socket: usize,
     version: Version,
 ) -> Option<Reception> {
-    let stream = stream_at(rt, it, socket)?;
+    let stream = stream_at(rt, it, socket, None)?;
     let limit = Duration::from_secs(WELCOME_PATIENCE);
     it.sockets.lock(rt).limit_reads(socket, limit);
     Some(write_told(rt, it, peer, stream, version))
@@ -142,8 +148,10 @@ pub(crate) fn dial_on<D: Disk, J: Life, R: Machine>(
             return;
         }
         let second = it.second(rt);
-        if let Some(reception) = dial_once(rt, it, peer, address, choice.version, second) {
-            choice = choice.after(reception);
+        if it.is_to_dial(peer) {
+            if let Some(reception) = dial_once(rt, it, peer, address, choice.version, second) {
+                choice = choice.after(reception);
+            }
         }
         it.wait_to_dial(rt, peer, second);
     }
@@ -228,12 +236,12 @@ fn read_seated<D: Disk, J: Life, R: Machine>(
     tosser: &mut LifeTosser<J>,
 ) {
     let peer = seated.peer();
-    it.hub.set_incoming(rt, peer, true);
+    it.note_link(rt, peer, true);
     it.log_of_peer(rt, peer, LogEvent::LinkUp(peer, version));
     it.renew_link_to(rt, peer);
     it.call_dialler(rt, peer);
     let end = seated.read(rt, it, stream, version, tosser);
-    it.hub.set_incoming(rt, peer, false);
+    it.note_link(rt, peer, false);
     it.log_of_peer(rt, peer, LogEvent::LinkDown(peer, end));
     it.renew_link_to(rt, peer);
 }
@@ -264,7 +272,7 @@ fn read_from<D: Disk, J: Life, R: Machine>(
 
 /// One session of a link from a peer.
 pub(crate) fn serve_guest<D: Disk, J: Life, R: Machine>(rt: &R, it: &Shared<D, J>, guest: Guest) {
-    match stream_at(rt, it, guest.socket) {
+    match stream_at(rt, it, guest.socket, guest.said) {
         Some(stream) => {
             let mut stream = Incoming::new(stream);
             if let Err(end) = read_from(rt, it, guest, &mut stream) {
@@ -288,7 +296,7 @@ pub(crate) fn accept_links<D: Disk + Send, J: Life + Send + Sync, R: Machine>(
 ) {
     thread::scope(thread::scope_env(), rt, |scope| {
         for _ in 0..u64::MAX {
-            let admit = |socket, host| it.admit_peer(rt, socket, host);
+            let admit = |arrival| it.admit_peer(rt, arrival);
             let Some(guest) = it.next(rt, listener, admit) else {
                 break;
             };

@@ -7,6 +7,7 @@ ghost use Rattle.member.specs.Readers.{member_header, member_saved, member_is_st
 use crate::ahead::{Ahead, Welcomes};
 use crate::clients::accept_clients;
 use crate::doors::{Door, Doors, Listener};
+use crate::epoch::InChain;
 use crate::events::LogEvent;
 use crate::fault::RunFault;
 use crate::followers::{Followers, follow_on};
@@ -57,6 +58,9 @@ pub struct Addresses {
     pub followers: u16,
     /// The most seconds that the member listens before it speaks, 0 for not at all.
     pub patience: u64,
+    /// The epoch of the member, if it is one of a chain. Then nothing is listened for here: its
+    /// links and clients come in at the epoch's doors.
+    pub chain: Option<InChain>,
 }
 
 /// An operator, who starts a member and says when it ends.
@@ -94,6 +98,7 @@ struct Opened<D: Disk> {
     clients: u8,
     followers: u16,
     patience: u64,
+    chain: Option<InChain>,
     seed: [u8; 32],
 }
 
@@ -119,6 +124,7 @@ fn share<D: Disk + Drop, J: Life>(opened: Opened<D>) -> Result<Shared<D, J>, Mem
         clients,
         followers,
         patience,
+        chain,
         seed,
     } = opened;
     let tossers = lock_tossers::<D, J>(alloc, seed, &member)?;
@@ -145,6 +151,7 @@ fn share<D: Disk + Drop, J: Life>(opened: Opened<D>) -> Result<Shared<D, J>, Mem
         seconds: Mutex::new(Seconds::new()),
         ticked: Condvar::new(),
         telling: Mutex::new(None),
+        chain,
     })
 }
 
@@ -206,7 +213,7 @@ fn run_local<D: Disk + Send, J: Life + Send + Sync, O: Operator, R: Machine>(
             Err(RunFault::Memory)
         };
         it.close(rt);
-        doors.shut();
+        doors.shut(rt);
         end
     })
 }
@@ -363,7 +370,7 @@ fn door<R: Machine>(rt: &R, address: SocketAddr) -> io::Result<Door> {
 }
 
 /// Binds a listener. The operator is told why there is none.
-fn listen<O: Operator, R: Machine>(
+pub(crate) fn listen<O: Operator, R: Machine>(
     rt: &R,
     address: SocketAddr,
     operator: &mut O,
@@ -380,7 +387,7 @@ fn listen<O: Operator, R: Machine>(
 }
 
 /// The door of clients of this machine, if anything listens for them.
-fn local_door(local: Option<UnixListener>) -> Result<Option<Door>, RunFault> {
+pub(crate) fn local_door(local: Option<UnixListener>) -> Result<Option<Door>, RunFault> {
     let Some(listener) = local else {
         return Ok(None);
     };
@@ -388,6 +395,22 @@ fn local_door(local: Option<UnixListener>) -> Result<Option<Door>, RunFault> {
         Ok(door) => Ok(Some(door)),
         Err(_) => Err(RunFault::Listen),
     }
+}
+
+/// The doors of an epoch.
+fn epoch_doors(chain: &InChain) -> Result<Doors, RunFault> {
+    let epochs::Doors { links, clients } = chain.doors.share()?;
+    let (Ok(links), Ok(desk)) = (
+        Door::new(Listener::Epoch(links)),
+        Door::new(Listener::Epoch(clients)),
+    ) else {
+        return Err(RunFault::Listen);
+    };
+    Ok(Doors {
+        links,
+        desk,
+        local: None,
+    })
 }
 
 /// Runs a member that was just opened, over any disk, until its operator ends it.
@@ -444,15 +467,19 @@ pub fn run_member<D: Disk + Drop + Send, O: Operator, L: Log + Send, R: Machine>
         clients,
         followers,
         patience,
+        chain,
     } = addresses;
     let header = member.header();
     let Some(own) = peers.get(usize::from(header.me())) else {
         return Err(RunFault::Listen);
     };
-    let doors = Doors {
-        links: listen(rt, elsewhere.unwrap_or(*own), operator)?,
-        desk: listen(rt, desk, operator)?,
-        local: local_door(local)?,
+    let doors = match &chain {
+        Some(chain) => epoch_doors(chain)?,
+        None => Doors {
+            links: listen(rt, elsewhere.unwrap_or(*own), operator)?,
+            desk: listen(rt, desk, operator)?,
+            local: local_door(local)?,
+        },
     };
     let board = NewBoard::new(alloc, header.size().questions())?;
     let opened = Opened {
@@ -464,6 +491,7 @@ pub fn run_member<D: Disk + Drop + Send, O: Operator, L: Log + Send, R: Machine>
         clients,
         followers,
         patience,
+        chain,
         seed,
     };
     run_named::<D, Brand, O, L, R>(rt, opened, doors, operator, log)

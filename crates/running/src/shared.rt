@@ -6,6 +6,7 @@ ghost use Rattle.std.specs.Prelude.{◌≡◌, ◌≤◌, ◌*◌, IfSome};
 use crate::ahead::{Ahead, Welcomes};
 use crate::callers::Caller;
 use crate::doors::Listener;
+use crate::epoch::InChain;
 use crate::events::LogEvent;
 use crate::followers::Followers;
 use crate::hosts::{Peers, Sender};
@@ -23,10 +24,11 @@ use crate::tossers::LifeTosser;
 use crate::watch::Telling;
 use desk::Turns;
 use disk::Disk;
+use epochs::{Arrival, Said};
 use links::LinkEnd;
 use node::{Book, Hub};
 use std::alloc::Global;
-use std::net::{IpAddr, TcpStream};
+use std::net::IpAddr;
 use std::sync::atomic::{AtomicBool, Ordering};
 use std::sync::{Condvar, Mutex, Wait};
 use std::thread;
@@ -75,6 +77,8 @@ pub(crate) struct Shared<D: Disk, J: Life> {
     /// The events to be told, if the member has a log. Another thread tells them, so that nobody
     /// waits for the log.
     pub(crate) telling: Mutex<Option<Telling>>,
+    /// The epoch of the member, if it is one of a chain.
+    pub(crate) chain: Option<InChain>,
 }
 
 /// A peer that was let in to greet: the number of its socket, and the host from which it comes.
@@ -82,6 +86,8 @@ pub(crate) struct Shared<D: Disk, J: Life> {
 pub(crate) struct Guest {
     pub(crate) socket: usize,
     pub(crate) host: IpAddr,
+    /// Its Hello, where that was read already.
+    pub(crate) said: Option<[u8; 18]>,
     _entered: Entered,
 }
 
@@ -90,6 +96,23 @@ pub(crate) struct Guest {
 pub(crate) struct Chair {
     pub(crate) slot: Given,
     pub(crate) socket: usize,
+    /// The bytes that were read of it already.
+    pub(crate) said: Said,
+}
+
+/// Returns the Hello that was read already, if one was.
+fn hello_of(said: &Said) -> Option<[u8; 18]> {
+    let bytes = said.bytes();
+    if bytes.len() != 18 {
+        return None;
+    }
+    let mut hello = [0; 18];
+    for (at, byte) in bytes.iter().enumerate() {
+        if at < 18 {
+            hello[at] = *byte;
+        }
+    }
+    Some(hello)
 }
 
 impl<D: Disk, J: Life> Shared<D, J> {
@@ -354,13 +377,14 @@ impl<D: Disk, J: Life> Shared<D, J> {
             self.stop_if_forgotten(rt);
             self.speak_if_due(rt);
             self.try_log_book(rt);
+            self.report(rt);
         }
         unreachable!()
     }
 
     /// Returns what the next connection that is admitted has; none at the end. One that isn't
     /// admitted is closed.
-    pub(crate) fn next<R: Machine, A, F: Fn(TcpStream, IpAddr) -> Option<A>>(
+    pub(crate) fn next<R: Machine, A, F: Fn(Arrival) -> Option<A>>(
         &self,
         rt: &R,
         listener: &Listener,
@@ -372,9 +396,9 @@ impl<D: Disk, J: Life> Shared<D, J> {
             if self.is_closing() {
                 return None;
             }
-            match listener.accept() {
-                Ok((socket, host)) => {
-                    if let Some(admitted) = admit(socket, host) {
+            match listener.accept(rt) {
+                Ok(arrival) => {
+                    if let Some(admitted) = admit(arrival) {
                         return Some(admitted);
                     }
                 }
@@ -430,12 +454,8 @@ impl<D: Disk, J: Life> Shared<D, J> {
     /// Takes in the socket of a peer that is to greet. It is closed where it comes from a host that
     /// may speak for no member, so that strangers take no place, where 64 are to greet already, and
     /// where its host has its share of these: 64 by the number of the members' hosts.
-    pub(crate) fn admit_peer<R: Machine>(
-        &self,
-        rt: &R,
-        socket: TcpStream,
-        host: IpAddr,
-    ) -> Option<Guest> {
+    pub(crate) fn admit_peer<R: Machine>(&self, rt: &R, arrival: Arrival) -> Option<Guest> {
+        let Arrival { socket, host, said } = arrival;
         let Some(first) = self.peers.first_of(host) else {
             self.log_refusal(rt, Refusal::From(host, LinkEnd::Stranger), None);
             return None;
@@ -447,6 +467,7 @@ impl<D: Disk, J: Life> Shared<D, J> {
             Some(socket) => Some(Guest {
                 socket,
                 host,
+                said: hello_of(&said),
                 _entered: entered,
             }),
             None => {
@@ -506,14 +527,15 @@ impl<D: Disk, J: Life> Shared<D, J> {
     /// it waits until one leaves, or one has been silent for more than ten seconds, which is closed
     /// for it then. Who was silent longest goes first, and the new one is answered once that one's
     /// session has ended.
-    pub(crate) fn admit_client<R: Machine>(&self, rt: &R, socket: TcpStream) -> Option<Chair> {
+    pub(crate) fn admit_client<R: Machine>(&self, rt: &R, arrival: Arrival) -> Option<Chair> {
+        let Arrival { socket, said, .. } = arrival;
         let slot = self.await_slot(rt)?;
         if let Some(silent) = slot.displaced() {
             self.displace(rt, slot.slot(), silent);
         }
         let entered = self.sockets.lock(rt).enter_client(socket, slot.slot());
         match entered {
-            Some(socket) => Some(Chair { slot, socket }),
+            Some(socket) => Some(Chair { slot, socket, said }),
             None => {
                 self.leave_slot(rt, slot.slot());
                 None

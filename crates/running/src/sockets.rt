@@ -273,9 +273,15 @@ pub(crate) fn shut(socket: &TcpStream) {
 /// that says nothing for ten minutes, or takes nothing for ten seconds, is given up: the read or
 /// the write fails.
 pub fn client_stream(socket: TcpStream) -> io::Result<NetStream> {
+    limit_client(&socket, 600)?;
+    Ok(NetStream::new(socket))
+}
+
+/// Sets the limits of a client's socket: bytes leave at once, a write fails that takes nothing for
+/// ten seconds, and a read that gives nothing for so many.
+pub(crate) fn limit_client(socket: &TcpStream, seconds: u64) -> io::Result<()> {
     // A Unix socket has no such delay.
     let _at_once = socket.set_nodelay(true).is_ok();
-    socket.set_read_timeout(Some(Duration::from_secs(600)))?;
-    socket.set_write_timeout(Some(Duration::from_secs(10)))?;
-    Ok(NetStream::new(socket))
+    socket.set_read_timeout(Some(Duration::from_secs(seconds)))?;
+    socket.set_write_timeout(Some(Duration::from_secs(10)))
 }

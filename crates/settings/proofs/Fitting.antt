@@ -24,7 +24,7 @@ all_suit ms e says = (
               (e.peers.items, says.peers),
               (
                 (e.desk, says.desk),
-                ((e.seed, says.seed), ((e.listen, says.listen), ((option_map string_bytes e.desk_socket, says.desk_socket), tt))),
+                ((e.seed, says.seed), ((e.listen, says.listen), ((option_map string_bytes e.desk_socket, says.desk_socket), ((option_map string_bytes e.epochs, says.epochs), tt)))),
               ),
             ),
           ),

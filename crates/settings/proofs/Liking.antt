@@ -6,7 +6,7 @@ use Rattle.std.proofs.lemmas.Bool.Decides.{Decides-and, Decides-eqb}
 use Rattle.std.proofs.lemmas.Slice.Eq.{slice_eq-Decides}
 use Rattle.terms_prelude.specs.Terms.{Header, size_fault}
 use Rattle.toml.specs.Data.{Members}
-use Rattle.settings.specs.Words.{Address, Settings, Cluster, N, T, Questions, Me, Journal, Peers, Desk, Seed, Listen, DeskSocket, HasNumber, HasPath, HasAddress, HasAddresses, GivesSettings, IsSettings, MayHaveAddress, MayHavePath}
+use Rattle.settings.specs.Words.{Address, Settings, Cluster, N, T, Questions, Me, Journal, Peers, Desk, Seed, Listen, DeskSocket, Epochs, HasNumber, HasPath, HasAddress, HasAddresses, GivesSettings, IsSettings, MayHaveAddress, MayHavePath}
 use Rattle.settings.specs.Settings.{HasSmall, HasSeed}
 use Rattle.settings.specs.Texts.{IsLike}
 
@@ -41,6 +41,7 @@ gives_like ms read s like g = record {
   seed = subst (λ (seed : List ℕ). HasSeed ms Seed seed) like.seed g.seed;
   listen = subst (λ (listen : Option Address). MayHaveAddress ms Listen listen) like.listen g.listen;
   desk_socket = subst (λ (path : Option (List ℕ)). MayHavePath ms DeskSocket path) like.desk_socket g.desk_socket;
+  epochs = subst (λ (path : Option (List ℕ)). MayHavePath ms Epochs path) like.epochs g.epochs;
 }
 
 -- a document that gives the one gives the other

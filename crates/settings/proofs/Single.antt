@@ -3,7 +3,7 @@ use Rattle.std.proofs.Common.{ℕ, pos, ◌≡◌, refl, sym, ap, ◌∙◌, sub
 use Rattle.std.specs.List.{AllByRecursion}
 use Rattle.toml.specs.Data.{Data, Members, Items, integer, array, item, no_items}
 use Rattle.terms_prelude.specs.Terms.{size_fault, SizeFault}
-use Rattle.settings.specs.Words.{Address, Key, Cluster, N, T, Questions, Me, Journal, Peers, Desk, Seed, Listen, DeskSocket, Desks, Settings, SettingsFault, Entries, SaysEntries, FitsEntries, unfit, IsOfFirst, Suits, AllSuit, HasNumber, AreAddresses, HasAddresses, HasNumbers, IsFirstBad, IsBadSize, IsOfMany, IsMisfit, IsFault, IsFaultOf, GivesSettings, IsSettings, keys}
+use Rattle.settings.specs.Words.{Address, Key, Cluster, N, T, Questions, Me, Journal, Peers, Desk, Seed, Listen, DeskSocket, Epochs, Desks, Settings, SettingsFault, Entries, SaysEntries, FitsEntries, unfit, IsOfFirst, Suits, AllSuit, HasNumber, AreAddresses, HasAddresses, HasNumbers, IsFirstBad, IsBadSize, IsOfMany, IsMisfit, IsFault, IsFaultOf, GivesSettings, IsSettings, keys}
 use Rattle.settings.specs.declared.fault.SettingsFault.TheVariants as fault
 
 -- what holds of all holds of the one in the middle
@@ -82,6 +82,7 @@ misfit_many ms Desk h = absurd h
 misfit_many ms Seed h = absurd h
 misfit_many ms Listen h = absurd h
 misfit_many ms DeskSocket h = absurd h
+misfit_many ms Epochs h = absurd h
 misfit_many ms Desks h = absurd h
 
 -- a member that there is not, and one that there is
@@ -111,6 +112,7 @@ fits ms s g Desk h = h
 fits ms s g Seed h = h
 fits ms s g Listen h = h
 fits ms s g DeskSocket h = h
+fits ms s g Epochs h = h
 fits ms s g Desks h = h
 
 -- two misfits are one
@@ -124,6 +126,7 @@ misfit_same ms Desk b x y = absurd x
 misfit_same ms Seed b x y = absurd x
 misfit_same ms Listen b x y = absurd x
 misfit_same ms DeskSocket b x y = absurd x
+misfit_same ms Epochs b x y = absurd x
 misfit_same ms Desks b x y = absurd x
 misfit_same ms Me b x y = of_me b y
   where
@@ -139,6 +142,7 @@ misfit_same ms Me b x y = of_me b y
     of_me Seed z = absurd z
     of_me Listen z = absurd z
     of_me DeskSocket z = absurd z
+    of_me Epochs z = absurd z
     of_me Desks z = absurd z
 misfit_same ms Peers b x y = of_peers b y
   where
@@ -154,6 +158,7 @@ misfit_same ms Peers b x y = of_peers b y
     of_peers Seed z = absurd z
     of_peers Listen z = absurd z
     of_peers DeskSocket z = absurd z
+    of_peers Epochs z = absurd z
     of_peers Desks z = absurd z
 
 -- so are all of these
@@ -232,7 +237,7 @@ gives_suits ms s g = (
               (s.peers.items, g.peers),
               (
                 (s.desk, g.desk),
-                ((s.seed, g.seed), ((s.listen, g.listen), ((option_map string_bytes s.desk_socket, g.desk_socket), tt))),
+                ((s.seed, g.seed), ((s.listen, g.listen), ((option_map string_bytes s.desk_socket, g.desk_socket), ((option_map string_bytes s.epochs, g.epochs), tt)))),
               ),
             ),
           ),

@@ -30,3 +30,4 @@ pub record IsNewSettings (header : Header) (links desks : List Address) (seed : 
   pub seed_is : s.seed ≡ seed
   pub listen : s.listen ≡ None
   pub desk_socket : s.desk_socket ≡ None
+  pub epochs : s.epochs ≡ None

@@ -4,7 +4,7 @@ use Rattle.terms_prelude.specs.Terms.{new_size, size_fault, new_header, SizeFaul
 use Rattle.settings.specs.declared.document.Settings.{Settings}
 use Rattle.toml.specs.Data.{Members}
 use Rattle.settings.specs.declared.keys.Key.{Key}
-use Rattle.settings.specs.declared.keys.Key.TheVariants.{Cluster, N, T, Questions, Me, Journal, Peers, Desk, Seed, Listen, DeskSocket}
+use Rattle.settings.specs.declared.keys.Key.TheVariants.{Cluster, N, T, Questions, Me, Journal, Peers, Desk, Seed, Listen, DeskSocket, Epochs}
 use Rattle.settings.specs.declared.fault.SettingsFault.{SettingsFault}
 use Rattle.settings.specs.declared.fault.SettingsFault.TheVariants as fault
 use Rattle.settings.specs.declared.entries.Entries.{Entries}
@@ -23,6 +23,7 @@ pub record SaysEntries (ms : Members) (e : Entries) : Type 0 where
   pub seed : HasSeed ms Seed e.seed
   pub listen : MayHaveAddress ms Listen e.listen
   pub desk_socket : MayHavePath ms DeskSocket (option_map string_bytes e.desk_socket)
+  pub epochs : MayHavePath ms Epochs (option_map string_bytes e.epochs)
 
 -- the fault names the key, which has no such value
 abbrev pub IsLack : {A : Type 0} → Key → (A → Type 0) → SettingsFault → Type 0
@@ -60,3 +61,4 @@ pub record FitsEntries (e : Entries) (s : Settings) : Type 0 where
   pub seed : s.seed ≡ e.seed
   pub listen : s.listen ≡ e.listen
   pub desk_socket : s.desk_socket ≡ e.desk_socket
+  pub epochs : s.epochs ≡ e.epochs

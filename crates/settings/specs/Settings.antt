@@ -6,7 +6,7 @@ use Rattle.hex.specs.Hex.{decode_of}
 use Rattle.terms_prelude.specs.Terms.{size_fault, SizeFault}
 use Rattle.settings.specs.declared.address.Address.{Address}
 use Rattle.settings.specs.declared.keys.Key.{Key}
-use Rattle.settings.specs.declared.keys.Key.TheVariants.{Cluster, N, T, Questions, Me, Journal, Peers, Desk, Seed, Listen, DeskSocket, Desks}
+use Rattle.settings.specs.declared.keys.Key.TheVariants.{Cluster, N, T, Questions, Me, Journal, Peers, Desk, Seed, Listen, DeskSocket, Epochs, Desks}
 use Rattle.settings.specs.declared.document.Settings.{Settings}
 use Rattle.settings.specs.declared.fault.SettingsFault.{SettingsFault}
 use Rattle.settings.specs.declared.fault.SettingsFault.TheVariants as fault
@@ -15,7 +15,7 @@ use Rattle.settings.specs.Addresses.{IsAddress}
 
 -- a member's keys in the order in which they are looked at
 abbrev pub keys : List Key
-keys = Cluster ∷ N ∷ T ∷ Questions ∷ Me ∷ Journal ∷ Peers ∷ Desk ∷ Seed ∷ Listen ∷ DeskSocket ∷ []
+keys = Cluster ∷ N ∷ T ∷ Questions ∷ Me ∷ Journal ∷ Peers ∷ Desk ∷ Seed ∷ Listen ∷ DeskSocket ∷ Epochs ∷ []
 
 -- the key has this value
 abbrev pub HasValue : Members → Key → Data → Type 0
@@ -78,6 +78,7 @@ Suits ms Desk = (address : Address) × HasAddress ms Desk address
 Suits ms Seed = (seed : List ℕ) × HasSeed ms Seed seed
 Suits ms Listen = (address : Option Address) × MayHaveAddress ms Listen address
 Suits ms DeskSocket = (path : Option (List ℕ)) × MayHavePath ms DeskSocket path
+Suits ms Epochs = (path : Option (List ℕ)) × MayHavePath ms Epochs path
 Suits ms Desks = (addresses : List Address) × HasAddresses ms Desks addresses
 
 -- all keys of a list have
@@ -123,6 +124,7 @@ IsMisfit ms Desk = ⊥
 IsMisfit ms Seed = ⊥
 IsMisfit ms Listen = ⊥
 IsMisfit ms DeskSocket = ⊥
+IsMisfit ms Epochs = ⊥
 IsMisfit ms Desks = ⊥
 
 -- what is wrong with a text that is this document, or no TOML at all, where these are its keys and so they fit one another. One
@@ -157,6 +159,7 @@ pub record GivesSettings (ms : Members) (s : Settings) : Type 0 where
   pub seed : HasSeed ms Seed s.seed
   pub listen : MayHaveAddress ms Listen s.listen
   pub desk_socket : MayHavePath ms DeskSocket (option_map string_bytes s.desk_socket)
+  pub epochs : MayHavePath ms Epochs (option_map string_bytes s.epochs)
 
 -- the document gives the settings
 abbrev pub IsSettings : Option Members → Settings → Type 0

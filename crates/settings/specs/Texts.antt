@@ -7,7 +7,7 @@ use Rattle.terms_prelude.specs.Terms.{Header, Size}
 use Rattle.settings.specs.Keys.{key_text}
 use Rattle.settings.specs.declared.address.Address.{Address}
 use Rattle.settings.specs.declared.keys.Key.{Key}
-use Rattle.settings.specs.declared.keys.Key.TheVariants.{Cluster, Desk, DeskSocket, Journal, Listen, Me, N, Questions, Seed, T}
+use Rattle.settings.specs.declared.keys.Key.TheVariants.{Cluster, Desk, DeskSocket, Epochs, Journal, Listen, Me, N, Questions, Seed, T}
 use Rattle.settings.specs.declared.document.Settings.{Settings}
 
 -- the number of the host at that place
@@ -48,7 +48,8 @@ head_text h = sized_text h.cluster h.size ++ number_line Me h.me
 -- those of the keys that may be left out
 abbrev pub options_text : Settings → List ℕ
 options_text s =
-    option_line Listen (option_map address_text s.listen) ++ option_line DeskSocket (option_map string_bytes s.desk_socket)
+    option_line Listen (option_map address_text s.listen)
+    ++ (option_line DeskSocket (option_map string_bytes s.desk_socket) ++ option_line Epochs (option_map string_bytes s.epochs))
 
 -- those of the desk and of the seed
 abbrev pub own_text : Settings → List ℕ
@@ -71,3 +72,4 @@ pub record IsLike (read s : Settings) : Type 0 where
   pub seed : read.seed ≡ s.seed
   pub listen : read.listen ≡ s.listen
   pub desk_socket : option_map string_bytes read.desk_socket ≡ option_map string_bytes s.desk_socket
+  pub epochs : option_map string_bytes read.epochs ≡ option_map string_bytes s.epochs

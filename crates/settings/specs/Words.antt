@@ -4,7 +4,7 @@ pub use Rattle.settings.specs.declared.document.Settings.{Settings}
 pub use Rattle.settings.specs.declared.entries.Entries.{Entries}
 pub use Rattle.settings.specs.declared.fault.SettingsFault.{SettingsFault}
 pub use Rattle.settings.specs.declared.keys.Key.{Key}
-pub use Rattle.settings.specs.declared.keys.Key.TheVariants.{Cluster, Desk, DeskSocket, Desks, Journal, Listen, Me, N, Peers, Questions, Seed, T}
+pub use Rattle.settings.specs.declared.keys.Key.TheVariants.{Cluster, Desk, DeskSocket, Epochs, Desks, Journal, Listen, Me, N, Peers, Questions, Seed, T}
 pub use Rattle.settings.specs.declared.client.ClientSettings.{ClientSettings}
 pub use Rattle.settings.specs.declared.client_entries.ClientEntries.{ClientEntries}
 pub use Rattle.settings.specs.Addresses.{AreDotted, IsAddress, IsHost, IsOctet}

@@ -103,5 +103,6 @@ pub fn new_settings(
         seed,
         listen: None,
         desk_socket: None,
+        epochs: None,
     })
 }

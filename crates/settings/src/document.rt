@@ -29,6 +29,9 @@ pub struct Settings {
     pub listen: Option<Address>,
     /// The path of the Unix socket at which the member answers clients too, which isn't empty.
     pub desk_socket: Option<String>,
+    /// The folder of the journals of a chain, which isn't empty. If there is none the member is of
+    /// one cluster alone.
+    pub epochs: Option<String>,
 }
 
 impl Settings {

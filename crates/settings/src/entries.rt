@@ -161,6 +161,7 @@ pub struct Entries {
     seed: [u8; 32],
     listen: Option<Address>,
     desk_socket: Option<String>,
+    epochs: Option<String>,
 }
 
 impl Entries {
@@ -185,6 +186,7 @@ impl Entries {
             seed: seed(table, Key::Seed)?,
             listen: optional_address(table, Key::Listen)?,
             desk_socket: optional_path(alloc, table, Key::DeskSocket)?,
+            epochs: optional_path(alloc, table, Key::Epochs)?,
         })
     }
 
@@ -206,6 +208,7 @@ impl Entries {
             seed: self.seed,
             listen: self.listen,
             desk_socket: self.desk_socket,
+            epochs: self.epochs,
         })
     }
 }

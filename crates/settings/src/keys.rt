@@ -32,6 +32,9 @@ pub enum Key {
     /// The path of a Unix socket at which the member answers clients too, a text that isn't empty.
     /// It may be left out.
     DeskSocket,
+    /// The folder of the journals of a chain, a text that isn't empty. It may be left out: then the
+    /// member is of one cluster alone.
+    Epochs,
     /// The addresses at which the members listen to their clients, in a client's settings: an array
     /// of n texts `HOST:PORT`.
     Desks,
@@ -54,6 +57,7 @@ impl Key {
             Key::Seed => "seed",
             Key::Listen => "listen",
             Key::DeskSocket => "desk-socket",
+            Key::Epochs => "epochs",
             Key::Desks => "desks",
         }
     }

@@ -34,7 +34,8 @@ fn is_known(name: &str) -> bool
         | "desk"
         | "seed"
         | "listen"
-        | "desk-socket" => true,
+        | "desk-socket"
+        | "epochs" => true,
         _ => false,
     }
 }

@@ -4,7 +4,7 @@ ghost use Rattle.std.specs.Prelude.{◌≡◌, IfOk, IsTrue, List, option_map, s
 ghost use Rattle.std.specs.List.{flat_map};
 ghost use Rattle.toml.specs.Parse.{parse_document};
 ghost use Rattle.settings.specs.Settings.{IsSettings};
-ghost use Rattle.settings.specs.declared.keys.Key.TheVariants.{DeskSocket, Listen};
+ghost use Rattle.settings.specs.declared.keys.Key.TheVariants.{Listen};
 ghost use Rattle.settings.specs.Texts.{IsLike, address_text, head_text, number_line, option_line, options_text, own_text, peer_entry, sized_text, text_line, toml_text};
 
 use crate::address::Address;
@@ -88,12 +88,12 @@ fn listen_line(alloc: Global, listen: &Option<Address>) -> Result<String, AllocE
     }
 }
 
-/// The line of the path of a Unix socket, if there is one.
-fn socket_line(alloc: Global, socket: &Option<String>) -> Result<String, AllocError>
-    ensures { IfOk result (λ text. string_bytes text ≡ option_line DeskSocket (option_map string_bytes socket.now)) }
+/// The line of the path at a key, if there is one.
+fn path_line(alloc: Global, key: Key, path: &Option<String>) -> Result<String, AllocError>
+    ensures { IfOk result (λ text. string_bytes text ≡ option_line key (option_map string_bytes path.now)) }
 {
-    match socket {
-        Some(path) => text_line(alloc, Key::DeskSocket, path.as_str()),
+    match path {
+        Some(path) => text_line(alloc, key, path.as_str()),
         None => Ok(String::new(alloc)),
     }
 }
@@ -103,8 +103,9 @@ fn options_text(alloc: Global, settings: &Settings) -> Result<String, AllocError
     ensures { IfOk result (λ text. string_bytes text ≡ options_text settings.now) }
 {
     let listen = listen_line(alloc, &settings.listen)?;
-    let socket = socket_line(alloc, &settings.desk_socket)?;
-    format!(in alloc; "{listen}{socket}")
+    let socket = path_line(alloc, Key::DeskSocket, &settings.desk_socket)?;
+    let epochs = path_line(alloc, Key::Epochs, &settings.epochs)?;
+    format!(in alloc; "{listen}{socket}{epochs}")
 }
 
 /// The lines of the desk and the seed.
@@ -178,9 +179,11 @@ fn is_same_address(read: &Option<Address>, address: &Option<Address>) -> bool
 fn has_same_options(read: &Settings, settings: &Settings) -> bool
     ensures listen { IsTrue result → read.now.listen ≡ settings.now.listen }
     ensures desk_socket { IsTrue result → option_map string_bytes read.now.desk_socket ≡ option_map string_bytes settings.now.desk_socket }
+    ensures epochs { IsTrue result → option_map string_bytes read.now.epochs ≡ option_map string_bytes settings.now.epochs }
 {
     is_same_address(&read.listen, &settings.listen)
         && is_same_path(&read.desk_socket, &settings.desk_socket)
+        && is_same_path(&read.epochs, &settings.epochs)
 }
 
 /// Returns `true` if what was read is what was to be written.

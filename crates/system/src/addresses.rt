@@ -132,5 +132,6 @@ pub(crate) fn addresses_of(
         clients,
         followers,
         patience: PATIENCE,
+        chain: None,
     })
 }

@@ -89,16 +89,8 @@ fn reply_at(
     ensures named { IfErr result (IsNamed text.now) }
 {
     let socket = &desk_at(rt, text, deadline)?;
-    let mut to = Talk {
-        rt,
-        socket,
-        deadline,
-    };
-    let mut from = Talk {
-        rt,
-        socket,
-        deadline,
-    };
+    let mut to = Talk::new(rt, socket, deadline);
+    let mut from = Talk::new(rt, socket, deadline);
     match exchange(rt.alloc(), line, &mut to, &mut from) {
         Ok(reply) => Ok(reply),
         Err(fault) => Err(talk_failure(rt, text, fault)),
@@ -153,16 +145,8 @@ pub fn transcript_at(
     let line = transcript_line(rt.alloc(), question).map_err(|_| Fault::Memory)?;
     let deadline = deadline_of(rt, timeout)?;
     let socket = &desk_at(rt, address, deadline)?;
-    let mut to = Talk {
-        rt,
-        socket,
-        deadline,
-    };
-    let talk = Talk {
-        rt,
-        socket,
-        deadline,
-    };
+    let mut to = Talk::new(rt, socket, deadline);
+    let talk = Talk::new(rt, socket, deadline);
     let mut from = BufReader::new(rt.alloc(), talk).map_err(|_| Fault::Memory)?;
     match fetch_transcript(
         rt.alloc(),

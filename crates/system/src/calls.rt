@@ -9,7 +9,7 @@ ghost use Rattle.std.specs.Io.{ReadsAtMost, WritesAtMost};
 use crate::addresses::socket_address;
 use crate::board::Board;
 use crate::callers::Caller;
-use crate::desks::{CONNECT, Deadline, REST, TALK};
+use crate::desks::{CONNECT, Deadline, MOST_READ, REST, TALK};
 use commands::{Next, exchange, fetch_transcript, next_of, word_of};
 use settings::Address;
 use std::alloc::Global;
@@ -18,9 +18,6 @@ use std::net::TcpStream;
 use std::sync::Arc;
 use std::thread;
 use std::time::Duration;
-
-/// The most bytes that are read over a connection, as many as a file of a transcript may have.
-const MOST_READ: usize = 33_554_432;
 
 /// The way in which a member is spoken to.
 #[derive(Clone, Copy, Debug, PartialEq, Eq)]

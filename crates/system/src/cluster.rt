@@ -7,7 +7,7 @@ ghost use Rattle.std.specs.Prelude.{◌≡◌, IfErr};
 use crate::fault::Fault;
 use crate::trouble::{Failure, Whereabouts};
 use settings::{
-    Address, ClientSettings, Key, SettingsFault, address_text, addresses_from, desk_base,
+    Address, ClientSettings, Key, Settings, SettingsFault, address_text, addresses_from, desk_base,
     new_settings,
 };
 use std::alloc::Global;
@@ -37,6 +37,8 @@ pub struct NewCluster<'a> {
     /// The host of all desks, or `links`: each desk at the host of its member's links; 127.0.0.1
     /// where none is given.
     pub desk: Option<&'a str>,
+    /// Each member runs a chain of epochs, whose journals are in `member-M.epochs`.
+    pub epochs: bool,
 }
 
 /// The addresses at which the members of a new cluster listen, in the order of the members.
@@ -186,10 +188,22 @@ fn text_for(
     let Some(header) = Header::new(wanted.cluster, wanted.size, me) else {
         return Err(Failure::from(Fault::Settings(SettingsFault::Key(Key::Me))));
     };
-    match new_settings(alloc, header, &places.links, &places.desks, seed) {
-        Ok(settings) => Ok(settings.to_text(alloc).map_err(|fault| of_writing(fault))?),
-        Err(fault) => Err(Failure::from(of_writing(fault))),
+    let settings = new_settings(alloc, header, &places.links, &places.desks, seed).map_err(
+        |fault| of_writing(fault),
+    )?;
+    let settings = Settings {
+        epochs: epochs_of(alloc, wanted, me)?,
+        ..settings
+    };
+    Ok(settings.to_text(alloc).map_err(|fault| of_writing(fault))?)
+}
+
+/// The folder of a member's epochs, if the cluster is a chain.
+fn epochs_of(alloc: Global, wanted: &NewCluster<'_>, me: u8) -> Result<Option<String>, Fault> {
+    if !wanted.epochs {
+        return Ok(None);
     }
+    Ok(Some(format!(in alloc; "member-{me}.epochs")?))
 }
 
 /// The text of a client's settings.
@@ -201,7 +215,11 @@ fn client_text(alloc: Global, wanted: &NewCluster<'_>, desks: &[Address]) -> Res
         size: wanted.size,
         desks: copy,
     };
-    client.to_text(alloc).map_err(|fault| of_writing(fault))
+    let text = client.to_text(alloc).map_err(|fault| of_writing(fault))?;
+    if wanted.epochs {
+        return Ok(format!(in alloc; "{text}chain = true\n")?);
+    }
+    Ok(text)
 }
 
 /// The fault of settings that can't be written.
@@ -312,7 +330,7 @@ fn write_one(rt: &HostRuntime, made: &[NewFile], file: &NewFile) -> Result<(), F
 }
 
 /// Makes the folder, if it is missing: one level of it. [`Fault::File`]: it can't be made.
-fn make_folder(rt: &HostRuntime, folder: &str) -> Result<(), Failure>
+pub(crate) fn make_folder(rt: &HostRuntime, folder: &str) -> Result<(), Failure>
     ensures { IfErr result (λ failure. IsMeant ends.File failure.fault) }
 {
     if fs::metadata(rt, folder).is_ok() {

@@ -182,18 +182,44 @@ impl DeskSocket {
     }
 }
 
+/// The most bytes that are read over a connection, as many as a file of a transcript may have.
+pub const MOST_READ: usize = 33_554_432;
+
 /// A talk with a desk that has an end: each read and each write waits for what is left of the time.
 #[derive(Drop)]
 pub struct Talk<'a> {
     pub rt: &'a HostRuntime,
     pub socket: &'a DeskSocket,
     pub deadline: Deadline,
+    /// The number of bytes that may still be read.
+    room: usize,
+}
+
+impl<'a> Talk<'a> {
+    /// The talk over this connection, of which 33,554,432 bytes are read at most.
+    pub fn new(rt: &'a HostRuntime, socket: &'a DeskSocket, deadline: Deadline) -> Talk<'a> {
+        Talk {
+            rt,
+            socket,
+            deadline,
+            room: MOST_READ,
+        }
+    }
 }
 
 impl<'a> Read for Talk<'a> {
     fn read(&mut self, piece: &mut [u8]) -> io::Result<usize> {
         self.socket.read_within(self.deadline.left(self.rt, TALK)?)?;
-        self.socket.read_some(piece)
+        if self.room == 0 {
+            return Err(io::Error::from(io::ErrorKind::InvalidData));
+        }
+        match self.socket.read_some(piece) {
+            Ok(read) => {
+                self.room = self.room.saturating_sub(read);
+                Ok(read)
+            }
+            Err(error) => Err(error),
+        }
     }
 }
 

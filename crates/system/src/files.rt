@@ -10,7 +10,9 @@ ghost use Rattle.system.specs.declared.trouble.Whereabouts.TheVariants as wherea
 ghost use Rattle.system.specs.declared.fault.Fault.TheVariants as ends;
 ghost use Rattle.std.specs.Prelude.{◌≡◌, ◌≢◌, IfErr, IfOk, IfSome, codes, ⊤};
 
+use crate::cluster::make_folder;
 use crate::doors::keep_to_own_doors;
+use crate::epoch_files::first_journal;
 use crate::fault::Fault;
 use crate::forgotten::refuse_forgotten;
 use crate::page_files::{
@@ -233,7 +235,11 @@ fn open_file<P: Premise>(
 /// Makes the journal that the settings in the file name.
 pub fn init_file<P: Premise>(rt: &HostRuntime, path: &str) -> Result<u8, Failure> {
     let settings = read_settings(rt, path)?;
-    let journal = settings.journal.as_str();
+    if let Some(folder) = &settings.epochs {
+        make_folder(rt, folder.as_str())?;
+    }
+    let journal = first_journal(rt.alloc(), &settings).map_err(|_| Fault::Memory)?;
+    let journal = journal.as_str();
     refuse_forgotten(rt, journal, settings.header.me())?;
     let (mut disk, source) = open_good_disk::<P>(rt, journal, Purpose::Make)?;
     match init_disk(&mut disk, &settings) {
@@ -404,7 +410,8 @@ fn print_records<D: Disk>(
 /// can run on it. As an object of JSON it is said once all of it is known.
 pub fn check_file(rt: &HostRuntime, path: &str, json: bool) -> Result<u8, Failure> {
     let settings = read_settings(rt, path)?;
-    let journal = settings.journal.as_str();
+    let journal = first_journal(rt.alloc(), &settings).map_err(|_| Fault::Memory)?;
+    let journal = journal.as_str();
     if !json {
         print_settings(rt.alloc(), &settings, &mut io::writer(rt)).map_err(|fault| Fault::from(
             fault,

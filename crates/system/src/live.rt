@@ -8,13 +8,14 @@ ghost use Rattle.running.specs.declared.fault.RunFault.TheVariants as ends_of_ru
 ghost use Rattle.std.specs.Prelude.{◌≡◌, ◌≢◌, IfErr, IfOk, IfSome, IsSome, None, Err, Ok, string_bytes};
 
 use crate::addresses::{addresses_of, socket_address};
+use crate::chained::{ChainOrder, run_chain};
 use crate::doors::{Door, foreign_words, own_door};
 use crate::fault::Fault;
 use crate::files::{Purpose, Source, failure_for, open_good_disk, read_settings};
 use crate::forgotten::{put_aside, refuse_forgotten};
 use crate::input::{Input, read_aside};
 use crate::limits::{clients_within, followers_within, is_starved, starved_words};
-use crate::local_desk::{leave_socket, with_socket};
+use crate::local_desk::{leave_socket, listen_locally, with_socket};
 use crate::log::{ErrorLog, LogForm};
 use crate::process::{blocks_signals, is_called_off, most_files, warn_of_files};
 use crate::replaced::Watched;
@@ -40,8 +41,8 @@ const GONE: &str = "the file was removed or replaced while the member ran";
 /// does; or, where it stays, once it is stopped. Where signals are blocked it ends once one waits,
 /// and in any case once its journal is gone.
 #[derive(Drop)]
-struct Console<'a> {
-    host: &'a HostRuntime,
+pub(crate) struct Console<'a> {
+    pub(crate) host: &'a HostRuntime,
     settings: &'a Settings,
     /// The input is not looked at: a signal ends the member, or that it is stopped.
     stay: bool,
@@ -54,7 +55,7 @@ struct Console<'a> {
     /// Set once the member is stopped.
     stopped: &'a AtomicBool,
     /// The trouble of an address at which the member can't listen, or of a journal that is gone.
-    trouble: Option<Trouble>,
+    pub(crate) trouble: Option<Trouble>,
 }
 
 impl<'a> Console<'a> {
@@ -113,7 +114,7 @@ impl<'a> Console<'a> {
 
     /// Returns what ends the member in this quarter of a second, if something does: the end of the
     /// input, that it is stopped, or, at the first of four, a signal or a journal that is gone.
-    fn end_at(&mut self, turn: u64) -> Option<Result<(), RunFault>> {
+    pub(crate) fn end_at(&mut self, turn: u64) -> Option<Result<(), RunFault>> {
         if let Some(end) = self.input_end() {
             return Some(end);
         }
@@ -197,7 +198,11 @@ fn trouble_of_stop(alloc: Global, source: &Source<'_>) -> Option<Trouble>
 
 /// Returns what can be told of a member that is stopped: what the console was told, or else why its
 /// journal ended.
-fn told_of_stop(alloc: Global, source: &Source<'_>, told: Option<Trouble>) -> Option<Trouble>
+pub(crate) fn told_of_stop(
+    alloc: Global,
+    source: &Source<'_>,
+    told: Option<Trouble>,
+) -> Option<Trouble>
     ensures told { IsSome told → result ≡ told }
     ensures stopped { told ≡ None → IfSome result (λ trouble. string_bytes trouble.thing ≡ source.now.path.now) }
 {
@@ -303,7 +308,7 @@ fn keep_from_starving(host: &HostRuntime, limit: Option<u64>, needed: u8) -> Res
 /// Opens the member of that header on the disk of its journal. A fault hands the disk back beside
 /// what is told of it: no byte of the file was changed, and a crash left nothing of it but what it
 /// might have left before.
-fn open_member<D: Disk>(
+pub(crate) fn open_member<D: Disk>(
     host: &HostRuntime,
     source: &Source<'_>,
     disk: D,
@@ -323,6 +328,37 @@ fn open_member<D: Disk>(
     }
 }
 
+/// Runs the member of a chain, as `run_file` says.
+fn run_epochs<R: Machine>(
+    rt: &R,
+    host: &HostRuntime,
+    order: ChainOrder<'_>,
+    stay: bool,
+) -> Result<u8, Failure> {
+    if order.any_host {
+        warn_of_strangers(host);
+    }
+    let settings = order.settings;
+    let local = match &settings.desk_socket {
+        Some(path) => Some(listen_locally(host, path.as_str())?),
+        None => None,
+    };
+    let stopped = AtomicBool::new(false);
+    let console = Console {
+        host,
+        settings,
+        stay,
+        blocked: blocks_signals(host),
+        input: input_of(rt, host, stay),
+        journal: Watched::new(host, order.folder),
+        stopped: &stopped,
+        trouble: None,
+    };
+    let ended = run_chain(rt, order, console, local);
+    leave_socket(host, settings);
+    ended
+}
+
 /// Runs the member of these settings, as `run_file` says.
 fn run_settings<'a, R: Machine, P: Premise + Send>(
     rt: &R,
@@ -336,6 +372,17 @@ fn run_settings<'a, R: Machine, P: Premise + Send>(
     let (limit, n) = (most_files(host), size.n());
     keep_from_starving(host, limit, size.wait())?;
     let (clients, followers) = (clients_within(limit, n), followers_within(limit, n));
+    if let Some(folder) = &settings.epochs {
+        let order = ChainOrder {
+            settings,
+            folder: folder.as_str(),
+            form: log,
+            any_host,
+            clients,
+            followers,
+        };
+        return run_epochs(rt, host, order, stay);
+    }
     let addresses = addresses_of(host.alloc(), settings, any_host, clients, followers).map_err(
         |_| Fault::Memory,
     )?;
@@ -371,6 +418,7 @@ fn run_settings<'a, R: Machine, P: Premise + Send>(
         form: log,
         stopped: &stopped,
         first_error: source.shared_error(),
+        epoch: None,
     });
     let run = run_member(
         rt,

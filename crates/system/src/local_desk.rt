@@ -61,7 +61,7 @@ fn unheard<T: std::fmt::Display>(rt: &HostRuntime, path: &str, words: &T) -> Fai
 ///
 /// [`Fault::Run`] with [`RunFault::Listen`]: another process listens there, another file is there,
 /// or the system refuses it.
-fn listen_locally(rt: &HostRuntime, path: &str) -> Result<UnixListener, Failure>
+pub(crate) fn listen_locally(rt: &HostRuntime, path: &str) -> Result<UnixListener, Failure>
     ensures fault { IfErr result (λ failure. failure.fault ≡ ends.Run ends_of_run.Listen) }
     ensures named { IfErr result (IsNamed path.now) }
 {

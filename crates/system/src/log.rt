@@ -1,6 +1,7 @@
 //! The log of a member that runs, on the standard error.
 
-ghost use Rattle.std.specs.Prelude.{ℕ, ◌≡◌, true, false, IfOk, IfSome, option_map, string_bytes};
+ghost use Rattle.std.specs.Fmt.{decimal};
+ghost use Rattle.std.specs.Prelude.{ℕ, ◌≡◌, ◌++◌, None, codes, true, false, IfOk, IfSome, option_map, string_bytes};
 ghost use Rattle.system.specs.Logs.{bare_line, device_text, timed_line};
 ghost use Rattle.system.specs.Moments.{IsMoment};
 ghost use Rattle.system.specs.declared.log.LogForm.TheVariants as form;
@@ -99,6 +100,38 @@ fn now_text<R: Clock>(clock: &R, alloc: Global) -> Option<String>
     }
 }
 
+/// Returns the time, and behind it the epoch of a member of a chain.
+fn with_epoch(alloc: Global, time: &str, epoch: Option<u64>) -> Result<String, AllocError>
+    ensures none { epoch ≡ None → IfOk result (λ text. string_bytes text ≡ time.now) }
+    ensures some { IfSome epoch (λ epoch. IfOk result (λ text. string_bytes text ≡ time.now ++ (codes " epoch " ++ decimal epoch))) }
+{
+    match epoch {
+        Some(epoch) => format!(in alloc; "{time} epoch {epoch}"),
+        None => String::from_str(alloc, time),
+    }
+}
+
+/// Returns the object of an event, with the epoch of a member of a chain as its first field.
+fn object_with_epoch(
+    alloc: Global,
+    object: Vec<u8>,
+    epoch: Option<u64>,
+) -> Result<Vec<u8>, AllocError>
+    ensures { epoch ≡ None → IfOk result (λ bytes. bytes ≡ object) }
+{
+    let Some(epoch) = epoch else {
+        return Ok(object);
+    };
+    let front = format!(in alloc; "{{\"epoch\":{epoch},")?;
+    let mut bytes = Vec::new(alloc);
+    bytes.extend_from_slice(front.as_bytes())?;
+    match object.as_slice() {
+        [_, rest @ ..] => bytes.extend_from_slice(rest)?,
+        [] => {}
+    }
+    Ok(bytes)
+}
+
 /// A log on the standard error: a line for each event, by one write, if lines are wanted. That the
 /// member is stopped is told in any case, with what the system said if a call of its journal's file
 /// failed, and is noted.
@@ -116,6 +149,8 @@ pub struct ErrorLog<'a, R: Clock> {
     pub stopped: &'a AtomicBool,
     /// The place for the system's error at the first call of the journal's file that fails.
     pub first_error: Option<Arc<FirstError>>,
+    /// The epoch of the member, if it is one of a chain.
+    pub epoch: Option<u64>,
 }
 
 impl<R: Clock> ErrorLog<'_, R> {
@@ -135,11 +170,13 @@ impl<R: Clock> ErrorLog<'_, R> {
                 self.errors.write_all(line.as_bytes())
             }
             LogForm::Lines => {
-                let line = timed_line(self.alloc, time.unwrap_or("-"), event, device)?;
+                let time = with_epoch(self.alloc, time.unwrap_or("-"), self.epoch)?;
+                let line = timed_line(self.alloc, time.as_str(), event, device)?;
                 self.errors.write_all(line.as_bytes())
             }
             LogForm::Objects => {
                 let line = event_object(self.alloc, time, event, device)?;
+                let line = object_with_epoch(self.alloc, line, self.epoch)?;
                 self.errors.write_all(line.as_slice())
             }
         }

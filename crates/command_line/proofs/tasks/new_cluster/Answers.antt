@@ -9,4 +9,5 @@ returns c =
     let folder = c.with_arg-command-2.ensures _ _ cluster c.word-folder.ensures refl in
     let hosts = c.with_arg-command-3.ensures _ _ folder c.last_word-hosts.ensures refl in
     let port = c.with_arg-command-4.ensures _ _ hosts (c.of_u16.ensures ∙ ap as_u16 c.option-port.ensures) refl in
-    c.with_arg.ensures _ _ port c.option-desk.ensures refl
+    let desk = c.with_arg-command-5.ensures _ _ port c.option-desk.ensures refl in
+    c.with_arg.ensures _ _ desk c.flag.ensures refl

@@ -1,0 +1,551 @@
+//! The state that the switchboard guards: begin at `State`.
+
+use crate::board::{Doors, Report, Stored};
+use crate::inbox::Arrival;
+use chain::{Ask, Chain, Known};
+use std::alloc::Global;
+use std::mem;
+use std::sync::Wait;
+use terms::Memory;
+
+/// The seconds without progress after which an epoch behind the newest may end.
+const QUIET: u64 = 10;
+
+/// The same of one whose questions are all decided.
+const COMPLETE: u64 = 2;
+
+/// The seconds without progress after which nobody is dialled any more that doesn't dial.
+const RESTING: u64 = 5;
+
+/// The most epochs that begin to run while others do.
+const MOST: usize = 32;
+
+/// The most epochs behind the newest that begin to run while others do and don't rest.
+const BEHIND: usize = 4;
+
+/// The epochs past the newest for which a proposal is taken.
+const AHEAD: u64 = 64;
+
+/// The most epochs for which one peer asks at once.
+const ASKS: usize = 2;
+
+/// The seconds for which an ask stands.
+const ASKING: u64 = 5;
+
+/// The most connections that wait for epochs that don't run yet.
+const PARKED: usize = 128;
+
+/// The decisions of an epoch's questions. Nothing is known if the epoch's journal was put
+/// away.
+#[derive(Drop)]
+pub struct Verdicts {
+    /// A cell for each question: 0 if no decision is known, 1 for the bit 0, 2 for the bit 1, 3 if
+    /// it was proposed here and isn't decided.
+    cells: Vec<u8>,
+    /// The questions that are decided, in the order of the journal.
+    order: Vec<u16>,
+}
+
+impl Verdicts {
+    /// Those of an epoch whose journal was put away.
+    pub fn gone(alloc: Global) -> Verdicts {
+        Verdicts {
+            cells: Vec::new(alloc),
+            order: Vec::new(alloc),
+        }
+    }
+
+    /// Those of an epoch of so many questions, of which none is decided.
+    pub fn none(alloc: Global, questions: u16) -> Result<Verdicts, Memory> {
+        let mut cells = Vec::new(alloc);
+        for _ in 0..questions {
+            cells.push(0u8)?;
+        }
+        Ok(Verdicts {
+            cells,
+            order: Vec::new(alloc),
+        })
+    }
+
+    /// The question was decided for this bit. Of several decisions the first counts.
+    pub fn decide(&mut self, question: u16, bit: bool) -> Result<(), Memory> {
+        if self.of(question).is_some() || usize::from(question) >= self.cells.len() {
+            return Ok(());
+        }
+        self.order.push(question)?;
+        if let Some(cell) = self.cells.get_mut(usize::from(question)) {
+            *cell = if bit { 2 } else { 1 };
+        }
+        Ok(())
+    }
+
+    /// The question was proposed to this member.
+    pub fn propose(&mut self, question: u16) {
+        if let Some(cell) = self.cells.get_mut(usize::from(question)) {
+            if *cell == 0 {
+                *cell = 3;
+            }
+        }
+    }
+
+    /// Returns `true` if a question was proposed to this member and isn't decided.
+    pub fn is_undone(&self) -> bool {
+        self.cells.iter().any(|cell| *cell == 3)
+    }
+
+    /// Returns the decision of the question, if it is known.
+    fn of(&self, question: u16) -> Option<bool> {
+        match self.cells.get(usize::from(question)) {
+            Some(1) => Some(false),
+            Some(2) => Some(true),
+            _ => None,
+        }
+    }
+
+    /// Returns `true` if some are decided, or none is, and some aren't.
+    fn is_partial(&self) -> bool {
+        self.order.len() < self.cells.len()
+    }
+
+    /// Returns the question that was decided at this place of the journal's decisions, and its bit.
+    fn decided_at(&self, place: u16) -> Option<(u16, bool)> {
+        let question = *self.order.get(usize::from(place))?;
+        Some((question, self.of(question)?))
+    }
+}
+
+/// An epoch that runs.
+#[derive(Drop)]
+pub(crate) struct Running {
+    epoch: u64,
+    doors: Doors,
+    is_ready: bool,
+    /// The progress that was reported last, and for how many seconds it has been so.
+    progress: u64,
+    quiet: u64,
+    /// Nothing of it is open here, and nothing happens in it or all its questions are decided.
+    rests: bool,
+}
+
+impl Running {
+    /// An epoch with these doors, which begins to run.
+    pub(crate) fn new(epoch: u64, doors: Doors) -> Running {
+        Running {
+            epoch,
+            doors,
+            is_ready: false,
+            progress: 0,
+            quiet: 0,
+            rests: false,
+        }
+    }
+
+    /// Notes the progress of another second.
+    fn note(&mut self, progress: u64) {
+        if self.progress == progress {
+            self.quiet = self.quiet.saturating_add(1);
+        } else {
+            self.quiet = 0;
+            self.progress = progress;
+        }
+    }
+}
+
+/// A connection that waits for an epoch that doesn't run yet.
+#[derive(Drop)]
+struct Parked {
+    epoch: u64,
+    is_link: bool,
+    arrival: Arrival,
+}
+
+/// The place to which a connection goes.
+pub(crate) enum Place<'a> {
+    /// The epoch runs, and these are its doors.
+    Runs(&'a Doors),
+    /// The epoch is to run, and doesn't yet.
+    IsDue,
+    /// The epoch isn't to run.
+    Nowhere,
+}
+
+/// The state that the switchboard guards.
+#[derive(Drop)]
+pub(crate) struct State {
+    /// The newest epoch with a proposal or a decision of this member; 0 before the first.
+    pub(crate) newest: u64,
+    /// The number of changes so far, for those that wait for one.
+    pub(crate) changes: u64,
+    verdicts: Vec<Verdicts>,
+    running: Vec<Running>,
+    /// The epochs behind the newest that aren't done.
+    undone: Vec<u64>,
+    asks: Vec<Ask>,
+    /// The second in which each of these was heard last.
+    heard: Vec<u64>,
+    second: u64,
+    parked: Vec<Parked>,
+    alloc: Global,
+}
+
+impl State {
+    /// No epoch is known.
+    pub(crate) fn new(alloc: Global) -> State {
+        State {
+            newest: 0,
+            changes: 0,
+            verdicts: Vec::new(alloc),
+            running: Vec::new(alloc),
+            undone: Vec::new(alloc),
+            asks: Vec::new(alloc),
+            heard: Vec::new(alloc),
+            second: 0,
+            parked: Vec::new(alloc),
+            alloc,
+        }
+    }
+
+    /// Something has changed.
+    pub(crate) fn change(&mut self) {
+        self.changes = self.changes.wrapping_add(1);
+    }
+
+    /// Returns how many epochs have a journal, or had one.
+    pub(crate) fn made(&self) -> u64 {
+        self.verdicts.len() as u64
+    }
+
+    /// Adds the next epoch whose journal is there.
+    pub(crate) fn add(&mut self, verdicts: Verdicts) -> Result<(), Memory> {
+        let epoch = self.made();
+        if verdicts.is_undone() || !verdicts.order.is_empty() {
+            self.advance(epoch);
+        }
+        if verdicts.is_partial() {
+            self.call(epoch);
+        }
+        self.verdicts.push(verdicts)?;
+        Ok(())
+    }
+
+    /// The member has a proposal or a decision in this epoch. Those that it left out are to be made
+    /// up for.
+    pub(crate) fn advance(&mut self, epoch: u64) {
+        let made = self.made();
+        for missed in self.newest.saturating_add(1)..epoch.min(made) {
+            self.call(missed);
+        }
+        if epoch > self.newest {
+            self.newest = epoch;
+            self.change();
+        }
+    }
+
+    /// The epoch isn't done: somebody wants something of it.
+    pub(crate) fn call(&mut self, epoch: u64) {
+        if !self.undone.contains(&epoch) {
+            let _unheard = self.undone.push(epoch).is_err();
+            self.change();
+        }
+    }
+
+    /// The epoch is done.
+    fn finish(&mut self, epoch: u64) {
+        if let Some(at) = self.undone.iter().position(|one| *one == epoch) {
+            if at < self.undone.len() {
+                self.undone.remove(at);
+            }
+        }
+    }
+
+    /// A peer asks for an epoch, at most for two at once. It is to ask again within five seconds.
+    pub(crate) fn ask(&mut self, ask: Ask) {
+        let at = self.asks.iter().position(|one| *one == ask);
+        if let Some(heard) = at.and_then(|at| self.heard.get_mut(at)) {
+            *heard = self.second;
+            return;
+        }
+        let asked = self.asks.iter().filter(|one| one.peer == ask.peer).count();
+        if asked < ASKS && self.heard.push(self.second).is_ok() {
+            if self.asks.push(ask).is_err() {
+                let _unheard = self.heard.pop();
+            }
+            self.change();
+        }
+    }
+
+    /// Forgets what is asked at this place.
+    fn forget_at(&mut self, at: usize) {
+        if at < self.asks.len() && at < self.heard.len() {
+            self.asks.remove(at);
+            self.heard.remove(at);
+        }
+    }
+
+    /// Nobody asks for the epoch any more.
+    fn forget_asks(&mut self, epoch: u64) {
+        for _ in 0..self.asks.len() {
+            match self.asks.iter().position(|ask| ask.epoch == epoch) {
+                Some(at) => self.forget_at(at),
+                None => return,
+            }
+        }
+    }
+
+    /// A second has passed: who asked too long ago doesn't ask any more.
+    fn tick(&mut self) {
+        self.second = self.second.saturating_add(1);
+        let oldest = self.second.saturating_sub(ASKING);
+        for _ in 0..self.asks.len() {
+            match self.heard.iter().position(|heard| *heard < oldest) {
+                Some(at) => self.forget_at(at),
+                None => return,
+            }
+        }
+    }
+
+    /// Returns what the member knows of its chain.
+    fn known(&self) -> Known<'_> {
+        Known {
+            newest: self.newest,
+            undone: self.undone.as_slice(),
+            asks: self.asks.as_slice(),
+        }
+    }
+
+    /// Returns the epoch among those that run.
+    fn running_at(&self, epoch: u64) -> Option<&Running> {
+        self.running.iter().find(|one| one.epoch == epoch)
+    }
+
+    /// The same, to be changed.
+    fn running_mut(&mut self, epoch: u64) -> Option<&mut Running> {
+        let at = self.running.iter().position(|one| one.epoch == epoch)?;
+        self.running.get_mut(at)
+    }
+
+    /// Takes the epoch out of those that run.
+    fn take_out(&mut self, epoch: u64) -> Option<Running> {
+        let at = self.running.iter().position(|one| one.epoch == epoch)?;
+        if at >= self.running.len() {
+            return None;
+        }
+        Some(self.running.swap_remove(at))
+    }
+
+    /// Returns `true` if the epoch's journal was put away.
+    fn is_gone(&self, epoch: u64) -> bool {
+        match self.verdicts.get(epoch as usize) {
+            Some(verdicts) => verdicts.cells.is_empty(),
+            None => false,
+        }
+    }
+
+    /// Returns `true` if the epoch is to run, by the rules. One whose journal was put away never
+    /// does.
+    fn is_to_run(&self, chain: &Chain, epoch: u64) -> bool {
+        !self.is_gone(epoch) && chain.is_open(&self.known(), epoch)
+    }
+
+    /// Returns the place to which a connection of the epoch goes.
+    pub(crate) fn place_of(&self, chain: &Chain, epoch: u64) -> Place<'_> {
+        match self.running_at(epoch) {
+            Some(running) => Place::Runs(&running.doors),
+            None if self.is_to_run(chain, epoch) => Place::IsDue,
+            None => Place::Nowhere,
+        }
+    }
+
+    /// Returns how many epochs behind the newest run and don't rest.
+    fn behind(&self) -> usize {
+        self.running
+            .iter()
+            .filter(|one| one.epoch < self.newest && !one.rests)
+            .count()
+    }
+
+    /// Returns `true` if there is room for an epoch behind the newest.
+    fn has_room(&self) -> bool {
+        self.behind() < BEHIND && self.running.len() < MOST
+    }
+
+    /// Returns `true` if this epoch is to run, doesn't, and has room beside those that do.
+    fn is_due(&self, chain: &Chain, epoch: u64) -> bool {
+        self.running_at(epoch).is_none()
+            && self.is_to_run(chain, epoch)
+            && (epoch >= self.newest || self.has_room())
+    }
+
+    /// Returns an epoch that is to run and doesn't: the newest, the one in front of it, or one of
+    /// those for which somebody asks.
+    pub(crate) fn due(&self, chain: &Chain) -> Option<u64> {
+        let front = self.newest.saturating_add(1);
+        if self.is_due(chain, self.newest) {
+            return Some(self.newest);
+        }
+        if self.is_due(chain, front) {
+            return Some(front);
+        }
+        if let Some(epoch) = self.undone.iter().find(|one| self.is_due(chain, **one)) {
+            return Some(*epoch);
+        }
+        match self.asks.iter().find(|ask| self.is_due(chain, ask.epoch)) {
+            Some(ask) => Some(ask.epoch),
+            None => None,
+        }
+    }
+
+    /// The epoch begins to run. Its journal is made, and those of epochs before it that were left
+    /// out, which are to be made up for.
+    pub(crate) fn enter(&mut self, chain: &Chain, running: Running) -> Result<(), Memory> {
+        for made in self.made()..running.epoch.saturating_add(1) {
+            let none = Verdicts::none(self.alloc, chain.size().questions())?;
+            self.verdicts.push(none)?;
+            if made < running.epoch {
+                self.call(made);
+            }
+        }
+        self.running.push(running)?;
+        self.change();
+        Ok(())
+    }
+
+    /// Puts those that waited for the epoch at its doors.
+    pub(crate) fn unpark<R: Wait>(&mut self, rt: &R, alloc: Global, epoch: u64, doors: &Doors) {
+        let parked = mem::replace(&mut self.parked, Vec::new(alloc));
+        for one in parked {
+            if one.epoch != epoch {
+                let _closed = self.parked.push(one).is_err();
+            } else if one.is_link {
+                doors.links.put(rt, one.arrival);
+            } else {
+                doors.clients.put(rt, one.arrival);
+            }
+        }
+    }
+
+    /// Parks a connection until its epoch runs. It is closed if too many wait.
+    pub(crate) fn park(&mut self, epoch: u64, is_link: bool, arrival: Arrival) {
+        if self.parked.len() < PARKED {
+            let _closed = self
+                .parked
+                .push(Parked {
+                    epoch,
+                    is_link,
+                    arrival,
+                })
+                .is_err();
+        }
+        self.change();
+    }
+
+    /// The epoch's member listens.
+    pub(crate) fn note_ready(&mut self, epoch: u64) {
+        if let Some(running) = self.running_mut(epoch) {
+            running.is_ready = true;
+        }
+        self.change();
+    }
+
+    /// Returns `true` if the member of the newest epoch listens.
+    pub(crate) fn is_ready(&self) -> bool {
+        match self.running_at(self.newest) {
+            Some(running) => running.is_ready,
+            None => false,
+        }
+    }
+
+    /// The epoch has ended. Those that wait at its doors wait for it to run again.
+    pub(crate) fn leave<R: Wait>(&mut self, rt: &R, epoch: u64, verdicts: Verdicts) {
+        self.forget_asks(epoch);
+        if let Some(cell) = self.verdicts.get_mut(epoch as usize) {
+            *cell = verdicts;
+        }
+        if let Some(ended) = self.take_out(epoch) {
+            for arrival in ended.doors.clients.close(rt) {
+                self.call(epoch);
+                self.park(epoch, false, arrival);
+            }
+            let _closed = ended.doors.links.close(rt);
+        }
+        self.change();
+    }
+
+    /// Notes how an epoch stands that runs. One without progress for ten seconds is done if nothing
+    /// of it is open here, and nobody asks for it any more. Returns `true` if it rests.
+    pub(crate) fn report(&mut self, epoch: u64, report: Report) -> bool {
+        if epoch == self.newest {
+            self.tick();
+        }
+        let Some(running) = self.running_mut(epoch) else {
+            return false;
+        };
+        running.note(report.progress);
+        let quiet = running.quiet;
+        let is_quiet = quiet >= if report.is_complete { COMPLETE } else { QUIET };
+        if report.is_begun {
+            self.advance(epoch);
+        }
+        if is_quiet {
+            self.forget_asks(epoch);
+        }
+        if report.is_undone || !is_quiet {
+            self.call(epoch);
+        } else {
+            self.finish(epoch);
+        }
+        let rests = !report.is_undone && (report.is_complete || quiet >= RESTING);
+        if let Some(running) = self.running_mut(epoch) {
+            running.rests = rests;
+        }
+        self.change();
+        rests
+    }
+
+    /// Returns `true` if an epoch that runs is to end: the rules say so; or nothing happens in it,
+    /// and another behind the newest waits for its place.
+    pub(crate) fn is_over(&self, chain: &Chain, epoch: u64) -> bool {
+        !chain.is_open(&self.known(), epoch)
+    }
+
+    /// Returns `true` if the epoch runs.
+    pub(crate) fn runs(&self, epoch: u64) -> bool {
+        self.running_at(epoch).is_some()
+    }
+
+    /// Returns `true` if the epoch is behind the newest, and no decision of it is to be waited for:
+    /// it doesn't run, or nothing has happened in it for ten seconds.
+    pub(crate) fn is_passed(&self, epoch: u64) -> bool {
+        if epoch >= self.newest {
+            return false;
+        }
+        match self.running_at(epoch) {
+            Some(running) => running.quiet >= QUIET,
+            None => true,
+        }
+    }
+
+    /// Returns the question that was decided at this place in an epoch that doesn't run, and its
+    /// bit.
+    pub(crate) fn decided_at(&self, epoch: u64, place: u16) -> Option<(u16, bool)> {
+        let verdicts = self.verdicts.get(epoch as usize)?;
+        verdicts.decided_at(place)
+    }
+
+    /// Returns what is known of a question of an epoch that doesn't run; none of one that does.
+    pub(crate) fn stored(&self, epoch: u64, question: u16) -> Option<Stored> {
+        if self.running_at(epoch).is_some() {
+            return None;
+        }
+        match self.verdicts.get(epoch as usize) {
+            Some(_) if self.is_gone(epoch) => Some(Stored::Gone),
+            Some(verdicts) => match verdicts.of(question) {
+                Some(bit) => Some(Stored::Decided(bit)),
+                None => Some(Stored::Open),
+            },
+            None if epoch <= self.newest.saturating_add(1) => Some(Stored::Open),
+            None if epoch <= self.newest.saturating_add(AHEAD) => Some(Stored::Ahead),
+            None => Some(Stored::Far),
+        }
+    }
+}

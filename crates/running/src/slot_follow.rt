@@ -1,0 +1,223 @@
+//! A client of a chain that follows decisions: begin at `follow`, last.
+
+use crate::epoch::InChain;
+use crate::life::Life;
+use crate::machine::Machine;
+use crate::shared::Shared;
+use chain::Slot;
+use disk::Disk;
+use epochs::Said;
+use std::alloc::Global;
+use std::io::Write;
+use std::net::TcpStream;
+use std::sync::Wait;
+use std::thread;
+use std::time::Duration;
+
+/// The seconds after which a follower that was told nothing is told an empty line.
+const SILENCE: u64 = 5;
+
+/// The most epochs of which a follower is told late decisions.
+const LEFT: usize = 16;
+
+/// A follower: the number of the decision that it is told next, and those of epochs that it passed
+/// and in which questions were open.
+#[derive(Drop)]
+struct SlotFollower {
+    next: u64,
+    left: Vec<u64>,
+    /// The second in which it was told something last.
+    told: u64,
+}
+
+/// The end of a turn of a follower.
+enum Turn {
+    /// The follower was told a decision, or passed an epoch.
+    Goes,
+    /// There is none to tell yet.
+    Waits,
+    /// The next one is that of this epoch, which runs.
+    Elsewhere(u64),
+}
+
+/// Writes the line of a decision of a slot; none if it can't be written.
+fn write_decision(alloc: Global, socket: &mut TcpStream, slot: u64, bit: bool) -> Option<()> {
+    let Ok(line) = format!(in alloc; "DECIDED {slot} {}\n", u8::from(bit)) else {
+        return None;
+    };
+    match socket.write_all(line.as_bytes()) {
+        Ok(()) => Some(()),
+        Err(_) => None,
+    }
+}
+
+/// Returns the decision of that number: one of this epoch, or of one that doesn't run.
+fn decision_at<D: Disk, J: Life, R: Machine>(
+    rt: &R,
+    it: &Shared<D, J>,
+    chain: &InChain,
+    number: u64,
+) -> Option<(Slot, bool)> {
+    let Slot {
+        epoch,
+        question: at,
+    } = chain.board.chain().slot_of(number);
+    let (question, bit) = if epoch == chain.epoch {
+        let decision = it.hub.decision(rt, u64::from(at))?;
+        (decision.question, decision.bit)
+    } else if chain.board.runs(rt, epoch) {
+        return None;
+    } else {
+        chain.board.decided_at(rt, epoch, at)?
+    };
+    Some((Slot { epoch, question }, bit))
+}
+
+/// Tells a decision; none if it can't be told.
+fn tell<D: Disk, J: Life>(
+    it: &Shared<D, J>,
+    chain: &InChain,
+    socket: &mut TcpStream,
+    decided: (Slot, bool),
+) -> Option<()> {
+    let (slot, bit) = decided;
+    let number = chain.board.chain().number_of(slot)?;
+    write_decision(it.alloc, socket, number, bit)
+}
+
+impl SlotFollower {
+    /// Passes the epoch of the next number: decisions that come late are told too.
+    fn pass(&mut self, chain: &InChain, epoch: u64) -> Option<Turn> {
+        if self.left.len() >= LEFT {
+            self.left.remove(0);
+        }
+        let _forgotten = self.left.push(self.next).is_err();
+        let first = Slot {
+            epoch: epoch.checked_add(1)?,
+            question: 0,
+        };
+        self.next = chain.board.chain().number_of(first)?;
+        Some(Turn::Goes)
+    }
+
+    /// Tells the next decision, if there is one; none if it can't be told.
+    fn turn<D: Disk, J: Life, R: Machine>(
+        &mut self,
+        rt: &R,
+        it: &Shared<D, J>,
+        chain: &InChain,
+        socket: &mut TcpStream,
+    ) -> Option<Turn> {
+        if let Some(decided) = decision_at(rt, it, chain, self.next) {
+            tell(it, chain, socket, decided)?;
+            self.next = self.next.checked_add(1)?;
+            self.told = it.hub.seconds();
+            return Some(Turn::Goes);
+        }
+        let epoch = chain.board.chain().slot_of(self.next).epoch;
+        if chain.board.is_passed(rt, epoch) {
+            return self.pass(chain, epoch);
+        }
+        let is_elsewhere = epoch != chain.epoch && chain.board.runs(rt, epoch);
+        if is_elsewhere && !chain.board.is_over(rt, epoch) {
+            return Some(Turn::Elsewhere(epoch));
+        }
+        Some(Turn::Waits)
+    }
+
+    /// Tells a decision that came late in an epoch that was passed, if there is one; none if it
+    /// can't be told.
+    fn tell_late<D: Disk, J: Life, R: Machine>(
+        &mut self,
+        rt: &R,
+        it: &Shared<D, J>,
+        chain: &InChain,
+        socket: &mut TcpStream,
+    ) -> Option<()> {
+        for left in self.left.iter_mut() {
+            if let Some(decided) = decision_at(rt, it, chain, *left) {
+                tell(it, chain, socket, decided)?;
+                *left = left.checked_add(1)?;
+                self.told = it.hub.seconds();
+            }
+        }
+        Some(())
+    }
+
+    /// Tells an empty line, if nothing was told for long; none if it can't be told.
+    fn tell_silence<D: Disk, J: Life>(
+        &mut self,
+        it: &Shared<D, J>,
+        socket: &mut TcpStream,
+    ) -> Option<()> {
+        if it.hub.seconds().saturating_sub(self.told) < SILENCE {
+            return Some(());
+        }
+        self.told = it.hub.seconds();
+        match socket.write_all(b"\n") {
+            Ok(()) => Some(()),
+            Err(_) => None,
+        }
+    }
+
+    /// Waits for news of this epoch, or for a moment if the next decision is another's.
+    fn rest<D: Disk, J: Life, R: Machine>(
+        &self,
+        rt: &R,
+        it: &Shared<D, J>,
+        chain: &InChain,
+        decided: u64,
+    ) {
+        if chain.board.chain().slot_of(self.next).epoch == chain.epoch {
+            it.hub.await_news(rt, decided);
+        } else {
+            thread::sleep(rt, Duration::from_millis(100));
+        }
+    }
+
+    /// Returns the line by which it goes on in another epoch.
+    fn line(&self, alloc: Global) -> Option<Said> {
+        let Ok(line) = format!(in alloc; "FOLLOW {}\n", self.next) else {
+            return None;
+        };
+        let mut said = Said::nothing();
+        said.extend(line.as_bytes());
+        Some(said)
+    }
+}
+
+/// Tells a client each decision from that number on: by epochs, and within one in the order of its
+/// journal. Returns the epoch in which it goes on, the newest if none is named, and the line by
+/// which it does; none if its session ends.
+pub(crate) fn follow<D: Disk, J: Life, R: Machine>(
+    rt: &R,
+    it: &Shared<D, J>,
+    chain: &InChain,
+    socket: &mut TcpStream,
+    from: u64,
+) -> Option<(Option<u64>, Said)> {
+    let mut follower = SlotFollower {
+        next: from,
+        left: Vec::new(it.alloc),
+        told: it.hub.seconds(),
+    };
+    for _ in rt.forever() {
+        let decided = it.hub.decided();
+        if it.is_closing() {
+            return None;
+        }
+        match follower.turn(rt, it, chain, socket)? {
+            Turn::Goes => {}
+            Turn::Elsewhere(epoch) => return Some((Some(epoch), follower.line(it.alloc)?)),
+            Turn::Waits => {
+                if chain.board.is_over(rt, chain.epoch) {
+                    return Some((None, follower.line(it.alloc)?));
+                }
+                follower.tell_late(rt, it, chain, socket)?;
+                follower.tell_silence(it, socket)?;
+                follower.rest(rt, it, chain, decided);
+            }
+        }
+    }
+    unreachable!()
+}

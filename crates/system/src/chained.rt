@@ -1,0 +1,531 @@
+//! The command `run` of a member of a chain: begin at `run_chain`, last.
+
+ghost use Rattle.member.specs.Sound.{HasItsFile, IsSound};
+ghost use Rattle.member.specs.Readers.{member_saved, member_is_stopped, MemberStandsFor};
+ghost use Rattle.std.specs.Prelude.{◌≡◌, [], false};
+
+use crate::addresses::{addresses_of, socket_address};
+use crate::apart::own_links;
+use crate::epoch_files::{Span, epoch_path, epochs_in, look_into, make_journal};
+use crate::fault::Fault;
+use crate::files::{Purpose, Source, open_good_disk};
+use crate::forgotten::{put_aside, refuse_forgotten};
+use crate::live::{Console, open_member, told_of_stop};
+use crate::log::{ErrorLog, LogForm};
+use crate::trouble::{Failure, Whereabouts};
+use crate::unsynced::remove_old_mark;
+use chain::{Chain, seed_of};
+use disk::{Disk, Premise};
+use epochs::{Doors, Switchboard, Verdicts};
+use member::Member;
+use running::{Addresses, Fronts, InChain, Machine, Operator, RunFault, run_fronts, run_member};
+use settings::Settings;
+use std::alloc::{AllocError, Global};
+use std::marker::Brand;
+use std::net::{IpAddr, SocketAddr};
+use std::os::unix::net::UnixListener;
+use std::sync::atomic::AtomicBool;
+use std::sync::{Arc, Mutex, Wait};
+use std::time::Duration;
+use std::{io, thread};
+use terms::{Header, Memory};
+
+/// The things that the epochs of a process were given.
+#[derive(Drop)]
+pub(crate) struct Chained<'a> {
+    host: HostRuntime,
+    settings: &'a Settings,
+    folder: &'a str,
+    board: Arc<Switchboard>,
+    form: LogForm,
+    any_host: bool,
+    clients: u8,
+    followers: u16,
+    /// The number of epochs whose journals were made. They are made in order, so that none is left
+    /// out.
+    made: Mutex<u64>,
+    /// The failure of the first epoch that failed, which ends the others.
+    failed: Mutex<Option<Failure>>,
+}
+
+/// An epoch, and its journal.
+#[derive(Clone, Copy, Drop)]
+struct Epoch<'a> {
+    number: u64,
+    path: &'a str,
+    header: Header,
+}
+
+/// The operator of an epoch: it ends once it isn't needed.
+#[derive(Drop)]
+struct EpochOperator<'a, R> {
+    rt: &'a R,
+    board: &'a Switchboard,
+    epoch: u64,
+    seed: &'a [u8; 32],
+    /// Set once the member is stopped, which ends it.
+    stopped: &'a AtomicBool,
+}
+
+impl<R: Machine> Operator for EpochOperator<'_, R> {
+    ghost use Rattle.std.specs.Prelude.{◌≡◌, ◌++◌, codes};
+    ghost use Rattle.std.specs.Int.{to_be_bytes, w64};
+    ghost use Rattle.sha2.specs.Sha256.{sha256};
+
+    // The coins of an epoch are its own.
+    ghost may_toss_from = { λ operator seed.
+        seed ≡ sha256 (codes "epoch" ++ (operator.seed.now ++ to_be_bytes w64 operator.epoch)) };
+
+    fn ready(&mut self) -> Result<(), RunFault> {
+        self.board.note_ready(self.rt, self.epoch);
+        Ok(())
+    }
+
+    fn until_end(&mut self) -> Result<(), RunFault> {
+        self.board.await_end(self.rt, self.epoch, self.stopped);
+        Ok(())
+    }
+}
+
+impl Chained<'_> {
+    /// Returns the header of an epoch's journal.
+    fn header(&self, epoch: u64) -> Result<Header, Failure> {
+        let own = self.settings.header;
+        match self.board.chain().cluster_of(epoch) {
+            Some(cluster) => match Header::new(cluster, own.size(), own.me()) {
+                Some(header) => Ok(header),
+                None => Err(Failure::from(Fault::Memory)),
+            },
+            None => {
+                let words = "the chain has come to its last cluster number";
+                Err(Failure::at(
+                    self.host.alloc(),
+                    Fault::File,
+                    self.folder,
+                    Whereabouts::Whole,
+                    &words,
+                ))
+            }
+        }
+    }
+
+    /// Returns the addresses of an epoch's member, whose links and clients come in at these doors.
+    fn addresses_at(&self, epoch: u64, doors: Doors) -> Result<Addresses, Memory> {
+        let alloc = self.host.alloc();
+        let addresses = addresses_of(
+            alloc,
+            self.settings,
+            self.any_host,
+            self.clients,
+            self.followers,
+        )?;
+        let board = self.board.clone()?;
+        Ok(Addresses {
+            chain: Some(InChain::new(board, epoch, doors)),
+            ..addresses
+        })
+    }
+
+    /// Runs the member of an epoch that was just opened, to its end.
+    fn run_opened<R: Machine, D: Disk + Drop + Send>(
+        &self,
+        rt: &R,
+        epoch: u64,
+        source: &Source<'_>,
+        member: Member<D>,
+        addresses: Addresses,
+    ) -> Result<(), RunFault>
+        requires sound { IsSound D.Disk member }
+        requires fresh { member_is_stopped member ≡ false → MemberStandsFor member (member_saved member) [] }
+        requires begun { HasItsFile D.Disk member }
+    {
+        let alloc = self.host.alloc();
+        let stopped = AtomicBool::new(false);
+        let lines = Mutex::new(ErrorLog {
+            clock: rt,
+            alloc,
+            errors: self.host.stderr(),
+            form: self.form,
+            stopped: &stopped,
+            first_error: source.shared_error(),
+            epoch: Some(epoch),
+        });
+        let mut operator = EpochOperator {
+            rt,
+            board: &self.board,
+            epoch,
+            seed: &self.settings.seed,
+            stopped: &stopped,
+        };
+        let seed = seed_of(&self.settings.seed, epoch);
+        run_member(
+            rt,
+            alloc,
+            member,
+            addresses,
+            seed,
+            &mut operator,
+            Some(&lines),
+        )
+    }
+
+    /// Returns the failure of an epoch whose run ended so.
+    fn failure_of(&self, epoch: &Epoch<'_>, source: &Source<'_>, fault: RunFault) -> Failure {
+        let trouble = match fault {
+            RunFault::Stopped => told_of_stop(self.host.alloc(), source, None),
+            RunFault::Forgotten => put_aside(&self.host, epoch.path, epoch.header.me()),
+            RunFault::Listen | RunFault::Memory | RunFault::Stream => None,
+        };
+        Failure {
+            fault: Fault::Run(fault),
+            trouble,
+        }
+    }
+
+    /// Makes the journals of the epochs up to this one that have none, one after the other.
+    fn make_journals<R: Machine>(&self, rt: &R, last: u64) -> Result<(), Failure> {
+        let mut made = self.made.lock(rt);
+        for epoch in *made..last.saturating_add(1) {
+            let header = self.header(epoch)?;
+            let path = epoch_path(self.host.alloc(), self.folder, epoch).map_err(
+                |_| Fault::Memory,
+            )?;
+            make_journal::<Brand>(&self.host, path.as_str(), &header)?;
+            *made = epoch.saturating_add(1);
+        }
+        Ok(())
+    }
+
+    /// Runs an epoch to its end. Its journal is made, if there is none.
+    fn run_at<R: Machine, P: Premise + Send>(
+        &self,
+        rt: &R,
+        epoch: &Epoch<'_>,
+        doors: Doors,
+    ) -> Result<(), Failure> {
+        let host = &self.host;
+        refuse_forgotten(host, epoch.path, epoch.header.me())?;
+        self.make_journals(rt, epoch.number)?;
+        let (disk, source) = open_good_disk::<P>(host, epoch.path, Purpose::Run)?;
+        remove_old_mark(host, source.path);
+        let member = match open_member(host, &source, disk, &epoch.header) {
+            Ok(member) => member,
+            Err((failure, _)) => return Err(failure),
+        };
+        let addresses = self
+            .addresses_at(epoch.number, doors)
+            .map_err(|_| Fault::Memory)?;
+        match self.run_opened(rt, epoch.number, &source, member, addresses) {
+            Ok(()) => Ok(()),
+            Err(fault) => Err(self.failure_of(epoch, &source, fault)),
+        }
+    }
+
+    /// Runs an epoch to its end, and returns how its questions were decided.
+    fn run_one<R: Machine>(&self, rt: &R, number: u64, doors: Doors) -> Result<Verdicts, Failure> {
+        let header = self.header(number)?;
+        let path = epoch_path(self.host.alloc(), self.folder, number).map_err(|_| Fault::Memory)?;
+        let epoch = Epoch {
+            number,
+            path: path.as_str(),
+            header,
+        };
+        self.run_at::<R, Brand>(rt, &epoch, doors)?;
+        look_into(&self.host, path.as_str(), &header)
+    }
+
+    /// Runs an epoch to its end, in a thread of its own. Where it fails all epochs end.
+    fn run_epoch<R: Machine>(&self, rt: &R, epoch: u64, doors: Doors) {
+        let verdicts = match self.run_one(rt, epoch, doors) {
+            Ok(verdicts) => verdicts,
+            Err(failure) => {
+                self.fail(rt, failure);
+                Verdicts::gone(self.host.alloc())
+            }
+        };
+        self.board.leave(rt, epoch, verdicts);
+    }
+
+    /// Notes the failure of an epoch, which ends the others.
+    fn fail<R: Machine>(&self, rt: &R, failure: Failure) {
+        let mut failed = self.failed.lock(rt);
+        if failed.is_none() {
+            *failed = Some(failure);
+        }
+        drop(failed);
+        self.board.end(rt);
+    }
+
+    /// Returns what the journal of an epoch says.
+    fn verdicts_of(&self, epoch: u64) -> Result<Verdicts, Failure> {
+        let header = self.header(epoch)?;
+        let path = epoch_path(self.host.alloc(), self.folder, epoch).map_err(|_| Fault::Memory)?;
+        look_into(&self.host, path.as_str(), &header)
+    }
+
+    /// Adds the epochs whose journals are there, and those before them, which were put away.
+    fn find_epochs<R: Machine>(&self, rt: &R) -> Result<(), Failure> {
+        let Span { first, last } = epochs_in(&self.host, self.folder)?;
+        for epoch in 0..last.saturating_add(1) {
+            let verdicts = if epoch < first {
+                Verdicts::gone(self.host.alloc())
+            } else {
+                self.verdicts_of(epoch)?
+            };
+            self.board.add(rt, verdicts).map_err(|_| Fault::Memory)?;
+        }
+        *self.made.lock(rt) = last.saturating_add(1);
+        Ok(())
+    }
+}
+
+/// The address at which a process can't listen, and the number of the system's error.
+type Unheard = Mutex<Option<(SocketAddr, i32)>>;
+
+/// The operator of a chain's doors: they are open until all epochs are to end.
+#[derive(Drop)]
+struct FrontOperator<'a, R> {
+    rt: &'a R,
+    board: &'a Switchboard,
+    unheard: &'a Unheard,
+}
+
+impl<R: Machine> Operator for FrontOperator<'_, R> {
+    fn ready(&mut self) -> Result<(), RunFault> {
+        Ok(())
+    }
+
+    fn until_end(&mut self) -> Result<(), RunFault> {
+        self.board.await_all_ends(self.rt);
+        Ok(())
+    }
+
+    fn unheard(&mut self, address: SocketAddr, error: &io::Error) {
+        *self.unheard.lock(self.rt) = Some((address, error.raw_os_error().unwrap_or(0)));
+    }
+}
+
+/// The next step of a chain's operator.
+enum Step {
+    /// Runs this epoch.
+    Run(u64, Doors),
+    /// Looks again.
+    Look,
+    /// Ends so.
+    End(Result<(), RunFault>),
+}
+
+/// Returns what a chain's operator does next; where that is nothing, after a moment.
+fn next_step<R: Machine>(rt: &R, it: &Chained<'_>, console: &mut Console<'_>, turn: u64) -> Step {
+    if it.board.is_ended() {
+        return Step::End(Ok(()));
+    }
+    if let Some(end) = console.end_at(turn) {
+        return Step::End(end);
+    }
+    match it.board.open_next(rt) {
+        Ok(Some((epoch, doors))) => Step::Run(epoch, doors),
+        Ok(None) => {
+            it.board.rest(rt, Duration::from_millis(50));
+            Step::Look
+        }
+        Err(Memory) => Step::End(Err(RunFault::Memory)),
+    }
+}
+
+/// Tells the console that the member is ready, once the newest epoch listens. Returns `true` if it
+/// was told.
+fn tell_ready<R: Machine>(
+    rt: &R,
+    it: &Chained<'_>,
+    console: &mut Console<'_>,
+    is_told: bool,
+) -> Result<bool, RunFault> {
+    if is_told || !it.board.is_ready(rt) {
+        return Ok(is_told);
+    }
+    console.ready()?;
+    Ok(true)
+}
+
+/// Runs the epochs that are needed, until the console ends the chain, or one of them fails.
+fn run_epochs<R: Machine>(
+    rt: &R,
+    it: &Chained<'_>,
+    console: &mut Console<'_>,
+) -> Result<(), RunFault> {
+    thread::scope(thread::scope_env(), rt, |scope| -> Result<(), RunFault> {
+        let mut is_told = false;
+        for turn in 0..u64::MAX {
+            match tell_ready(rt, it, console, is_told) {
+                Ok(told) => is_told = told,
+                Err(fault) => {
+                    it.board.end(rt);
+                    return Err(fault);
+                }
+            }
+            match next_step(rt, it, console, turn) {
+                Step::Run(epoch, doors) => {
+                    if scope.spawn(move || it.run_epoch(rt, epoch, doors)).is_err() {
+                        it.board.end(rt);
+                        return Err(RunFault::Memory);
+                    }
+                }
+                Step::Look => {}
+                Step::End(end) => {
+                    it.board.end(rt);
+                    return end;
+                }
+            }
+        }
+        Ok(())
+    })
+}
+
+/// Takes links and clients in until all epochs are to end. Where it can't, they end.
+fn open_doors<R: Machine>(
+    rt: &R,
+    board: &Switchboard,
+    fronts: Fronts,
+    unheard: &Unheard,
+    closed: &Mutex<Result<(), RunFault>>,
+) {
+    let mut operator = FrontOperator { rt, board, unheard };
+    let end = run_fronts(rt, board, fronts, &mut operator);
+    *closed.lock(rt) = end;
+    board.end(rt);
+}
+
+/// Runs the doors and the epochs to their end.
+fn run_all<R: Machine>(
+    rt: &R,
+    it: &Chained<'_>,
+    fronts: Fronts,
+    unheard: &Unheard,
+    console: &mut Console<'_>,
+) -> Result<(), RunFault> {
+    let closed = Mutex::new(Ok(()));
+    let (doors, board) = (&closed, &it.board);
+    let run = thread::scope(thread::scope_env(), rt, |scope| -> Result<(), RunFault> {
+        let opens = move || open_doors(rt, board, fronts, unheard, doors);
+        if scope.spawn(opens).is_err() {
+            return Err(RunFault::Memory);
+        }
+        run_epochs(rt, it, console)
+    });
+    let doors = *closed.lock(rt);
+    match doors {
+        Ok(()) => run,
+        Err(fault) => Err(fault),
+    }
+}
+
+/// The hosts of the members; none if links are taken from any host.
+fn hosts_of(
+    alloc: Global,
+    settings: &Settings,
+    any_host: bool,
+) -> Result<Option<Vec<IpAddr>>, AllocError> {
+    if any_host {
+        return Ok(None);
+    }
+    let mut hosts = Vec::new(alloc);
+    for peer in &settings.peers {
+        hosts.push(IpAddr::from(peer.octets))?;
+    }
+    Ok(Some(hosts))
+}
+
+/// The order for a chain's run.
+#[derive(Clone, Copy, Drop)]
+pub(crate) struct ChainOrder<'a> {
+    pub(crate) settings: &'a Settings,
+    pub(crate) folder: &'a str,
+    pub(crate) form: LogForm,
+    pub(crate) any_host: bool,
+    pub(crate) clients: u8,
+    pub(crate) followers: u16,
+}
+
+/// Returns where the process of a chain listens.
+fn fronts_of(
+    alloc: Global,
+    order: &ChainOrder<'_>,
+    local: Option<UnixListener>,
+) -> Result<Fronts, Failure> {
+    let Some(own) = own_links(order.settings) else {
+        return Err(Failure::from(Fault::Run(RunFault::Listen)));
+    };
+    let hosts = hosts_of(alloc, order.settings, order.any_host).map_err(|_| Fault::Memory)?;
+    Ok(Fronts {
+        links: socket_address(&own),
+        desk: socket_address(&order.settings.desk),
+        local,
+        hosts,
+    })
+}
+
+/// Returns what the epochs of a process are given.
+fn prepare<'a>(host: &HostRuntime, order: &ChainOrder<'a>) -> Result<Chained<'a>, Failure> {
+    let (settings, alloc) = (order.settings, host.alloc());
+    let chain = Chain::new(settings.header.cluster(), settings.header.size());
+    let board = Switchboard::new(alloc, chain, settings.header.me());
+    let Ok(board) = Arc::new(alloc, board) else {
+        return Err(Failure::from(Fault::Memory));
+    };
+    Ok(Chained {
+        host: *host,
+        settings,
+        folder: order.folder,
+        board,
+        form: order.form,
+        any_host: order.any_host,
+        clients: order.clients,
+        followers: order.followers,
+        made: Mutex::new(0),
+        failed: Mutex::new(None),
+    })
+}
+
+/// Returns the failure of a chain whose run ended so: the first of its epochs' failures, or what
+/// the console was told.
+fn chain_failure<R: Machine>(
+    rt: &R,
+    it: &Chained<'_>,
+    unheard: &Unheard,
+    console: &mut Console<'_>,
+    fault: RunFault,
+) -> Failure {
+    if let Some(failure) = it.failed.lock(rt).take() {
+        return failure;
+    }
+    let known = *unheard.lock(rt);
+    if let Some((address, code)) = known {
+        console.unheard(address, &io::Error::from_raw_os_error(code));
+    }
+    Failure {
+        fault: Fault::Run(fault),
+        trouble: console.trouble.take(),
+    }
+}
+
+/// Runs the member of a chain until its console ends it.
+pub(crate) fn run_chain<R: Machine>(
+    rt: &R,
+    order: ChainOrder<'_>,
+    mut console: Console<'_>,
+    local: Option<UnixListener>,
+) -> Result<u8, Failure> {
+    let host = console.host;
+    let it = prepare(host, &order)?;
+    it.find_epochs(rt)?;
+    let fronts = fronts_of(host.alloc(), &order, local)?;
+    let unheard: Unheard = Mutex::new(None);
+    let run = run_all(rt, &it, fronts, &unheard, &mut console);
+    let fault = match run {
+        Ok(()) if it.failed.lock(rt).is_none() => return Ok(0),
+        Ok(()) => RunFault::Stopped,
+        Err(fault) => fault,
+    };
+    Err(chain_failure(rt, &it, &unheard, &mut console, fault))
+}

@@ -1,0 +1,212 @@
+//! The journals of a chain's epochs, in a folder.
+
+ghost use Rattle.std.specs.Fmt.{decimal};
+ghost use Rattle.std.specs.Prelude.{◌≡◌, ◌++◌, IfOk, codes, string_bytes};
+
+use crate::fault::Fault;
+use crate::files::{Purpose, open_good_disk};
+use crate::trouble::{Failure, Whereabouts};
+use disk::Premise;
+use epochs::Verdicts;
+use journal::{JournalFault, create, read_file};
+use numerals::number;
+use settings::Settings;
+use std::alloc::{AllocError, Global};
+use std::{fs, io};
+use terms::{Header, Kind, Memory, Record, Statement};
+
+/// Returns the path of an epoch's journal.
+pub(crate) fn epoch_path(alloc: Global, folder: &str, epoch: u64) -> Result<String, AllocError>
+    ensures { IfOk result (λ path. string_bytes path ≡ folder.now ++ (codes "/" ++ (decimal epoch ++ codes ".journal"))) }
+{
+    format!(in alloc; "{folder}/{epoch}.journal")
+}
+
+/// Returns the path of the journal that `init` makes of these settings: that of the first epoch, if
+/// the member is one of a chain.
+pub(crate) fn first_journal(alloc: Global, settings: &Settings) -> Result<String, AllocError> {
+    match &settings.epochs {
+        Some(folder) => epoch_path(alloc, folder.as_str(), 0),
+        None => settings.journal.clone(),
+    }
+}
+
+/// Returns `true` if nothing has this path.
+fn is_missing(host: &HostRuntime, path: &str) -> bool {
+    match fs::symlink_metadata(host, path) {
+        Ok(_) => false,
+        Err(error) => error.kind() == io::ErrorKind::NotFound,
+    }
+}
+
+/// Returns the epoch whose journal has this name, if one's has.
+fn epoch_named(name: &str) -> Option<u64> {
+    number(name.strip_suffix(".journal")?.as_bytes())
+}
+
+/// The first and the last epoch whose journals are in a folder.
+#[derive(Clone, Copy, Debug, PartialEq, Eq)]
+pub(crate) struct Span {
+    pub(crate) first: u64,
+    pub(crate) last: u64,
+}
+
+/// Returns the span with one epoch more.
+fn with_epoch(span: Option<Span>, epoch: u64) -> Span {
+    match span {
+        Some(Span { first, last }) => Span {
+            first: first.min(epoch),
+            last: last.max(epoch),
+        },
+        None => Span {
+            first: epoch,
+            last: epoch,
+        },
+    }
+}
+
+/// Returns the epochs whose journals are in the folder.
+fn span_in(host: &HostRuntime, folder: &str) -> io::Result<Option<Span>> {
+    let mut span = None;
+    for entry in fs::read_dir(host, folder)? {
+        let entry = entry?;
+        if let Some(epoch) = epoch_named(entry.file_name()) {
+            span = Some(with_epoch(span, epoch));
+        }
+    }
+    Ok(span)
+}
+
+/// The words on a chain of which no journal is there.
+const MISSING: &str =
+    "no journal is in this folder: `bracha init` makes the first for a new member, and for no other";
+
+/// Returns the epochs whose journals are in the folder: those before the first were put away.
+///
+/// [`Fault::File`]: the folder can't be read, or has none.
+pub(crate) fn epochs_in(host: &HostRuntime, folder: &str) -> Result<Span, Failure> {
+    match span_in(host, folder) {
+        Ok(Some(span)) => Ok(span),
+        Ok(None) => {
+            Err(Failure::at(
+                host.alloc(),
+                Fault::File,
+                folder,
+                Whereabouts::Open,
+                &MISSING,
+            ))
+        }
+        Err(error) if error.kind() == io::ErrorKind::NotFound => {
+            Err(Failure::at(
+                host.alloc(),
+                Fault::File,
+                folder,
+                Whereabouts::Open,
+                &MISSING,
+            ))
+        }
+        Err(error) => Err(failed(host, folder, &error)),
+    }
+}
+
+/// Returns the failure of a file.
+fn failed(host: &HostRuntime, path: &str, error: &io::Error) -> Failure {
+    Failure::at(host.alloc(), Fault::File, path, Whereabouts::Open, error)
+}
+
+/// Makes an epoch's journal, if there is none. It is made beside its place and then renamed, so
+/// that what is at its place was made whole.
+///
+/// [`Fault::File`], [`Fault::Journal`]: it can't be made.
+pub(crate) fn make_journal<P: Premise>(
+    host: &HostRuntime,
+    path: &str,
+    header: &Header,
+) -> Result<(), Failure> {
+    if !is_missing(host, path) {
+        return Ok(());
+    }
+    let new = format!(in host.alloc(); "{path}.new").map_err(|_| Fault::Memory)?;
+    if !is_missing(host, new.as_str()) {
+        // A run ended while it made it.
+        if let Err(error) = fs::remove_file(host, new.as_str()) {
+            return Err(failed(host, new.as_str(), &error));
+        }
+    }
+    create_at::<P>(host, new.as_str(), header)?;
+    match fs::rename(host, new.as_str(), path) {
+        Ok(()) => Ok(()),
+        Err(error) => Err(failed(host, path, &error)),
+    }
+}
+
+/// Makes a journal in a file that isn't there.
+fn create_at<P: Premise>(host: &HostRuntime, path: &str, header: &Header) -> Result<(), Failure> {
+    let (mut disk, _source) = open_good_disk::<P>(host, path, Purpose::Make)?;
+    match create(&mut disk, header) {
+        Ok(()) => Ok(()),
+        Err(fault) => {
+            let words = "the journal of a new epoch can't be made";
+            Err(Failure::at(
+                host.alloc(),
+                Fault::Journal(fault),
+                path,
+                Whereabouts::Whole,
+                &words,
+            ))
+        }
+    }
+}
+
+/// Returns `true` if the member said by this that a bit was proposed to it.
+fn is_own_proposal(me: u8, said: Statement) -> bool {
+    let place = said.place();
+    said.kind() == Kind::Initial && place.origin() == me && place.round() == 1 && place.step() == 1
+}
+
+/// Returns what these records of an epoch say of its questions.
+fn verdicts_in(alloc: Global, header: &Header, records: &[Record]) -> Result<Verdicts, Memory> {
+    let mut verdicts = Verdicts::none(alloc, header.size().questions())?;
+    for record in records {
+        match *record {
+            Record::Decided { question, bit, .. } => verdicts.decide(question, bit)?,
+            Record::Said(said) => {
+                if is_own_proposal(header.me(), said) {
+                    verdicts.propose(said.place().question());
+                }
+            }
+        }
+    }
+    Ok(verdicts)
+}
+
+/// Returns what an epoch's journal says.
+///
+/// [`Fault::File`], [`Fault::Journal`]: it isn't there, or can't be read.
+pub(crate) fn look_into(
+    host: &HostRuntime,
+    path: &str,
+    header: &Header,
+) -> Result<Verdicts, Failure> {
+    let bytes = match fs::read(host, path) {
+        Ok(bytes) => bytes,
+        Err(error) => return Err(failed(host, path, &error)),
+    };
+    match read_file(host.alloc(), header, &bytes) {
+        Ok((_, records)) => match verdicts_in(host.alloc(), header, &records) {
+            Ok(verdicts) => Ok(verdicts),
+            Err(Memory) => Err(Failure::from(Fault::Memory)),
+        },
+        Err(JournalFault::Memory) => Err(Failure::from(Fault::Memory)),
+        Err(fault) => {
+            let words = "the journal of an epoch can't be read: see `bracha dump`";
+            Err(Failure::at(
+                host.alloc(),
+                Fault::Journal(fault),
+                path,
+                Whereabouts::Whole,
+                &words,
+            ))
+        }
+    }
+}
