@@ -53,9 +53,9 @@ def row(name, seconds, count, unit, peak):
 
 
 def head(n, t, questions, proposals=True):
-    """The head of a script, and a proposal to each member on each question, the bits in turn."""
+    """The head of a script, and with proposals one to each member on each question, the bits in turn."""
     lines = [f"n {n}", f"t {t}", f"questions {questions}", "liars", "seed 1"]
-    return lines + [f"propose {member} {question} {question % 2}" for question in range(questions) for member in range(n)]
+    return lines + [f"propose {member} {question} {question % 2}" for question in range(questions if proposals else 0) for member in range(n)]
 
 
 def rounds(n, t, questions):
@@ -70,6 +70,9 @@ def scripts(part=1):
         ("rounds, n 7, 200 questions", rounds(7, 2, int(200 * part))),
         ("rounds, n 16, 19 questions", rounds(16, 5, max(2, int(19 * part)))),
         ("random events, n 7, one question", [*head(7, 2, 1), f"random {int(999993 * part)}"]),
+        ("random events, n 4, 256 questions", [*head(4, 1, 256, False), f"random {int(300000 * part)}"]),
+        ("random events, n 4, 4,096 questions", [*head(4, 1, 4096, False), f"random {int(300000 * part)}"]),
+        ("random events, n 64, 4,096 questions", [*head(64, 21, 4096, False), f"random {int(300000 * part)}"]),
     ]
 
 

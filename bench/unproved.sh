@@ -1,26 +1,32 @@
 #!/usr/bin/env bash
 # bench/unproved.sh PROGRAM
 #
-# Makes bracha of this tree without a proof, optimized, and puts it at PROGRAM: some three minutes in place of an hour, to
-# compare variants of what threads, locks and sockets cost (bench/open.py --n N PROGRAM), in turns with one made the same way.
-# It has the checks of `rt try`, which double the instructions of an event: it stands for no proved program, and tells nothing
-# of those. Needs root, since it puts a compiler of its own in front of the kit's, in a mount namespace of its own.
+# Makes bracha of this tree without a proof, optimized like the proved program, and puts it at PROGRAM: some four minutes in
+# place of an hour, to compare variants (bench/open.py --n N PROGRAM, bench/table.py), in turns with one made the same way.
+# bench/unproved.py takes the checks of `rt try` out: an event takes about a tenth more instructions than in the proved program.
+# Needs root, since it puts a compiler of its own in front of the kit's, in a mount namespace of its own.
 set -euo pipefail
 
-[ $# = 1 ] || { sed -n '2,8s/^# \{0,1\}//p' "$0" >&2; exit 2; }
+[ $# = 1 ] || { sed -n '2,7s/^# \{0,1\}//p' "$0" >&2; exit 2; }
 program=$(realpath -m "$1")
-crate=$(realpath "$(dirname "$0")/../crates/bracha")
+bench=$(dirname "$(realpath "$0")")
+crate=$(realpath "$bench/../crates/bracha")
 kit=$(dirname "$(dirname "$(realpath "$(command -v rt)")")")/toolchain/bin
 room=$(mktemp -d)
 trap 'rm -rf "$room"' EXIT
 mkdir "$room/own" "$room/kit"
 
-# What the compiler is given with -O0 and a sanitizer it gets with -O2 and without; the program that is linked is kept.
+# A module is compiled with -O3 and without a sanitizer, once its checks are out; the program that is linked is kept.
 cat > "$room/own/clang" <<END
 #!/bin/bash
+set -e
 words=()
 for word in "\$@"; do
-    case \$word in -O0) words+=(-O2) ;; -fsanitize=address) ;; *) words+=("\$word") ;; esac
+    case \$word in -O0) words+=(-O3) ;; -fsanitize=address) ;; module.bc)
+        $room/kit/clang -x ir module.bc -S -emit-llvm -O0 -Xclang -disable-llvm-passes -o $room/module.ll
+        $bench/unproved.py $(dirname "$crate") < $room/module.ll > $room/plain.ll
+        words+=($room/plain.ll) ;;
+    *) words+=("\$word") ;; esac
 done
 exec $room/kit/clang "\${words[@]}"
 END

@@ -3,7 +3,7 @@
 
 Looks at the edges of the built program for what a user would suffer from and no contract says: how long a client waits, which
 statuses commands end with, whose links a member takes, what it opens and says more often than it should, what a command leaves
-behind. PROGRAM is crates/bracha/out/bracha unless another is named. It takes the ports 28400 to 29239, a C
+behind. PROGRAM is crates/bracha/out/bracha unless another is named. It takes the ports 28400 to 29259, a C
 compiler and a minute, with all checks side by side. Prints what is wrong, and in its last line `N passed, M failed`; the status is 1 where M isn't 0.
 """
 import concurrent.futures
@@ -704,6 +704,29 @@ def unanswered(port, threads, times, end):
         return sum(it.result() for it in [pool.submit(ask) for _ in range(threads)])
 
 
+def first_reply(desk, lines):
+    """What comes first for lines that are sent at once, if anything does in half a second."""
+    desk.settimeout(0.5)
+    desk.sendall(lines)
+    try:
+        return desk.recv(65536)
+    except TimeoutError:
+        return None
+
+
+@check
+def replies_come_together_and_are_not_held_back(folder, port):
+    """The replies to lines that come at once are one write. None is held back while the client says nothing, while a line waits for a
+    decision, or while a proposal waits for the member to speak."""
+    path = settings(folder, 0, [f"127.0.0.1:{port + it}" for it in range(4)], f"127.0.0.1:{port + 9}", 4, 1)
+    with running(path), contextlib.ExitStack() as stack:
+        desks = [stack.enter_context(dial(port + 9)) for _ in range(4)]
+        found = differs("before a proposal to one that listens", first_reply(desks[0], b"ASK 9\nPROPOSE 9 1\n"), b"UNDECIDED\n")
+        found += differs("64 lines", first_reply(desks[1], b"ASK 9\n" * 64), b"UNDECIDED\n" * 64)
+        found += differs("before a part of a line", first_reply(desks[2], b"ASK 9\nASK"), b"UNDECIDED\n")
+        return found + differs("before one that waits", first_reply(desks[3], b"ASK 9\nAWAIT 9\n"), b"UNDECIDED\n")
+
+
 @check
 def twice_as_many_clients_as_places(folder, port):
     """64 clients come again and again, with a line each: each waits for a place in turn, none is closed unanswered, and they don't wait
@@ -1271,6 +1294,8 @@ def desks_that_flood_and_hang_up(folder, port):
     with serving(port, floods), serving(port + 1, lambda link: asked.append(time.monotonic())):
         said, status, took = timed(["transcript", "--all", "--timeout", "30", cluster_file(folder, "floods", [port], 0), "5"], folder, 40)
         found = differs(f"a flood ({took:.1f} s)", (said, status, took < 25), ("bracha: member 0 doesn't answer\n", 1, True))
+        said, status, took = timed(["transcript", "--quiet", "--timeout", "30", f"127.0.0.1:{port}", "5"], folder, 40)
+        found += differs(f"a flood of one desk ({took:.1f} s)", (said, status, took < 25), ("bracha: no answer\n", 1, True))
         say(["decide", "--all", "--timeout", "2", cluster_file(folder, "hangs-up", [port + 1], 0), "5", "1"], folder)
         return found + differs(f"asked {len(asked)} times in two seconds", 2 < len(asked) < 16, True)
 

@@ -11,7 +11,7 @@ witnesses hold, or that more than t have locked: so no two correct witnesses loc
 value is to be put again. All that it holds and locks is on the disk before anybody hears of it. Here are client.toml and its folder.
 
 Chance may leave a question open for ever, and a slot with it. So the second half of the questions asks of each slot: "is it given
-up?". A witness takes one stand on a slot, for good: it keeps the slot once its member has decided it, or leaves it once its member
+up?". In a chain of epochs, whose questions don't end, slot s has the questions 2s and 2s + 1, and both are settled. A witness takes one stand on a slot, for good: it keeps the slot once its member has decided it, or leaves it once its member
 is spent, after 32 rounds. A decision is entered once more than (n + t) / 2 witnesses keep the slot. Where as many leave it,
 a witness votes to give it up; where its member has decided and another has left, it votes not to. A slot that is given up stays
 empty. As more than half of the correct witnesses can't both keep and leave a slot, nobody enters what others give up.
@@ -62,10 +62,18 @@ async def say(witness: int, line: str) -> list[str]:
 class Witness:
     def __init__(self, me: int, settings: Settings) -> None:
         self.me, self.n, self.t = me, settings.n, settings.t
-        self.slots = settings.questions // 2
-        self.member = AsyncCluster(Settings(settings.cluster, 1, 0, settings.questions, (settings.desks[me],)))
+        self.slots, self.chain = settings.limit // 2, settings.chain
+        self.member = AsyncCluster(Settings(settings.cluster, 1, 0, settings.questions, (settings.desks[me],), settings.chain))
         self.folder = Path(f"witness-{me}")
         self.folder.mkdir(exist_ok=True)
+
+    def entered(self, slot: int) -> int:
+        """Returns the question: has a value's hash come into the slot for all?"""
+        return 2 * slot if self.chain else slot
+
+    def given_up(self, slot: int) -> int:
+        """Returns the question: is the slot given up?"""
+        return 2 * slot + 1 if self.chain else self.slots + slot
 
     def at(self, slot: int, what: str) -> str:
         path = self.folder / f"{slot}.{what}"
@@ -107,7 +115,7 @@ class Witness:
                 begun = begun or loop.time()
             full = bool(locked) and locked[0][1] > 2 * self.t
             if not voted and (full or begun and loop.time() - begun > PATIENCE):
-                voted = (await self.member.propose(slot, full))[0].stands is not None
+                voted = (await self.member.propose(self.entered(slot), full))[0].stands is not None
             bit, given_up = await self.judge(slot, voted, Counter(words[2] for words in told))
             if given_up or bit is False:
                 return None
@@ -116,14 +124,16 @@ class Witness:
 
     async def judge(self, slot: int, voted: bool, stands: Counter[str]) -> tuple[bool | None, bool]:
         """Returns the bit of a slot, once it may be entered, and whether the slot is given up."""
-        bit = await self.decision(slot)
+        bit = await self.decision(self.entered(slot))
         if bit is not None:
             save(self.folder / f"{slot}.stand", b"keeps")
-        elif voted and (await self.member.state(slot))[0].stage is Stage.SPENT:
+        elif voted and (await self.member.state(self.entered(slot)))[0].stage is Stage.SPENT:
             save(self.folder / f"{slot}.stand", b"leaves")
+        question = self.given_up(slot)
         if self.is_quorum(stands["keeps"]) or not stands["leaves"]:
+            if self.chain and bit is not None and self.is_quorum(stands["keeps"]):
+                await self.member.propose(question, False)
             return (bit if self.is_quorum(stands["keeps"]) else None), False
-        question = self.slots + slot
         if self.is_quorum(stands["leaves"]) or bit is not None:
             await self.member.propose(question, self.is_quorum(stands["leaves"]))
         given_up = await self.decision(question)

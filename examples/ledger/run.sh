@@ -3,8 +3,15 @@
 # are killed, miss some values, and are started again; a slot whose question chance left open is given up. At the end all four
 # ledgers are the same. It takes some seconds, and ports below 32768 that are free.
 #
-#   examples/ledger/run.sh [PROGRAM]     PROGRAM is bracha; left out, it is crates/bracha/out/bracha of this repository
+#   examples/ledger/run.sh [--epochs] [PROGRAM]     PROGRAM is bracha; left out, it is crates/bracha/out/bracha of this repository
+#
+# With --epochs the members run a chain of epochs of 16 questions, so that the ledger goes past its first one.
 set -euo pipefail
+epochs=
+if [ "${1:-}" = --epochs ]; then
+    epochs=yes
+    shift
+fi
 here=$(cd "$(dirname "$0")" && pwd)
 top=$(realpath "$here/../..")
 program=$(realpath -m "${1:-$top/crates/bracha/out/bracha}")
@@ -32,8 +39,8 @@ until_slots() {
 spends() {
     python3 - "$@" <<'END'
 import sys
-question, member = map(int, sys.argv[1:])
-with open(f"member-{member}.journal", "r+b") as journal:
+question, member = map(int, sys.argv[1:3])
+with open(sys.argv[3], "r+b") as journal:
     header = journal.read(24)
     said = [bytes((1, 0, question, member, round, 16 * step + (4 if step == 3 else member // 2))) for round in range(1, 33) for step in (1, 2, 3)]
     journal.seek(0)
@@ -41,12 +48,27 @@ with open(f"member-{member}.journal", "r+b") as journal:
 END
 }
 
-members 64
-for m in 0 1 2 3; do ends "member-$m"; done
-for m in 0 1 2 3; do
-    spends 7 "$m"
-    member "$m"
-done
+if [ "$epochs" ]; then
+    members 64
+    for m in 0 1 2 3; do
+        ends "member-$m"
+        rm "member-$m.journal"
+        sed -i "s/^questions = .*/questions = 16/; 1i epochs = \"member-$m.epochs\"" "member-$m.toml"
+        "$program" init "member-$m.toml"
+    done
+    sed -i "s/^questions = .*/questions = 16/; 1i chain = true" client.toml
+    for m in 0 1 2 3; do
+        spends 14 "$m" "member-$m.epochs/0.journal"
+        member "$m"
+    done
+else
+    members 64
+    for m in 0 1 2 3; do ends "member-$m"; done
+    for m in 0 1 2 3; do
+        spends 7 "$m" "member-$m.journal"
+        member "$m"
+    done
+fi
 for m in 0 1 2 3; do witness "$m"; done
 
 echo '* three values, the second last; and a writer that tells two values for slot 3'

@@ -24,7 +24,7 @@ _bracha() {
     hear) mapfile -t COMPREPLY < <(compgen -W "--n --t --questions --me --quiet --help" -- "$word") ;;
     gateway) mapfile -t COMPREPLY < <(compgen -W "--listen --token --quiet --help" -f -- "$word") ;;
     audit) mapfile -t COMPREPLY < <(compgen -W "--n --t --questions --all --timeout --quiet --help" -f -- "$word") ;;
-    new-cluster) mapfile -t COMPREPLY < <(compgen -W "--n --t --questions --cluster --port --desk --quiet --help" -d -- "$word") ;;
+    new-cluster) mapfile -t COMPREPLY < <(compgen -W "--n --t --questions --cluster --port --desk --epochs --quiet --help" -d -- "$word") ;;
     propose) mapfile -t COMPREPLY < <(compgen -W "--all --timeout --quiet --help" -f -- "$word") ;;
     ask) mapfile -t COMPREPLY < <(compgen -W "--all --wait --json --timeout --quiet --help" -f -- "$word") ;;
     decide) mapfile -t COMPREPLY < <(compgen -W "--all --json --timeout --quiet --help" -f -- "$word") ;;

@@ -32,6 +32,7 @@ complete -c bracha -n "__fish_seen_subcommand_from new-cluster" -l questions -x 
 complete -c bracha -n "__fish_seen_subcommand_from new-cluster" -l cluster -x -d "The cluster's number"
 complete -c bracha -n "__fish_seen_subcommand_from new-cluster" -l port -x -d "The first port"
 complete -c bracha -n "__fish_seen_subcommand_from new-cluster" -l desk -x -d "The host of the desks"
+complete -c bracha -n "__fish_seen_subcommand_from new-cluster" -l epochs -d "A chain of epochs"
 complete -c bracha -n "__fish_seen_subcommand_from status" -l links -d "How many links come and go"
 complete -c bracha -n "__fish_seen_subcommand_from status" -l ready -d "Whether these are enough"
 complete -c bracha -n "__fish_seen_subcommand_from status" -l question -x -d "How far a member is on a question"

@@ -119,10 +119,10 @@ class AsyncCluster:
         return Decisions(self._board, known)
 
     async def _follow_member(self, member: int, number: int) -> AsyncIterator[Decision]:
-        async with aclosing(self._desks[member].follow(number, self.settings.questions)) as told:
+        async with aclosing(self._desks[member].follow(number, self.settings)) as told:
             async for question, bit in told:
                 yield Decision(question, bit, number)
-                number += 1
+                number = self.settings.number_after(number, question)
 
     async def state(self, question: int, *, timeout: float = PATIENCE) -> list[State]:
         """Returns how far each member is on a question by its own word: so what one says is worth as much as that member."""
@@ -148,8 +148,8 @@ class AsyncCluster:
 
     def _checked(self, question: int) -> int:
         self._check_open()
-        if not 0 <= operator.index(question) < self.settings.questions:
-            raise NoSuchQuestion(f"{question}: the questions are 0 to {self.settings.questions - 1}")
+        if not 0 <= operator.index(question) < self.settings.limit:
+            raise NoSuchQuestion(f"{question}: the questions are 0 to {self.settings.limit - 1}")
         return operator.index(question)
 
     def _member(self, member: int) -> int:
@@ -176,7 +176,7 @@ class AsyncCluster:
         self._check_open()
 
         async def one(desk: Desk) -> None:
-            async with aclosing(desk.follow(0, self.settings.questions)) as told:
+            async with aclosing(desk.follow(0, self.settings)) as told:
                 async for question, bit in told:
                     self._board.take(desk.member, question, bit)
 

@@ -5,7 +5,7 @@ from collections import deque
 from collections.abc import AsyncIterator
 
 from .replies import told_in
-from .settings import address_of
+from .settings import Settings, address_of
 
 CONNECT = 3.0  # seconds for a connection
 PATIENCE = 5.0  # seconds after which a reply that hasn't come ends its connection
@@ -122,7 +122,7 @@ class Desk:
                 reply = await wire.say(line) if wire else None
             return reply
 
-    async def follow(self, number: int, questions: int) -> AsyncIterator[tuple[int, bool]]:
+    async def follow(self, number: int, settings: Settings) -> AsyncIterator[tuple[int, bool]]:
         """Yields the member's decisions from that number of its journal on, for ever, over any number of connections. A member
         that breaks the protocol is left alone for a while."""
         seen: set[int] = set()
@@ -135,10 +135,10 @@ class Desk:
                     writer.write(f"FOLLOW {number}\n".encode())
                     lines = _Lines(reader)
                     while told := await lines.next():
-                        if told[0] >= questions or told[0] in seen:
+                        if told[0] >= settings.limit or told[0] in seen:
                             break
                         seen.add(told[0])
-                        number += 1
+                        number = settings.number_after(number, told[0])
                         yield told
                 finally:
                     writer.transport.abort()

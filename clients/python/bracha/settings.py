@@ -20,12 +20,29 @@ class Settings:
     t: int
     questions: int
     desks: tuple[str, ...]
+    chain: bool = False
+    """The members run a chain of epochs: questions are slots, without end."""
+
+    @property
+    def limit(self) -> int:
+        """The number that all questions are below: `questions`, or 2**64 in a chain."""
+        return 2**64 if self.chain else self.questions
+
+    def number_after(self, number: int, question: int) -> int:
+        """Returns the number of a member's next decision, after the one of that number told this question. In a chain an epoch with
+        open slots may be passed, and a decision of it may come late: then the number stays."""
+        first = question // self.questions * self.questions
+        if not self.chain:
+            return number + 1
+        return number if first < number // self.questions * self.questions else max(number, first) + 1
 
     def __post_init__(self) -> None:
         for key, least, most in _RANGES:
             value = getattr(self, key)
             if type(value) is not int or not least <= value <= most:
                 raise BadSettings(f"{key}: must be an integer from {least} to {most}")
+        if type(self.chain) is not bool:
+            raise BadSettings("chain: must be true or false")
         if self.n <= 3 * self.t:
             raise BadSettings("n: must be above 3 times t")
         if len(self.desks) != self.n:
@@ -52,7 +69,7 @@ class Settings:
         if not isinstance(desks, list) or not all(isinstance(desk, str) for desk in desks):
             raise BadSettings("desks: must be texts HOST:PORT")
         numbers = {key: table.get(key, -1) for key, _, _ in _RANGES}
-        return cls(desks=tuple(desks), **numbers)
+        return cls(desks=tuple(desks), chain=table.get("chain", False), **numbers)
 
 
 def address_of(desk: str) -> tuple[str, int]:

@@ -1,0 +1,449 @@
+#!/usr/bin/env python3
+"""tests/epochs.py [--long] [PROGRAM]
+
+Chains of epochs: four members of 16 questions an epoch, run as their users run them. PROGRAM is crates/bracha/out/bracha unless
+another is named. It takes the ports 27000 to 27999 and about a minute; with --long it decides 100,000 slots with 200 kills and a
+liar, and 16,000 over a thousand epochs, which takes a quarter of an hour. Prints each check that fails, and in its last line
+`N passed, M failed`; the status is 1 if M isn't 0.
+
+What members tell of slots is compared with what was proposed to them.
+"""
+import contextlib
+import os
+import random
+import re
+import signal
+import socket
+import struct
+import subprocess
+import sys
+import tempfile
+import threading
+import time
+
+TOP = os.path.dirname(os.path.dirname(os.path.realpath(__file__)))
+LONG = "--long" in sys.argv
+WORDS = [word for word in sys.argv[1:] if word != "--long"]
+PROGRAM = os.path.realpath(WORDS[0] if WORDS else f"{TOP}/crates/bracha/out/bracha")
+CLUSTER = 1000
+
+
+class Wrong(Exception):
+    """What isn't as it has to be."""
+
+
+def expect(holds, what):
+    if not holds:
+        raise Wrong(what)
+
+
+class Desk:
+    """A connection to a member's desk, made again if it is cut."""
+
+    def __init__(self, port):
+        self.port = port
+        self.stream = None
+
+    def connect(self, limit=20.0):
+        end = time.monotonic() + limit
+        while True:
+            try:
+                self.stream = socket.create_connection(("127.0.0.1", self.port), timeout=30)
+                self.stream.setsockopt(socket.IPPROTO_TCP, socket.TCP_NODELAY, 1)
+                self.lines = self.stream.makefile("rb")
+                return
+            except OSError:
+                if time.monotonic() > end:
+                    raise
+                time.sleep(0.05)
+
+    def ask(self, *lines):
+        """The replies to the lines; all of them are said again if the connection is cut."""
+        for _ in range(50):
+            try:
+                if self.stream is None:
+                    self.connect()
+                self.stream.sendall("".join(f"{line}\n" for line in lines).encode())
+                replies = [self.lines.readline().decode() for _ in lines]
+                if all(reply.endswith("\n") for reply in replies):
+                    return [reply[:-1] for reply in replies]
+            except OSError:
+                pass
+            self.close()
+            time.sleep(0.1)
+        raise Wrong(f"the desk at {self.port} doesn't answer {lines[0]}")
+
+    def close(self):
+        if self.stream is not None:
+            with contextlib.suppress(OSError):
+                self.stream.close()
+        self.stream = None
+
+
+class Chain:
+    """A cluster of members of a chain."""
+
+    def __init__(self, port, questions=16, n=4, t=1):
+        self.port, self.questions, self.n, self.t = port, questions, n, t
+        self.folder = tempfile.mkdtemp(prefix="epochs-")
+        self.runs = {}
+        self.seeds = [os.urandom(32) for _ in range(n)]
+        for me in range(n):
+            self.write_settings(me)
+            done = subprocess.run([PROGRAM, "init", self.settings(me)], capture_output=True, check=False)
+            expect(done.returncode == 0, f"init ends with {done.returncode}: {done.stderr}")
+
+    def settings(self, me):
+        return f"{self.folder}/member-{me}.toml"
+
+    def journals(self, me):
+        return f"{self.folder}/{me}.epochs"
+
+    def write_settings(self, me):
+        peers = ", ".join(f'"127.0.0.1:{self.port + peer}"' for peer in range(self.n))
+        with open(self.settings(me), "w", encoding="ascii") as file:
+            file.write(
+                f'cluster = {CLUSTER}\nn = {self.n}\nt = {self.t}\nquestions = {self.questions}\nme = {me}\n'
+                f'journal = "{self.folder}/{me}.journal"\nepochs = "{self.journals(me)}"\npeers = [{peers}]\n'
+                f'desk = "127.0.0.1:{self.port + 50 + me}"\nseed = "{self.seeds[me].hex()}"\n'
+            )
+
+    def start(self, me, limit=20.0):
+        out = open(f"{self.folder}/{me}.out", "wb")
+        log = open(f"{self.folder}/{me}.log", "ab")
+        run = subprocess.Popen([PROGRAM, "run", "--stay", "--log", self.settings(me)], stdout=out, stderr=log)
+        self.runs[me] = run
+        end = time.monotonic() + limit
+        while time.monotonic() < end:
+            if run.poll() is not None:
+                raise Wrong(f"member {me} ends with {run.returncode}: {self.log(me)[-300:]}")
+            with open(f"{self.folder}/{me}.out", encoding="ascii") as file:
+                if file.read() == f"member {me} ready\n":
+                    return
+            time.sleep(0.01)
+        raise Wrong(f"member {me} isn't ready")
+
+    def log(self, me):
+        with open(f"{self.folder}/{me}.log", encoding="utf-8") as file:
+            return file.read()
+
+    def kill(self, me):
+        self.runs[me].send_signal(signal.SIGKILL)
+        self.runs[me].wait()
+        del self.runs[me]
+
+    def desk(self, me):
+        return Desk(self.port + 50 + me)
+
+    def end(self):
+        for me in list(self.runs):
+            with contextlib.suppress(KeyError):
+                self.kill(me)
+
+    def status(self, me, key):
+        with open(f"/proc/{self.runs[me].pid}/status", encoding="ascii") as file:
+            return int(re.search(rf"^{key}:\s+(\d+)", file.read(), re.M).group(1))
+
+
+def decide(desks, bits, slots, width=16):
+    """Proposes to all of these desks, and waits for each slot at each of them."""
+    for begin in range(0, len(slots), width):
+        part = slots[begin:begin + width]
+        for desk in desks:
+            for slot, reply in zip(part, desk.ask(*[f"PROPOSE {slot} {bits[slot]}" for slot in part])):
+                expect(reply in ("OK", f"HAVE {bits[slot]}"), f"PROPOSE {slot}: {reply}")
+        for desk in desks:
+            await_all(desk, bits, part)
+
+
+def await_all(desk, bits, slots, limit=60.0):
+    end = time.monotonic() + limit
+    left = list(slots)
+    while left:
+        replies = desk.ask(*[f"AWAIT {slot}" for slot in left])
+        for slot, reply in zip(left, replies):
+            expect(reply in ("UNDECIDED", f"DECIDED {bits[slot]}"), f"AWAIT {slot}: {reply}")
+        left = [slot for slot, reply in zip(left, replies) if reply == "UNDECIDED"]
+        expect(not left or time.monotonic() < end, f"{left[:3]} aren't decided at {desk.port}")
+
+
+def drawn(count):
+    return [random.getrandbits(1) for _ in range(count)]
+
+
+@contextlib.contextmanager
+def chain(port, starts=4, **words):
+    it = Chain(port, **words)
+    try:
+        for me in range(starts):
+            it.start(me)
+        yield it
+    finally:
+        it.end()
+
+
+def slots_over_many_epochs():
+    """Slots are decided over ten epochs, each desk tells them, and the words of a desk are as they are to be."""
+    with chain(27000) as it:
+        bits = drawn(160)
+        desks = [it.desk(me) for me in range(4)]
+        decide(desks, bits, range(160))
+        for desk in desks:
+            replies = desk.ask(*[f"ASK {slot}" for slot in range(160)])
+            expect(replies == [f"DECIDED {bit}" for bit in bits], f"ASK: {replies}")
+            replies = desk.ask("STATE 3", "ASK 160", "STATE 160", "ASK 100000", "PROPOSE 18446744073709551615 1",
+                               "ASK 18446744073709551616", "ASK 99999999999999999999", "ASK 123456789012345678901",
+                               "PROPOSE 160 2", "ASK", "ASK  5", "PROPOSE 5", "HELLO", "PROPOSE 0 1\r")
+            expect(replies[:5] == [f"DECIDED {bits[3]}", "UNDECIDED", "UNPROPOSED", "UNDECIDED", "ERR 2 question"], f"{replies}")
+            expect(replies[5:8] == ["ERR 2 question", "ERR 2 question", "ERR 1 line"], f"{replies}")
+            expect(replies[8:13] == ["ERR 3 bit", "ERR 1 line", "ERR 1 line", "ERR 1 line", "ERR 1 line"], f"{replies}")
+            expect(replies[13] in (f"HAVE {bits[0]}", "OK"), f"{replies}")
+        names = sorted(os.listdir(it.journals(0)), key=lambda name: int(name.split(".")[0]))
+        expect(names[:11] == [f"{epoch}.journal" for epoch in range(11)], f"{names}")
+
+
+def dumps_name_their_clusters():
+    """Each epoch's journal is one of a cluster of its own, and no two epochs toss the same coins: the seeds are by hash."""
+    with chain(27100) as it:
+        bits = drawn(48)
+        decide([it.desk(me) for me in range(4)], bits, range(48))
+        it.end()
+        for epoch in range(3):
+            done = subprocess.run([PROGRAM, "dump", f"{it.journals(1)}/{epoch}.journal"], capture_output=True, check=False)
+            expect(done.returncode == 0, f"dump: {done.stderr}")
+            expect(f"cluster {CLUSTER + epoch}".encode() in done.stdout.split(b"\n")[0], f"{done.stdout[:80]}")
+
+
+def restarts():
+    """Members that are killed in turn come back, tell what was decided before, and decide on."""
+    with chain(27200) as it:
+        bits = drawn(128)
+        desks = [it.desk(me) for me in range(4)]
+        for begin in range(0, 128, 16):
+            decide(desks, bits, range(begin, begin + 16), 8)
+            me = (begin // 16) % 4
+            it.kill(me)
+            it.start(me)
+        for desk in desks:
+            replies = desk.ask(*[f"ASK {slot}" for slot in range(128)])
+            expect(replies == [f"DECIDED {bit}" for bit in bits], f"ASK: {replies}")
+
+
+def comeback():
+    """A member that was down for ten epochs comes back and answers for all of them, though nobody proposes anything more."""
+    with chain(27300, starts=3) as it:
+        bits = drawn(176)
+        decide([it.desk(me) for me in range(3)], bits, range(170))
+        it.start(3)
+        begun = time.monotonic()
+        await_all(it.desk(3), bits, range(160), 120.0)
+        print(f"  caught up with ten epochs in {time.monotonic() - begun:.1f} s")
+        decide([it.desk(me) for me in range(4)], bits, range(170, 176))
+
+
+def followers():
+    """A follower is told each slot once, epoch by epoch, over kills of its member."""
+    with chain(27400) as it:
+        bits = drawn(96)
+        told = []
+
+        def follow():
+            number = 0
+            while number < 96:
+                try:
+                    desk = it.desk(2)
+                    desk.connect()
+                    desk.stream.sendall(f"FOLLOW {number}\n".encode())
+                    while number < 96:
+                        line = desk.lines.readline().decode()
+                        if not line.endswith("\n"):
+                            break
+                        if line != "\n":
+                            told.append(line[:-1])
+                            number += 1
+                except OSError:
+                    time.sleep(0.05)
+
+        thread = threading.Thread(target=follow, daemon=True)
+        thread.start()
+        desks = [it.desk(me) for me in range(4)]
+        decide(desks, bits, range(40))
+        it.kill(2)
+        it.start(2)
+        decide(desks, bits, range(40, 96))
+        thread.join(30)
+        expect(len(told) == 96, f"{len(told)} lines")
+        expect(sorted(told) == sorted(f"DECIDED {slot} {bit}" for slot, bit in enumerate(bits)), "other lines")
+        epochs = [int(line.split()[1]) // 16 for line in told]
+        expect(epochs == sorted(epochs), f"{epochs}")
+
+
+def quiet():
+    """Epochs behind end: two in front are left, with their threads; and a client that stays is handed on."""
+    with chain(27500) as it:
+        bits = drawn(640)
+        stays = it.desk(0)
+        stays.ask("ASK 0")
+        decide([it.desk(me) for me in range(4)], bits, range(640))
+        end = time.monotonic() + 40
+        while it.status(0, "Threads") > 36 and time.monotonic() < end:
+            time.sleep(0.5)
+        expect(it.status(0, "Threads") <= 36, f"{it.status(0, 'Threads')} threads")
+        stream = stays.stream
+        expect(stays.ask("ASK 5", "ASK 639") == [f"DECIDED {bits[5]}", f"DECIDED {bits[639]}"], "another decision")
+        expect(stays.stream is stream, "its connection was cut")
+
+
+def ends():
+    """A chain ends by SIGTERM and by itself as one member does, and says what is missing."""
+    it = Chain(27600)
+    try:
+        it.start(0)
+        it.runs[0].send_signal(signal.SIGTERM)
+        expect(it.runs[0].wait(5) in (0, -signal.SIGTERM), f"ends with {it.runs[0].returncode}")
+        del it.runs[0]
+        os.remove(f"{it.journals(0)}/0.journal")
+        for name in os.listdir(it.journals(0)):
+            os.remove(f"{it.journals(0)}/{name}")
+        done = subprocess.run([PROGRAM, "run", "--stay", it.settings(0)], capture_output=True, check=False, timeout=10)
+        expect(done.returncode == 1 and b"bracha init" in done.stderr, f"{done.returncode} {done.stderr}")
+        it.start(1)
+        with open(f"{it.journals(1)}/1.journal.new", "wb") as file:
+            file.write(b"half")
+        expect(it.runs[1].poll() is None, "it ended")
+    finally:
+        it.end()
+
+
+def put_away():
+    """Slots of journals that were put away are gone; one that is missing among the others ends the member, and names it."""
+    with chain(27800) as it:
+        bits = drawn(80)
+        desks = [it.desk(me) for me in range(4)]
+        decide(desks, bits, range(80))
+        it.kill(1)
+        for epoch in (0, 1):
+            os.remove(f"{it.journals(1)}/{epoch}.journal")
+        it.start(1)
+        desks[1].close()
+        replies = desks[1].ask("ASK 0", "AWAIT 31", "PROPOSE 16 1", "TRANSCRIPT 3", "STATE 5", "ASK 32", "ASK 79")
+        expect(replies == ["ERR 5 gone"] * 5 + [f"DECIDED {bits[32]}", f"DECIDED {bits[79]}"], f"{replies}")
+        it.kill(1)
+        os.rename(f"{it.journals(1)}/3.journal", f"{it.folder}/3.journal")
+        done = subprocess.run([PROGRAM, "run", "--stay", it.settings(1)], capture_output=True, check=False, timeout=20)
+        expect(done.returncode == 1 and b"3.journal" in done.stderr, f"{done.returncode} {done.stderr}")
+
+
+def new_cluster():
+    """`new-cluster --epochs` writes settings of chains, `init` makes the first journal of each, and `check` names the folder."""
+    folder = tempfile.mkdtemp(prefix="epochs-")
+    words = ["--epochs", "--n", "4", "--t", "1", "--questions", "8", "--cluster", "5", "--port", "27900", "."]
+    done = subprocess.run([PROGRAM, "new-cluster", *words], capture_output=True, check=False, cwd=folder)
+    expect(done.returncode == 0, f"new-cluster: {done.stderr}")
+    for me in range(4):
+        done = subprocess.run([PROGRAM, "init", f"member-{me}.toml"], capture_output=True, check=False, cwd=folder)
+        expect(done.returncode == 0 and os.listdir(f"{folder}/member-{me}.epochs") == ["0.journal"], f"init: {done.stderr}")
+    done = subprocess.run([PROGRAM, "init", "member-0.toml"], capture_output=True, check=False, cwd=folder)
+    expect(done.returncode == 1, "a second init has status 0")
+    done = subprocess.run([PROGRAM, "check", "member-1.toml"], capture_output=True, check=False, cwd=folder)
+    expect(done.returncode == 0 and b"\nepochs member-1.epochs\nrecords 0\n" in done.stdout, f"check: {done.stdout} {done.stderr}")
+    with open(f"{folder}/client.toml", encoding="ascii") as file:
+        expect("chain = true\n" in file.read(), "client.toml isn't one of a chain")
+
+
+def hello(it, epoch, me, to, version=2):
+    return struct.pack(">HBBQBBHBB", 16, 1, version, CLUSTER + epoch, it.n, it.t, it.questions, me, to)
+
+
+def lies(it, stop, count):
+    """Member 3 is a liar: it greets for old, new and far epochs, and says both bits of everything."""
+    while not stop.is_set():
+        epoch = random.choice([0, count[0] // it.questions, count[0] // it.questions + 1, count[0] // it.questions + 2, 10**6, 2**60])
+        try:
+            with socket.create_connection(("127.0.0.1", it.port + random.randrange(3)), timeout=5) as stream:
+                stream.settimeout(2)
+                to = stream.getpeername()[1] - it.port
+                stream.sendall(hello(it, epoch, 3, to))
+                if stream.recv(11):
+                    said = b"".join(
+                        struct.pack(">BHBBBB", kind, question, 3 if kind == 1 else random.randrange(4), 1, step, random.getrandbits(1))
+                        for kind in (1, 2, 3) for question in random.sample(range(it.questions), 16) for step in (1, 2, 3)
+                    )
+                    for begin in range(0, len(said), 7 * 90):
+                        part = said[begin:begin + 7 * 90]
+                        stream.sendall(struct.pack(">HBB", 2 + len(part), 4, len(part) // 7) + part)
+                    stop.wait(0.2)
+        except OSError:
+            stop.wait(0.02)
+
+
+def liar_and_kills(slots=400, kills=6, port=27700, questions=16, width=16):
+    """Three members and a liar decide, over kills; the liar opens no epoch."""
+    with chain(port, starts=3, questions=questions) as it:
+        bits = drawn(slots)
+        count, stop = [0], threading.Event()
+        threads = [threading.Thread(target=lies, args=(it, stop, count), daemon=True) for _ in range(2)]
+        for thread in threads:
+            thread.start()
+        desks = [it.desk(me) for me in range(3)]
+        begun = time.monotonic()
+        every = max(width, slots // (kills + 1) // width * width)
+        for begin in range(0, slots, width):
+            count[0] = begin
+            part = range(begin, min(begin + width, slots))
+            decide(desks, bits, part, width)
+            if begin and begin % every == 0:
+                me = random.randrange(3)
+                it.kill(me)
+                it.start(me, 60)
+        stop.set()
+        print(f"  {slots} slots in {time.monotonic() - begun:.0f} s")
+        for desk in desks:
+            for begin in range(0, slots, 64):
+                part = range(begin, min(begin + 64, slots))
+                replies = desk.ask(*[f"ASK {slot}" for slot in part])
+                expect(replies == [f"DECIDED {bits[slot]}" for slot in part], f"ASK at {desk.port}: {replies}")
+        newest = slots // it.questions
+        for me in range(3):
+            expect(len(os.listdir(it.journals(me))) <= newest + 2, f"{len(os.listdir(it.journals(me)))} journals")
+
+
+def thousand_epochs():
+    """With a thousand epochs behind, a member starts in seconds, and at rest has two in front: 100 MB and 4n + 20 threads at most."""
+    with chain(27800) as it:
+        bits = drawn(16_000)
+        decide([it.desk(me) for me in range(4)], bits, range(16_000))
+        it.kill(0)
+        begun = time.monotonic()
+        it.start(0, 60)
+        print(f"  started in {time.monotonic() - begun:.1f} s")
+        time.sleep(10)  # epochs in front, and what others ask for, run by then
+        end = time.monotonic() + 60
+        while it.status(0, "Threads") > 36 and time.monotonic() < end:
+            time.sleep(0.5)
+        threads, memory = it.status(0, "Threads"), it.status(0, "VmRSS")
+        print(f"  {threads} threads, {memory // 1024} MB")
+        expect(threads <= 36 and memory < 100 * 1024, f"{threads} threads, {memory} KB")
+        replies = it.desk(0).ask("ASK 0", "ASK 7777", "ASK 15999")
+        expect(replies == [f"DECIDED {bits[slot]}" for slot in (0, 7777, 15999)], f"{replies}")
+
+
+def main():
+    checks = [slots_over_many_epochs, dumps_name_their_clusters, restarts, comeback, followers, quiet, ends, put_away, new_cluster, liar_and_kills]
+    if LONG:
+        checks = [lambda: liar_and_kills(100_000, 200, questions=1024, width=256), thousand_epochs]
+    failed = 0
+    for check in checks:
+        begun = time.monotonic()
+        try:
+            check()
+            print(f"{getattr(check, '__name__', 'long')}: {time.monotonic() - begun:.1f} s", flush=True)
+        except (Wrong, OSError, subprocess.TimeoutExpired) as error:
+            failed += 1
+            print(f"{getattr(check, '__name__', 'long')}: {error}", flush=True)
+    print(f"{len(checks) - failed} passed, {failed} failed")
+    return 1 if failed else 0
+
+
+if __name__ == "__main__":
+    sys.exit(main())
