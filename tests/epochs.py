@@ -198,6 +198,9 @@ def slots_over_many_epochs():
             expect(replies[5:8] == ["ERR 2 question", "ERR 2 question", "ERR 1 line"], f"{replies}")
             expect(replies[8:13] == ["ERR 3 bit", "ERR 1 line", "ERR 1 line", "ERR 1 line", "ERR 1 line"], f"{replies}")
             expect(replies[13] in (f"HAVE {bits[0]}", "OK"), f"{replies}")
+            # Slots past the epoch in front, and slots of epochs that have ended, in lines that aren't as they are to be.
+            replies = desk.ask("PROPOSE 700 2", "PROPOSE 701", "PROPOSE 702 1 1", "ASK 700 1", "STATE 3 x", "AWAIT 3 ", "STATE 700", "ASK 3")
+            expect(replies == ["ERR 3 bit", *["ERR 1 line"] * 5, "UNPROPOSED", f"DECIDED {bits[3]}"], f"{replies}")
         names = sorted(os.listdir(it.journals(0)), key=lambda name: int(name.split(".")[0]))
         expect(names[:11] == [f"{epoch}.journal" for epoch in range(11)], f"{names}")
 
@@ -302,6 +305,20 @@ def ends():
         it.runs[0].send_signal(signal.SIGTERM)
         expect(it.runs[0].wait(5) in (0, -signal.SIGTERM), f"ends with {it.runs[0].returncode}")
         del it.runs[0]
+        # Nor does a link or a client that says nothing hold it up: SIGTERM is blocked from the start, as a supervisor may have it.
+        blocked = ["env", "--block-signal=TERM,INT", PROGRAM, "run", "--stay", it.settings(0)]
+        with subprocess.Popen(blocked, stdout=subprocess.PIPE) as run:
+            expect(run.stdout.readline() == b"member 0 ready\n", "isn't ready")
+            silent = [socket.create_connection(("127.0.0.1", port)) for port in (it.port, it.port, it.port + 50)]
+            time.sleep(0.5)
+            run.terminate()
+            try:
+                expect(run.wait(4) == 0, f"ends with {run.returncode}")
+            except subprocess.TimeoutExpired:
+                run.kill()
+                raise Wrong("a silent link holds its end up") from None
+            for stream in silent:
+                stream.close()
         os.remove(f"{it.journals(0)}/0.journal")
         for name in os.listdir(it.journals(0)):
             os.remove(f"{it.journals(0)}/{name}")

@@ -2,7 +2,8 @@
 """tests/scenes.py [PROGRAM [SCENE..]]
 
 Plays the scenes of tests/scenes.txt: members that run, peers and clients that this script plays, and what each has to see. PROGRAM is
-crates/bracha/out/bracha unless another is named. It takes the ports 26000 to 26999 and half a minute, with all scenes side by side.
+crates/bracha/out/bracha unless another is named. It takes ports from 26000 on, two for each member of a scene, and half a minute, with all
+scenes side by side.
 Prints what is wrong, and in its last line `N passed, M failed`; the status is 1 where M isn't 0.
 
 A scene is a line `scene NAME` and lines of steps up to the next one; `#` begins a comment. M is a member, P one that this script plays,
@@ -461,8 +462,8 @@ def main():
         waiting, port = {}, 26000
         for number, (name, steps) in enumerate(scenes.items()):
             os.makedirs(f"{room}/{number}")
-            waiting[name] = pool.submit(play, f"{room}/{number}", 26000 + 150 * (number % 6) + 8 * (number // 6), steps)
-            # Two ports a member: that of its links, and that of its desk.
+            waiting[name] = pool.submit(play, f"{room}/{number}", port, steps)
+            # Two ports a member, those of its links and its desk, which no other scene has: a member dials all of its peers.
             port += 2 * next(int(step.split(" ")[1]) for _, step in steps if step.startswith("cluster "))
         for name, found in waiting.items():
             wrong = found.result()

@@ -228,7 +228,6 @@ impl Switchboard {
         self.is_ended() || self.state.lock(rt).is_over(&self.chain, epoch)
     }
 
-    /// Waits until the epoch is to end.
     /// Waits until the epoch is to end, or its member is stopped. Its clients have two seconds to
     /// leave for another epoch.
     pub fn await_end<R: Wait + Clock>(&self, rt: &R, epoch: u64, stopped: &AtomicBool) {

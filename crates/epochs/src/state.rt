@@ -1,5 +1,9 @@
 //! The state that the switchboard guards: begin at `State`.
 
+ghost use Rattle.std.specs.Prelude.{ℕ, ◌≡◌, ◌⊎◌, Bool, None, Some, IfSome, slice_get};
+ghost use Rattle.epochs.specs.Verdicts.{verdict_at};
+ghost use Rattle.epochs.specs.declared.board.Stored.TheVariants.{Decided};
+
 use crate::board::{Doors, Report, Stored};
 use crate::inbox::Arrival;
 use chain::{Ask, Chain, Known};
@@ -68,7 +72,10 @@ impl Verdicts {
     }
 
     /// The question was decided for this bit. Of several decisions the first counts.
-    pub fn decide(&mut self, question: u16, bit: bool) -> Result<(), Memory> {
+    pub fn decide(&mut self, question: u16, bit: bool) -> Result<(), Memory>
+        ensures first { (verdict_at self.old question ≡ None → ⊥) → self.new ≡ self.old }
+        ensures told { (q : ℕ) (b : Bool) → verdict_at self.new q ≡ Some b → (verdict_at self.old q ≡ Some b) ⊎ ((q ≡ question) × (b ≡ bit)) }
+    {
         if self.of(question).is_some() || usize::from(question) >= self.cells.len() {
             return Ok(());
         }
@@ -94,7 +101,9 @@ impl Verdicts {
     }
 
     /// Returns the decision of the question, if it is known.
-    fn of(&self, question: u16) -> Option<bool> {
+    fn of(&self, question: u16) -> Option<bool>
+        ensures { result ≡ verdict_at self.now question }
+    {
         match self.cells.get(usize::from(question)) {
             Some(1) => Some(false),
             Some(2) => Some(true),
@@ -533,7 +542,9 @@ impl State {
     }
 
     /// Returns what is known of a question of an epoch that doesn't run; none of one that does.
-    pub(crate) fn stored(&self, epoch: u64, question: u16) -> Option<Stored> {
+    pub(crate) fn stored(&self, epoch: u64, question: u16) -> Option<Stored>
+        ensures { (bit : Bool) → result ≡ Some (Decided bit) → IfSome (slice_get self.now.verdicts.items epoch) (λ one. verdict_at one question ≡ Some bit) }
+    {
         if self.running_at(epoch).is_some() {
             return None;
         }

@@ -1,6 +1,7 @@
 //! A client's line that names a slot, as the desk of the slot's epoch reads it.
 
-ghost use Rattle.std.specs.Prelude.{◌≤◌, length};
+ghost use Rattle.std.specs.Prelude.{◌≡◌, ◌≤◌, ◌++◌, length, IfSome};
+ghost use Rattle.epochs.specs.Lines.{NamesSlot, verb_text};
 
 use crate::said::Said;
 use itoa::Buffer;
@@ -26,7 +27,9 @@ pub enum Verb {
 
 impl Verb {
     /// Returns the word and the space behind it.
-    pub fn text(self) -> &'static str {
+    pub fn text(self) -> &'static str
+        ensures { result.now ≡ verb_text self }
+    {
         match self {
             Verb::Propose => "PROPOSE ",
             Verb::Ask => "ASK ",
@@ -49,7 +52,9 @@ pub struct SlotLine<'a> {
 }
 
 /// Returns the word that such a line begins with, and what stands behind it.
-fn verb_of(line: &[u8]) -> Option<(Verb, &[u8])> {
+fn verb_of(line: &[u8]) -> Option<(Verb, &[u8])>
+    ensures { IfSome result (λ found. line.now ≡ verb_text found.0 ++ found.1.now) }
+{
     if let Some(rest) = behind(line, "PROPOSE ") {
         return Some((Verb::Propose, rest));
     }
@@ -80,7 +85,9 @@ fn digits_of(text: &[u8]) -> usize
 
 /// Returns the slot that a line names. `None` if it is no line that names one in one to 20 decimal
 /// digits: the desk answers it as it stands.
-pub fn slot_line(line: &[u8]) -> Option<SlotLine<'_>> {
+pub fn slot_line(line: &[u8]) -> Option<SlotLine<'_>>
+    ensures { IfSome result (NamesSlot line.now) }
+{
     let (verb, text) = verb_of(line)?;
     let count = digits_of(text);
     if count == 0 || count > DIGITS {
@@ -113,6 +120,15 @@ impl SlotLine<'_> {
         said.extend(digits.format(question).as_bytes());
         said.extend(self.rest);
         said
+    }
+
+    /// Returns `true` if the desk of the slot's epoch would take the line: it proposes a bit, or
+    /// nothing stands behind the slot of another word.
+    pub fn is_whole(&self) -> bool {
+        match self.verb {
+            Verb::Propose => self.proposes(),
+            _ => matches!(self.rest, [] | [b'\r']),
+        }
     }
 
     /// Returns `true` if the line proposes a bit.

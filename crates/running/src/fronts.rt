@@ -6,6 +6,7 @@ use crate::fault::RunFault;
 use crate::machine::Machine;
 use crate::places::GREETINGS;
 use crate::run::{Operator, listen, local_door};
+use crate::sockets::shut;
 use epochs::{Arrival, Said, Switchboard};
 use std::io::Read;
 use std::net::{IpAddr, SocketAddr, TcpStream};
@@ -33,25 +34,59 @@ pub struct Fronts {
     pub hosts: Option<Vec<IpAddr>>,
 }
 
-/// The hosts of the links whose Hello is awaited.
+/// A link whose Hello is awaited.
+#[derive(Drop)]
+struct Greeter {
+    number: u64,
+    host: IpAddr,
+    /// A copy of its socket, by which the end shuts it down.
+    socket: TcpStream,
+}
+
+/// The links whose Hello is awaited. Each has a number of its own.
 #[derive(Drop)]
 struct Greeters {
-    hosts: Vec<IpAddr>,
+    waiting: Vec<Greeter>,
+    next: u64,
 }
 
 impl Greeters {
-    /// One more greets from the host: `false` if as many as its share do already, or 64 in all.
-    fn enter(&mut self, host: IpAddr, share: usize) -> bool {
-        let from_there = self.hosts.iter().filter(|one| **one == host).count();
-        self.hosts.len() < GREETINGS as usize && from_there < share && self.hosts.push(host).is_ok()
+    /// One more greets from the host, and this is its number. `None` if as many as its share do
+    /// already, or 64 in all, or if the system refuses a copy of its socket.
+    fn enter(&mut self, host: IpAddr, socket: &TcpStream, share: usize) -> Option<u64> {
+        let from_there = self.waiting.iter().filter(|one| one.host == host).count();
+        if self.waiting.len() >= GREETINGS as usize || from_there >= share {
+            return None;
+        }
+        let Ok(socket) = socket.try_clone() else {
+            return None;
+        };
+        let number = self.next;
+        self.next = number.wrapping_add(1);
+        let greeter = Greeter {
+            number,
+            host,
+            socket,
+        };
+        if self.waiting.push(greeter).is_err() {
+            return None;
+        }
+        Some(number)
     }
 
-    /// One has greeted from the host, or has gone.
-    fn leave(&mut self, host: IpAddr) {
-        if let Some(at) = self.hosts.iter().position(|one| *one == host) {
-            if at < self.hosts.len() {
-                self.hosts.swap_remove(at);
+    /// The one of that number has greeted, or has gone.
+    fn leave(&mut self, number: u64) {
+        if let Some(at) = self.waiting.iter().position(|one| one.number == number) {
+            if at < self.waiting.len() {
+                self.waiting.swap_remove(at);
             }
+        }
+    }
+
+    /// Shuts all of their sockets down, so that nobody is waited for.
+    fn shut(&self) {
+        for one in &self.waiting {
+            shut(&one.socket);
         }
     }
 }
@@ -141,7 +176,8 @@ fn accept_links<R: Machine>(
     hosts: &Option<Vec<IpAddr>>,
 ) {
     let greeters = Mutex::new(Greeters {
-        hosts: Vec::new(board.alloc()),
+        waiting: Vec::new(board.alloc()),
+        next: 0,
     });
     let (greeters, share) = (&greeters, share_of(hosts));
     thread::scope(thread::scope_env(), rt, |scope| {
@@ -149,17 +185,21 @@ fn accept_links<R: Machine>(
             let Some(Arrival { socket, host, .. }) = next(rt, board, listener) else {
                 break;
             };
-            if !is_let_in(hosts, host) || !greeters.lock(rt).enter(host, share) {
+            if !is_let_in(hosts, host) {
                 continue;
             }
+            let Some(number) = greeters.lock(rt).enter(host, &socket, share) else {
+                continue;
+            };
             let greets = move || {
                 hand_on(rt, board, hosts, socket, host);
-                greeters.lock(rt).leave(host);
+                greeters.lock(rt).leave(number);
             };
             if scope.spawn(greets).is_err() {
-                greeters.lock(rt).leave(host);
+                greeters.lock(rt).leave(number);
             }
         }
+        greeters.lock(rt).shut();
     });
 }
 

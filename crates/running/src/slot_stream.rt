@@ -185,8 +185,10 @@ impl<D: Disk, J: Life, R: Wait> SlotLines<'_, D, J, R> {
             return Turn::Here(line.for_question(slot.question));
         }
         match self.chain.board.stored(self.rt, slot.epoch, slot.question) {
+            // The desk of this epoch says what is wrong with it.
+            Some(_) if !line.is_whole() => Turn::Here(line.for_question(0)),
             Some(stored) => {
-                if stored == Stored::Ahead && line.proposes() {
+                if stored == Stored::Ahead && line.verb == Verb::Propose {
                     self.chain.board.note_proposal(self.rt, slot.epoch);
                 }
                 stored_turn(stored, line.verb, slot.epoch)
