@@ -1,6 +1,7 @@
 //! The state that the switchboard guards: begin at `State`.
 
-ghost use Rattle.std.specs.Prelude.{ℕ, ◌≡◌, ◌⊎◌, Bool, None, Some, IfSome, slice_get};
+ghost use Rattle.std.specs.Prelude.{ℕ, ◌≡◌, ◌⊎◌, Bool, None, Some, IfSome, length, map, slice_get};
+ghost use Rattle.epochs.specs.Opens.{least, first_open};
 ghost use Rattle.epochs.specs.Verdicts.{verdict_at};
 ghost use Rattle.epochs.specs.declared.board.Stored.TheVariants.{Decided};
 
@@ -160,6 +161,39 @@ impl Running {
     }
 }
 
+/// Returns the least of this number and of the epochs that run.
+fn least_running(first: u64, running: &[Running]) -> u64
+    ensures { result ≡ least first (map (λ one. one.epoch) running.now) }
+{
+    let mut least = first;
+    for one in running {
+        least = least.min(one.epoch);
+    }
+    least
+}
+
+/// Returns the least of this number and of these epochs.
+fn least_of(first: u64, epochs: &[u64]) -> u64
+    ensures { result ≡ least first epochs.now }
+{
+    let mut least = first;
+    for epoch in epochs {
+        least = least.min(*epoch);
+    }
+    least
+}
+
+/// Returns the least of this number and of the epochs that are asked for.
+fn least_asked(first: u64, asks: &[Ask]) -> u64
+    ensures { result ≡ least first (map (λ ask. ask.epoch) asks.now) }
+{
+    let mut least = first;
+    for ask in asks {
+        least = least.min(ask.epoch);
+    }
+    least
+}
+
 /// A connection that waits for an epoch that doesn't run yet.
 #[derive(Drop)]
 struct Parked {
@@ -220,8 +254,20 @@ impl State {
     }
 
     /// Returns how many epochs have a journal, or had one.
-    pub(crate) fn made(&self) -> u64 {
+    pub(crate) fn made(&self) -> u64
+        ensures { result ≡ length self.now.verdicts.items }
+    {
         self.verdicts.len() as u64
+    }
+
+    /// Returns the first epoch that isn't closed here: it runs, isn't done, or is asked for. If
+    /// there is none, that is the first without a journal.
+    pub(crate) fn first_open(&self) -> u64
+        ensures { result ≡ first_open self.now }
+    {
+        let running = least_running(self.made(), self.running.as_slice());
+        let undone = least_of(running, self.undone.as_slice());
+        least_asked(undone, self.asks.as_slice())
     }
 
     /// Adds the next epoch whose journal is there.
