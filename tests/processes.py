@@ -501,7 +501,7 @@ def a_member_that_stays_ends_once_it_is_stopped(folder, port):
             link.sendall(struct.pack(">HBQ", 9, 2, 5))
             is_so = ended(process, limit=10)
     expect("what it prints", (is_so.printed, is_so.status), ("member 0 ready\n", 1))
-    expect("what it says", "bracha: forgotten\n" in is_so.said, True)
+    fits("what it says", is_so.said, ["stopped", "bracha: forgotten", "member.journal.forgotten: .."])
     expect("the files", sorted(os.listdir(folder)), ["member.journal.forgotten", "member.toml"])
 
 
