@@ -324,9 +324,9 @@ def a_wait_has_an_end(folder, port):
         process = begun(folder, ["ask", "--wait", f"127.0.0.1:{port}", "5"])
         replies(desk, b"ASK 5\n", b"ERR 2 question\n")
         expect("a refusal", ended(process), ("ERR 2 question\n", "", 1))
-        process = begun(folder, ["ask", "--wait", "--timeout", "1", f"127.0.0.1:{port}", "5"])
+        process = begun(folder, ["ask", "--wait", "--timeout", "3", f"127.0.0.1:{port}", "5"])
         replies(desk, b"ASK 5\n", b"UNDECIDED\n")
-        expect("a second", ended(process), ("UNDECIDED\n", "", 1))
+        expect("three seconds", ended(process), ("UNDECIDED\n", "", 1))
 
 
 @check
@@ -461,7 +461,7 @@ def a_signal_ends_a_member(folder, port):
                                          ("run --stay", block, signal.SIGINT, 0), ("run --stay", None, signal.SIGTERM, -signal.SIGTERM)):
         with living(folder, [*words.split(), "--log", "member.toml"], front=front) as process:
             process.send_signal(number)
-            expect("it ends", is_over(process, 5), True)
+            expect("it ends", is_over(process, 10), True)
             is_so = ended(process)
         # One that is cut off may not have come to its first line.
         lines = lines_of(is_so.said) if status == 0 else [it for it in lines_of(is_so.said) if it != "log ready member 0"]
@@ -491,8 +491,7 @@ def a_member_that_stays_ends_once_it_is_stopped(folder, port):
     """A member of two that has lost its journal ends as `forgotten` once its peer says that it has heard more; the journal is put aside."""
     write(folder, "member.toml", settings(0, [f"127.0.0.1:{port}", f"127.0.0.1:{port + 1}"], f"127.0.0.1:{port + 2}"))
     expect("init", say(folder, "init", "member.toml"), ("", "", 0))
-    with desk_at(port + 1) as peer:
-        process = begun(folder, ["run", "--stay", "member.toml"])
+    with desk_at(port + 1) as peer, living(folder, ["run", "--stay", "member.toml"], stdin=subprocess.DEVNULL) as process:
         link, _ = peer.accept()
         with link:
             link.settimeout(5)
@@ -500,7 +499,7 @@ def a_member_that_stays_ends_once_it_is_stopped(folder, port):
             expect("its greeting", link.recv(18, socket.MSG_WAITALL), hello)
             link.sendall(struct.pack(">HBQ", 9, 2, 5))
             is_so = ended(process, limit=10)
-    expect("what it prints", (is_so.printed, is_so.status), ("member 0 ready\n", 1))
+    expect("how it ends", (is_so.printed, is_so.status), ("", 1))
     fits("what it says", is_so.said, ["stopped", "bracha: forgotten", "member.journal.forgotten: .."])
     expect("the files", sorted(os.listdir(folder)), ["member.journal.forgotten", "member.toml"])
 
@@ -519,7 +518,7 @@ def hear_answers_at_once(folder, _):
         process = begun(folder, "hear --n 4 --t 1 --questions 2 --me 3".split(), stdin=subprocess.PIPE, stdout=heard)
     process.stdin.write(b"3 00080301000103010101\n")
     process.stdin.flush()
-    soon(lambda: read(folder, "heard"), 5)
+    soon(lambda: read(folder, "heard"), 10)
     answered = read(folder, "heard")
     expect("the end", ended(process), ("", "", 0))
     expect("at once, and at the end", (answered, read(folder, "heard")), (answer, answer))
@@ -593,6 +592,7 @@ class Cluster:
         """The member's journal has two decisions, for 0 and then for 1, and as many records as are counted."""
         printed = say(self.folder, "dump", f"{me}.journal").printed.splitlines()
         expect("the header", printed[0], f"cluster 7 n 4 t 1 questions 2 me {me}")
+        expect("three records or more", len(printed) > 3, True)
         decided = [re.sub(r" \d+ ", " R ", it[8:]) for it in printed if it.startswith("decided ")]
         expect(f"the decisions of member {me}", decided, ["0 R 0", "1 R 1"])
         expect("dump --count", say(self.folder, "dump", "--count", f"{me}.journal"), (f"{len(printed) - 1}\n", "", 0))
