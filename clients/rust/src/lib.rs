@@ -21,19 +21,25 @@
 
 mod board;
 mod cluster;
+mod course;
 mod error;
+mod follow;
 mod follower;
+mod guarded;
 mod halt;
 mod line;
 mod reading;
 mod reply;
 mod settings;
+mod window;
 mod wire;
+mod workers;
 
-pub use cluster::{Cluster, Follow, FollowMember, PATIENCE};
+pub use cluster::{Cluster, PATIENCE};
 pub use error::Error;
+pub use follow::{Follow, FollowMember};
 pub use reading::Reading;
-pub use reply::{Answer, Decision, Stage, State, Status};
+pub use reply::{Answer, Decision, Refusal, Stage, State, Status};
 pub use settings::Settings;
 
 /// The example of the README, which the tests of the documentation compile.

@@ -35,7 +35,7 @@ fn a_liar_and_kills_at_each_place() {
     let Some(members) = Members::start(400) else { return };
     let all = Settings::read(members.folder.join("client.toml")).unwrap();
     let liar = liar(400);
-    let expected = |question: u16| question % 2 == 1;
+    let expected = |question: u64| question % 2 == 1;
     for place in 0..4 {
         let mut desks = all.desks().to_vec();
         desks[place] = liar.address;
@@ -59,10 +59,10 @@ fn a_liar_and_kills_at_each_place() {
                     thread::sleep(Duration::from_millis(100));
                 }
             });
-            let askers: Vec<_> = (0..20u16)
+            let askers: Vec<_> = (0..20u64)
                 .map(|part| {
                     scope.spawn(move || {
-                        for question in (0..5).map(|it| 100 * place as u16 + 5 * part + it) {
+                        for question in (0..5).map(|it| 100 * place as u64 + 5 * part + it) {
                             let bit = expected(question);
                             other.propose(question, bit, PATIENCE).unwrap();
                             assert_eq!(cluster.decide(question, bit, MINUTE), Ok(bit));

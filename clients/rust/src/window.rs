@@ -1,0 +1,140 @@
+use crate::guarded::Guarded;
+use crate::{Decision, Reading, Settings};
+use std::collections::VecDeque;
+use std::time::Instant;
+
+/// The most slots that are kept, unless four epochs have more.
+const SLOTS: u64 = 8192;
+
+/// The least epochs that are kept.
+const EPOCHS: u64 = 4;
+
+/// The readings of an epoch's slots, and the number of those that believe a decision.
+struct Epoch {
+    readings: Vec<Option<Reading>>,
+    believed: u64,
+}
+
+struct State {
+    /// The oldest epoch that is kept. None before it is.
+    first: u64,
+    /// That epoch and those after it, as far as members told slots of them.
+    epochs: VecDeque<Epoch>,
+    /// The newest epoch of which each member told a slot.
+    reached: Vec<u64>,
+    /// Decisions that are believed and that nobody took yet.
+    decisions: VecDeque<Decision>,
+    has_ended: bool,
+}
+
+/// The decisions of a chain as more than t members tell them, each once, for one who takes them.
+///
+/// It keeps the slots of some epochs in a row. The oldest is dropped once all its slots are decided,
+/// or once n - t members are past the newest: more than t of these are correct, so what correct
+/// members told of the oldest in time is believed by then. A member that is past the newest has to
+/// wait, and so have all while too many decisions aren't taken. So the size is bounded, whatever
+/// members tell.
+pub(crate) struct Window {
+    settings: Settings,
+    questions: u64,
+    /// The most epochs that are kept.
+    most: u64,
+    state: Guarded<State>,
+}
+
+impl Window {
+    /// Creates a window that begins with this slot's epoch.
+    pub(crate) fn new(settings: &Settings, slot: u64) -> Window {
+        let questions = u64::from(settings.questions());
+        let state = State {
+            first: slot / questions,
+            epochs: VecDeque::new(),
+            reached: vec![0; settings.n()],
+            decisions: VecDeque::new(),
+            has_ended: false,
+        };
+        Window {
+            settings: settings.clone(),
+            questions,
+            most: EPOCHS.max(SLOTS / questions),
+            state: Guarded::new(state),
+        }
+    }
+
+    /// Takes a member's word on a slot, as soon as there is room for it. It is dropped if the slot's
+    /// epoch isn't kept any more, and after the end.
+    pub(crate) fn take(&self, member: usize, slot: u64, bit: bool) {
+        let epoch = slot / self.questions;
+        if self.reach(&mut self.state.lock(), member, epoch) {
+            self.state.notify();
+        }
+        let is_new = self.state.until(None, |state| {
+            if state.has_ended {
+                return Some(false);
+            }
+            self.has_room(state, epoch)
+                .then(|| epoch >= state.first && self.note(state, member, slot, bit))
+        });
+        if is_new == Some(true) {
+            self.state.notify();
+        }
+    }
+
+    fn has_room(&self, state: &State, epoch: u64) -> bool {
+        let is_kept = epoch < state.first || epoch - state.first < self.most;
+        is_kept && (state.decisions.len() as u64) < SLOTS
+    }
+
+    /// Notes that a member told a slot of this epoch. Returns `true` if the oldest epochs are dropped
+    /// because n - t members are past the newest.
+    fn reach(&self, state: &mut State, member: usize, epoch: u64) -> bool {
+        state.reached[member] = epoch.max(state.reached[member]);
+        let mut reached = state.reached.clone();
+        reached.sort_unstable();
+        let common = reached[self.settings.t()]; // n - t members have come so far
+        let first = common.saturating_sub(self.most - 1);
+        if first <= state.first {
+            return false;
+        }
+        let dropped = state.epochs.len().min((first - state.first) as usize);
+        state.epochs.drain(..dropped);
+        state.first = first;
+        true
+    }
+
+    /// Notes a word on a slot that is kept. Returns `true` if its decision is believed by that.
+    fn note(&self, state: &mut State, member: usize, slot: u64, bit: bool) -> bool {
+        let place = (slot / self.questions - state.first) as usize;
+        while state.epochs.len() <= place {
+            let readings = vec![None; self.questions as usize];
+            state.epochs.push_back(Epoch { readings, believed: 0 });
+        }
+        let epoch = &mut state.epochs[place];
+        let reading = &mut epoch.readings[(slot % self.questions) as usize];
+        let reading =
+            reading.get_or_insert_with(|| Reading::new(self.settings.n(), self.settings.t()));
+        let before = reading.decision();
+        reading.take(member, bit);
+        let (None, Some(bit)) = (before, reading.decision()) else { return false };
+        epoch.believed += 1;
+        state.decisions.push_back(Decision { question: slot, bit, number: None });
+        while state.epochs.front().is_some_and(|epoch| epoch.believed == self.questions) {
+            state.epochs.pop_front();
+            state.first += 1;
+        }
+        true
+    }
+
+    /// Returns the next decision, or `None` at the deadline.
+    pub(crate) fn next(&self, deadline: Option<Instant>) -> Option<Decision> {
+        let decision = self.state.until(deadline, |state| state.decisions.pop_front());
+        self.state.notify();
+        decision
+    }
+
+    /// Lets nobody wait any more who tells a word.
+    pub(crate) fn end(&self) {
+        self.state.lock().has_ended = true;
+        self.state.notify();
+    }
+}
