@@ -1,14 +1,14 @@
 use crate::guarded::Guarded;
 use crate::reply::{Refusal, Word, word_in};
 use crate::{Decision, Error, Reading, Settings};
-use std::collections::HashMap;
+use std::collections::{BTreeMap, HashMap};
 use std::time::Instant;
 
 /// What members say of one question.
 struct Entry {
     reading: Reading,
     /// The members that refuse the slot, with the cause of each.
-    refusals: Vec<(usize, Refusal)>,
+    refusals: BTreeMap<usize, Refusal>,
     /// The number of calls that want it.
     holders: usize,
 }
@@ -17,7 +17,7 @@ impl Entry {
     /// Returns the error of a slot that at least so many members refuse for one cause.
     fn refused_by(&self, least: usize) -> Option<Error> {
         let by = |cause| -> Vec<usize> {
-            let refusals = self.refusals.iter().filter(|(_, refusal)| *refusal == cause);
+            let refusals = self.refusals.iter().filter(|(_, refusal)| **refusal == cause);
             refusals.map(|(member, _)| *member).collect()
         };
         let (gone, far) = (by(Refusal::Gone), by(Refusal::TooFar));
@@ -53,7 +53,7 @@ impl Board {
 
     fn fresh(&self) -> Entry {
         let reading = Reading::new(self.settings.n(), self.settings.t());
-        Entry { reading, refusals: Vec::new(), holders: 0 }
+        Entry { reading, refusals: BTreeMap::new(), holders: 0 }
     }
 
     /// Returns what is known of a question, or `None` if nothing is to be.
@@ -101,10 +101,11 @@ impl Board {
     pub(crate) fn refuse(&self, member: usize, question: u64, refusal: Option<Refusal>) {
         let mut state = self.state.lock();
         let Some(entry) = self.entry(&mut state, question) else { return };
-        entry.refusals.retain(|(other, _)| *other != member);
         if let Some(refusal) = refusal {
-            entry.refusals.push((member, refusal));
+            entry.refusals.insert(member, refusal);
             self.state.notify();
+        } else {
+            entry.refusals.remove(&member);
         }
     }
 
@@ -157,5 +158,87 @@ impl Drop for Held<'_> {
         if self.board.settings.is_chain() && entry.holders == 0 {
             state.entries.remove(&self.question);
         }
+    }
+}
+
+#[cfg(test)]
+mod tests {
+    use super::Board;
+    use crate::reply::Refusal;
+    use crate::{Error, Settings};
+    use std::time::{Duration, Instant};
+
+    fn settings() -> Settings {
+        let desks = (1..=4).map(|port| format!("127.0.0.1:{port}").parse().unwrap()).collect();
+        Settings::new(7, 1, 16, desks).unwrap()
+    }
+
+    fn soon() -> Instant {
+        Instant::now() + Duration::from_millis(20)
+    }
+
+    #[test]
+    fn a_cluster_keeps_what_was_told() {
+        let board = Board::new(&settings());
+        board.take(0, 3, true);
+        board.take(1, 3, true);
+        board.take(0, 16, true);
+        assert_eq!(board.hold(3).decision(), Some(true));
+        assert_eq!(board.at(0, Some(soon())).map(|it| it.question), Some(3));
+        assert_eq!(board.at(1, Some(soon())), None);
+        assert_eq!(board.state.lock().entries.len(), 1);
+    }
+
+    #[test]
+    fn a_chain_keeps_only_what_calls_hold() {
+        let board = Board::new(&settings().in_chain());
+        let held = board.hold(70_000);
+        for slot in 0..100_000 {
+            (0..4).for_each(|member| board.take(member, slot, slot % 3 == 0));
+        }
+        assert_eq!(held.decision(), Some(false));
+        assert_eq!(board.hold(69_999).decision(), None); // it was told before
+        let again = board.hold(70_000);
+        drop(held);
+        assert_eq!(again.decision(), Some(false));
+        drop(again);
+        let state = board.state.lock();
+        assert_eq!((state.entries.len(), state.decisions.len()), (0, 0));
+    }
+
+    #[test]
+    fn a_slot_that_n_minus_t_refuse_is_not_waited_for() {
+        for (cause, error) in [
+            (Refusal::Gone, Error::Gone as fn(Vec<usize>) -> Error),
+            (Refusal::TooFar, Error::TooFar),
+        ] {
+            let board = Board::new(&settings().in_chain());
+            let held = board.hold(5);
+            board.take(3, 5, true);
+            board.refuse(0, 5, Some(cause));
+            board.refuse(0, 5, Some(cause));
+            assert_eq!(held.wait(soon()), None);
+            assert_eq!(held.failure(), Error::Undecided(vec![(3, true)]));
+            board.refuse(1, 5, Some(cause));
+            assert_eq!(held.wait(soon()), None); // two are left, and more than t
+            assert_eq!(held.failure(), error(vec![0, 1]));
+            board.refuse(2, 5, Some(cause));
+            assert_eq!(held.wait(soon()), Some(Err(error(vec![0, 1, 2]))));
+            board.refuse(1, 5, None);
+            assert_eq!(held.wait(soon()), None);
+            board.take(1, 5, true);
+            assert_eq!(held.wait(soon()), Some(Ok(true)));
+        }
+    }
+
+    #[test]
+    fn two_causes_are_not_mixed() {
+        let board = Board::new(&settings().in_chain());
+        let held = board.hold(5);
+        board.refuse(0, 5, Some(Refusal::Gone));
+        board.refuse(1, 5, Some(Refusal::TooFar));
+        board.refuse(2, 5, Some(Refusal::TooFar));
+        assert_eq!(held.wait(soon()), None);
+        assert_eq!(held.failure(), Error::TooFar(vec![1, 2]));
     }
 }

@@ -138,3 +138,127 @@ impl Window {
         self.state.notify();
     }
 }
+
+#[cfg(test)]
+mod tests {
+    use super::{SLOTS, Window};
+    use crate::Settings;
+    use std::thread;
+    use std::time::{Duration, Instant};
+
+    /// A window of a chain of four members, with epochs of so many slots.
+    fn window(questions: u16, slot: u64) -> Window {
+        let desks = (1..=4).map(|port| format!("127.0.0.1:{port}").parse().unwrap()).collect();
+        Window::new(&Settings::new(7, 1, questions, desks).unwrap().in_chain(), slot)
+    }
+
+    fn next(window: &Window) -> Option<(u64, bool)> {
+        let decision = window.next(Some(Instant::now() + Duration::from_millis(20)));
+        decision.map(|decision| (decision.question, decision.bit))
+    }
+
+    fn bit(slot: u64) -> bool {
+        slot % 3 == 0
+    }
+
+    #[test]
+    fn each_decision_once_more_than_t_tell_it() {
+        let window = window(4096, 0);
+        window.take(3, 5, true);
+        window.take(3, 5, false);
+        window.take(0, 9, false);
+        assert_eq!(next(&window), None);
+        window.take(0, 5, false);
+        window.take(1, 9, false);
+        window.take(1, 5, false);
+        (2..4).for_each(|member| window.take(member, 9, false));
+        window.take(2, 5, false);
+        assert_eq!([0; 3].map(|_| next(&window)), [Some((9, false)), Some((5, false)), None]);
+    }
+
+    #[test]
+    fn an_epoch_that_is_complete_is_dropped_and_not_told_again() {
+        let window = window(1, 7);
+        window.take(0, 6, true);
+        window.take(1, 6, true);
+        for member in 0..4 {
+            (7..100).for_each(|slot| window.take(member, slot, bit(slot)));
+        }
+        assert!((7..100).all(|slot| next(&window) == Some((slot, bit(slot)))));
+        assert_eq!(next(&window), None);
+        let state = window.state.lock();
+        assert_eq!((state.first, state.epochs.len()), (100, 0));
+    }
+
+    #[test]
+    fn a_liar_holds_nobody_up_and_fills_nothing() {
+        let (window, slots) = (window(64, 0), 100_000);
+        thread::scope(|scope| {
+            scope.spawn(|| (0..u64::MAX).step_by(64).all(|slot| tell(&window, 3, slot + 1)));
+            for member in 0..3 {
+                let window = &window;
+                scope.spawn(move || (0..slots).all(|slot| tell(window, member, slot)));
+            }
+            let mut told: Vec<u64> =
+                (0..slots).map(|_| window.next(None).unwrap().question).collect();
+            told.sort_unstable();
+            assert!(told.into_iter().eq(0..slots));
+            assert!(window.state.lock().epochs.len() <= 128);
+            window.end();
+        });
+    }
+
+    /// Tells a slot, and returns `true` until the end.
+    fn tell(window: &Window, member: usize, slot: u64) -> bool {
+        window.take(member, slot, bit(slot) != (member == 3));
+        !window.state.lock().has_ended
+    }
+
+    #[test]
+    fn one_that_is_ahead_waits_for_the_others() {
+        let window = window(64, 0);
+        thread::scope(|scope| {
+            scope.spawn(|| (0..50_000).all(|slot| tell(&window, 0, slot)));
+            scope.spawn(|| window.take(3, u64::MAX, true));
+            let reached =
+                |epoch| window.state.until(None, |it| (it.reached[0] == epoch).then_some(()));
+            reached(SLOTS / 64);
+            thread::sleep(Duration::from_millis(50));
+            reached(SLOTS / 64);
+            let slow = scope.spawn(|| (0..50_000).all(|slot| tell(&window, 1, slot)));
+            assert!((0..50_000).all(|slot| window.next(None).map(|it| it.question) == Some(slot)));
+            assert!(slow.join().unwrap());
+            window.end();
+        });
+    }
+
+    #[test]
+    fn a_slot_that_stays_open_is_passed() {
+        let window = window(4096, 0);
+        thread::scope(|scope| {
+            for member in 0..3 {
+                let window = &window;
+                scope.spawn(move || (1..50_000).all(|slot| tell(window, member, slot)));
+            }
+            let mut told: Vec<u64> =
+                (1..50_000).map(|_| window.next(None).unwrap().question).collect();
+            told.sort_unstable();
+            assert!(told.into_iter().eq(1..50_000));
+            assert!(window.state.lock().epochs.len() <= 4);
+        });
+    }
+
+    #[test]
+    fn who_takes_nothing_is_told_no_more() {
+        let window = window(16, 0);
+        thread::scope(|scope| {
+            for member in 0..2 {
+                let window = &window;
+                scope.spawn(move || (0..20_000).all(|slot| tell(window, member, slot)));
+            }
+            thread::sleep(Duration::from_millis(200));
+            assert!((window.state.lock().decisions.len() as u64) <= SLOTS + 1);
+            assert!((0..20_000).all(|slot| window.next(None).map(|it| it.question) == Some(slot)));
+        });
+    }
+}
