@@ -342,9 +342,10 @@ impl Cluster {
         let (board, again) = (self.board.clone(), again.clone());
         let patience = deadline.min(Instant::now() + PATIENCE);
         self.say(member, &proposal(question, bit), patience, move |reply| {
-            let reply = reply.unwrap_or_default();
-            board.refuse(member, question, refusal_in(&reply));
-            if stands_in(&reply, bit).is_none() {
+            if let Some(reply) = &reply {
+                board.refuse(member, question, refusal_in(reply));
+            }
+            if reply.and_then(|reply| stands_in(&reply, bit)).is_none() {
                 give(&again, member);
             }
         });

@@ -43,11 +43,11 @@ impl Drop for Stream {
     }
 }
 
-/// Where decisions come from that more than t members told.
+/// The source of decisions that more than t members told.
 pub(crate) enum Source<'a> {
-    /// The board, which keeps all of them, from this place on.
+    /// The cluster's board, which keeps all of them, from this place on.
     Board(&'a Board, usize),
-    /// Followers of one's own.
+    /// A stream of its own.
     Chain(Stream),
 }
 

@@ -4,6 +4,9 @@
 //! any t + 1 members is correct, and a correct member tells only decisions that it has saved.
 //! `README.md` says where that is proved.
 //!
+//! A question is a number below [`Settings::questions`]. If the members run a chain of epochs, which
+//! `client.toml` says by `chain = true`, it is a *slot*, any `u64`, and there is always a next one.
+//!
 //! ```no_run
 //! use bracha_client::{Cluster, PATIENCE};
 //! use std::time::Duration;

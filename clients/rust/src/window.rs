@@ -29,11 +29,10 @@ struct State {
 
 /// The decisions of a chain as more than t members tell them, each once, for one who takes them.
 ///
-/// It keeps the slots of some epochs in a row. The oldest is dropped once all its slots are decided,
-/// or once n - t members are past the newest: more than t of these are correct, so what correct
-/// members told of the oldest in time is believed by then. A member that is past the newest has to
-/// wait, and so have all while too many decisions aren't taken. So the size is bounded, whatever
-/// members tell.
+/// It keeps the slots of some epochs in a row. The oldest epoch is dropped once all its slots are
+/// decided, or once n - t members are past the newest: more than t of these are correct, so all that
+/// they told of the oldest is believed by then. A member that is past the newest waits, and all wait
+/// while too many decisions aren't taken. So the size is bounded, whatever members tell.
 pub(crate) struct Window {
     settings: Settings,
     questions: u64,
@@ -72,8 +71,8 @@ impl Window {
             if state.has_ended {
                 return Some(false);
             }
-            self.has_room(state, epoch)
-                .then(|| epoch >= state.first && self.note(state, member, slot, bit))
+            let has_room = self.has_room(state, epoch);
+            has_room.then(|| epoch >= state.first && self.note(state, member, slot, bit))
         });
         if is_new == Some(true) {
             self.state.notify();
@@ -110,9 +109,9 @@ impl Window {
             state.epochs.push_back(Epoch { readings, believed: 0 });
         }
         let epoch = &mut state.epochs[place];
+        let fresh = || Reading::new(self.settings.n(), self.settings.t());
         let reading = &mut epoch.readings[(slot % self.questions) as usize];
-        let reading =
-            reading.get_or_insert_with(|| Reading::new(self.settings.n(), self.settings.t()));
+        let reading = reading.get_or_insert_with(fresh);
         let before = reading.decision();
         reading.take(member, bit);
         let (None, Some(bit)) = (before, reading.decision()) else { return false };
@@ -125,7 +124,7 @@ impl Window {
         true
     }
 
-    /// Returns the next decision, or `None` at the deadline.
+    /// Takes the next decision, or returns `None` at the deadline.
     pub(crate) fn next(&self, deadline: Option<Instant>) -> Option<Decision> {
         let decision = self.state.until(deadline, |state| state.decisions.pop_front());
         self.state.notify();
@@ -220,11 +219,13 @@ mod tests {
         thread::scope(|scope| {
             scope.spawn(|| (0..50_000).all(|slot| tell(&window, 0, slot)));
             scope.spawn(|| window.take(3, u64::MAX, true));
-            let reached =
-                |epoch| window.state.until(None, |it| (it.reached[0] == epoch).then_some(()));
-            reached(SLOTS / 64);
-            thread::sleep(Duration::from_millis(50));
-            reached(SLOTS / 64);
+            for _ in 0..2 {
+                while window.state.lock().reached[0] < SLOTS / 64 {
+                    thread::sleep(Duration::from_millis(1));
+                }
+                assert_eq!(window.state.lock().reached[0], SLOTS / 64);
+                thread::sleep(Duration::from_millis(50)); // in which it could go on
+            }
             let slow = scope.spawn(|| (0..50_000).all(|slot| tell(&window, 1, slot)));
             assert!((0..50_000).all(|slot| window.next(None).map(|it| it.question) == Some(slot)));
             assert!(slow.join().unwrap());
