@@ -115,7 +115,7 @@ impl Cluster {
         if let Some(bit) = held.decision() {
             return Ok(Some(bit));
         }
-        let answered = self.ask_all(&held, question, after(timeout));
+        let answered = self.ask_all(&held, question, after(timeout), GRACE);
         if let Some(bit) = held.decision() {
             return Ok(Some(bit));
         }
@@ -172,12 +172,11 @@ impl Cluster {
     /// - [`Error::Thread`] if the system refused a thread.
     pub fn decide(&self, question: u64, bit: bool, timeout: Duration) -> Result<bool, Error> {
         self.check(question)?;
-        let held = self.board.hold(question);
-        if let Some(bit) = held.decision() {
-            return Ok(bit);
+        let (held, deadline) = (self.board.hold(question), after(timeout));
+        if let Some(known) = self.known(&held, question, deadline) {
+            return known;
         }
         self.start(question)?;
-        let deadline = after(timeout);
         let (sender, receiver) = channel();
         let propose = |member| self.propose_to(member, question, bit, deadline, &sender);
         (0..self.settings.n()).for_each(propose);
@@ -198,12 +197,12 @@ impl Cluster {
     /// - [`Error::Thread`] if the system refused a thread.
     pub fn wait(&self, question: u64, timeout: Duration) -> Result<bool, Error> {
         self.check(question)?;
-        let held = self.board.hold(question);
-        if let Some(bit) = held.decision() {
-            return Ok(bit);
+        let (held, deadline) = (self.board.hold(question), after(timeout));
+        if let Some(known) = self.known(&held, question, deadline) {
+            return known;
         }
         self.start(question)?;
-        self.settle(&held, question, after(timeout), || {})
+        self.settle(&held, question, deadline, || {})
     }
 
     /// Returns an iterator over decisions, for ever, over restarts of members: first those of
@@ -306,9 +305,34 @@ impl Cluster {
         replies
     }
 
-    /// Takes each member's word on a question, until a decision is believed, the last members have
-    /// had their time, or the deadline. Returns which members answered.
-    fn ask_all(&self, held: &Held<'_>, question: u64, deadline: Instant) -> Vec<bool> {
+    /// Returns the decision of a question, if it is known, or the error of a slot that n - t members
+    /// refuse. In a chain the members are asked for it: a proposal would make an epoch run again that
+    /// has ended.
+    fn known(
+        &self,
+        held: &Held<'_>,
+        question: u64,
+        deadline: Instant,
+    ) -> Option<Result<bool, Error>> {
+        if let Some(bit) = held.decision() {
+            return Some(Ok(bit));
+        }
+        if !self.settings.is_chain() {
+            return None;
+        }
+        self.ask_all(held, question, deadline, Duration::ZERO);
+        held.wait(Instant::now())
+    }
+
+    /// Takes each member's word on a question, until a decision is believed, the deadline, or this
+    /// grace after n - t members have answered. Returns which members answered.
+    fn ask_all(
+        &self,
+        held: &Held<'_>,
+        question: u64,
+        deadline: Instant,
+        grace: Duration,
+    ) -> Vec<bool> {
         let (sender, receiver) = channel();
         for member in 0..self.settings.n() {
             self.say(member, &format!("ASK {question}"), deadline, into(member, &sender));
@@ -324,7 +348,7 @@ impl Cluster {
             // n - t members answer whatever the faulty do. More may, but nobody is waited for.
             let count = answered.iter().filter(|answered| **answered).count();
             if answered[member] && count == self.settings.n() - self.settings.t() {
-                end = deadline.min(Instant::now() + GRACE);
+                end = deadline.min(Instant::now() + grace);
             }
         }
         answered
@@ -351,8 +375,8 @@ impl Cluster {
         });
     }
 
-    /// Waits for a decision, doing `again` every quarter of a second. In a chain it also asks every
-    /// second: a follower that is past the slot's epoch isn't told the decision.
+    /// Waits for a decision, doing `again` every quarter of a second. In a chain the members are asked
+    /// every second: a follower that is past the slot's epoch isn't told the decision.
     fn settle(
         &self,
         held: &Held<'_>,
@@ -363,7 +387,7 @@ impl Cluster {
         let (sender, receiver) = channel();
         let asked = if self.settings.is_chain() { 0..self.settings.n() } else { 0..0 };
         asked.for_each(|member| give(&sender, member));
-        let mut next = Instant::now();
+        let mut next = Instant::now() + POLL;
         loop {
             let now = Instant::now();
             if now >= next {

@@ -19,7 +19,7 @@ fn resident() -> u64 {
     line.split_whitespace().nth(1).unwrap().parse::<u64>().unwrap() * 1024
 }
 
-/// A desk that tells all slots to who follows, and the decision of any to who asks.
+/// A desk that tells all slots to who follows, and no decision to who asks.
 fn desk() -> Desk {
     Desk::new(|line, link| match line.strip_prefix("FOLLOW ") {
         Some(number) => {
@@ -33,7 +33,7 @@ fn desk() -> Desk {
             }
             link.rest(60.0)
         }
-        None => link.say("DECIDED 1\n"),
+        None => link.say("UNDECIDED\n"),
     })
 }
 
@@ -44,7 +44,7 @@ fn slots_without_end_take_bounded_memory() {
     let cluster = Cluster::new(Settings::new(7, 1, 64, addresses).unwrap().in_chain()).unwrap();
     let minute = Duration::from_secs(60);
     let begun = resident();
-    assert_eq!(cluster.wait(0, minute), Ok(true)); // its followers read on
+    assert_eq!(cluster.wait(0, minute), Ok(true)); // those that told it read on
     let mut followed = cluster.follow().unwrap();
     assert_eq!(followed.by_ref().take(SLOTS as usize).filter(|it| it.bit).count() as u64, SLOTS);
     let grown = resident().saturating_sub(begun);

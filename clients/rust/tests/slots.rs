@@ -98,7 +98,11 @@ fn what_followers_are_not_told_is_asked_for() {
     assert!(asked <= 5, "{asked}");
     let begun = Instant::now();
     assert_eq!(cluster.wait(6, 5 * SECOND), Ok(true)); // it was decided before
+    assert_eq!(cluster.decide(7, true, 5 * SECOND), Ok(true));
     assert!(begun.elapsed() < SECOND / 2, "{:?}", begun.elapsed());
+    assert!(
+        desks.iter().all(|desk| !desk.lines().iter().any(|line| line.starts_with("PROPOSE 7")))
+    );
 }
 
 #[test]
