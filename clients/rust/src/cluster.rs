@@ -19,7 +19,7 @@ const GRACE: Duration = Duration::from_millis(250);
 /// The time before a member that didn't take a proposal gets it again.
 const REST: Duration = Duration::from_millis(250);
 
-/// The time before a member is asked again for a slot that a call waits for.
+/// The longest time before a member is asked again for a slot that a call waits for.
 const POLL: Duration = Duration::from_secs(1);
 
 /// The threads that follow each member for all calls, and where each of them begins.
@@ -376,7 +376,8 @@ impl Cluster {
     }
 
     /// Waits for a decision, doing `again` every quarter of a second. In a chain the members are asked
-    /// every second: a follower that is past the slot's epoch isn't told the decision.
+    /// too, in the end every second: a follower may be held back by a slot that stays open, and one
+    /// that is past the slot's epoch isn't told the decision.
     fn settle(
         &self,
         held: &Held<'_>,
@@ -387,11 +388,13 @@ impl Cluster {
         let (sender, receiver) = channel();
         let asked = if self.settings.is_chain() { 0..self.settings.n() } else { 0..0 };
         asked.for_each(|member| give(&sender, member));
-        let mut next = Instant::now() + POLL;
+        let mut pause = REST;
+        let mut next = Instant::now() + pause;
         loop {
             let now = Instant::now();
             if now >= next {
-                next = now + POLL;
+                pause = POLL.min(2 * pause);
+                next = now + pause;
                 let due: Vec<usize> = receiver.try_iter().collect();
                 due.into_iter().for_each(|member| self.poll(member, question, deadline, &sender));
             }

@@ -206,6 +206,23 @@ fn slots_of_a_chain_that_are_far_or_gone() {
 }
 
 #[test]
+fn a_slot_that_was_left_out_is_decided_late() {
+    let Some(members) = Members::start_chain(8) else { return };
+    let path = members.folder.join("client.toml");
+    let cluster = Cluster::open(&path).unwrap();
+    decide_all(&cluster, 0..5);
+    decide_all(&cluster, 6..24); // followers are held back at slot 5
+    assert_eq!(cluster.ask(5, PATIENCE), Ok(None));
+    let another = Cluster::open(&path).unwrap();
+    thread::scope(|scope| {
+        let waits = scope.spawn(|| another.wait(5, MINUTE));
+        assert_eq!(cluster.decide(5, true, MINUTE), Ok(true));
+        assert_eq!(waits.join().unwrap(), Ok(true));
+    });
+    decide_all(&cluster, 24..32);
+}
+
+#[test]
 fn a_liar_and_kills_in_a_chain() {
     let Some(members) = Members::start_chain(16) else { return };
     let all = Settings::read(members.folder.join("client.toml")).unwrap();
