@@ -119,7 +119,7 @@ impl Window {
         state.decisions.push_back(Decision { question: slot, bit, number: None });
         while state.epochs.front().is_some_and(|epoch| epoch.believed == self.questions) {
             state.epochs.pop_front();
-            state.first += 1;
+            state.first = state.first.saturating_add(1);
         }
         true
     }
