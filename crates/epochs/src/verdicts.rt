@@ -44,7 +44,7 @@ impl Verdicts {
         })
     }
 
-    /// What these records of an epoch's journal say of its questions: of each the first decision.
+    /// Reads the records of an epoch's journal: of each question the first decision is known.
     pub fn of_records(
         alloc: Global,
         header: &Header,
