@@ -171,8 +171,9 @@ pub fn status_of_all<R: Caller>(
 
 /// The words of the members on their epochs, by their numbers.
 fn words_of(alloc: Global, all: Replies) -> Result<Vec<Told>, Fault> {
+    let Replies { replies, open: _ } = all;
     let mut words = Vec::new(alloc);
-    for reply in all.replies {
+    for reply in replies {
         words.push(told_of(reply)).map_err(|_| Fault::Memory)?;
     }
     Ok(words)
