@@ -4,4 +4,4 @@ use Rattle.commands.proofs.closing.least_from.Given as goal
 
 -- the least so far, and of the members that are left
 abbrev pub invariant-loop-one : goal.invariant-loop-one
-invariant-loop-one l = least_from l.least (drop l.one-index l.told) ≡ least_from l.first l.told
+invariant-loop-one l = least_from l.least (drop l.one-index l.told) ≡ least_from l.fn.first l.fn.told
