@@ -165,7 +165,7 @@ def client_file(folder, ports):
 @check
 def clients_give_up(folder, port):
     """Each command that speaks to a desk ends with its time, whether the desk is silent, at an address or a path, or can't be connected
-    to."""
+    to; one that is told no time waits half a minute for a reply."""
     full = socket.socket()
     full.bind(("127.0.0.1", port + 1))
     full.listen(0)
@@ -174,17 +174,17 @@ def clients_give_up(folder, port):
         filler.setblocking(False)
         filler.connect_ex(("127.0.0.1", port + 1))
 
-    def late(words):
+    def late(words, least=0, most=3):
         begun = time.monotonic()
-        said, status = say(["--quiet", *words], folder)
+        said, status = say(["--quiet", *words], folder, most + 9)
         took = time.monotonic() - begun
-        return differs(" ".join(words), (said, status, took < 3), ("bracha: no answer\n", 1, True))
+        return differs(f"{' '.join(words)} ({took:.1f} s)", (said, status, least < took < most), ("bracha: no answer\n", 1, True))
 
     local = socket.socket(socket.AF_UNIX)
     local.bind(f"{folder}/desk")
     local.listen(16)
-    with serving(port, lambda link: time.sleep(20)), concurrent.futures.ThreadPoolExecutor(32) as pool:
-        found = []
+    with serving(port, lambda link: time.sleep(60)), concurrent.futures.ThreadPoolExecutor(32) as pool:
+        found = [pool.submit(late, ["status", f"127.0.0.1:{port}"], 29, 40)]
         for desk in (f"127.0.0.1:{port}", f"127.0.0.1:{port + 1}", "unix:desk"):
             found += [pool.submit(late, words) for words in (
                 ["ask", "--timeout", "1", desk, "0"], ["propose", "--timeout", "1", desk, "0", "1"],

@@ -445,6 +445,3 @@ fn main(rt: HostRuntime) -> io::Result<ExitCode> {
     let held = hold_streams(&rt)?;
     end(&rt, run_own(&rt, &rt, &held))
 }
-
-#[cfg(test)]
-mod tests;

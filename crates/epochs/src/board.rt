@@ -121,6 +121,11 @@ impl Switchboard {
         self.state.lock(rt).newest
     }
 
+    /// Returns the first epoch that isn't closed here: it runs, isn't done, or a peer asks for it.
+    pub fn first_open<R: Wait>(&self, rt: &R) -> u64 {
+        self.state.lock(rt).first_open()
+    }
+
     /// Returns an epoch that is to run and doesn't, the oldest of these. It counts as running from
     /// now on, and these are its doors, at which those stand that waited for it.
     pub fn open_next<R: Wait>(&self, rt: &R) -> Result<Option<(u64, Doors)>, Memory> {

@@ -1,6 +1,10 @@
 //! The state that the switchboard guards: begin at `State`.
 
-ghost use Rattle.std.specs.Prelude.{ℕ, ◌≡◌, ◌⊎◌, Bool, None, Some, IfSome, slice_get};
+ghost use Rattle.std.specs.Prelude.{ℕ, ◌≡◌, ◌⊎◌, ◌<◌, Bool, false, None, Some, IfSome, IsTrue, length, map, slice_get};
+ghost use Rattle.chain.specs.Opening.{IsOpen};
+ghost use Rattle.chain.specs.Slots.{chain_size};
+ghost use Rattle.chain.specs.declared.opening.Known.{Known};
+ghost use Rattle.epochs.specs.Opens.{IsDue, IsKnown, MayRun, least, first_open, runs};
 ghost use Rattle.epochs.specs.Verdicts.{verdict_at};
 ghost use Rattle.epochs.specs.declared.board.Stored.TheVariants.{Decided};
 
@@ -160,6 +164,39 @@ impl Running {
     }
 }
 
+/// Returns the least of this number and of the epochs that run.
+fn least_running(first: u64, running: &[Running]) -> u64
+    ensures { result ≡ least first (map (λ one. one.epoch) running.now) }
+{
+    let mut least = first;
+    for one in running {
+        least = least.min(one.epoch);
+    }
+    least
+}
+
+/// Returns the least of this number and of these epochs.
+fn least_of(first: u64, epochs: &[u64]) -> u64
+    ensures { result ≡ least first epochs.now }
+{
+    let mut least = first;
+    for epoch in epochs {
+        least = least.min(*epoch);
+    }
+    least
+}
+
+/// Returns the least of this number and of the epochs that are asked for.
+fn least_asked(first: u64, asks: &[Ask]) -> u64
+    ensures { result ≡ least first (map (λ ask. ask.epoch) asks.now) }
+{
+    let mut least = first;
+    for ask in asks {
+        least = least.min(ask.epoch);
+    }
+    least
+}
+
 /// A connection that waits for an epoch that doesn't run yet.
 #[derive(Drop)]
 struct Parked {
@@ -220,8 +257,20 @@ impl State {
     }
 
     /// Returns how many epochs have a journal, or had one.
-    pub(crate) fn made(&self) -> u64 {
+    pub(crate) fn made(&self) -> u64
+        ensures { result ≡ length self.now.verdicts.items }
+    {
         self.verdicts.len() as u64
+    }
+
+    /// Returns the first epoch that isn't closed here: it runs, isn't done, or is asked for. If
+    /// there is none, that is the first without a journal.
+    pub(crate) fn first_open(&self) -> u64
+        ensures { result ≡ first_open self.now }
+    {
+        let running = least_running(self.made(), self.running.as_slice());
+        let undone = least_of(running, self.undone.as_slice());
+        least_asked(undone, self.asks.as_slice())
     }
 
     /// Adds the next epoch whose journal is there.
@@ -314,7 +363,9 @@ impl State {
     }
 
     /// Returns what the member knows of its chain.
-    fn known(&self) -> Known<'_> {
+    fn known(&self) -> Known<'_>
+        ensures { IsKnown self.now result }
+    {
         Known {
             newest: self.newest,
             undone: self.undone.as_slice(),
@@ -343,7 +394,9 @@ impl State {
     }
 
     /// Returns `true` if the epoch's journal was put away.
-    fn is_gone(&self, epoch: u64) -> bool {
+    fn is_gone(&self, epoch: u64) -> bool
+        ensures { result ≡ false → IfSome (slice_get self.now.verdicts.items epoch) (λ verdicts. 0 < length verdicts.cells.items) }
+    {
         match self.verdicts.get(epoch as usize) {
             Some(verdicts) => verdicts.cells.is_empty(),
             None => false,
@@ -352,7 +405,9 @@ impl State {
 
     /// Returns `true` if the epoch is to run, by the rules. One whose journal was put away never
     /// does.
-    fn is_to_run(&self, chain: &Chain, epoch: u64) -> bool {
+    fn is_to_run(&self, chain: &Chain, epoch: u64) -> bool
+        ensures { IsTrue result → MayRun chain.now self.now epoch }
+    {
         !self.is_gone(epoch) && chain.is_open(&self.known(), epoch)
     }
 
@@ -379,15 +434,19 @@ impl State {
     }
 
     /// Returns `true` if this epoch is to run, doesn't, and has room beside those that do.
-    fn is_due(&self, chain: &Chain, epoch: u64) -> bool {
-        self.running_at(epoch).is_none()
+    fn is_due(&self, chain: &Chain, epoch: u64) -> bool
+        ensures { IsTrue result → IsDue chain.now self.now epoch }
+    {
+        !self.runs(epoch)
             && self.is_to_run(chain, epoch)
             && (epoch >= self.newest || self.has_room())
     }
 
     /// Returns an epoch that is to run and doesn't: the newest, the one in front of it, or one of
     /// those for which somebody asks.
-    pub(crate) fn due(&self, chain: &Chain) -> Option<u64> {
+    pub(crate) fn due(&self, chain: &Chain) -> Option<u64>
+        ensures { IfSome result (IsDue chain.now self.now) }
+    {
         let front = self.newest.saturating_add(1);
         if self.is_due(chain, self.newest) {
             return Some(self.newest);
@@ -511,15 +570,18 @@ impl State {
         rests
     }
 
-    /// Returns `true` if an epoch that runs is to end: the rules say so; or nothing happens in it,
-    /// and another behind the newest waits for its place.
-    pub(crate) fn is_over(&self, chain: &Chain, epoch: u64) -> bool {
+    /// Returns `true` if an epoch that runs is to end: by the rules it isn't open.
+    pub(crate) fn is_over(&self, chain: &Chain, epoch: u64) -> bool
+        ensures { result ≡ false → (known : Known) → IsKnown self.now known → IsOpen (chain_size chain.now) known epoch }
+    {
         !chain.is_open(&self.known(), epoch)
     }
 
     /// Returns `true` if the epoch runs.
-    pub(crate) fn runs(&self, epoch: u64) -> bool {
-        self.running_at(epoch).is_some()
+    pub(crate) fn runs(&self, epoch: u64) -> bool
+        ensures { result ≡ runs self.now epoch }
+    {
+        self.running.iter().any(|one| one.epoch == epoch)
     }
 
     /// Returns `true` if the epoch is behind the newest, and no decision of it is to be waited for:

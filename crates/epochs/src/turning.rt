@@ -1,11 +1,11 @@
 //! A client's line that names a slot, as the desk of the slot's epoch reads it.
 
-ghost use Rattle.std.specs.Prelude.{◌≡◌, ◌≤◌, ◌++◌, length, IfSome};
+ghost use Rattle.std.specs.Prelude.{◌≡◌, ◌≤◌, ◌↔◌, ◌⊎◌, ◌++◌, codes, length, IfSome, IsTrue};
 ghost use Rattle.epochs.specs.Lines.{NamesSlot, verb_text};
 
 use crate::said::Said;
 use itoa::Buffer;
-use numerals::{behind, number};
+use numerals::{behind, is, number};
 
 /// The most decimal digits of a slot.
 const DIGITS: usize = 20;
@@ -108,6 +108,25 @@ pub fn follow_line(line: &[u8]) -> Option<u64> {
         return None;
     }
     number(&text[..count])
+}
+
+/// Returns `true` if a line asks which epochs are closed.
+pub fn asks_epochs(line: &[u8]) -> bool
+    ensures { IsTrue result ↔ ((line.now ≡ codes "EPOCHS") ⊎ (line.now ≡ codes "EPOCHS\r")) }
+{
+    is(line, "EPOCHS") || is(line, "EPOCHS\r")
+}
+
+/// Returns the reply: the first epoch that isn't closed, and the newest.
+pub fn epochs_reply(first: u64, newest: u64) -> Said {
+    let mut digits = Buffer::new();
+    let mut said = Said::nothing();
+    said.extend(b"EPOCHS ");
+    said.extend(digits.format(first).as_bytes());
+    said.extend(b" ");
+    said.extend(digits.format(newest).as_bytes());
+    said.extend(b"\n");
+    said
 }
 
 impl SlotLine<'_> {

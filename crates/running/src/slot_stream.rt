@@ -8,7 +8,7 @@ use crate::life::Life;
 use crate::shared::Shared;
 use crate::sockets::shut;
 use disk::Disk;
-use epochs::{Said, SlotLine, Stored, Verb, follow_line, slot_line};
+use epochs::{Said, SlotLine, Stored, Verb, asks_epochs, epochs_reply, follow_line, slot_line};
 use ghost_record::GhostRecord;
 use links::{Stream, StreamCall, StreamFault, Trace};
 use member::Sealed;
@@ -73,6 +73,8 @@ enum Turn {
     Away(u64),
     /// The line asks for decisions from this number on.
     Follows(u64),
+    /// The line asks which epochs are closed.
+    Epochs,
 }
 
 /// The stream of a client of a chain. Each line that names a slot of this epoch is read with its
@@ -206,6 +208,7 @@ impl<D: Disk, J: Life, R: Wait> SlotLines<'_, D, J, R> {
         }
         match slot_line(line) {
             Some(line) => self.turn_slot(&line),
+            None if asks_epochs(line) => Turn::Epochs,
             None => {
                 let mut plain = Said::nothing();
                 plain.extend(line);
@@ -226,6 +229,7 @@ impl<D: Disk, J: Life, R: Wait> SlotLines<'_, D, J, R> {
                     return Err(StreamFault);
                 }
             }
+            Turn::Epochs => self.tell_epochs()?,
             Turn::Away(epoch) => {
                 self.away = Some(Away::To(epoch));
                 return Ok(false);
@@ -240,6 +244,16 @@ impl<D: Disk, J: Life, R: Wait> SlotLines<'_, D, J, R> {
         self.waits = None;
         self.said.drop_front(length.saturating_add(end.len()));
         Ok(true)
+    }
+
+    /// Says the first epoch that isn't closed here, and the newest.
+    fn tell_epochs(&mut self) -> Result<(), StreamFault> {
+        let board = &self.chain.board;
+        let reply = epochs_reply(board.first_open(self.rt), board.newest(self.rt));
+        match self.socket.write_all(reply.bytes()) {
+            Ok(()) => Ok(()),
+            Err(_) => Err(StreamFault),
+        }
     }
 
     /// Waits for a change, after which the line is looked at anew. After ten seconds it is
@@ -324,7 +338,7 @@ impl<D: Disk, J: Life, R: Wait> SlotLines<'_, D, J, R> {
         }
         match self.turn_line(length) {
             Turn::Here(_) => true,
-            Turn::Reply(_) | Turn::Waits | Turn::Away(_) | Turn::Follows(_) => false,
+            Turn::Reply(_) | Turn::Epochs | Turn::Waits | Turn::Away(_) | Turn::Follows(_) => false,
         }
     }
 

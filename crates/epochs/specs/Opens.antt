@@ -1,0 +1,37 @@
+-- Which epochs run, and which are closed.
+use Rattle.std.specs.Prelude.{ℕ, ◌≡◌, ◌<◌, ◌==◌, Bool, List, [], ◌∷◌, false, length, map, min, slice_get, IfSome}
+use Rattle.std.specs.List.{list_any}
+use Rattle.chain.specs.Opening.{IsOpen}
+use Rattle.chain.specs.Slots.{chain_size}
+use Rattle.chain.specs.declared.opening.Known.{Known}
+use Rattle.chain.specs.declared.slots.Chain.{Chain}
+use Rattle.epochs.specs.declared.state.State.{State}
+
+-- what the state says of the chain
+pub record IsKnown (state : State) (known : Known) : Type 0 where
+  pub newest : known.newest ≡ state.newest
+  pub undone : known.undone.now ≡ state.undone.items
+  pub asks : known.asks.now ≡ state.asks.items
+
+-- by the chain's rule the epoch is open, and its journal wasn't put away
+pub record MayRun (chain : Chain) (state : State) (epoch : ℕ) : Type 0 where
+  pub opens : (known : Known) → IsKnown state known → IsOpen (chain_size chain) known epoch
+  pub kept : IfSome (slice_get state.verdicts.items epoch) (λ verdicts. 0 < length verdicts.cells.items)
+
+-- whether the epoch runs
+abbrev pub runs : State → ℕ → Bool
+runs state epoch = list_any (λ one. one.epoch == epoch) state.running.items
+
+-- it may run, and doesn't
+pub record IsDue (chain : Chain) (state : State) (epoch : ℕ) : Type 0 where
+  pub may : MayRun chain state epoch
+  pub rests : runs state epoch ≡ false
+
+-- the least of a number and of these
+abbrev pub least : ℕ → List ℕ → ℕ
+least first [] = first
+least first (epoch ∷ epochs) = least (min first epoch) epochs
+
+-- the first epoch that runs, isn't done or is asked for; else the first without a journal
+abbrev pub first_open : State → ℕ
+first_open state = least (least (least (length state.verdicts.items) (map (λ one. one.epoch) state.running.items)) state.undone.items) (map (λ ask. ask.epoch) state.asks.items)
