@@ -99,6 +99,12 @@ class Chain:
     def journals(self, me):
         return f"{self.folder}/{me}.epochs"
 
+    def client(self):
+        """The path of the client's settings."""
+        path = f"{self.folder}/client.toml"
+        write_client(path, [self.port + 50 + me for me in range(self.n)], self.t, self.questions)
+        return path
+
     def write_settings(self, me):
         peers = ", ".join(f'"127.0.0.1:{self.port + peer}"' for peer in range(self.n))
         with open(self.settings(me), "w", encoding="ascii") as file:
@@ -143,6 +149,19 @@ class Chain:
     def status(self, me, key):
         with open(f"/proc/{self.runs[me].pid}/status", encoding="ascii") as file:
             return int(re.search(rf"^{key}:\s+(\d+)", file.read(), re.M).group(1))
+
+
+def write_client(path, ports, t, questions):
+    desks = ", ".join(f'"127.0.0.1:{port}"' for port in ports)
+    with open(path, "w", encoding="ascii") as file:
+        file.write(f"cluster = {CLUSTER}\nn = {len(ports)}\nt = {t}\nquestions = {questions}\ndesks = [{desks}]\nchain = true\n")
+
+
+def told_epochs(client, *words):
+    """What `bracha epochs` prints, its status, and the seconds that it takes."""
+    begun = time.monotonic()
+    done = subprocess.run([PROGRAM, "epochs", *words, client], capture_output=True, text=True, check=False, timeout=60)
+    return done.stdout + done.stderr, done.returncode, time.monotonic() - begun
 
 
 def decide(desks, bits, slots, width=16):
@@ -351,6 +370,85 @@ def put_away():
         expect(done.returncode == 1 and b"3.journal" in done.stderr, f"{done.returncode} {done.stderr}")
 
 
+@contextlib.contextmanager
+def made_up_desks(port, replies):
+    """The path of the settings of a client of desks that reply so to `EPOCHS`. One that replies None says nothing."""
+    listeners = [socket.create_server(("127.0.0.1", port + me)) for me in range(len(replies))]
+    held = []
+
+    def answers(listener, reply):
+        with contextlib.suppress(OSError):
+            while True:
+                stream, _ = listener.accept()
+                held.append(stream)
+                if stream.makefile("rb").readline() == b"EPOCHS\n" and reply is not None:
+                    stream.sendall(reply)
+
+    for listener, reply in zip(listeners, replies):
+        threading.Thread(target=answers, args=(listener, reply), daemon=True).start()
+    with tempfile.TemporaryDirectory(prefix="epochs-") as folder:
+        write_client(f"{folder}/client.toml", [port + me for me in range(len(replies))], 0, 16)
+        try:
+            yield f"{folder}/client.toml"
+        finally:
+            for it in listeners + held:
+                with contextlib.suppress(OSError):
+                    it.shutdown(socket.SHUT_RDWR)
+                it.close()
+
+
+def epochs_of_made_up_desks():
+    """`bracha epochs` tells the least number if all tell one, `closed unknown` else, and ends with its time."""
+    with made_up_desks(27960, [b"EPOCHS 41 43\n", b"EPOCHS 40 43\n", b"EPOCHS 18446744073709551615 18446744073709551615\n"]) as client:
+        said, status, took = told_epochs(client)
+        most = 2**64 - 1
+        lines = f"member 0 closed 41 newest 43\nmember 1 closed 40 newest 43\nmember 2 closed {most} newest {most}\nclosed 40\n"
+        expect((said, status) == (lines, 0) and took < 5, f"all told: {said} {status} {took}")
+        said, status, _ = told_epochs(client, "--json")
+        objects = f'{{"member":0,"closed":41,"newest":43}},{{"member":1,"closed":40,"newest":43}},{{"member":2,"closed":{most},"newest":{most}}}'
+        expect((said, status) == (f'{{"members":[{objects}],"closed":40}}\n', 0), f"JSON: {said} {status}")
+    # One is silent, others have a number of 21 digits, one that is missing, one too many, and no reply of a desk.
+    strange = [b"EPOCHS 1 2\n", None, b"EPOCHS 123456789012345678901 5\n", b"EPOCHS 5\n", b"EPOCHS 5 6 7\n", b"ERR 1 line\n", b"\xff\x00\n", b"UP 5 1\n"]
+    with made_up_desks(27970, strange) as client:
+        said, status, took = told_epochs(client, "--timeout", "1.5")
+        replies = ["closed 1 newest 2", *["no answer"] * 4, "ERR 1 line", "no answer", "UP 5 1"]
+        lines = "".join(f"member {me} {reply}\n" for me, reply in enumerate(replies)) + "closed unknown\n"
+        expect((said, status) == (lines, 1) and 1.2 < took < 4, f"strange replies: {said} {status} {took}")
+        said, status, _ = told_epochs(client, "--json", "--timeout", "0.5")
+        nothing = ",".join(f'{{"member":{me},"closed":null,"newest":null}}' for me in range(1, 8))
+        expect((said, status) == (f'{{"members":[{{"member":0,"closed":1,"newest":2}},{nothing}],"closed":null}}\n', 1), f"JSON: {said} {status}")
+    said, status, _ = told_epochs("/nowhere/client.toml")
+    expect(status == 1 and said.startswith("bracha: file\n"), f"no file: {said} {status}")
+
+
+def closed_epochs():
+    """All members close old epochs, which `bracha epochs` tells; and not while one of them is down."""
+    with chain(27900) as it:
+        bits = drawn(96)
+        decide([it.desk(me) for me in range(4)], bits, range(96))
+        client = it.client()
+        begun = time.monotonic()
+        said, status, closed = "", 1, 0
+        while not closed and time.monotonic() < begun + 60:
+            time.sleep(0.5)
+            said, status, _ = told_epochs(client)
+            last = re.search(r"^closed (\d+)$", said, re.M)
+            closed = int(last.group(1)) if last else 0
+        expect(closed > 0 and status == 0, f"nothing is closed: {said} {status}")
+        print(f"  closed {closed} after {time.monotonic() - begun:.1f} s")
+        told = re.findall(r"^member (\d) closed (\d+) newest (\d+)$", said, re.M)
+        expect([int(me) for me, _, _ in told] == [0, 1, 2, 3] and closed == min(int(first) for _, first, _ in told), f"{said}")
+        expect(all(int(newest) == 5 and int(first) <= 6 for _, first, newest in told), f"{said}")
+        it.kill(2)
+        said, status, _ = told_epochs(client, "--timeout", "5")
+        expect(status == 1 and "\nmember 2 no answer\n" in said and said.endswith("\nclosed unknown\n"), f"one is down: {said} {status}")
+        for epoch in range(closed):
+            os.remove(f"{it.journals(2)}/{epoch}.journal")
+        it.start(2)
+        replies = it.desk(2).ask("ASK 0", f"ASK {16 * closed}")
+        expect(replies == ["ERR 5 gone", f"DECIDED {bits[16 * closed]}" if 16 * closed < 96 else "UNDECIDED"], f"{replies}")
+
+
 def new_cluster():
     """`new-cluster --epochs` writes settings of chains, `init` makes the first journal of each, and `check` names the folder."""
     folder = tempfile.mkdtemp(prefix="epochs-")
@@ -446,7 +544,8 @@ def thousand_epochs():
 
 
 def main():
-    checks = [slots_over_many_epochs, dumps_name_their_clusters, restarts, comeback, followers, quiet, ends, put_away, new_cluster, liar_and_kills]
+    checks = [slots_over_many_epochs, dumps_name_their_clusters, restarts, comeback, followers, quiet, ends, put_away, epochs_of_made_up_desks,
+              closed_epochs, new_cluster, liar_and_kills]
     if LONG:
         checks = [lambda: liar_and_kills(100_000, 200, questions=1024, width=256), thousand_epochs]
     failed = 0

@@ -524,8 +524,8 @@ def hear_answers_at_once(folder, _):
     expect("at once, and at the end", (answered, read(folder, "heard")), (answer, answer))
 
 
-COMMANDS = ["new-cluster", "init", "check", "run", "propose", "ask", "decide", "status", "transcript", "audit", "gateway", "dump", "migrate",
-            "simulate", "rounds", "hear"]
+COMMANDS = ["new-cluster", "init", "check", "run", "propose", "ask", "decide", "status", "transcript", "audit", "gateway", "epochs", "dump",
+            "migrate", "simulate", "rounds", "hear"]
 
 
 def uses_of(folder, command):

@@ -4,7 +4,7 @@ _bracha() {
     COMPREPLY=()
     [ "${COMP_WORDS[1]}" != --quiet ] || at=2
     if [ "$COMP_CWORD" -le "$at" ]; then
-        mapfile -t COMPREPLY < <(compgen -W "new-cluster init check run propose ask decide status transcript audit gateway dump migrate simulate rounds hear help --quiet --help --version" -- "$word")
+        mapfile -t COMPREPLY < <(compgen -W "new-cluster init check run propose ask decide status transcript audit gateway epochs dump migrate simulate rounds hear help --quiet --help --version" -- "$word")
         return
     fi
     case $before in
@@ -23,6 +23,7 @@ _bracha() {
     rounds) mapfile -t COMPREPLY < <(compgen -W "--n --t --liars --order --seeds --chart --quiet --help" -- "$word") ;;
     hear) mapfile -t COMPREPLY < <(compgen -W "--n --t --questions --me --quiet --help" -- "$word") ;;
     gateway) mapfile -t COMPREPLY < <(compgen -W "--listen --token --quiet --help" -f -- "$word") ;;
+    epochs) mapfile -t COMPREPLY < <(compgen -W "--json --timeout --quiet --help" -f -- "$word") ;;
     audit) mapfile -t COMPREPLY < <(compgen -W "--n --t --questions --all --timeout --quiet --help" -f -- "$word") ;;
     new-cluster) mapfile -t COMPREPLY < <(compgen -W "--n --t --questions --cluster --port --desk --epochs --quiet --help" -d -- "$word") ;;
     propose) mapfile -t COMPREPLY < <(compgen -W "--all --timeout --quiet --help" -f -- "$word") ;;
@@ -30,7 +31,7 @@ _bracha() {
     decide) mapfile -t COMPREPLY < <(compgen -W "--all --json --timeout --quiet --help" -f -- "$word") ;;
     status) mapfile -t COMPREPLY < <(compgen -W "--all --question --links --ready --json --timeout --quiet --help" -f -- "$word") ;;
     transcript) mapfile -t COMPREPLY < <(compgen -W "--all --timeout --quiet --help" -f -- "$word") ;;
-    help) mapfile -t COMPREPLY < <(compgen -W "new-cluster init check run propose ask decide status transcript audit gateway dump migrate simulate rounds hear" -- "$word") ;;
+    help) mapfile -t COMPREPLY < <(compgen -W "new-cluster init check run propose ask decide status transcript audit gateway epochs dump migrate simulate rounds hear" -- "$word") ;;
     esac
 }
 complete -o filenames -F _bracha bracha

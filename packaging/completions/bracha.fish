@@ -1,5 +1,5 @@
 # Completions of fish for bracha. Put it into ~/.config/fish/completions, /etc/fish/completions or /usr/share/fish/vendor_completions.d.
-set -l commands new-cluster init check run propose ask decide status transcript audit gateway dump migrate simulate rounds hear help
+set -l commands new-cluster init check run propose ask decide status transcript audit gateway epochs dump migrate simulate rounds hear help
 complete -c bracha -f
 complete -c bracha -n "not __fish_seen_subcommand_from $commands" -a new-cluster -d "Write the settings of a new cluster"
 complete -c bracha -n "not __fish_seen_subcommand_from $commands" -a init -d "Make the journal of a member"
@@ -12,6 +12,7 @@ complete -c bracha -n "not __fish_seen_subcommand_from $commands" -a status -d "
 complete -c bracha -n "not __fish_seen_subcommand_from $commands" -a transcript -d "Ask a member for what it heard of a decision"
 complete -c bracha -n "not __fish_seen_subcommand_from $commands" -a audit -d "Say whether a transcript is proof"
 complete -c bracha -n "not __fish_seen_subcommand_from $commands" -a gateway -d "Serve a cluster over HTTP"
+complete -c bracha -n "not __fish_seen_subcommand_from $commands" -a epochs -d "Print which epochs every member has closed"
 complete -c bracha -n "not __fish_seen_subcommand_from $commands" -a dump -d "Print a journal"
 complete -c bracha -n "not __fish_seen_subcommand_from $commands" -a migrate -d "Bring a journal of version 1 over"
 complete -c bracha -n "not __fish_seen_subcommand_from $commands" -a simulate -d "Run a script of a whole cluster"
@@ -21,7 +22,7 @@ complete -c bracha -n "not __fish_seen_subcommand_from $commands" -a help -d "Pr
 complete -c bracha -n "not __fish_seen_subcommand_from $commands" -l version -d "Print the version"
 complete -c bracha -l help -d "Print help"
 complete -c bracha -l quiet -d "One line for a fault"
-complete -c bracha -F -n "__fish_seen_subcommand_from new-cluster init check run propose ask decide status transcript audit gateway dump migrate simulate"
+complete -c bracha -F -n "__fish_seen_subcommand_from new-cluster init check run propose ask decide status transcript audit gateway epochs dump migrate simulate"
 complete -c bracha -n "__fish_seen_subcommand_from run" -l stay -d "Run until a signal"
 complete -c bracha -n "__fish_seen_subcommand_from run" -l any-host -d "Unsafe: take links from any host"
 complete -c bracha -n "__fish_seen_subcommand_from run" -l log -d "Tell events on standard error"
@@ -38,8 +39,8 @@ complete -c bracha -n "__fish_seen_subcommand_from status" -l ready -d "Whether 
 complete -c bracha -n "__fish_seen_subcommand_from status" -l question -x -d "How far a member is on a question"
 complete -c bracha -n "__fish_seen_subcommand_from propose ask decide status transcript audit" -l all -d "All members of a client.toml"
 complete -c bracha -n "__fish_seen_subcommand_from ask" -l wait -d "Until it is decided"
-complete -c bracha -n "__fish_seen_subcommand_from ask decide status check dump" -l json -d "Objects of JSON"
-complete -c bracha -n "__fish_seen_subcommand_from propose ask decide status transcript audit" -l timeout -x -d "Seconds to wait"
+complete -c bracha -n "__fish_seen_subcommand_from ask decide status epochs check dump" -l json -d "Objects of JSON"
+complete -c bracha -n "__fish_seen_subcommand_from propose ask decide status transcript audit epochs" -l timeout -x -d "Seconds to wait"
 complete -c bracha -n "__fish_seen_subcommand_from dump" -l count -d "How many records there are"
 complete -c bracha -n "__fish_seen_subcommand_from simulate" -l trace -r -F -d "A line for each event"
 complete -c bracha -n "__fish_seen_subcommand_from simulate" -l chart -r -F -d "A chart in SVG"

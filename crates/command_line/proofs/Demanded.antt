@@ -19,10 +19,10 @@ use Rattle.clap.specs.Kinds.{or_else}
 use Rattle.clap.proofs.ValueTestLemmas.{accepts-Accepts}
 use Rattle.clap.specs.declared.error.kind.ErrorKind.TheVariants.{DisplayHelp, InvalidSubcommand}
 use Rattle.clap.specs.declared.builder.value_parser.ValueParser.TheVariants as parser
-use Rattle.command_line.specs.Usage.{program_app, new_cluster_app, init_app, check_app, run_app, propose_app, ask_app, decide_app, status_app, transcript_app, audit_app, gateway_app, dump_app, migrate_app, simulate_app, rounds_app, hear_app}
+use Rattle.command_line.specs.Usage.{program_app, new_cluster_app, init_app, check_app, run_app, propose_app, ask_app, decide_app, status_app, transcript_app, audit_app, gateway_app, epochs_app, dump_app, migrate_app, simulate_app, rounds_app, hear_app}
 use Rattle.command_line.specs.Tasks.{AreFaultless, AskFor, HasFlag, HasNumberOption, IsAskedFor, MayHaveNumber, MayHaveText, Names as NamesTask, WritesNumber}
 use Rattle.command_line.specs.declared.tasks.Task.{Task}
-use Rattle.command_line.specs.declared.tasks.Task.TheVariants.{Hear, NewCluster, Init, Check, Run, Propose, Ask, Decide, Status, Transcript, Audit, Gateway, Simulate, Rounds, Dump, Migrate}
+use Rattle.command_line.specs.declared.tasks.Task.TheVariants.{Hear, NewCluster, Init, Check, Run, Propose, Ask, Decide, Status, Transcript, Audit, Gateway, Epochs, Simulate, Rounds, Dump, Migrate}
 use Rattle.command_line.proofs.Walking.{StopOk, left_of, not_some, right_of, same_under, walk_ok}
 use Rattle.command_line.proofs.Given.{IsSolid, given_in, perhaps_in, second_none}
 
@@ -267,6 +267,15 @@ gateway_demands words e =
     let token = text_in (codes "token") rows in
     (Gateway (at_some_place file.0) listen.0 token.0, (refl, file.1, listen.1, token.1))
 
+epochs_demands : Demanding epochs_app
+epochs_demands words e =
+    let solid : IsSolid (built_at epochs_app) = record { each = refl; apart = refl; demands = refl } in
+    let rows = rows_after (built_at epochs_app).rules [] words in
+    let file = given_in (built_at epochs_app) words solid e _ (inl refl) refl in
+    let json = flag_in (codes "json") rows in
+    let timeout = text_in (codes "timeout") rows in
+    (Epochs (at_some_place file.0) json.0 timeout.0, (refl, file.1, json.1, timeout.1))
+
 simulate_demands : Demanding simulate_app
 simulate_demands words e =
     let solid : IsSolid (built_at simulate_app) = record { each = refl; apart = refl; demands = refl } in
@@ -365,7 +374,7 @@ no_help s is q answers other e =
     plain false f = f
 
 all_items : Items (built program_app).subs
-all_items = ((λ q answers other e. new_cluster_demands q.1 e), ((λ q answers other e. init_demands q.1 e), ((λ q answers other e. check_demands q.1 e), ((λ q answers other e. run_demands q.1 e), ((λ q answers other e. propose_demands q.1 e), ((λ q answers other e. ask_demands q.1 e), ((λ q answers other e. decide_demands q.1 e), ((λ q answers other e. status_demands q.1 e), ((λ q answers other e. transcript_demands q.1 e), ((λ q answers other e. audit_demands q.1 e), ((λ q answers other e. gateway_demands q.1 e), ((λ q answers other e. dump_demands q.1 e), ((λ q answers other e. migrate_demands q.1 e), ((λ q answers other e. simulate_demands q.1 e), ((λ q answers other e. rounds_demands q.1 e), ((λ q answers other e. hear_demands q.1 e), (no_help _ refl, tt)))))))))))))))))
+all_items = ((λ q answers other e. new_cluster_demands q.1 e), ((λ q answers other e. init_demands q.1 e), ((λ q answers other e. check_demands q.1 e), ((λ q answers other e. run_demands q.1 e), ((λ q answers other e. propose_demands q.1 e), ((λ q answers other e. ask_demands q.1 e), ((λ q answers other e. decide_demands q.1 e), ((λ q answers other e. status_demands q.1 e), ((λ q answers other e. transcript_demands q.1 e), ((λ q answers other e. audit_demands q.1 e), ((λ q answers other e. gateway_demands q.1 e), ((λ q answers other e. epochs_demands q.1 e), ((λ q answers other e. dump_demands q.1 e), ((λ q answers other e. migrate_demands q.1 e), ((λ q answers other e. simulate_demands q.1 e), ((λ q answers other e. rounds_demands q.1 e), ((λ q answers other e. hear_demands q.1 e), (no_help _ refl, tt))))))))))))))))))
 
 entered_asks : (subs : List Shape) (q : Text × List Text) (found : Option Shape) → find (λ (s : Shape). answers_to q.0 (label_of s)) subs ≡ found
     → Items subs → bytes_eq q.0 (codes "help") ≡ false

@@ -10,7 +10,7 @@ use Rattle.clap.specs.declared.parser.matches.ArgMatches.{ArgMatches}
 use Rattle.command_line.specs.Tasks.{IsAskedFor, Names, SaysQuiet}
 use Rattle.command_line.proofs.Reading.{not_none, some_is}
 use Rattle.command_line.specs.declared.tasks.Task.{Task}
-use Rattle.command_line.specs.declared.tasks.Task.TheVariants.{Hear, NewCluster, Init, Check, Run, Propose, Ask, Decide, Status, Transcript, Audit, Gateway, Simulate, Rounds, Dump, Migrate}
+use Rattle.command_line.specs.declared.tasks.Task.TheVariants.{Hear, NewCluster, Init, Check, Run, Propose, Ask, Decide, Status, Transcript, Audit, Gateway, Epochs, Simulate, Rounds, Dump, Migrate}
 
 -- two texts differ where the test says so
 pub apart : (a b : Text) → bytes_eq a b ≡ false → a ≡ b → ⊥
@@ -32,6 +32,7 @@ only_hear rows none (Status address all links ready json timeout question) named
 only_hear rows none (Transcript address question all timeout) named = apart (codes "hear") (codes "transcript") refl named.0
 only_hear rows none (Audit file question all n t questions timeout) named = apart (codes "hear") (codes "audit") refl named.0
 only_hear rows none (Gateway file listen token) named = apart (codes "hear") (codes "gateway") refl named.0
+only_hear rows none (Epochs file json timeout) named = apart (codes "hear") (codes "epochs") refl named.0
 only_hear rows none (Simulate script trace chart page question member from to forever seed seconds) named = apart (codes "hear") (codes "simulate") refl named.0
 only_hear rows none (Rounds n t liars order seeds chart) named = apart (codes "hear") (codes "rounds") refl named.0
 only_hear rows none (Dump journal count json) named = apart (codes "hear") (codes "dump") refl named.0
@@ -51,6 +52,7 @@ only_new_cluster rows none (Status address all links ready json timeout question
 only_new_cluster rows none (Transcript address question all timeout) named = apart (codes "new-cluster") (codes "transcript") refl named.0
 only_new_cluster rows none (Audit file question all n t questions timeout) named = apart (codes "new-cluster") (codes "audit") refl named.0
 only_new_cluster rows none (Gateway file listen token) named = apart (codes "new-cluster") (codes "gateway") refl named.0
+only_new_cluster rows none (Epochs file json timeout) named = apart (codes "new-cluster") (codes "epochs") refl named.0
 only_new_cluster rows none (Simulate script trace chart page question member from to forever seed seconds) named = apart (codes "new-cluster") (codes "simulate") refl named.0
 only_new_cluster rows none (Rounds n t liars order seeds chart) named = apart (codes "new-cluster") (codes "rounds") refl named.0
 only_new_cluster rows none (Dump journal count json) named = apart (codes "new-cluster") (codes "dump") refl named.0
@@ -70,6 +72,7 @@ only_init rows none (Status address all links ready json timeout question) named
 only_init rows none (Transcript address question all timeout) named = apart (codes "init") (codes "transcript") refl named.0
 only_init rows none (Audit file question all n t questions timeout) named = apart (codes "init") (codes "audit") refl named.0
 only_init rows none (Gateway file listen token) named = apart (codes "init") (codes "gateway") refl named.0
+only_init rows none (Epochs file json timeout) named = apart (codes "init") (codes "epochs") refl named.0
 only_init rows none (Simulate script trace chart page question member from to forever seed seconds) named = apart (codes "init") (codes "simulate") refl named.0
 only_init rows none (Rounds n t liars order seeds chart) named = apart (codes "init") (codes "rounds") refl named.0
 only_init rows none (Dump journal count json) named = apart (codes "init") (codes "dump") refl named.0
@@ -89,6 +92,7 @@ only_check rows none (Status address all links ready json timeout question) name
 only_check rows none (Transcript address question all timeout) named = apart (codes "check") (codes "transcript") refl named.0
 only_check rows none (Audit file question all n t questions timeout) named = apart (codes "check") (codes "audit") refl named.0
 only_check rows none (Gateway file listen token) named = apart (codes "check") (codes "gateway") refl named.0
+only_check rows none (Epochs file json timeout) named = apart (codes "check") (codes "epochs") refl named.0
 only_check rows none (Simulate script trace chart page question member from to forever seed seconds) named = apart (codes "check") (codes "simulate") refl named.0
 only_check rows none (Rounds n t liars order seeds chart) named = apart (codes "check") (codes "rounds") refl named.0
 only_check rows none (Dump journal count json) named = apart (codes "check") (codes "dump") refl named.0
@@ -108,6 +112,7 @@ only_run rows none (Status address all links ready json timeout question) named 
 only_run rows none (Transcript address question all timeout) named = apart (codes "run") (codes "transcript") refl named.0
 only_run rows none (Audit file question all n t questions timeout) named = apart (codes "run") (codes "audit") refl named.0
 only_run rows none (Gateway file listen token) named = apart (codes "run") (codes "gateway") refl named.0
+only_run rows none (Epochs file json timeout) named = apart (codes "run") (codes "epochs") refl named.0
 only_run rows none (Simulate script trace chart page question member from to forever seed seconds) named = apart (codes "run") (codes "simulate") refl named.0
 only_run rows none (Rounds n t liars order seeds chart) named = apart (codes "run") (codes "rounds") refl named.0
 only_run rows none (Dump journal count json) named = apart (codes "run") (codes "dump") refl named.0
@@ -127,6 +132,7 @@ only_propose rows none (Status address all links ready json timeout question) na
 only_propose rows none (Transcript address question all timeout) named = apart (codes "propose") (codes "transcript") refl named.0
 only_propose rows none (Audit file question all n t questions timeout) named = apart (codes "propose") (codes "audit") refl named.0
 only_propose rows none (Gateway file listen token) named = apart (codes "propose") (codes "gateway") refl named.0
+only_propose rows none (Epochs file json timeout) named = apart (codes "propose") (codes "epochs") refl named.0
 only_propose rows none (Simulate script trace chart page question member from to forever seed seconds) named = apart (codes "propose") (codes "simulate") refl named.0
 only_propose rows none (Rounds n t liars order seeds chart) named = apart (codes "propose") (codes "rounds") refl named.0
 only_propose rows none (Dump journal count json) named = apart (codes "propose") (codes "dump") refl named.0
@@ -146,6 +152,7 @@ only_ask rows none (Status address all links ready json timeout question) named 
 only_ask rows none (Transcript address question all timeout) named = apart (codes "ask") (codes "transcript") refl named.0
 only_ask rows none (Audit file question all n t questions timeout) named = apart (codes "ask") (codes "audit") refl named.0
 only_ask rows none (Gateway file listen token) named = apart (codes "ask") (codes "gateway") refl named.0
+only_ask rows none (Epochs file json timeout) named = apart (codes "ask") (codes "epochs") refl named.0
 only_ask rows none (Simulate script trace chart page question member from to forever seed seconds) named = apart (codes "ask") (codes "simulate") refl named.0
 only_ask rows none (Rounds n t liars order seeds chart) named = apart (codes "ask") (codes "rounds") refl named.0
 only_ask rows none (Dump journal count json) named = apart (codes "ask") (codes "dump") refl named.0
@@ -165,6 +172,7 @@ only_decide rows none (Status address all links ready json timeout question) nam
 only_decide rows none (Transcript address question all timeout) named = apart (codes "decide") (codes "transcript") refl named.0
 only_decide rows none (Audit file question all n t questions timeout) named = apart (codes "decide") (codes "audit") refl named.0
 only_decide rows none (Gateway file listen token) named = apart (codes "decide") (codes "gateway") refl named.0
+only_decide rows none (Epochs file json timeout) named = apart (codes "decide") (codes "epochs") refl named.0
 only_decide rows none (Simulate script trace chart page question member from to forever seed seconds) named = apart (codes "decide") (codes "simulate") refl named.0
 only_decide rows none (Rounds n t liars order seeds chart) named = apart (codes "decide") (codes "rounds") refl named.0
 only_decide rows none (Dump journal count json) named = apart (codes "decide") (codes "dump") refl named.0
@@ -184,6 +192,7 @@ only_status rows none (Status address all links ready json timeout question) nam
 only_status rows none (Transcript address question all timeout) named = apart (codes "status") (codes "transcript") refl named.0
 only_status rows none (Audit file question all n t questions timeout) named = apart (codes "status") (codes "audit") refl named.0
 only_status rows none (Gateway file listen token) named = apart (codes "status") (codes "gateway") refl named.0
+only_status rows none (Epochs file json timeout) named = apart (codes "status") (codes "epochs") refl named.0
 only_status rows none (Simulate script trace chart page question member from to forever seed seconds) named = apart (codes "status") (codes "simulate") refl named.0
 only_status rows none (Rounds n t liars order seeds chart) named = apart (codes "status") (codes "rounds") refl named.0
 only_status rows none (Dump journal count json) named = apart (codes "status") (codes "dump") refl named.0
@@ -203,6 +212,7 @@ only_transcript rows none (Status address all links ready json timeout question)
 only_transcript rows none (Transcript address question all timeout) named = none address question all timeout named
 only_transcript rows none (Audit file question all n t questions timeout) named = apart (codes "transcript") (codes "audit") refl named.0
 only_transcript rows none (Gateway file listen token) named = apart (codes "transcript") (codes "gateway") refl named.0
+only_transcript rows none (Epochs file json timeout) named = apart (codes "transcript") (codes "epochs") refl named.0
 only_transcript rows none (Simulate script trace chart page question member from to forever seed seconds) named = apart (codes "transcript") (codes "simulate") refl named.0
 only_transcript rows none (Rounds n t liars order seeds chart) named = apart (codes "transcript") (codes "rounds") refl named.0
 only_transcript rows none (Dump journal count json) named = apart (codes "transcript") (codes "dump") refl named.0
@@ -222,6 +232,7 @@ only_audit rows none (Status address all links ready json timeout question) name
 only_audit rows none (Transcript address question all timeout) named = apart (codes "audit") (codes "transcript") refl named.0
 only_audit rows none (Audit file question all n t questions timeout) named = none file question all n t questions timeout named
 only_audit rows none (Gateway file listen token) named = apart (codes "audit") (codes "gateway") refl named.0
+only_audit rows none (Epochs file json timeout) named = apart (codes "audit") (codes "epochs") refl named.0
 only_audit rows none (Simulate script trace chart page question member from to forever seed seconds) named = apart (codes "audit") (codes "simulate") refl named.0
 only_audit rows none (Rounds n t liars order seeds chart) named = apart (codes "audit") (codes "rounds") refl named.0
 only_audit rows none (Dump journal count json) named = apart (codes "audit") (codes "dump") refl named.0
@@ -241,10 +252,31 @@ only_gateway rows none (Status address all links ready json timeout question) na
 only_gateway rows none (Transcript address question all timeout) named = apart (codes "gateway") (codes "transcript") refl named.0
 only_gateway rows none (Audit file question all n t questions timeout) named = apart (codes "gateway") (codes "audit") refl named.0
 only_gateway rows none (Gateway file listen token) named = none file listen token named
+only_gateway rows none (Epochs file json timeout) named = apart (codes "gateway") (codes "epochs") refl named.0
 only_gateway rows none (Simulate script trace chart page question member from to forever seed seconds) named = apart (codes "gateway") (codes "simulate") refl named.0
 only_gateway rows none (Rounds n t liars order seeds chart) named = apart (codes "gateway") (codes "rounds") refl named.0
 only_gateway rows none (Dump journal count json) named = apart (codes "gateway") (codes "dump") refl named.0
 only_gateway rows none (Migrate old new) named = apart (codes "gateway") (codes "migrate") refl named.0
+
+pub only_epochs : (rows : List Row) → ((file : Bor Text) (json : Bool) (timeout : Option (Bor Text)) → Names (codes "epochs") rows (Epochs file json timeout) → ⊥)
+    → (task : Task) → Names (codes "epochs") rows task → ⊥
+only_epochs rows none (Hear n t questions me) named = apart (codes "epochs") (codes "hear") refl named.0
+only_epochs rows none (NewCluster n t questions cluster folder hosts port desk epochs) named = apart (codes "epochs") (codes "new-cluster") refl named.0
+only_epochs rows none (Init settings) named = apart (codes "epochs") (codes "init") refl named.0
+only_epochs rows none (Check settings json) named = apart (codes "epochs") (codes "check") refl named.0
+only_epochs rows none (Run settings stay log log_json any_host) named = apart (codes "epochs") (codes "run") refl named.0
+only_epochs rows none (Propose address question bit all timeout) named = apart (codes "epochs") (codes "propose") refl named.0
+only_epochs rows none (Ask address question all wait json timeout) named = apart (codes "epochs") (codes "ask") refl named.0
+only_epochs rows none (Decide file question bit json timeout) named = apart (codes "epochs") (codes "decide") refl named.0
+only_epochs rows none (Status address all links ready json timeout question) named = apart (codes "epochs") (codes "status") refl named.0
+only_epochs rows none (Transcript address question all timeout) named = apart (codes "epochs") (codes "transcript") refl named.0
+only_epochs rows none (Audit file question all n t questions timeout) named = apart (codes "epochs") (codes "audit") refl named.0
+only_epochs rows none (Gateway file listen token) named = apart (codes "epochs") (codes "gateway") refl named.0
+only_epochs rows none (Epochs file json timeout) named = none file json timeout named
+only_epochs rows none (Simulate script trace chart page question member from to forever seed seconds) named = apart (codes "epochs") (codes "simulate") refl named.0
+only_epochs rows none (Rounds n t liars order seeds chart) named = apart (codes "epochs") (codes "rounds") refl named.0
+only_epochs rows none (Dump journal count json) named = apart (codes "epochs") (codes "dump") refl named.0
+only_epochs rows none (Migrate old new) named = apart (codes "epochs") (codes "migrate") refl named.0
 
 pub only_simulate : (rows : List Row) → ((script : Option (Bor Text)) (trace : Option (Bor Text)) (chart : Option (Bor Text)) (page : Option (Bor Text)) (question : Option ℕ) (member : Option ℕ) (from : Option ℕ) (to : Option ℕ) (forever : Bool) (seed : Option ℕ) (seconds : Option ℕ) → Names (codes "simulate") rows (Simulate script trace chart page question member from to forever seed seconds) → ⊥)
     → (task : Task) → Names (codes "simulate") rows task → ⊥
@@ -260,6 +292,7 @@ only_simulate rows none (Status address all links ready json timeout question) n
 only_simulate rows none (Transcript address question all timeout) named = apart (codes "simulate") (codes "transcript") refl named.0
 only_simulate rows none (Audit file question all n t questions timeout) named = apart (codes "simulate") (codes "audit") refl named.0
 only_simulate rows none (Gateway file listen token) named = apart (codes "simulate") (codes "gateway") refl named.0
+only_simulate rows none (Epochs file json timeout) named = apart (codes "simulate") (codes "epochs") refl named.0
 only_simulate rows none (Simulate script trace chart page question member from to forever seed seconds) named = none script trace chart page question member from to forever seed seconds named
 only_simulate rows none (Rounds n t liars order seeds chart) named = apart (codes "simulate") (codes "rounds") refl named.0
 only_simulate rows none (Dump journal count json) named = apart (codes "simulate") (codes "dump") refl named.0
@@ -279,6 +312,7 @@ only_rounds rows none (Status address all links ready json timeout question) nam
 only_rounds rows none (Transcript address question all timeout) named = apart (codes "rounds") (codes "transcript") refl named.0
 only_rounds rows none (Audit file question all n t questions timeout) named = apart (codes "rounds") (codes "audit") refl named.0
 only_rounds rows none (Gateway file listen token) named = apart (codes "rounds") (codes "gateway") refl named.0
+only_rounds rows none (Epochs file json timeout) named = apart (codes "rounds") (codes "epochs") refl named.0
 only_rounds rows none (Simulate script trace chart page question member from to forever seed seconds) named = apart (codes "rounds") (codes "simulate") refl named.0
 only_rounds rows none (Rounds n t liars order seeds chart) named = none n t liars order seeds chart named
 only_rounds rows none (Dump journal count json) named = apart (codes "rounds") (codes "dump") refl named.0
@@ -298,6 +332,7 @@ only_dump rows none (Status address all links ready json timeout question) named
 only_dump rows none (Transcript address question all timeout) named = apart (codes "dump") (codes "transcript") refl named.0
 only_dump rows none (Audit file question all n t questions timeout) named = apart (codes "dump") (codes "audit") refl named.0
 only_dump rows none (Gateway file listen token) named = apart (codes "dump") (codes "gateway") refl named.0
+only_dump rows none (Epochs file json timeout) named = apart (codes "dump") (codes "epochs") refl named.0
 only_dump rows none (Simulate script trace chart page question member from to forever seed seconds) named = apart (codes "dump") (codes "simulate") refl named.0
 only_dump rows none (Rounds n t liars order seeds chart) named = apart (codes "dump") (codes "rounds") refl named.0
 only_dump rows none (Dump journal count json) named = none journal count json named
@@ -317,6 +352,7 @@ only_migrate rows none (Status address all links ready json timeout question) na
 only_migrate rows none (Transcript address question all timeout) named = apart (codes "migrate") (codes "transcript") refl named.0
 only_migrate rows none (Audit file question all n t questions timeout) named = apart (codes "migrate") (codes "audit") refl named.0
 only_migrate rows none (Gateway file listen token) named = apart (codes "migrate") (codes "gateway") refl named.0
+only_migrate rows none (Epochs file json timeout) named = apart (codes "migrate") (codes "epochs") refl named.0
 only_migrate rows none (Simulate script trace chart page question member from to forever seed seconds) named = apart (codes "migrate") (codes "simulate") refl named.0
 only_migrate rows none (Rounds n t liars order seeds chart) named = apart (codes "migrate") (codes "rounds") refl named.0
 only_migrate rows none (Dump journal count json) named = apart (codes "migrate") (codes "dump") refl named.0

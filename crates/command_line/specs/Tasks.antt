@@ -8,7 +8,7 @@ use Rattle.clap.specs.Simple.{matches_of, subcommand_of}
 use Rattle.clap.specs.Faults.{fault_of}
 use Rattle.command_line.specs.Usage.{program_app}
 use Rattle.command_line.specs.declared.tasks.Task.{Task}
-use Rattle.command_line.specs.declared.tasks.Task.TheVariants.{Hear, NewCluster, Init, Check, Run, Propose, Ask, Decide, Status, Transcript, Audit, Gateway, Simulate, Rounds, Dump, Migrate}
+use Rattle.command_line.specs.declared.tasks.Task.TheVariants.{Hear, NewCluster, Init, Check, Run, Propose, Ask, Decide, Status, Transcript, Audit, Gateway, Epochs, Simulate, Rounds, Dump, Migrate}
 
 -- the text writes the number in decimal digits, behind a plus or none, and it has at most that many bits
 abbrev pub WritesNumber : ℕ → Text → ℕ → Type 0
@@ -79,6 +79,8 @@ Names name rows (Audit file question all n t questions timeout) = (name ≡ code
 Names name rows (Gateway file listen token) = (name ≡ codes "gateway") × HasText (codes "file") rows file.now
     × MayHaveText (codes "listen") rows (option_map (λ text. text.now) listen)
     × MayHaveText (codes "token") rows (option_map (λ text. text.now) token)
+Names name rows (Epochs file json timeout) = (name ≡ codes "epochs") × HasText (codes "file") rows file.now
+    × HasFlag (codes "json") rows json × MayHaveText (codes "timeout") rows (option_map (λ text. text.now) timeout)
 Names name rows (Simulate script trace chart page question member from to forever seed seconds) =
     (name ≡ codes "simulate") × MayHaveText (codes "script") rows (option_map (λ path. path.now) script)
     × MayHaveText (codes "trace") rows (option_map (λ path. path.now) trace)

@@ -150,6 +150,10 @@ abbrev pub gateway_app : App
 gateway_app = taking (codes "gateway")
     (word_rule (codes "file") ∷ option_rule (codes "listen") ∷ option_rule (codes "token") ∷ [])
 
+-- `bracha epochs [--json] [--timeout S] FILE`
+abbrev pub epochs_app : App
+epochs_app = taking (codes "epochs") (word_rule (codes "file") ∷ json_rule ∷ timeout_rule ∷ [])
+
 -- `bracha dump [--count] [--json] JOURNAL`
 abbrev pub dump_app : App
 dump_app = taking (codes "dump") (word_rule (codes "journal") ∷ flag_rule (codes "count") ∷ json_rule ∷ [])
@@ -204,8 +208,8 @@ with_telling app = with_rule (with_rule app quiet_rule) verbose_rule
 -- the commands, in the order of the help
 abbrev pub commands : List App
 commands = new_cluster_app ∷ init_app ∷ check_app ∷ run_app ∷ propose_app ∷ ask_app ∷ decide_app
-    ∷ status_app ∷ transcript_app ∷ audit_app ∷ gateway_app ∷ dump_app ∷ migrate_app ∷ simulate_app ∷ rounds_app
-    ∷ hear_app ∷ []
+    ∷ status_app ∷ transcript_app ∷ audit_app ∷ gateway_app ∷ epochs_app ∷ dump_app ∷ migrate_app ∷ simulate_app
+    ∷ rounds_app ∷ hear_app ∷ []
 
 -- `bracha [--quiet] [--verbose] COMMAND [--quiet] [--verbose] ..`
 abbrev pub program_app : App

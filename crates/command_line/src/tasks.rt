@@ -1,7 +1,7 @@
 //! The words of the command line.
 
 ghost use Rattle.command_line.specs.Tasks.{AreQuiet, AskFor, HasFlag, HasNumberOption, IsAskedFor, IsQuiet, Names, SaysQuiet, rows_in};
-ghost use Rattle.command_line.specs.Usage.{Builds, address_rule, all_rule, needed_all_rule, as_u16, as_u32, as_u8, ask_app, json_rule, audit_app, audited_rules, decide_app, bare_app, check_app, choice_rules, dump_app, gateway_app, option_rule, flag_rule, last_rule, timeout_rule, hear_app, init_app, migrate_app, new_cluster_app, number_rule, program_app};
+ghost use Rattle.command_line.specs.Usage.{Builds, address_rule, all_rule, needed_all_rule, as_u16, as_u32, as_u8, ask_app, json_rule, audit_app, audited_rules, decide_app, bare_app, check_app, choice_rules, dump_app, epochs_app, gateway_app, option_rule, flag_rule, last_rule, timeout_rule, hear_app, init_app, migrate_app, new_cluster_app, number_rule, program_app};
 ghost use Rattle.command_line.specs.Usage.{forever_rules, propose_app, rounds_app, run_app, simulate_app, size_rules, status_app, transcript_app, desk_rules, quiet_rule, verbose_rule, word_rule, with_rules, with_telling};
 ghost use Rattle.clap.specs.Words.{App, FailsBy, Rule, app_of, fault_of, first_of, new_app, rule_of, subcommand_rows_of, with_rule, with_subcommand};
 ghost use Rattle.std.specs.Prelude.{◌≡◌, ◌↔◌, IfOk, IfSome, IsNone, IsTrue, Some, codes, map, option_map, ℕ};
@@ -129,6 +129,13 @@ pub enum Task<'a> {
         file: &'a str,
         listen: Option<&'a str>,
         token: Option<&'a str>,
+    },
+    /// Asks all members of the cluster of the client's settings in this file which epochs of their
+    /// chain they have closed. Waits as long as this text says.
+    Epochs {
+        file: &'a str,
+        json: bool,
+        timeout: Option<&'a str>,
     },
     /// Runs the script in this file, and writes a trace, a chart and a page of the run into those
     /// files. The chart has the events of this question and this member alone, from that number to
@@ -596,6 +603,20 @@ fn gateway<'a>(alloc: Global) -> Built<'a>
     with_arg(command, token)
 }
 
+fn epochs<'a>(alloc: Global) -> Built<'a>
+    ensures { Builds epochs_app result }
+{
+    let about = "Print which epochs of a chain every member has closed";
+    let examples =
+        "Prints a line `member M closed C newest N` for each member: it has closed all epochs before C, and N is the newest in which it has a proposal or a decision. Then prints `closed C`, with the least C of all: the journals of epochs 0 to C - 1 may be put away. Prints `closed unknown`, with status 1, unless every member tells its C. This is what the members say: one that lies may tell too high a C of its own, but can't raise the least C above that of a correct member.\n\nExample:\n  bracha epochs client.toml";
+    let file = "The file client.toml of `new-cluster --epochs`";
+    let file = word(alloc, "file", "FILE", file);
+    let command = with_arg(named(alloc, "epochs", about, examples), file);
+    let command = with_arg(command, json(alloc));
+    let limit = "Give up after S seconds in all (5, 0.5 or 5s) [default: 10]";
+    with_arg(command, option(alloc, "timeout", "S", limit))
+}
+
 fn dump<'a>(alloc: Global) -> Built<'a>
     ensures { Builds dump_app result }
 {
@@ -743,6 +764,7 @@ fn program<'a>(alloc: Global) -> Built<'a>
     let program = with_command(alloc, program, transcript(alloc));
     let program = with_command(alloc, program, audit(alloc));
     let program = with_command(alloc, program, gateway(alloc));
+    let program = with_command(alloc, program, epochs(alloc));
     let program = with_command(alloc, program, dump(alloc));
     let program = with_command(alloc, program, migrate(alloc));
     let program = with_command(alloc, program, simulate(alloc));
@@ -962,6 +984,18 @@ fn gateway_of<'a>(options: &ArgMatches<'a>) -> Option<Task<'a>>
     })
 }
 
+/// The values of `epochs`'s words.
+fn epochs_of<'a>(options: &ArgMatches<'a>) -> Option<Task<'a>>
+    ensures some { IfSome result (Names (codes "epochs") (rows_in options.now)) }
+    ensures none { IsNone result → (task : Task) → Names (codes "epochs") (rows_in options.now) task → ⊥ }
+{
+    Some(Task::Epochs {
+        file: text_of(options, "file")?,
+        json: flag_of(options, "json"),
+        timeout: text_of(options, "timeout"),
+    })
+}
+
 /// The values of `dump`'s words.
 fn dump_of<'a>(options: &ArgMatches<'a>) -> Option<Task<'a>>
     ensures some { IfSome result (Names (codes "dump") (rows_in options.now)) }
@@ -1038,6 +1072,7 @@ fn named_task<'a>(name: &str, options: &ArgMatches<'a>) -> Option<Task<'a>>
         "transcript" => transcript_of(options),
         "audit" => audit_of(options),
         "gateway" => gateway_of(options),
+        "epochs" => epochs_of(options),
         "dump" => dump_of(options),
         "migrate" => migrate_of(options),
         "simulate" => simulate_of(options),

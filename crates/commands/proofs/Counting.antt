@@ -5,6 +5,8 @@ use Rattle.numerals.proofs.Cuts.{no_cut, one_cut}
 use Rattle.commands.specs.Talks.{IsUp}
 use Rattle.commands.specs.Replies.{AreCounts, HasCounts, HasFirst, HasLinks, AreFour, IsCount, IsLinks, IsPlainReply, IsReady, IsReply, IsUnlinked, SaysFixed}
 use Rattle.commands.specs.declared.replies.Links.{Links}
+use Rattle.commands.specs.Closings.{AreEpochs, HasEpochs, IsEpochs}
+use Rattle.commands.specs.declared.closing.Closing.{Closing}
 
 -- words that are cut at a space have these numbers on its two sides
 pub cut_counts : (words word behind : List ℕ) (m d : ℕ) → words ≡ word ++ 32 ∷ behind → NoSpace word → AreCounts words m d → IsCount word m × IsCount behind d
@@ -78,6 +80,21 @@ pub is_links : (found : Option Links) (reply : List ℕ) → IfSome found (HasLi
     → ((links : Links) → HasLinks reply links → found ≡ Some links) → ((IsTrue (is_some found) → IsLinks reply) × (IsLinks reply → IsTrue (is_some found)))
 is_links (Some found) reply some exact = ((λ _. (found, some)), (λ _. refl))
 is_links None reply some exact = ((λ e. cc), (λ is. absurd (never None is.0 refl (exact is.0 is.1))))
+
+-- what stands behind `EPOCHS ` has the epochs of the reply
+pub epochs_behind : (reply words : List ℕ) (epochs : Closing) → reply ≡ codes "EPOCHS " ++ words → HasEpochs reply epochs → AreEpochs words epochs
+epochs_behind reply words epochs is has =
+    let same : has.0 ≡ words = same_tail has.0 words (sym has.1 ∙ is) in
+    subst (λ (x : List ℕ). AreEpochs x epochs) same has.2
+  where
+    same_tail : (a b : List ℕ) → codes "EPOCHS " ++ a ≡ codes "EPOCHS " ++ b → a ≡ b
+    same_tail a b e = cc
+
+-- a reply is of epochs where epochs are found
+pub is_epochs : (found : Option Closing) (reply : List ℕ) → IfSome found (HasEpochs reply)
+    → ((epochs : Closing) → HasEpochs reply epochs → found ≡ Some epochs) → ((IsTrue (is_some found) → IsEpochs reply) × (IsEpochs reply → IsTrue (is_some found)))
+is_epochs (Some found) reply some exact = ((λ _. (found, some)), (λ _. refl))
+is_epochs None reply some exact = ((λ e. cc), (λ is. absurd (never None is.0 refl (exact is.0 is.1))))
 
 -- as many come in and go out as are needed
 abbrev AreEnough : Links → Type 0

@@ -15,6 +15,7 @@ pub mod Owners
 pub mod Asked
 pub mod Migrations
 pub mod Replies
+pub mod Closings
 pub mod Objects
 pub mod Patience
 pub mod Trials

@@ -217,12 +217,8 @@ pub fn tell_of<W: Write>(
         × HasStatus reply.now status) }
     ensures only { result ≢ Err NoAnswer }
 {
-    let head = member_words(alloc, member)?;
-    let mut text = Vec::new(alloc);
-    text.extend_from_slice(head.as_bytes())?;
-    text.extend_from_slice(reply)?;
-    text.push(b'\n')?;
-    print_reply(&text, output)?;
+    let line = reply_line(alloc, usize::from(member), reply)?;
+    print_reply(&line, output)?;
     Ok(status_of(reply))
 }
 
@@ -291,8 +287,20 @@ pub fn tell_object_of<W: Write>(
     Ok(status_of(reply))
 }
 
+/// The line of a member's number and of its reply.
+pub(crate) fn reply_line(alloc: Global, member: usize, reply: &[u8]) -> Result<Vec<u8>, AllocError>
+    ensures { IfOk result (λ line. line.items ≡ member_line member reply.now) }
+{
+    let head = member_words(alloc, member)?;
+    let mut line = Vec::new(alloc);
+    line.extend_from_slice(head.as_bytes())?;
+    line.extend_from_slice(reply)?;
+    line.push(b'\n')?;
+    Ok(line)
+}
+
 /// The words in front of a member's reply.
-fn member_words(alloc: Global, member: u8) -> Result<String, AllocError>
+fn member_words(alloc: Global, member: usize) -> Result<String, AllocError>
     ensures { IfOk result (λ text. string_bytes text ≡ member_words member) }
 {
     format!(in alloc; "member {member} ")

@@ -4,6 +4,7 @@
 mod asked;
 mod check;
 mod client;
+mod closing;
 mod damage;
 mod dump;
 mod fault;
@@ -29,6 +30,7 @@ pub use client::{
     propose_line, ready_status, state_line, status_line, talk, tell, tell_object, tell_object_of,
     tell_of,
 };
+pub use closing::{Closing, Told, epochs_line, fetch_epochs, least_closed, tell_epochs, told_of};
 pub use damage::{bytes_at, fault_place};
 pub use dump::{dump_count, dump_count_object, dump_lines, dump_objects};
 pub use fault::{DumpFault, InitFault, MigrationFault, SimulateFault, TalkFault};

@@ -254,7 +254,7 @@ fn check_rest(alloc: Global, settings: &Settings, count: usize) -> Result<Vec<u8
 }
 
 /// Returns what stands behind the first byte.
-fn behind_first(bytes: &[u8]) -> &[u8]
+pub(crate) fn behind_first(bytes: &[u8]) -> &[u8]
     ensures { result.now ≡ drop 1 bytes.now }
 {
     match bytes {

@@ -10,7 +10,7 @@ use crate::addresses::socket_address;
 use crate::board::Board;
 use crate::callers::Caller;
 use crate::desks::{CONNECT, Deadline, MOST_READ, REST, TALK};
-use commands::{Next, exchange, fetch_transcript, next_of, word_of};
+use commands::{Next, exchange, fetch_epochs, fetch_transcript, next_of, word_of};
 use settings::Address;
 use std::alloc::Global;
 use std::io::{self, BufReader, Read, Write};
@@ -26,6 +26,8 @@ pub enum Manner {
     Once,
     /// The first line is sent, once, and a transcript is read.
     Transcript,
+    /// The first line is sent, once, and epochs are read.
+    Epochs,
     /// The first line is sent, then the one that waits, until the member tells a decision; from the
     /// beginning if it doesn't answer.
     Until,
@@ -145,6 +147,16 @@ impl Errand {
         }
     }
 
+    /// The epochs that the member tells, or another reply; none where none comes.
+    fn epochs_from<R: Caller>(&self, rt: &R, socket: &TcpStream) -> Option<Vec<u8>> {
+        let mut to = self.talk(rt, socket);
+        let mut from = self.talk(rt, socket);
+        match fetch_epochs(self.alloc, self.first.as_str(), &mut to, &mut from) {
+            Ok(reply) => Some(reply),
+            Err(_) => None,
+        }
+    }
+
     /// The one reply of a member that is spoken to once.
     fn only_reply<R: Caller>(&self, rt: &R, desk: &Address) -> Option<Vec<u8>> {
         let Ok(socket) = self.connect(rt, desk) else {
@@ -152,6 +164,7 @@ impl Errand {
         };
         match self.manner {
             Manner::Transcript => self.transcript_from(rt, &socket),
+            Manner::Epochs => self.epochs_from(rt, &socket),
             Manner::Once | Manner::Until => self.reply_to(rt, &socket, self.first.as_str()),
         }
     }
@@ -214,7 +227,7 @@ pub fn call<R: Caller>(rt: R, errand: Arc<Errand>, member: u8, desk: Address) {
     let errand: &Errand = &errand;
     match errand.manner {
         Manner::Until => errand.insist(&rt, member, &desk),
-        Manner::Once | Manner::Transcript => {
+        Manner::Once | Manner::Transcript | Manner::Epochs => {
             let reply = errand.only_reply(&rt, &desk);
             errand.board.leave(&rt, member, reply);
         }

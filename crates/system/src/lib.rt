@@ -67,7 +67,7 @@ pub use page_files::{Page, write_page};
 pub use patience::patience_of;
 pub use shapes::{AuditWords, Audited, SimulateWords, audited_of, simulate};
 pub use signals::{is_blocked, is_called};
-pub use stating::{StateForm, propose_to_all, status_of_all};
+pub use stating::{StateForm, epochs_of_all, propose_to_all, status_of_all};
 pub use streams::{HeldStreams, hold_streams};
 pub use trouble::{Failure, Trouble, Whereabouts};
 pub use words::{hear_end, number_words, size_of};

@@ -1,5 +1,5 @@
-//! A line for all members of a cluster, and the reply of each: begin at `propose_to_all` and
-//! `status_of_all`, last.
+//! A line for all members of a cluster, and the reply of each: begin at `propose_to_all`,
+//! `status_of_all` and `epochs_of_all`, last.
 
 use crate::board::News;
 use crate::callers::{Caller, Calls, Cluster, Lines};
@@ -8,8 +8,8 @@ use crate::clients::read_client;
 use crate::fault::Fault;
 use crate::trouble::Failure;
 use commands::{
-    TalkFault, links_line, propose_line, ready_status, state_line, status_line, tell_object_of,
-    tell_of,
+    TalkFault, Told, epochs_line, links_line, propose_line, ready_status, state_line, status_line,
+    tell_epochs, tell_object_of, tell_of, told_of,
 };
 use settings::ClientSettings;
 use std::alloc::{AllocError, Global};
@@ -55,10 +55,11 @@ impl Replies {
         host: &HostRuntime,
         cluster: &Cluster<'_>,
         client: &ClientSettings,
+        manner: Manner,
         first: String,
     ) -> Result<Replies, Failure> {
         let lines = Lines {
-            manner: Manner::Once,
+            manner,
             first,
             wait: String::new(host.alloc()),
         };
@@ -132,7 +133,7 @@ pub fn propose_to_all<R: Caller>(
 ) -> Result<u8, Failure> {
     let client = read_client(host, cluster.file)?;
     let line = propose_line(host.alloc(), question, bit).map_err(|_| Fault::Memory)?;
-    let all = Replies::gather(rt, host, cluster, &client, line)?;
+    let all = Replies::gather(rt, host, cluster, &client, Manner::Once, line)?;
     let form = StateForm {
         links: false,
         ready: false,
@@ -164,6 +165,36 @@ pub fn status_of_all<R: Caller>(
 ) -> Result<u8, Failure> {
     let client = read_client(host, cluster.file)?;
     let line = line_for(host.alloc(), form).map_err(|_| Fault::Memory)?;
-    let all = Replies::gather(rt, host, cluster, &client, line)?;
+    let all = Replies::gather(rt, host, cluster, &client, Manner::Once, line)?;
     tell_all(host, &all, form)
+}
+
+/// The words of the members on their epochs, by their numbers.
+fn words_of(alloc: Global, all: Replies) -> Result<Vec<Told>, Fault> {
+    let Replies { replies, open: _ } = all;
+    let mut words = Vec::new(alloc);
+    for reply in replies {
+        words.push(told_of(reply)).map_err(|_| Fault::Memory)?;
+    }
+    Ok(words)
+}
+
+/// Asks each member of the cluster which epochs it has closed, all at once, and prints a line
+/// `member M closed C newest N` for each, or its reply as `propose_to_all` does; and behind them
+/// `closed C`, with the least C, or `closed unknown` if a member didn't tell its own. Or prints an
+/// object of JSON. The status is 0 if each member told its C, and 1 else.
+pub fn epochs_of_all<R: Caller>(
+    rt: &R,
+    host: &HostRuntime,
+    cluster: &Cluster<'_>,
+    json: bool,
+) -> Result<u8, Failure> {
+    let client = read_client(host, cluster.file)?;
+    let line = String::from_str(host.alloc(), epochs_line()).map_err(|_| Fault::Memory)?;
+    let all = Replies::gather(rt, host, cluster, &client, Manner::Epochs, line)?;
+    let words = words_of(host.alloc(), all)?;
+    match tell_epochs(host.alloc(), &words, json, &mut io::writer(host)) {
+        Ok(status) => Ok(status),
+        Err(fault) => Err(Failure::from(Fault::Talk(fault))),
+    }
 }

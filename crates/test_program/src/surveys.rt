@@ -6,9 +6,14 @@
 //! decision, which may be `none`, and of members' words: the status, the line, and the lines on the
 //! standard error, with `|` before each. A WORD is `silent`, `undecided`, `other`, or the bit that
 //! was told. `head Q TEXT` answers the bit of a text that begins as a transcript of question Q, or
-//! `none`.
+//! `none`. `epochs REPLY/REPLY/..` answers what is printed of members that replied so to `EPOCHS`,
+//! where nothing between two slashes is no reply: the status, and the lines, with `|` before each.
+//! `epochs-json` answers the object.
 
-use commands::{Next, Word, later_word, next_of, remarks, tell_decision, transcript_bit, word_of};
+use commands::{
+    Next, Told, Word, later_word, next_of, remarks, tell_decision, tell_epochs, told_of,
+    transcript_bit, word_of,
+};
 use std::alloc::Global;
 use test_words::{Output, words_of};
 
@@ -91,6 +96,32 @@ fn headed(alloc: Global, question: &str, text: &str) -> Option<String> {
     String::from_str(alloc, name).ok()
 }
 
+/// The word on its epochs of a member that replied so, or not at all.
+fn epochs_of(alloc: Global, reply: &str) -> Option<Told> {
+    if reply.is_empty() {
+        return Some(told_of(None));
+    }
+    let mut bytes = Vec::new(alloc);
+    bytes.extend_from_slice(reply.as_bytes()).ok()?;
+    Some(told_of(Some(bytes)))
+}
+
+/// The answer to replies to `EPOCHS`.
+fn closed(alloc: Global, replies: &str, json: bool) -> Option<String> {
+    let mut words = Vec::new(alloc);
+    for reply in replies.split('/') {
+        words.push(epochs_of(alloc, reply)?).ok()?;
+    }
+    let mut output = Output::new(alloc);
+    let status = tell_epochs(alloc, &words, json, &mut output).ok()?;
+    let mut text = format!(in alloc; "{status}").ok()?;
+    for line in output.text()?.lines() {
+        text.push_str(" | ").ok()?;
+        text.push_str(line).ok()?;
+    }
+    Some(text)
+}
+
 /// Plays a row.
 pub fn told(alloc: Global, action: &str) -> Option<String> {
     let (name, rest) = action.split_once(' ')?;
@@ -105,6 +136,8 @@ pub fn told(alloc: Global, action: &str) -> Option<String> {
             let word = later_word(word_named(first)?, word_named(second)?);
             String::from_str(alloc, name_of(word)).ok()
         }
+        "epochs" => closed(alloc, rest, false),
+        "epochs-json" => closed(alloc, rest, true),
         "tell" => {
             let (decision, names) = rest.split_once(' ')?;
             let names = words_of(alloc, names)?;

@@ -117,6 +117,14 @@ fn serving(alloc: Global, file: &str, listen: Option<&str>, token: Option<&str>)
     Some(text)
 }
 
+/// Returns the text of a question for the epochs that are closed.
+fn closing(alloc: Global, file: &str, json: bool, timeout: Option<&str>) -> Option<String> {
+    let mut text = format!(in alloc; "epochs {file}").ok()?;
+    add(&mut text, " json", json)?;
+    add_text(&mut text, " timeout ", timeout)?;
+    Some(text)
+}
+
 /// The text of a client's other tasks: none of any that isn't one.
 fn client_text(alloc: Global, task: Task) -> Option<String> {
     match task {
@@ -153,6 +161,11 @@ fn client_text(alloc: Global, task: Task) -> Option<String> {
             listen,
             token,
         } => serving(alloc, file, listen, token),
+        Task::Epochs {
+            file,
+            json,
+            timeout,
+        } => closing(alloc, file, json, timeout),
         _ => None,
     }
 }
@@ -362,7 +375,8 @@ fn task_text(alloc: Global, task: Task) -> Option<String> {
         Task::Decide { .. }
         | Task::Status { .. }
         | Task::Transcript { .. }
-        | Task::Gateway { .. } => client_text(alloc, task),
+        | Task::Gateway { .. }
+        | Task::Epochs { .. } => client_text(alloc, task),
         Task::Simulate { .. } => simulation(alloc, task),
         Task::Dump {
             journal,

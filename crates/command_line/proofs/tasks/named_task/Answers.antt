@@ -93,5 +93,11 @@ returns-in-gateway-clause-some c = subst (λ (name : Text). IfSome c.gateway_of.
 pub returns-in-gateway-clause-none : goal.returns-in-gateway-clause-none
 returns-in-gateway-clause-none c = λ none task named. c.gateway_of.ensures.none none task (subst (λ (name : Text). Names name (rows_in c.args.options.now) task) c.in-gateway.is named)
 
+pub returns-in-epochs-clause-some : goal.returns-in-epochs-clause-some
+returns-in-epochs-clause-some c = subst (λ (name : Text). IfSome c.epochs_of.result (Names name (rows_in c.args.options.now))) (sym c.in-epochs.is) c.epochs_of.ensures.some
+
+pub returns-in-epochs-clause-none : goal.returns-in-epochs-clause-none
+returns-in-epochs-clause-none c = λ none task named. c.epochs_of.ensures.none none task (subst (λ (name : Text). Names name (rows_in c.args.options.now) task) c.in-epochs.is named)
+
 pub returns-in-text-clause-none : goal.returns-in-text-clause-none
 returns-in-text-clause-none c = λ none task named. c.new_cluster_of.ensures.none none task (subst (λ (name : Text). Names name (rows_in c.args.options.now) task) c.in-text.is named)

@@ -15,8 +15,9 @@ returns c =
     let transcript = c.with_command-program-9.ensures _ _ status c.transcript.ensures refl in
     let audit = c.with_command-program-10.ensures _ _ transcript c.audit.ensures refl in
     let gateway = c.with_command-program-11.ensures _ _ audit c.gateway.ensures refl in
-    let dump = c.with_command-program-12.ensures _ _ gateway c.dump.ensures refl in
-    let migrate = c.with_command-program-13.ensures _ _ dump c.migrate.ensures refl in
-    let simulate = c.with_command-program-14.ensures _ _ migrate c.simulate.ensures refl in
-    let rounds = c.with_command-program-15.ensures _ _ simulate c.rounds.ensures refl in
+    let epochs = c.with_command-program-12.ensures _ _ gateway c.epochs.ensures refl in
+    let dump = c.with_command-program-13.ensures _ _ epochs c.dump.ensures refl in
+    let migrate = c.with_command-program-14.ensures _ _ dump c.migrate.ensures refl in
+    let simulate = c.with_command-program-15.ensures _ _ migrate c.simulate.ensures refl in
+    let rounds = c.with_command-program-16.ensures _ _ simulate c.rounds.ensures refl in
     c.with_command.ensures _ _ rounds c.hear.ensures refl
