@@ -8,6 +8,9 @@ Kills the program (SIGKILL) at each of its system calls in turn, and looks at wh
   send all that decides both, each in one piece, so a group; then its input ends. After the kill the journal opens; what the
   peers read is a beginning of what it says was said, in its order; a proposal and a decision that the client was told of are
   in it. Then the member runs once more, unharmed, decides both, and says all that it had said again, and first.
+- `run` of a chain with one member and two questions an epoch, over four epochs: after the kill the journals open and none is
+  missing among them. Then the chain runs once more, unharmed: it starts, holds each proposal and decision that the client was
+  told of, and decides all slots; no journal is left half made.
 
 It wants a C compiler, for the tracer (tests/kill_at.c; it is no part of the product), and takes the ports from 27500 on.
 --step K tries each Kth call alone, --jobs J so many runs side by side (4). PROGRAM is crates/bracha/out/bracha unless another
@@ -239,6 +242,71 @@ def run_killed(tools, at, folder, ports):
     return status == 0
 
 
+SLOTS = {slot: slot // 2 % 2 ^ slot % 2 for slot in range(8)}
+
+
+class ChainRun:
+    """One life of a chain's only member, with what its client was told."""
+
+    def __init__(self, words, folder, desk, environment=None):
+        pipe = subprocess.PIPE
+        self.process = subprocess.Popen(words, cwd=folder, env=environment, stdin=pipe, stdout=pipe, stderr=subprocess.DEVNULL)
+        self.ready, self.desk = self.process.stdout.readline() == b"member 0 ready\n", desk
+        self.taken, self.decided = set(), {}
+
+    def go(self):
+        """Proposes slot by slot, waits for the decision of each, and ends the input. Its status."""
+        try:
+            if self.ready:
+                self.ask_all()
+            self.process.stdin.close()
+        except OSError:
+            pass
+        status = self.process.wait(timeout=30)
+        self.process.stdout.close()
+        return status
+
+    def ask_all(self):
+        with socket.create_connection(("127.0.0.1", self.desk), timeout=20) as stream:
+            lines = stream.makefile("rb")
+            for slot, bit in SLOTS.items():
+                stream.sendall(b"PROPOSE %d %d\n" % (slot, bit))
+                if lines.readline() == b"OK\n":
+                    self.taken.add(slot)
+                stream.sendall(b"AWAIT %d\n" % slot)
+                said = lines.readline()
+                if said.startswith(b"DECIDED "):
+                    self.decided[slot] = int(said[8:])
+
+
+def chain_killed(tools, at, folder, ports):
+    """Whether `run` of a chain came to its end, killed at a call of its."""
+    program, desk = tools[1], ports + 10
+    with open(f"{folder}/member.toml", "w", encoding="ascii") as file:
+        file.write(f'cluster = 7\nn = 1\nt = 0\nquestions = 2\nme = 0\njournal = "journal"\nepochs = "epochs"\n'
+                   f'peers = ["127.0.0.1:{ports}"]\ndesk = "127.0.0.1:{desk}"\nseed = "{"5a" * 32}"\n')
+    subprocess.run([program, "init", "member.toml"], cwd=folder, check=True)
+    words, environment = killed(tools, at, ["run", "member.toml"], folder)
+    first = ChainRun(words, folder, desk, environment)
+    status = first.go()
+    check(status in (0, KILLED), f"status {status}")
+    names = [name for name in os.listdir(f"{folder}/epochs") if not name.endswith(".new")]
+    check(sorted(names) == [f"{epoch}.journal" for epoch in range(len(names))], f"journals {sorted(names)}")
+    told = {}
+    for epoch in range(len(names)):
+        said, decided = dumped(program, f"{folder}/epochs/{epoch}.journal")
+        told.update({2 * epoch + question: bit for question, bit in decided.items()})
+        proposed = {2 * epoch + it[5] for it in said if it[3] == 1 and it[7:9] == b"\1\1"}
+        check({slot for slot in first.taken if slot // 2 == epoch} <= proposed, f"a proposal in epoch {epoch} is gone")
+    check(all(told.get(slot) == bit == SLOTS[slot] for slot, bit in first.decided.items()), "a decision is gone")
+    second = ChainRun([program, "run", "member.toml"], folder, desk)
+    check(second.ready, "it doesn't start again")
+    check(second.go() == 0, "it doesn't end well")
+    check(second.decided == SLOTS, f"decided {second.decided}")
+    check(not [name for name in os.listdir(f"{folder}/epochs") if name.endswith(".new")], "a journal is left half made")
+    return status == 0
+
+
 def tries(how, tools, at, room, ports):
     """An answer: whether the program came to its end, or what is wrong."""
     try:
@@ -287,7 +355,7 @@ def main():
     with tempfile.TemporaryDirectory(prefix="bracha-killed.") as room:
         tools = f"{room}/kill_at", os.path.realpath(words.program)
         subprocess.run([os.environ.get("CC", "cc"), "-O2", "-o", tools[0], f"{TOP}/tests/kill_at.c"], check=True)
-        for how in (init_killed, run_killed):
+        for how in (init_killed, run_killed, chain_killed):
             some, troubles = sweep(how, tools, room, words.step, words.jobs)
             print(f"{how.__name__.removesuffix('_killed')}: killed at {some} calls", flush=True)
             passed, failed = passed + some, failed + len(troubles)
