@@ -1,14 +1,13 @@
-use crate::board::Board;
-use crate::follower::Follower;
-use crate::halt::Halt;
+use crate::board::{Board, Held};
+use crate::follow::{Follow, FollowMember, Source, Stream};
+use crate::follower::{Begin, Follower};
 use crate::line::{Job, Line, Reply};
-use crate::reply::{decision_in, stage_in, stands_in, status_in};
-use crate::{Answer, Decision, Error, Settings, State, Status};
-use std::net::SocketAddrV4;
+use crate::reply::{Word, refusal_in, stage_in, stands_in, status_in, word_in};
+use crate::workers::Workers;
+use crate::{Answer, Error, Settings, State, Status};
 use std::path::Path;
 use std::sync::mpsc::{Receiver, Sender, channel};
 use std::sync::{Arc, Mutex, PoisonError};
-use std::thread::{Builder, JoinHandle};
 use std::time::{Duration, Instant};
 
 /// The time that a reply usually is waited for: five seconds.
@@ -20,49 +19,32 @@ const GRACE: Duration = Duration::from_millis(250);
 /// The time before a member that didn't take a proposal gets it again.
 const REST: Duration = Duration::from_millis(250);
 
-/// A thread, and what ends it.
-struct Worker {
-    halt: Arc<Halt>,
-    thread: JoinHandle<()>,
-}
+/// The longest time before a member is asked again for a slot that a call waits for.
+const POLL: Duration = Duration::from_secs(1);
 
-impl Worker {
-    fn start(run: impl FnOnce(&Halt) + Send + 'static) -> Result<Worker, Error> {
-        let halt = Arc::new(Halt::default());
-        let own = halt.clone();
-        let thread = Builder::new().name("bracha".to_string()).spawn(move || run(&own));
-        let thread = thread.map_err(|error| Error::Thread(error.to_string()))?;
-        Ok(Worker { halt, thread })
-    }
-}
-
-/// Threads that end when they are dropped.
+/// The threads that follow each member for all calls, and where each of them begins.
 #[derive(Default)]
-struct Workers(Vec<Worker>);
-
-impl Drop for Workers {
-    fn drop(&mut self) {
-        for worker in &self.0 {
-            worker.halt.halt();
-        }
-        for worker in self.0.drain(..) {
-            let _ = worker.thread.join();
-        }
-    }
+struct Followers {
+    begins: Vec<Begin>,
+    threads: Workers,
 }
 
 /// A cluster, as its clients see it. Threads may share one.
 ///
-/// It keeps at most two connections to each member, with a thread for each. Dropping it closes them
-/// and ends the threads: at once, or within a second while a member's host doesn't answer a
-/// connection.
+/// It keeps at most two connections to each member, with a thread for each; in a chain, one more for
+/// each [`Follow`]. Dropping it closes them and ends the threads: at once, or within a second while a
+/// member's host doesn't answer a connection.
+///
+/// The members may run a chain of epochs ([`Settings::is_chain`]). Then a question is a *slot*, any
+/// `u64`: slot S is question S mod Q of epoch S / Q, with Q = [`Settings::questions`], and epochs
+/// follow one another without an end. Propose slots in order, and leave none out.
 pub struct Cluster {
     settings: Settings,
     board: Arc<Board>,
     // The senders are dropped first: the threads of `_lines` end once they are.
     jobs: Vec<Sender<Job>>,
     _lines: Workers,
-    followers: Mutex<Workers>,
+    followers: Mutex<Followers>,
 }
 
 impl Cluster {
@@ -82,17 +64,15 @@ impl Cluster {
     ///
     /// [`Error::Thread`] if the system refused a thread.
     pub fn new(settings: Settings) -> Result<Cluster, Error> {
-        let board = Board::new(settings.n(), settings.t(), settings.questions());
+        let board = Arc::new(Board::new(&settings));
         let mut lines = Workers::default();
         let mut jobs = Vec::new(); // dropped before the threads that wait for them
-        for (member, desk) in settings.desks().iter().copied().enumerate() {
+        for desk in settings.desks().iter().copied() {
             let (sender, receiver) = channel();
-            let worker = Worker::start(move |halt| Line::new(member, desk, halt).serve(&receiver))?;
+            lines.start(move |halt| Line::new(desk, halt).serve(&receiver))?;
             jobs.push(sender);
-            lines.0.push(worker);
         }
-        let followers = Mutex::default();
-        Ok(Cluster { settings, board: Arc::new(board), jobs, _lines: lines, followers })
+        Ok(Cluster { settings, board, jobs, _lines: lines, followers: Mutex::default() })
     }
 
     /// Returns the settings of the cluster.
@@ -108,17 +88,17 @@ impl Cluster {
     /// [`Error::NoSuchQuestion`] if there is no such question.
     pub fn propose(
         &self,
-        question: u16,
+        question: u64,
         bit: bool,
         timeout: Duration,
     ) -> Result<Vec<Answer>, Error> {
         self.check(question)?;
-        let line = format!("PROPOSE {question} {}", u8::from(bit));
-        let replies = self.say_all(&line, after(timeout));
-        let members = replies.iter().enumerate();
-        Ok(members
-            .map(|(member, reply)| Answer { member, stands: stands_in(reply, bit) })
-            .collect())
+        let replies = self.say_all(&proposal(question, bit), after(timeout));
+        let answer = |(member, reply): (usize, &Vec<u8>)| {
+            let (stands, refusal) = (stands_in(reply, bit), refusal_in(reply));
+            Answer { member, stands, refusal }
+        };
+        Ok(replies.iter().enumerate().map(answer).collect())
     }
 
     /// Returns the decision that more than t members tell, or `None` while there is none to be
@@ -127,20 +107,27 @@ impl Cluster {
     /// # Errors
     ///
     /// - [`Error::NoSuchQuestion`] if there is no such question;
+    /// - [`Error::Gone`] if more than t members of a chain have put the slot's journal away;
     /// - [`Error::Unreachable`] if t or fewer members answered.
-    pub fn ask(&self, question: u16, timeout: Duration) -> Result<Option<bool>, Error> {
+    pub fn ask(&self, question: u64, timeout: Duration) -> Result<Option<bool>, Error> {
         self.check(question)?;
-        if let Some(bit) = self.board.decision(question) {
+        let held = self.board.hold(question);
+        if let Some(bit) = held.decision() {
             return Ok(Some(bit));
         }
-        let answered = self.ask_all(question, after(timeout));
-        let decision = self.board.decision(question);
+        let answered = self.ask_all(&held, question, after(timeout), GRACE);
+        if let Some(bit) = held.decision() {
+            return Ok(Some(bit));
+        }
+        if let Some(error) = held.refusal() {
+            return Err(error);
+        }
         let silent: Vec<usize> =
             (0..self.settings.n()).filter(|member| !answered[*member]).collect();
-        if decision.is_none() && self.settings.n() - silent.len() <= self.settings.t() {
+        if self.settings.n() - silent.len() <= self.settings.t() {
             return Err(Error::Unreachable(silent));
         }
-        Ok(decision)
+        Ok(None)
     }
 
     /// Returns what one member says, which is worth as much as that member: its decision, or
@@ -149,59 +136,54 @@ impl Cluster {
     /// # Errors
     ///
     /// - [`Error::NoSuchQuestion`] or [`Error::NoSuchMember`] if there is none;
+    /// - [`Error::Gone`] if it has put the slot's journal away, in a chain;
     /// - [`Error::Unreachable`] if it gave no reply of the protocol in time.
     pub fn ask_member(
         &self,
         member: usize,
-        question: u16,
+        question: u64,
         timeout: Duration,
     ) -> Result<Option<bool>, Error> {
         self.check(question)?;
-        self.desk(member)?;
+        self.check_member(member)?;
         let (sender, receiver) = channel();
         let deadline = after(timeout);
-        self.say(member, &format!("ASK {question}"), deadline, &sender);
+        self.say(member, &format!("ASK {question}"), deadline, into(member, &sender));
+        drop(sender);
         let reply = next_reply(&receiver, deadline).and_then(|(_, reply)| reply);
-        answer_in(reply.as_deref()).ok_or(Error::Unreachable(vec![member]))
+        match reply.as_deref().and_then(word_in) {
+            Some(Word::Decided(bit)) => Ok(Some(bit)),
+            Some(Word::Undecided) => Ok(None),
+            Some(Word::Gone) => Err(Error::Gone(vec![member])),
+            None => Err(Error::Unreachable(vec![member])),
+        }
     }
 
-    /// Proposes a bit to every member, again to those that don't answer, and returns the decision,
+    /// Proposes a bit to every member, again to those that don't take it, and returns the decision,
     /// which more than t members tell. It decides what another client left half proposed. The
     /// decision may be the other bit.
     ///
     /// # Errors
     ///
     /// - [`Error::NoSuchQuestion`] if there is no such question;
+    /// - [`Error::Gone`] or [`Error::TooFar`] if more than t members of a chain refuse the slot: at
+    ///   once if n - t do, and otherwise when the time is over;
     /// - [`Error::Undecided`] if the time is over;
     /// - [`Error::Thread`] if the system refused a thread.
-    pub fn decide(&self, question: u16, bit: bool, timeout: Duration) -> Result<bool, Error> {
+    pub fn decide(&self, question: u64, bit: bool, timeout: Duration) -> Result<bool, Error> {
         self.check(question)?;
-        if let Some(bit) = self.board.decision(question) {
-            return Ok(bit);
+        let (held, deadline) = (self.board.hold(question), after(timeout));
+        if let Some(known) = self.known(&held, question, deadline) {
+            return known;
         }
-        self.start()?;
-        let deadline = after(timeout);
-        let line = format!("PROPOSE {question} {}", u8::from(bit));
+        self.start(question)?;
         let (sender, receiver) = channel();
-        let say = |member| {
-            let patience = deadline.min(Instant::now() + PATIENCE);
-            self.say(member, &line, patience, &sender);
-        };
-        (0..self.settings.n()).for_each(say);
-        loop {
-            let turn = deadline.min(Instant::now() + REST);
-            if let Some(bit) = self.board.wait(question, turn) {
-                return Ok(bit);
-            }
-            if Instant::now() >= deadline {
-                return Err(Error::Undecided(self.board.words(question)));
-            }
-            for (member, reply) in receiver.try_iter() {
-                if reply.and_then(|reply| stands_in(&reply, bit)).is_none() {
-                    say(member);
-                }
-            }
-        }
+        let propose = |member| self.propose_to(member, question, bit, deadline, &sender);
+        (0..self.settings.n()).for_each(propose);
+        self.settle(&held, question, deadline, || {
+            let again: Vec<usize> = receiver.try_iter().collect();
+            again.into_iter().for_each(propose);
+        })
     }
 
     /// Returns the decision once more than t members tell it. It proposes nothing.
@@ -209,35 +191,65 @@ impl Cluster {
     /// # Errors
     ///
     /// - [`Error::NoSuchQuestion`] if there is no such question;
+    /// - [`Error::Gone`] if more than t members of a chain have put the slot's journal away: at once
+    ///   if n - t have, and otherwise when the time is over;
     /// - [`Error::Undecided`] if the time is over;
     /// - [`Error::Thread`] if the system refused a thread.
-    pub fn wait(&self, question: u16, timeout: Duration) -> Result<bool, Error> {
+    pub fn wait(&self, question: u64, timeout: Duration) -> Result<bool, Error> {
         self.check(question)?;
-        self.start()?;
-        let decision = self.board.wait(question, after(timeout));
-        decision.ok_or_else(|| Error::Undecided(self.board.words(question)))
+        let (held, deadline) = (self.board.hold(question), after(timeout));
+        if let Some(known) = self.known(&held, question, deadline) {
+            return known;
+        }
+        self.start(question)?;
+        self.settle(&held, question, deadline, || {})
     }
 
     /// Returns an iterator over decisions, for ever, over restarts of members: first those of
     /// before, then each once more than t members tell it.
     ///
+    /// In a chain it is [`Cluster::follow_from`] slot 0.
+    ///
     /// # Errors
     ///
     /// [`Error::Thread`] if the system refused a thread.
     pub fn follow(&self) -> Result<Follow<'_>, Error> {
-        self.start()?;
-        Ok(Follow { board: &self.board, place: 0 })
+        self.follow_from(0)
+    }
+
+    /// Returns an iterator as [`Cluster::follow`], over decisions of this question and later ones.
+    ///
+    /// In a chain it reads nothing of epochs before this slot's, so use it to go on after a restart.
+    /// Slots come roughly in order. Those may be left out that were decided after members had passed
+    /// their epoch, or of an epoch whose journal some members have put away: [`Cluster::ask`] for
+    /// them.
+    ///
+    /// # Errors
+    ///
+    /// [`Error::Thread`] if the system refused a thread.
+    pub fn follow_from(&self, question: u64) -> Result<Follow<'_>, Error> {
+        let source = if self.settings.is_chain() {
+            Source::Chain(Stream::start(&self.settings, question)?)
+        } else {
+            self.start(0)?;
+            Source::Board(&self.board, 0)
+        };
+        Ok(Follow::new(source, question))
     }
 
     /// Returns an iterator over what one member alone tells, in the order of its journal, from this
     /// number on, for ever, over its restarts. It has a connection of its own.
     ///
+    /// In a chain, epoch e has the numbers from e Q on, with Q questions an epoch. To go on later,
+    /// use the greatest number that it told, and one more. A decision that comes late of an epoch
+    /// that was passed may have a lower number than those before it.
+    ///
     /// # Errors
     ///
     /// [`Error::NoSuchMember`] if there is no such member.
-    pub fn follow_member(&self, member: usize, number: usize) -> Result<FollowMember<'_>, Error> {
-        let follower = Follower::new(self.desk(member)?, self.settings.questions(), number);
-        Ok(FollowMember { _cluster: self, follower, halt: Halt::default() })
+    pub fn follow_member(&self, member: usize, number: u64) -> Result<FollowMember<'_>, Error> {
+        self.check_member(member)?;
+        Ok(FollowMember::new(self, member, number))
     }
 
     /// Returns how far each member is on a question by its own word. What one says is worth as much as
@@ -246,7 +258,7 @@ impl Cluster {
     /// # Errors
     ///
     /// [`Error::NoSuchQuestion`] if there is no such question.
-    pub fn state(&self, question: u16, timeout: Duration) -> Result<Vec<State>, Error> {
+    pub fn state(&self, question: u64, timeout: Duration) -> Result<Vec<State>, Error> {
         self.check(question)?;
         let replies = self.say_all(&format!("STATE {question}"), after(timeout));
         let members = replies.iter().enumerate();
@@ -259,17 +271,22 @@ impl Cluster {
         replies.iter().enumerate().map(|(member, reply)| status_in(member, reply)).collect()
     }
 
-    fn check(&self, question: u16) -> Result<(), Error> {
-        let exists = question < self.settings.questions();
-        if exists { Ok(()) } else { Err(Error::NoSuchQuestion(question)) }
+    fn check(&self, question: u64) -> Result<(), Error> {
+        if self.settings.has(question) { Ok(()) } else { Err(Error::NoSuchQuestion(question)) }
     }
 
-    fn desk(&self, member: usize) -> Result<SocketAddrV4, Error> {
-        self.settings.desks().get(member).copied().ok_or(Error::NoSuchMember(member))
+    fn check_member(&self, member: usize) -> Result<(), Error> {
+        if member < self.settings.n() { Ok(()) } else { Err(Error::NoSuchMember(member)) }
     }
 
-    fn say(&self, member: usize, line: &str, deadline: Instant, reply: &Sender<Reply>) {
-        let job = Job { line: line.to_string(), deadline, reply: reply.clone() };
+    fn say(
+        &self,
+        member: usize,
+        line: &str,
+        deadline: Instant,
+        reply: impl FnOnce(Reply) + Send + 'static,
+    ) {
+        let job = Job { line: line.to_string(), deadline, reply: Box::new(reply) };
         // It fails only if the member's thread is gone: then nothing comes, as from a silent one.
         let _ = self.jobs[member].send(job);
     }
@@ -278,7 +295,7 @@ impl Cluster {
     fn say_all(&self, line: &str, deadline: Instant) -> Vec<Vec<u8>> {
         let (sender, receiver) = channel();
         for member in 0..self.settings.n() {
-            self.say(member, line, deadline, &sender);
+            self.say(member, line, deadline, into(member, &sender));
         }
         drop(sender);
         let mut replies = vec![Vec::new(); self.settings.n()];
@@ -288,45 +305,140 @@ impl Cluster {
         replies
     }
 
-    /// Takes each member's word on a question, until a decision is believed, the last members have
-    /// had their time, or the deadline. Returns which members answered.
-    fn ask_all(&self, question: u16, deadline: Instant) -> Vec<bool> {
+    /// Returns the decision of a question, if it is known, or the error of a slot that n - t members
+    /// refuse. In a chain the members are asked for it: a proposal would make an epoch run again that
+    /// has ended.
+    fn known(
+        &self,
+        held: &Held<'_>,
+        question: u64,
+        deadline: Instant,
+    ) -> Option<Result<bool, Error>> {
+        if let Some(bit) = held.decision() {
+            return Some(Ok(bit));
+        }
+        if !self.settings.is_chain() {
+            return None;
+        }
+        self.ask_all(held, question, deadline, Duration::ZERO);
+        held.wait(Instant::now())
+    }
+
+    /// Takes each member's word on a question, until a decision is believed, the deadline, or this
+    /// grace after n - t members have answered. Returns which members answered.
+    fn ask_all(
+        &self,
+        held: &Held<'_>,
+        question: u64,
+        deadline: Instant,
+        grace: Duration,
+    ) -> Vec<bool> {
         let (sender, receiver) = channel();
         for member in 0..self.settings.n() {
-            self.say(member, &format!("ASK {question}"), deadline, &sender);
+            self.say(member, &format!("ASK {question}"), deadline, into(member, &sender));
         }
         drop(sender);
         let mut answered = vec![false; self.settings.n()];
         let mut end = deadline;
         while let Some((member, reply)) = next_reply(&receiver, end) {
-            let Some(word) = answer_in(reply.as_deref()) else { continue };
-            answered[member] = true;
-            if let Some(bit) = word {
-                self.board.take(member, question, bit);
-            }
-            if self.board.decision(question).is_some() {
+            answered[member] = self.board.hear(member, question, reply.as_deref());
+            if held.decision().is_some() {
                 break;
             }
             // n - t members answer whatever the faulty do. More may, but nobody is waited for.
             let count = answered.iter().filter(|answered| **answered).count();
-            if count == self.settings.n() - self.settings.t() {
-                end = deadline.min(Instant::now() + GRACE);
+            if answered[member] && count == self.settings.n() - self.settings.t() {
+                end = deadline.min(Instant::now() + grace);
             }
         }
         answered
     }
 
-    /// Begins to follow every member, if that hasn't begun.
-    fn start(&self) -> Result<(), Error> {
+    /// Proposes a bit to a member, and gives the member to `again` if it didn't take it.
+    fn propose_to(
+        &self,
+        member: usize,
+        question: u64,
+        bit: bool,
+        deadline: Instant,
+        again: &Sender<usize>,
+    ) {
+        let (board, again) = (self.board.clone(), again.clone());
+        let patience = deadline.min(Instant::now() + PATIENCE);
+        self.say(member, &proposal(question, bit), patience, move |reply| {
+            if let Some(reply) = &reply {
+                board.refuse(member, question, refusal_in(reply));
+            }
+            if reply.and_then(|reply| stands_in(&reply, bit)).is_none() {
+                give(&again, member);
+            }
+        });
+    }
+
+    /// Waits for a decision, doing `again` every quarter of a second. In a chain the members are asked
+    /// too, in the end every second: a follower may be held back by a slot that stays open, and one
+    /// that is past the slot's epoch isn't told the decision.
+    fn settle(
+        &self,
+        held: &Held<'_>,
+        question: u64,
+        deadline: Instant,
+        again: impl Fn(),
+    ) -> Result<bool, Error> {
+        let (sender, receiver) = channel();
+        let asked = if self.settings.is_chain() { 0..self.settings.n() } else { 0..0 };
+        asked.for_each(|member| give(&sender, member));
+        let mut pause = REST;
+        let mut next = Instant::now() + pause;
+        loop {
+            let now = Instant::now();
+            if now >= next {
+                pause = POLL.min(2 * pause);
+                next = now + pause;
+                let due: Vec<usize> = receiver.try_iter().collect();
+                due.into_iter().for_each(|member| self.poll(member, question, deadline, &sender));
+            }
+            if let Some(ended) = held.wait(deadline.min(now + REST)) {
+                return ended;
+            }
+            if Instant::now() >= deadline {
+                return Err(held.failure());
+            }
+            again();
+        }
+    }
+
+    /// Asks a member for a slot, and gives the member to `again` once it has answered.
+    fn poll(&self, member: usize, slot: u64, deadline: Instant, again: &Sender<usize>) {
+        let (board, again) = (self.board.clone(), again.clone());
+        let patience = deadline.min(Instant::now() + PATIENCE);
+        self.say(member, &format!("ASK {slot}"), patience, move |reply| {
+            board.hear(member, slot, reply.as_deref());
+            give(&again, member);
+        });
+    }
+
+    /// Begins to follow every member, if that hasn't begun: in a chain from the epoch of this slot
+    /// on. A member that has told nothing yet is followed from an earlier epoch, if the slot is of
+    /// one: it may wait for an epoch that is far ahead.
+    fn start(&self, question: u64) -> Result<(), Error> {
+        let first = self.settings.first_of(question);
         let mut followers = self.followers.lock().unwrap_or_else(PoisonError::into_inner);
-        for member in followers.0.len()..self.settings.n() {
-            let board = self.board.clone();
-            let mut follower = Follower::new(self.desk(member)?, self.settings.questions(), 0);
-            followers.0.push(Worker::start(move |halt| {
-                while let Some((_, question, bit)) = follower.next(halt) {
-                    board.take(member, question, bit);
+        let Followers { begins, threads } = &mut *followers;
+        for (member, begin) in begins.iter().enumerate() {
+            if begin.lower(first) {
+                threads.cut(member);
+            }
+        }
+        for member in threads.count()..self.settings.n() {
+            let (begin, board) = (Begin::new(first), self.board.clone());
+            let mut follower = Follower::new(&self.settings, member, begin.clone());
+            threads.start(move |halt| {
+                while let Some(told) = follower.next(halt) {
+                    board.take(member, told.question, told.bit);
                 }
-            })?);
+            })?;
+            begins.push(begin);
         }
         Ok(())
     }
@@ -339,61 +451,28 @@ impl std::fmt::Debug for Cluster {
 }
 
 /// Returns the time after this one, at most in a hundred years.
-fn after(timeout: Duration) -> Instant {
+pub(crate) fn after(timeout: Duration) -> Instant {
     const LONG: Duration = Duration::from_secs(100 * 365 * 24 * 3600);
     Instant::now() + timeout.min(LONG)
 }
 
+/// Returns the line that proposes a bit.
+fn proposal(question: u64, bit: bool) -> String {
+    format!("PROPOSE {question} {}", u8::from(bit))
+}
+
+/// Returns what gives a member's reply to a channel.
+fn into(member: usize, sender: &Sender<(usize, Reply)>) -> impl FnOnce(Reply) + Send + 'static {
+    let sender = sender.clone();
+    move |reply| give(&sender, (member, reply))
+}
+
+/// Gives a thing to a channel, unless nobody waits there any more.
+fn give<T>(sender: &Sender<T>, thing: T) {
+    let _ = sender.send(thing);
+}
+
 /// Returns the next reply, or `None` at the deadline or once no more can come.
-fn next_reply(replies: &Receiver<Reply>, deadline: Instant) -> Option<Reply> {
+fn next_reply(replies: &Receiver<(usize, Reply)>, deadline: Instant) -> Option<(usize, Reply)> {
     replies.recv_timeout(deadline.saturating_duration_since(Instant::now())).ok()
-}
-
-/// Returns what a reply to `ASK` says: a decision, none yet, or `None` if it says neither.
-fn answer_in(reply: Option<&[u8]>) -> Option<Option<bool>> {
-    match reply {
-        Some(b"UNDECIDED") => Some(None),
-        other => other.and_then(decision_in).map(Some),
-    }
-}
-
-/// Decisions that more than t members told, without an end.
-pub struct Follow<'a> {
-    board: &'a Board,
-    place: usize,
-}
-
-impl Follow<'_> {
-    /// Returns the next decision, or `None` if there is none in this time. A later call goes on.
-    pub fn next_within(&mut self, timeout: Duration) -> Option<Decision> {
-        let decision = self.board.at(self.place, Some(after(timeout)))?;
-        self.place += 1;
-        Some(decision)
-    }
-}
-
-impl Iterator for Follow<'_> {
-    type Item = Decision;
-
-    fn next(&mut self) -> Option<Decision> {
-        let decision = self.board.at(self.place, None)?;
-        self.place += 1;
-        Some(decision)
-    }
-}
-
-/// Decisions that one member told, in the order of its journal, without an end.
-pub struct FollowMember<'a> {
-    _cluster: &'a Cluster,
-    follower: Follower,
-    halt: Halt,
-}
-
-impl Iterator for FollowMember<'_> {
-    type Item = Decision;
-
-    fn next(&mut self) -> Option<Decision> {
-        let (number, question, bit) = self.follower.next(&self.halt)?;
-        Some(Decision { question, bit, number: Some(number) })
-    }
 }

@@ -1,8 +1,12 @@
+use crate::Settings;
+use crate::course::Course;
 use crate::halt::Halt;
 use crate::reply::told_in;
 use crate::wire::Wire;
 use std::io::{self, ErrorKind};
 use std::net::SocketAddrV4;
+use std::sync::Arc;
+use std::sync::atomic::{AtomicU64, Ordering};
 use std::time::{Duration, Instant};
 
 /// The time for a connection and its first line.
@@ -24,30 +28,63 @@ struct Link {
     empty: u64,
 }
 
-/// One member's decisions from a number of its journal on, over any number of connections.
+/// The number from which on a follower asks for decisions. It may be lowered until the member has
+/// told one.
+#[derive(Debug, Clone)]
+pub(crate) struct Begin(Arc<AtomicU64>);
+
+impl Begin {
+    /// Creates the beginning at this number.
+    pub(crate) fn new(number: u64) -> Begin {
+        Begin(Arc::new(AtomicU64::new(number)))
+    }
+
+    /// Lowers the number, if it is higher. Returns `true` if it was.
+    pub(crate) fn lower(&self, number: u64) -> bool {
+        number < self.0.fetch_min(number, Ordering::SeqCst)
+    }
+
+    fn number(&self) -> u64 {
+        self.0.load(Ordering::SeqCst)
+    }
+
+    /// Lets nobody lower it any more.
+    fn fix(&self) {
+        self.0.store(0, Ordering::SeqCst);
+    }
+}
+
+/// A decision that a member told, with its number.
+pub(crate) struct Told {
+    pub(crate) number: u64,
+    pub(crate) question: u64,
+    pub(crate) bit: bool,
+}
+
+/// One member's decisions from a number on, over any number of connections.
 pub(crate) struct Follower {
     desk: SocketAddrV4,
-    number: usize,
-    seen: Vec<bool>,
+    settings: Settings,
+    begin: Begin,
+    course: Course,
+    has_told: bool,
     link: Option<Link>,
 }
 
 impl Follower {
-    /// Creates a follower of the member at this desk, whose next decision has this number. Nothing
-    /// is sent.
-    pub(crate) fn new(desk: SocketAddrV4, questions: u16, number: usize) -> Follower {
-        Follower { desk, number, seen: vec![false; questions.into()], link: None }
+    /// Creates a follower of this member. Nothing is sent.
+    pub(crate) fn new(settings: &Settings, member: usize, begin: Begin) -> Follower {
+        let (desk, settings) = (settings.desks()[member], settings.clone());
+        let course = Course::new(&settings, begin.number());
+        Follower { desk, settings, begin, course, has_told: false, link: None }
     }
 
-    /// Returns the next decision and its number, or `None` once the thread has to end. A member
-    /// that breaks the protocol is left alone for a while.
-    pub(crate) fn next(&mut self, halt: &Halt) -> Option<(usize, u16, bool)> {
+    /// Returns the next decision, or `None` once the thread has to end. A member that breaks the
+    /// protocol is left alone for a while.
+    pub(crate) fn next(&mut self, halt: &Halt) -> Option<Told> {
         while !halt.is_halted() {
             match self.told(halt) {
-                Ok((question, bit)) => {
-                    self.number += 1;
-                    return Some((self.number - 1, question, bit));
-                }
+                Ok(told) => return Some(told),
                 Err(error) => {
                     self.link = None;
                     halt.release();
@@ -60,37 +97,47 @@ impl Follower {
     }
 
     /// Returns what the next line tells that isn't empty. [`ErrorKind::InvalidData`]: it isn't of
-    /// the protocol, tells a question again, or empty lines come too often.
-    fn told(&mut self, halt: &Halt) -> io::Result<(u16, bool)> {
-        let link = match &mut self.link {
-            Some(link) => link,
-            none => none.insert(begin(self.desk, self.number, halt)?),
-        };
-        loop {
-            let line = link.wire.line(Instant::now() + SILENCE)?;
-            if line.is_empty() {
-                link.empty += 1;
-                if link.empty > 3 + link.begun.elapsed().as_secs() / 4 {
-                    return Err(ErrorKind::InvalidData.into());
-                }
-                continue;
-            }
-            let told = told_in(&line).ok_or(ErrorKind::InvalidData)?;
-            return match self.seen.get_mut(usize::from(told.0)) {
-                Some(seen) if !*seen => {
-                    *seen = true;
-                    Ok(told)
-                }
-                _ => Err(ErrorKind::InvalidData.into()),
-            };
+    /// the protocol, tells what a correct member doesn't, or empty lines come too often.
+    fn told(&mut self, halt: &Halt) -> io::Result<Told> {
+        if self.link.is_none() {
+            self.link = Some(self.connect(halt)?);
         }
+        let Some(link) = &mut self.link else { return Err(ErrorKind::NotConnected.into()) };
+        let (question, bit) = link.told()?;
+        let number = self.course.take(question).ok_or(ErrorKind::InvalidData)?;
+        if !self.has_told {
+            self.has_told = true;
+            self.begin.fix();
+        }
+        Ok(Told { number, question, bit })
+    }
+
+    fn connect(&mut self, halt: &Halt) -> io::Result<Link> {
+        let deadline = Instant::now() + BEGIN;
+        let mut wire = Wire::connect(self.desk, deadline)?;
+        // Who lowers the beginning after this cuts the stream.
+        halt.hold(wire.stream())?;
+        if !self.has_told {
+            self.course = Course::new(&self.settings, self.begin.number());
+        }
+        let line = format!("FOLLOW {}\n", self.course.begin());
+        wire.write(line.as_bytes(), deadline)?;
+        Ok(Link { wire, begun: Instant::now(), empty: 0 })
     }
 }
 
-fn begin(desk: SocketAddrV4, number: usize, halt: &Halt) -> io::Result<Link> {
-    let deadline = Instant::now() + BEGIN;
-    let mut wire = Wire::connect(desk, deadline)?;
-    halt.hold(wire.stream())?;
-    wire.write(format!("FOLLOW {number}\n").as_bytes(), deadline)?;
-    Ok(Link { wire, begun: Instant::now(), empty: 0 })
+impl Link {
+    /// Returns the question and the bit of the next line that isn't empty.
+    fn told(&mut self) -> io::Result<(u64, bool)> {
+        loop {
+            let line = self.wire.line(Instant::now() + SILENCE)?;
+            if !line.is_empty() {
+                return told_in(&line).ok_or_else(|| ErrorKind::InvalidData.into());
+            }
+            self.empty += 1;
+            if self.empty > 3 + self.begun.elapsed().as_secs() / 4 {
+                return Err(ErrorKind::InvalidData.into());
+            }
+        }
+    }
 }

@@ -59,6 +59,13 @@ impl Halt {
         }
     }
 
+    /// Ends the stream at which the thread waits, and lets the thread go on.
+    pub(crate) fn cut(&self) {
+        if let Some(stream) = &self.state().stream {
+            let _ = stream.shutdown(Shutdown::Both);
+        }
+    }
+
     /// Tells the thread to end, and ends its stream.
     pub(crate) fn halt(&self) {
         let mut state = self.state();

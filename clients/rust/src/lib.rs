@@ -4,6 +4,9 @@
 //! any t + 1 members is correct, and a correct member tells only decisions that it has saved.
 //! `README.md` says where that is proved.
 //!
+//! A question is a number below [`Settings::questions`]. If the members run a chain of epochs, which
+//! `client.toml` says by `chain = true`, it is a *slot*, any `u64`, and there is always a next one.
+//!
 //! ```no_run
 //! use bracha_client::{Cluster, PATIENCE};
 //! use std::time::Duration;
@@ -21,19 +24,25 @@
 
 mod board;
 mod cluster;
+mod course;
 mod error;
+mod follow;
 mod follower;
+mod guarded;
 mod halt;
 mod line;
 mod reading;
 mod reply;
 mod settings;
+mod window;
 mod wire;
+mod workers;
 
-pub use cluster::{Cluster, Follow, FollowMember, PATIENCE};
+pub use cluster::{Cluster, PATIENCE};
 pub use error::Error;
+pub use follow::{Follow, FollowMember};
 pub use reading::Reading;
-pub use reply::{Answer, Decision, Stage, State, Status};
+pub use reply::{Answer, Decision, Refusal, Stage, State, Status};
 pub use settings::Settings;
 
 /// The example of the README, which the tests of the documentation compile.

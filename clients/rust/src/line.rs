@@ -4,14 +4,14 @@ use crate::wire::Wire;
 use std::collections::VecDeque;
 use std::io::ErrorKind;
 use std::net::SocketAddrV4;
-use std::sync::mpsc::{Receiver, Sender};
+use std::sync::mpsc::Receiver;
 use std::time::Instant;
 
 /// The most lines that are under way on one connection.
 const UNDER_WAY: usize = 256;
 
 /// A member's reply to a line, or `None` if it gave none in time.
-pub(crate) type Reply = (usize, Option<Vec<u8>>);
+pub(crate) type Reply = Option<Vec<u8>>;
 
 /// A line to a member's desk.
 pub(crate) struct Job {
@@ -19,13 +19,12 @@ pub(crate) struct Job {
     pub(crate) line: String,
     /// The time until which a reply is waited for.
     pub(crate) deadline: Instant,
-    /// To whom the reply is given.
-    pub(crate) reply: Sender<Reply>,
+    /// Called with the reply, by the member's thread; dropped if the cluster is.
+    pub(crate) reply: Box<dyn FnOnce(Reply) + Send>,
 }
 
 /// One member's desk, over a connection that is kept, and made anew if it ended.
 pub(crate) struct Line<'a> {
-    member: usize,
     desk: SocketAddrV4,
     halt: &'a Halt,
     wire: Option<Wire>,
@@ -35,9 +34,9 @@ pub(crate) struct Line<'a> {
 }
 
 impl<'a> Line<'a> {
-    /// Creates the desk of a member. Nothing is sent.
-    pub(crate) fn new(member: usize, desk: SocketAddrV4, halt: &'a Halt) -> Line<'a> {
-        Line { member, desk, halt, wire: None, jobs: VecDeque::new(), sent: 0 }
+    /// Creates a member's desk. Nothing is sent.
+    pub(crate) fn new(desk: SocketAddrV4, halt: &'a Halt) -> Line<'a> {
+        Line { desk, halt, wire: None, jobs: VecDeque::new(), sent: 0 }
     }
 
     /// Does all jobs that come, until nobody can hand in more.
@@ -60,7 +59,7 @@ impl<'a> Line<'a> {
         if self.connect(deadline).is_err() {
             // All that wait share the try. Those that come from now on have another.
             while let Some(job) = self.jobs.pop_front() {
-                let _ = job.reply.send((self.member, None));
+                (job.reply)(None);
             }
             return;
         }
@@ -108,10 +107,10 @@ impl<'a> Line<'a> {
     }
 
     /// Gives the first job its reply.
-    fn answer(&mut self, reply: Option<Vec<u8>>) {
+    fn answer(&mut self, reply: Reply) {
         self.sent = self.sent.saturating_sub(1);
         if let Some(job) = self.jobs.pop_front() {
-            let _ = job.reply.send((self.member, reply));
+            (job.reply)(reply);
         }
     }
 }

@@ -1,12 +1,24 @@
 /// A decision.
 #[derive(Debug, Clone, Copy, PartialEq, Eq, Hash)]
 pub struct Decision {
-    /// The question, from 0.
-    pub question: u16,
+    /// The question, from 0; in a chain, the slot.
+    pub question: u64,
     /// The bit that it is decided as.
     pub bit: bool,
-    /// Its place in one member's journal, from 0, if that member alone is trusted.
-    pub number: Option<usize>,
+    /// Its number among one member's decisions, if that member alone is trusted: its place in the
+    /// member's journal, from 0. In a chain, place p of epoch e has the number e Q + p, with Q
+    /// questions an epoch.
+    pub number: Option<u64>,
+}
+
+/// The cause for which a member of a chain refuses a line on a slot.
+#[derive(Debug, Clone, Copy, PartialEq, Eq, Hash)]
+pub enum Refusal {
+    /// The journal of the slot's epoch was put away (`ERR 5 gone`): the member knows nothing of it.
+    Gone,
+    /// The member takes no proposal for the slot yet, because its epoch is too far ahead of the
+    /// newest one (`ERR 2 question`).
+    TooFar,
 }
 
 /// One member's answer to a proposal.
@@ -14,8 +26,11 @@ pub struct Decision {
 pub struct Answer {
     /// The member.
     pub member: usize,
-    /// The bit that it has as its proposal, or `None` if it didn't answer or is stopped.
+    /// The bit that it has as its proposal, or `None` if it didn't answer, refuses the slot, or is
+    /// stopped.
     pub stands: Option<bool>,
+    /// The cause for which it refuses the slot, if it does. Only chains have these.
+    pub refusal: Option<Refusal>,
 }
 
 /// How far a member is on a question.
@@ -34,6 +49,8 @@ pub enum Stage {
     Spent,
     /// It decided the question as this bit.
     Decided(bool),
+    /// It doesn't know: the journal of the slot's epoch was put away. Only chains have it.
+    Gone,
 }
 
 /// How far one member is on a question, by its own word.
@@ -77,6 +94,32 @@ pub(crate) fn stands_in(reply: &[u8], bit: bool) -> Option<bool> {
     }
 }
 
+/// A member's reply to `ASK q`.
+#[derive(Debug, Clone, Copy, PartialEq, Eq)]
+pub(crate) enum Word {
+    Decided(bool),
+    Undecided,
+    Gone,
+}
+
+/// Returns the word in a reply to `ASK q`, or `None` for any other reply.
+pub(crate) fn word_in(reply: &[u8]) -> Option<Word> {
+    match reply {
+        b"UNDECIDED" => Some(Word::Undecided),
+        b"ERR 5 gone" => Some(Word::Gone),
+        other => decision_in(other).map(Word::Decided),
+    }
+}
+
+/// Returns the cause for which the member that gave this reply to a proposal refuses the slot.
+pub(crate) fn refusal_in(reply: &[u8]) -> Option<Refusal> {
+    match reply {
+        b"ERR 5 gone" => Some(Refusal::Gone),
+        b"ERR 2 question" => Some(Refusal::TooFar),
+        _ => None,
+    }
+}
+
 /// Returns the number in a word of decimal digits, without zeros before it.
 fn number_in(word: &str) -> Option<u64> {
     let digits = word.bytes().all(|byte| byte.is_ascii_digit());
@@ -85,7 +128,7 @@ fn number_in(word: &str) -> Option<u64> {
 }
 
 /// Returns the question and the bit of a follower's line `DECIDED q b`, or `None` for any other.
-pub(crate) fn told_in(line: &[u8]) -> Option<(u16, bool)> {
+pub(crate) fn told_in(line: &[u8]) -> Option<(u64, bool)> {
     let rest = std::str::from_utf8(line).ok()?.strip_prefix("DECIDED ")?;
     let (question, bit) = rest.split_once(' ')?;
     let bit = match bit {
@@ -93,7 +136,7 @@ pub(crate) fn told_in(line: &[u8]) -> Option<(u16, bool)> {
         "1" => true,
         _ => return None,
     };
-    Some((u16::try_from(number_in(question)?).ok()?, bit))
+    Some((number_in(question)?, bit))
 }
 
 /// Returns how far the member is that gave this reply to `STATE q`, or `None` for any other reply.
@@ -104,6 +147,7 @@ pub(crate) fn stage_in(reply: &[u8]) -> Option<Stage> {
     match reply {
         b"UNPROPOSED" => return Some(Stage::Unproposed),
         b"SPENT" => return Some(Stage::Spent),
+        b"ERR 5 gone" => return Some(Stage::Gone),
         _ => {}
     }
     let rest = std::str::from_utf8(reply).ok()?.strip_prefix("OPEN ")?;
@@ -130,7 +174,7 @@ pub(crate) fn status_in(member: usize, reply: &[u8]) -> Status {
 
 #[cfg(test)]
 mod tests {
-    use super::{Stage, stage_in, status_in, told_in};
+    use super::{Refusal, Stage, Word, refusal_in, stage_in, status_in, told_in, word_in};
 
     #[test]
     fn lines_of_followers() {
@@ -138,7 +182,9 @@ mod tests {
         for wrong in ["DECIDED 1", "DECIDED  1 1", "DECIDED 1 2", "DECIDED +1 1", "DECIDED 01 1"] {
             assert_eq!(told_in(wrong.as_bytes()), None, "{wrong}");
         }
-        assert_eq!(told_in(b"DECIDED 65536 1"), None);
+        assert_eq!(told_in(b"DECIDED 65536 0"), Some((65536, false)));
+        assert_eq!(told_in(b"DECIDED 18446744073709551615 1"), Some((u64::MAX, true)));
+        assert_eq!(told_in(b"DECIDED 18446744073709551616 1"), None);
         assert_eq!(told_in(b"DECIDED \xff 1"), None);
     }
 
@@ -149,10 +195,24 @@ mod tests {
         assert_eq!(stage_in(b"SPENT"), Some(Stage::Spent));
         assert_eq!(stage_in(b"UNPROPOSED"), Some(Stage::Unproposed));
         assert_eq!(stage_in(b"DECIDED 0"), Some(Stage::Decided(false)));
+        assert_eq!(stage_in(b"ERR 5 gone"), Some(Stage::Gone));
         for wrong in
             ["", "OPEN", "OPEN 1", "OPEN 0 1", "OPEN 33 1", "OPEN 1 4", "OPEN 01 1", "UNDECIDED"]
         {
             assert_eq!(stage_in(wrong.as_bytes()), None, "{wrong}");
+        }
+    }
+
+    #[test]
+    fn words_and_refusals() {
+        assert_eq!(word_in(b"DECIDED 1"), Some(Word::Decided(true)));
+        assert_eq!(word_in(b"UNDECIDED"), Some(Word::Undecided));
+        assert_eq!(word_in(b"ERR 5 gone"), Some(Word::Gone));
+        assert_eq!(refusal_in(b"ERR 5 gone"), Some(Refusal::Gone));
+        assert_eq!(refusal_in(b"ERR 2 question"), Some(Refusal::TooFar));
+        for wrong in ["", "ERR 5", "ERR 5 gone ", "err 5 gone", "ERR 2 questions", "ERR 1 line"] {
+            assert_eq!(word_in(wrong.as_bytes()), None, "{wrong}");
+            assert_eq!(refusal_in(wrong.as_bytes()), None, "{wrong}");
         }
     }
 

@@ -8,18 +8,20 @@ pub struct Settings {
     cluster: u64,
     t: usize,
     questions: u16,
+    chain: bool,
     desks: Vec<SocketAddrV4>,
 }
 
 /// A value of a key.
 enum Value {
     Number(u64),
+    Truth(bool),
     Texts(Vec<String>),
 }
 
 impl Settings {
     /// Creates the settings of a cluster with this number, at most t faulty members, this number
-    /// of questions, and the desk of each member.
+    /// of questions, and the desk of each member. It is no chain: see [`Settings::in_chain`].
     ///
     /// # Errors
     ///
@@ -44,7 +46,13 @@ impl Settings {
         if (1..desks.len()).any(|later| desks[..later].contains(&desks[later])) {
             return bad("desks: must differ");
         }
-        Ok(Settings { cluster, t, questions, desks })
+        Ok(Settings { cluster, t, questions, chain: false, desks })
+    }
+
+    /// Returns these settings for members that run a chain of epochs, each epoch a cluster of
+    /// `questions` questions.
+    pub fn in_chain(self) -> Settings {
+        Settings { chain: true, ..self }
     }
 
     /// Reads the file that `bracha new-cluster` wrote.
@@ -63,8 +71,8 @@ impl Settings {
     }
 
     /// Reads the text of a client.toml: the keys `cluster`, `n`, `t`, `questions`, each an integer,
-    /// and `desks`, a list of texts `HOST:PORT`. Other keys of such values are ignored, and other
-    /// forms of TOML are refused.
+    /// `desks`, a list of texts `HOST:PORT`, and perhaps `chain`, `true` or `false`. Other keys of
+    /// such values are ignored, and other forms of TOML are refused.
     ///
     /// # Errors
     ///
@@ -80,6 +88,11 @@ impl Settings {
         let n = number("n", 64)? as usize;
         let t = number("t", 21)? as usize;
         let questions = number("questions", 4096)? as u16;
+        let chain = match find("chain") {
+            None => false,
+            Some(Value::Truth(chain)) => *chain,
+            Some(_) => return bad("chain: must be true or false"),
+        };
         let Some(Value::Texts(desks)) = find("desks") else {
             return bad("desks: must be texts HOST:PORT");
         };
@@ -87,7 +100,7 @@ impl Settings {
             return bad(&format!("desks: must be {n} addresses"));
         }
         let desks: Result<_, _> = desks.iter().map(|desk| address_of(desk)).collect();
-        Settings::new(cluster, t, questions, desks?)
+        Ok(Settings { chain, ..Settings::new(cluster, t, questions, desks?)? })
     }
 
     /// Returns the cluster's number.
@@ -105,9 +118,25 @@ impl Settings {
         self.t
     }
 
-    /// Returns the number of questions, 1 to 4,096.
+    /// Returns the number of questions, 1 to 4,096; in a chain, those of each epoch.
     pub fn questions(&self) -> u16 {
         self.questions
+    }
+
+    /// Returns `true` if the members run a chain of epochs. Then questions are slots: any `u64` is
+    /// one, and slot S is question S mod Q of epoch S / Q, with Q = [`Settings::questions`].
+    pub fn is_chain(&self) -> bool {
+        self.chain
+    }
+
+    /// Returns `true` if there is such a question.
+    pub(crate) fn has(&self, question: u64) -> bool {
+        self.chain || question < self.questions.into()
+    }
+
+    /// Returns the first slot of this one's epoch. A cluster that is no chain has one epoch.
+    pub(crate) fn first_of(&self, question: u64) -> u64 {
+        if self.chain { question - question % u64::from(self.questions) } else { 0 }
     }
 
     /// Returns the members' desks, by number.
@@ -163,15 +192,19 @@ fn keys_of(text: &str) -> Result<Vec<(String, Value)>, Error> {
             return bad(&format!("line {place}: {key}: stands twice"));
         }
         let Some(value) = value_in(&value) else {
-            return bad(&format!("line {place}: {key}: must be an integer or a list of texts"));
+            let one_of = "an integer, true, false or a list of texts";
+            return bad(&format!("line {place}: {key}: must be {one_of}"));
         };
         keys.push((key, value));
     }
     Ok(keys)
 }
 
-/// Returns the value in a text: an integer, or a list of texts without escapes.
+/// Returns the value in a text: an integer, a truth, or a list of texts without escapes.
 fn value_in(text: &str) -> Option<Value> {
+    if let "true" | "false" = text {
+        return Some(Value::Truth(text == "true"));
+    }
     let Some(inner) = text.strip_prefix('[') else {
         let digits = !text.is_empty() && text.bytes().all(|byte| byte.is_ascii_digit());
         let plain = text == "0" || !text.starts_with('0');
@@ -224,7 +257,24 @@ mod tests {
         assert_eq!((settings.n(), settings.t(), settings.questions()), (4, 1, 64));
         assert_eq!(settings.cluster(), u64::MAX);
         assert_eq!(settings.desks()[0].to_string(), "127.0.0.1:1");
-        assert!(Settings::parse(&(text("", "") + "other = 7\nmore = [\"a\"]\n")).is_ok());
+        let others = "other = 7\nmore = [\"a\"]\nanother = true\n";
+        assert!(Settings::parse(&(text("", "") + others)).is_ok());
+    }
+
+    #[test]
+    fn chains() {
+        let read = |line: &str| Settings::parse(&(text("", "") + line));
+        let (plain, chain) = (read("").unwrap(), read("chain = true # of epochs\n").unwrap());
+        assert_eq!(read("chain = false\n"), Ok(plain.clone()));
+        assert_eq!((plain.is_chain(), chain.is_chain()), (false, true));
+        assert_eq!(plain.clone().in_chain(), chain);
+        assert_eq!([63, 64, u64::MAX].map(|it| plain.has(it)), [true, false, false]);
+        assert_eq!([63, 64, u64::MAX].map(|it| chain.has(it)), [true; 3]);
+        assert_eq!([63, 64, u64::MAX].map(|it| chain.first_of(it)), [0, 64, u64::MAX - 63]);
+        for wrong in ["1", "0", "\"true\"", "True", "TRUE", "[]", "[true]", "yes", ""] {
+            assert!(read(&format!("chain = {wrong}\n")).is_err(), "{wrong}");
+        }
+        assert!(read("chain = true\nchain = true\n").is_err());
     }
 
     #[test]
@@ -232,7 +282,7 @@ mod tests {
         let rows: [(&str, &[&str]); 5] = [
             ("cluster", &["", "-1", "\"7\"", "7.0", "18446744073709551616", "07", "+7"]),
             ("n", &["", "3", "5", "65", "true"]),
-            ("t", &["", "2", "22"]),
+            ("t", &["", "2", "22", "false"]),
             ("questions", &["", "0", "4097"]),
             ("desks", &["", "\"a\"", "[\"127.0.0.1:1\"]", "[", "[\"a\" \"b\"]", "[1, 2, 3, 4]"]),
         ];

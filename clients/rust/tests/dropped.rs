@@ -5,6 +5,7 @@ mod common;
 
 use bracha_client::{Cluster, Settings};
 use common::{Desk, comes, links_to};
+use std::net::SocketAddrV4;
 use std::thread;
 use std::time::{Duration, Instant};
 
@@ -22,11 +23,16 @@ fn a_cluster_that_is_dropped_leaves_nothing() {
     let desks = [0; 4].map(|_| Desk::new(|_, link| link.rest(60.0)));
     let addresses = desks.each_ref().map(|desk| desk.address);
     let settings = Settings::new(7, 1, 64, addresses.to_vec()).unwrap();
+    one_that_is_no_chain(settings.clone(), &addresses);
+    one_that_is_a_chain(settings.in_chain(), &addresses);
+}
+
+fn one_that_is_no_chain(settings: Settings, addresses: &[SocketAddrV4]) {
     let cluster = Cluster::new(settings).unwrap();
     assert!(cluster.ask(3, SECOND / 5).is_err());
     assert!(cluster.decide(3, true, SECOND / 5).is_err());
     // A follower keeps its connection to a silent member. A line that had no reply in time has none.
-    assert!(comes(|| own_threads() == 8 && links_to(&addresses) >= 4));
+    assert!(comes(|| own_threads() == 8 && links_to(addresses) >= 4));
     let mut dropped = cluster.follow().unwrap();
     assert_eq!(dropped.next_within(SECOND / 10), None);
     thread::scope(|scope| {
@@ -38,5 +44,21 @@ fn a_cluster_that_is_dropped_leaves_nothing() {
     drop(cluster);
     assert!(begun.elapsed() < SECOND, "{:?}", begun.elapsed());
     // The system may list a thread for a moment that was waited for.
-    assert!(comes(|| own_threads() == 0 && links_to(&addresses) == 0));
+    assert!(comes(|| own_threads() == 0 && links_to(addresses) == 0));
+}
+
+fn one_that_is_a_chain(settings: Settings, addresses: &[SocketAddrV4]) {
+    let cluster = Cluster::new(settings).unwrap();
+    assert!(cluster.decide(3, true, SECOND / 5).is_err());
+    assert!(comes(|| own_threads() == 8 && links_to(addresses) >= 4));
+    // Each that follows a chain has threads and connections of its own.
+    let mut followed = cluster.follow().unwrap();
+    assert_eq!(followed.next_within(SECOND / 10), None);
+    assert!(comes(|| own_threads() == 12 && links_to(addresses) >= 8));
+    let begun = Instant::now();
+    drop(followed);
+    assert!(comes(|| own_threads() == 8));
+    drop(cluster);
+    assert!(begun.elapsed() < 2 * SECOND, "{:?}", begun.elapsed());
+    assert!(comes(|| own_threads() == 0 && links_to(addresses) == 0));
 }

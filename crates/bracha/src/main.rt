@@ -8,7 +8,6 @@ ghost use Rattle.std.specs.Prelude.{◌≡◌, ◌≢◌, ◌⊎◌, IfOk};
 
 use clap::error::ErrorKind;
 use command_line::{Task, command};
-use std::convert::AsStr;
 use std::io;
 use std::marker::Brand;
 use std::net::{TcpListener, TcpStream};
@@ -378,17 +377,12 @@ fn print_number(host: &HostRuntime, error: &clap::Error) -> io::Result<()> {
     }
 }
 
-/// Does what the words ask for, the program's name first among them, while no file can get the
-/// number of a standard stream. Help, the version and faults of the words are printed here. What
-/// can be told of a failure is told, but where the words or the environment ask for its first line
-/// alone.
-fn run<R: Caller, S: AsStr>(
-    rt: &R,
-    host: &HostRuntime,
-    _held: &HeldStreams,
-    words: &[S],
-) -> Result<u8, Failure> {
-    match command(host.alloc(), words) {
+/// Does what the words ask for with which the program was started, while no file can get the number
+/// of a standard stream. Help, the version and faults of the words are printed here. What can be
+/// told of a failure is told, but where the words or the environment ask for its first line alone.
+fn run<R: Caller>(rt: &R, host: &HostRuntime, _held: &HeldStreams) -> Result<u8, Failure> {
+    let words = own_words(host, host.alloc())?;
+    match command(host.alloc(), words.as_slice()) {
         Ok(order) => {
             let quiet = order.quiet || wants_quiet(host);
             match work(rt, host, order.task, quiet) {
@@ -403,12 +397,6 @@ fn run<R: Caller, S: AsStr>(
             Ok(status_of(&error))
         }
     }
-}
-
-/// Does what the words ask for with which the program was started.
-fn run_own<R: Caller>(rt: &R, host: &HostRuntime, held: &HeldStreams) -> Result<u8, Failure> {
-    let words = own_words(host, host.alloc())?;
-    run(rt, host, held, words.as_slice())
 }
 
 /// Prints the line of a fault, and behind it the line of what can be told.
@@ -443,5 +431,5 @@ fn no_sockets() -> (Option<TcpListener>, Option<TcpStream>) {
 fn main(rt: HostRuntime) -> io::Result<ExitCode> {
     let _sockets = no_sockets();
     let held = hold_streams(&rt)?;
-    end(&rt, run_own(&rt, &rt, &held))
+    end(&rt, run(&rt, &rt, &held))
 }

@@ -1,7 +1,8 @@
 //! The switchboard of a process: begin at `Switchboard`.
 
 use crate::inbox::{Arrival, Inbox};
-use crate::state::{Place, Running, State, Verdicts};
+use crate::state::{Place, Running, State};
+use crate::verdicts::Verdicts;
 use chain::{Ask, Chain};
 use std::alloc::Global;
 use std::sync::atomic::{AtomicBool, Ordering};

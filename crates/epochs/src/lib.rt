@@ -10,9 +10,10 @@ mod inbox;
 mod said;
 mod state;
 mod turning;
+mod verdicts;
 
 pub use board::{Doors, Report, Stored, Switchboard};
 pub use inbox::{Arrival, Inbox};
 pub use said::{MOST, Said};
-pub use state::Verdicts;
 pub use turning::{SlotLine, Verb, asks_epochs, epochs_reply, follow_line, slot_line};
+pub use verdicts::Verdicts;

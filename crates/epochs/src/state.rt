@@ -10,6 +10,7 @@ ghost use Rattle.epochs.specs.declared.board.Stored.TheVariants.{Decided};
 
 use crate::board::{Doors, Report, Stored};
 use crate::inbox::Arrival;
+use crate::verdicts::Verdicts;
 use chain::{Ask, Chain, Known};
 use std::alloc::Global;
 use std::mem;
@@ -42,90 +43,6 @@ const ASKING: u64 = 5;
 
 /// The most connections that wait for epochs that don't run yet.
 const PARKED: usize = 128;
-
-/// The decisions of an epoch's questions. Nothing is known if the epoch's journal was put
-/// away.
-#[derive(Drop)]
-pub struct Verdicts {
-    /// A cell for each question: 0 if no decision is known, 1 for the bit 0, 2 for the bit 1, 3 if
-    /// it was proposed here and isn't decided.
-    cells: Vec<u8>,
-    /// The questions that are decided, in the order of the journal.
-    order: Vec<u16>,
-}
-
-impl Verdicts {
-    /// Those of an epoch whose journal was put away.
-    pub fn gone(alloc: Global) -> Verdicts {
-        Verdicts {
-            cells: Vec::new(alloc),
-            order: Vec::new(alloc),
-        }
-    }
-
-    /// Those of an epoch of so many questions, of which none is decided.
-    pub fn none(alloc: Global, questions: u16) -> Result<Verdicts, Memory> {
-        let mut cells = Vec::new(alloc);
-        for _ in 0..questions {
-            cells.push(0u8)?;
-        }
-        Ok(Verdicts {
-            cells,
-            order: Vec::new(alloc),
-        })
-    }
-
-    /// The question was decided for this bit. Of several decisions the first counts.
-    pub fn decide(&mut self, question: u16, bit: bool) -> Result<(), Memory>
-        ensures first { (verdict_at self.old question ≡ None → ⊥) → self.new ≡ self.old }
-        ensures told { (q : ℕ) (b : Bool) → verdict_at self.new q ≡ Some b → (verdict_at self.old q ≡ Some b) ⊎ ((q ≡ question) × (b ≡ bit)) }
-    {
-        if self.of(question).is_some() || usize::from(question) >= self.cells.len() {
-            return Ok(());
-        }
-        self.order.push(question)?;
-        if let Some(cell) = self.cells.get_mut(usize::from(question)) {
-            *cell = if bit { 2 } else { 1 };
-        }
-        Ok(())
-    }
-
-    /// The question was proposed to this member.
-    pub fn propose(&mut self, question: u16) {
-        if let Some(cell) = self.cells.get_mut(usize::from(question)) {
-            if *cell == 0 {
-                *cell = 3;
-            }
-        }
-    }
-
-    /// Returns `true` if a question was proposed to this member and isn't decided.
-    pub fn is_undone(&self) -> bool {
-        self.cells.iter().any(|cell| *cell == 3)
-    }
-
-    /// Returns the decision of the question, if it is known.
-    fn of(&self, question: u16) -> Option<bool>
-        ensures { result ≡ verdict_at self.now question }
-    {
-        match self.cells.get(usize::from(question)) {
-            Some(1) => Some(false),
-            Some(2) => Some(true),
-            _ => None,
-        }
-    }
-
-    /// Returns `true` if some are decided, or none is, and some aren't.
-    fn is_partial(&self) -> bool {
-        self.order.len() < self.cells.len()
-    }
-
-    /// Returns the question that was decided at this place of the journal's decisions, and its bit.
-    fn decided_at(&self, place: u16) -> Option<(u16, bool)> {
-        let question = *self.order.get(usize::from(place))?;
-        Some((question, self.of(question)?))
-    }
-}
 
 /// An epoch that runs.
 #[derive(Drop)]
@@ -276,7 +193,7 @@ impl State {
     /// Adds the next epoch whose journal is there.
     pub(crate) fn add(&mut self, verdicts: Verdicts) -> Result<(), Memory> {
         let epoch = self.made();
-        if verdicts.is_undone() || !verdicts.order.is_empty() {
+        if verdicts.is_undone() || verdicts.has_decisions() {
             self.advance(epoch);
         }
         if verdicts.is_partial() {
@@ -398,7 +315,7 @@ impl State {
         ensures { result ≡ false → IfSome (slice_get self.now.verdicts.items epoch) (λ verdicts. 0 < length verdicts.cells.items) }
     {
         match self.verdicts.get(epoch as usize) {
-            Some(verdicts) => verdicts.cells.is_empty(),
+            Some(verdicts) => verdicts.is_gone(),
             None => false,
         }
     }

@@ -13,7 +13,7 @@ use numerals::number;
 use settings::Settings;
 use std::alloc::{AllocError, Global};
 use std::{fs, io};
-use terms::{Header, Kind, Memory, Record, Statement};
+use terms::{Header, Memory};
 
 /// Returns the path of an epoch's journal.
 pub(crate) fn epoch_path(alloc: Global, folder: &str, epoch: u64) -> Result<String, AllocError>
@@ -87,26 +87,27 @@ const MISSING: &str =
 pub(crate) fn epochs_in(host: &HostRuntime, folder: &str) -> Result<Span, Failure> {
     match span_in(host, folder) {
         Ok(Some(span)) => Ok(span),
-        Ok(None) => {
-            Err(Failure::at(
-                host.alloc(),
-                Fault::File,
-                folder,
-                Whereabouts::Open,
-                &MISSING,
-            ))
-        }
-        Err(error) if error.kind() == io::ErrorKind::NotFound => {
-            Err(Failure::at(
-                host.alloc(),
-                Fault::File,
-                folder,
-                Whereabouts::Open,
-                &MISSING,
-            ))
-        }
+        Ok(None) => Err(nothing_in(host, folder)),
+        Err(error) if error.kind() == io::ErrorKind::NotFound => Err(nothing_in(host, folder)),
         Err(error) => Err(failed(host, folder, &error)),
     }
+}
+
+/// Returns the failure of a folder without a journal.
+fn nothing_in(host: &HostRuntime, folder: &str) -> Failure {
+    Failure::at(
+        host.alloc(),
+        Fault::File,
+        folder,
+        Whereabouts::Open,
+        &MISSING,
+    )
+}
+
+/// Returns the failure of an epoch's journal, told in these words.
+fn journal_failure(host: &HostRuntime, path: &str, fault: JournalFault, words: &str) -> Failure {
+    let fault = Fault::Journal(fault);
+    Failure::at(host.alloc(), fault, path, Whereabouts::Whole, &words)
 }
 
 /// Returns the failure of a file.
@@ -147,37 +148,9 @@ fn create_at<P: Premise>(host: &HostRuntime, path: &str, header: &Header) -> Res
         Ok(()) => Ok(()),
         Err(fault) => {
             let words = "the journal of a new epoch can't be made";
-            Err(Failure::at(
-                host.alloc(),
-                Fault::Journal(fault),
-                path,
-                Whereabouts::Whole,
-                &words,
-            ))
+            Err(journal_failure(host, path, fault, words))
         }
     }
-}
-
-/// Returns `true` if the member said by this that a bit was proposed to it.
-fn is_own_proposal(me: u8, said: Statement) -> bool {
-    let place = said.place();
-    said.kind() == Kind::Initial && place.origin() == me && place.round() == 1 && place.step() == 1
-}
-
-/// Returns what these records of an epoch say of its questions.
-fn verdicts_in(alloc: Global, header: &Header, records: &[Record]) -> Result<Verdicts, Memory> {
-    let mut verdicts = Verdicts::none(alloc, header.size().questions())?;
-    for record in records {
-        match *record {
-            Record::Decided { question, bit, .. } => verdicts.decide(question, bit)?,
-            Record::Said(said) => {
-                if is_own_proposal(header.me(), said) {
-                    verdicts.propose(said.place().question());
-                }
-            }
-        }
-    }
-    Ok(verdicts)
 }
 
 /// Returns what an epoch's journal says.
@@ -193,20 +166,14 @@ pub(crate) fn look_into(
         Err(error) => return Err(failed(host, path, &error)),
     };
     match read_file(host.alloc(), header, &bytes) {
-        Ok((_, records)) => match verdicts_in(host.alloc(), header, &records) {
+        Ok((_, records)) => match Verdicts::of_records(host.alloc(), header, &records) {
             Ok(verdicts) => Ok(verdicts),
             Err(Memory) => Err(Failure::from(Fault::Memory)),
         },
         Err(JournalFault::Memory) => Err(Failure::from(Fault::Memory)),
         Err(fault) => {
             let words = "the journal of an epoch can't be read: see `bracha dump`";
-            Err(Failure::at(
-                host.alloc(),
-                Fault::Journal(fault),
-                path,
-                Whereabouts::Whole,
-                &words,
-            ))
+            Err(journal_failure(host, path, fault, words))
         }
     }
 }

@@ -129,11 +129,20 @@ static CLUSTERS: AtomicUsize = AtomicUsize::new(0);
 impl Members {
     /// Starts a cluster of the program that BRACHA names, or returns `None` if it names none.
     pub fn start(questions: u16) -> Option<Members> {
-        let program = PathBuf::from(std::env::var_os("BRACHA").filter(|it| !it.is_empty())?);
-        (0..20).find_map(|_| Members::try_start(&program, questions))
+        Members::start_with(questions, &[])
     }
 
-    fn try_start(program: &Path, questions: u16) -> Option<Members> {
+    /// Starts a chain of epochs of this many questions, or returns `None` if BRACHA names no program.
+    pub fn start_chain(questions: u16) -> Option<Members> {
+        Members::start_with(questions, &["--epochs"])
+    }
+
+    fn start_with(questions: u16, more: &[&str]) -> Option<Members> {
+        let program = PathBuf::from(std::env::var_os("BRACHA").filter(|it| !it.is_empty())?);
+        (0..20).find_map(|_| Members::try_start(&program, questions, more))
+    }
+
+    fn try_start(program: &Path, questions: u16, more: &[&str]) -> Option<Members> {
         let place = CLUSTERS.fetch_add(1, Ordering::SeqCst);
         let id = std::process::id() as usize;
         let folder = std::env::temp_dir().join(format!("bracha-client-{id}-{place}"));
@@ -141,8 +150,8 @@ impl Members {
         let members = Members { program: program.into(), folder, running: Mutex::default() };
         let first = free_ports(id.wrapping_mul(31).wrapping_add(place * 97));
         let size = ["--n", "4", "--t", "1", "--cluster", "7", "--questions"];
-        let more = [&questions.to_string(), "--port", &first.to_string(), "."];
-        assert!(members.call(&[&["new-cluster"], &size[..], &more].concat()));
+        let rest = [&questions.to_string(), "--port", &first.to_string(), "."];
+        assert!(members.call(&[&["new-cluster"], more, &size[..], &rest].concat()));
         for member in 0..4 {
             assert!(members.call(&["init", &format!("member-{member}.toml")]));
         }
@@ -165,6 +174,16 @@ impl Members {
         BufReader::new(child.stdout.take().unwrap()).read_line(&mut line).unwrap();
         self.running.lock().unwrap()[member] = Some(child);
         line.contains("ready")
+    }
+
+    /// Kills a member of a chain, puts the journals of its first epochs away, and starts it again.
+    pub fn put_away(&self, member: usize, epochs: u64) {
+        self.kill(member);
+        let journals = self.folder.join(format!("member-{member}.epochs"));
+        for epoch in 0..epochs {
+            std::fs::remove_file(journals.join(format!("{epoch}.journal"))).unwrap();
+        }
+        self.restart(member);
     }
 
     pub fn kill(&self, member: usize) {

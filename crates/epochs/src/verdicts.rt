@@ -1,0 +1,136 @@
+//! The decisions of an epoch: begin at `Verdicts`.
+
+ghost use Rattle.std.specs.Prelude.{ℕ, ◌≡◌, ◌⊎◌, ◌<◌, ◌==◌, Bool, false, None, Some, IfOk, cond, length, replicate};
+ghost use Rattle.epochs.specs.Verdicts.{SaysOf, first_of, verdict_at};
+
+use std::alloc::Global;
+use terms::{Header, Kind, Memory, Record, Statement};
+
+/// The decisions of an epoch's questions. Nothing is known if the epoch's journal was put
+/// away.
+#[derive(Drop)]
+pub struct Verdicts {
+    /// A cell for each question: 0 if no decision is known, 1 for the bit 0, 2 for the bit 1, 3 if
+    /// it was proposed here and isn't decided.
+    cells: Vec<u8>,
+    /// The questions that are decided, in the order of the journal.
+    order: Vec<u16>,
+}
+
+/// Returns `true` if the member said by this that a bit was proposed to it.
+fn is_own_proposal(me: u8, said: Statement) -> bool {
+    let place = said.place();
+    said.kind() == Kind::Initial && place.origin() == me && place.round() == 1 && place.step() == 1
+}
+
+impl Verdicts {
+    /// Those of an epoch whose journal was put away.
+    pub fn gone(alloc: Global) -> Verdicts {
+        Verdicts {
+            cells: Vec::new(alloc),
+            order: Vec::new(alloc),
+        }
+    }
+
+    /// Those of an epoch of so many questions, of which none is decided.
+    pub fn none(alloc: Global, questions: u16) -> Result<Verdicts, Memory>
+        ensures { IfOk result (λ none. none.cells.items ≡ replicate questions 0) }
+    {
+        let mut cells = Vec::new(alloc);
+        cells.resize(usize::from(questions), 0u8)?;
+        Ok(Verdicts {
+            cells,
+            order: Vec::new(alloc),
+        })
+    }
+
+    /// Reads the records of an epoch's journal: of each question the first decision is known.
+    pub fn of_records(
+        alloc: Global,
+        header: &Header,
+        records: &[Record],
+    ) -> Result<Verdicts, Memory>
+        ensures { IfOk result (SaysOf header.now.size.questions records.now) }
+    {
+        let mut verdicts = Verdicts::none(alloc, header.size().questions())?;
+        for record in records {
+            match *record {
+                Record::Decided { question, bit, .. } => verdicts.decide(question, bit)?,
+                Record::Said(said) => {
+                    if is_own_proposal(header.me(), said) {
+                        verdicts.propose(said.place().question());
+                    }
+                }
+            }
+        }
+        Ok(verdicts)
+    }
+
+    /// The question was decided for this bit. Of several decisions the first counts.
+    fn decide(&mut self, question: u16, bit: bool) -> Result<(), Memory>
+        ensures first { (verdict_at self.old question ≡ None → ⊥) → self.new ≡ self.old }
+        ensures told { (q : ℕ) (b : Bool) → verdict_at self.new q ≡ Some b → (verdict_at self.old q ≡ Some b) ⊎ ((q ≡ question) × (b ≡ bit)) }
+        ensures decided { IfOk result (λ _. (q : ℕ) → q < length self.old.cells.items → verdict_at self.new q ≡ first_of (verdict_at self.old q) (cond (question == q) (Some bit) None)) }
+        ensures size { length self.new.cells.items ≡ length self.old.cells.items }
+    {
+        if self.of(question).is_some() || usize::from(question) >= self.cells.len() {
+            return Ok(());
+        }
+        self.order.push(question)?;
+        if let Some(cell) = self.cells.get_mut(usize::from(question)) {
+            *cell = if bit { 2 } else { 1 };
+        }
+        Ok(())
+    }
+
+    /// The question was proposed to this member.
+    fn propose(&mut self, question: u16)
+        ensures kept { (q : ℕ) → verdict_at self.new q ≡ verdict_at self.old q }
+        ensures size { length self.new.cells.items ≡ length self.old.cells.items }
+    {
+        if let Some(cell) = self.cells.get_mut(usize::from(question)) {
+            if *cell == 0 {
+                *cell = 3;
+            }
+        }
+    }
+
+    /// Returns `true` if a question was proposed to this member and isn't decided.
+    pub fn is_undone(&self) -> bool {
+        self.cells.iter().any(|cell| *cell == 3)
+    }
+
+    /// Returns the decision of the question, if it is known.
+    pub(crate) fn of(&self, question: u16) -> Option<bool>
+        ensures { result ≡ verdict_at self.now question }
+    {
+        match self.cells.get(usize::from(question)) {
+            Some(1) => Some(false),
+            Some(2) => Some(true),
+            _ => None,
+        }
+    }
+
+    /// Returns `true` if the epoch's journal was put away.
+    pub(crate) fn is_gone(&self) -> bool
+        ensures { result ≡ false → 0 < length self.now.cells.items }
+    {
+        self.cells.is_empty()
+    }
+
+    /// Returns `true` if a question is decided.
+    pub(crate) fn has_decisions(&self) -> bool {
+        !self.order.is_empty()
+    }
+
+    /// Returns `true` if some are decided, or none is, and some aren't.
+    pub(crate) fn is_partial(&self) -> bool {
+        self.order.len() < self.cells.len()
+    }
+
+    /// Returns the question that was decided at this place of the journal's decisions, and its bit.
+    pub(crate) fn decided_at(&self, place: u16) -> Option<(u16, bool)> {
+        let question = *self.order.get(usize::from(place))?;
+        Some((question, self.of(question)?))
+    }
+}
