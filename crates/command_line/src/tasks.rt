@@ -608,7 +608,7 @@ fn epochs<'a>(alloc: Global) -> Built<'a>
 {
     let about = "Print which epochs of a chain every member has closed";
     let examples =
-        "Prints a line `member M closed C newest N` for each member: it has closed all epochs before C, and N is the newest in which it has a proposal or a decision. Then prints `closed C`, with the least C of all: the journals of epochs 0 to C - 1 may be put away. Prints `closed unknown`, with status 1, unless every member tells its C. This is what the members say: one that lies may tell too high a C of its own, but can't raise the least C above that of a correct member.\n\nExample:\n  bracha epochs client.toml";
+        "Prints a line `member M closed C newest N` for each member: it has closed all epochs before C, and N is the newest in which it has a proposal or a decision. Then prints `closed C`, with the least C of all: the journals of epochs 0 to C - 1 may be put away, each member's while it is stopped. Prints `closed unknown`, with status 1, unless every member tells its C. This is what the members say: one that lies may tell too high a C of its own, but can't raise the least C above that of a correct member.\n\nExample:\n  bracha epochs client.toml";
     let file = "The file client.toml of `new-cluster --epochs`";
     let file = word(alloc, "file", "FILE", file);
     let command = with_arg(named(alloc, "epochs", about, examples), file);
