@@ -37,7 +37,8 @@ SaysWhyNot reply object =
     ⊎ (((reply ≡ codes "ERR 1 line") × (object ≡ codes "{\"error\":1,\"name\":\"line\"}"))
     ⊎ (((reply ≡ codes "ERR 2 question") × (object ≡ codes "{\"error\":2,\"name\":\"question\"}"))
     ⊎ (((reply ≡ codes "ERR 3 bit") × (object ≡ codes "{\"error\":3,\"name\":\"bit\"}"))
-    ⊎ ((reply ≡ codes "ERR 4 memory") × (object ≡ codes "{\"error\":4,\"name\":\"memory\"}"))))))
+    ⊎ (((reply ≡ codes "ERR 4 memory") × (object ≡ codes "{\"error\":4,\"name\":\"memory\"}"))
+    ⊎ ((reply ≡ codes "ERR 5 gone") × (object ≡ codes "{\"error\":5,\"name\":\"gone\"}")))))))
 
 -- either of them
 abbrev pub SaysFixed : List ℕ → List ℕ → Type 0

@@ -160,6 +160,8 @@ fn other_object(reply: &[u8]) -> Option<&'static str>
         Some("{\"error\":3,\"name\":\"bit\"}")
     } else if is(reply, "ERR 4 memory") {
         Some("{\"error\":4,\"name\":\"memory\"}")
+    } else if is(reply, "ERR 5 gone") {
+        Some("{\"error\":5,\"name\":\"gone\"}")
     } else {
         None
     }

@@ -122,7 +122,8 @@ impl Switchboard {
         self.state.lock(rt).newest
     }
 
-    /// Returns the first epoch that isn't closed here: it runs, isn't done, or a peer asks for it.
+    /// Returns the first epoch that isn't closed here: the newest, or one before it that isn't
+    /// done.
     pub fn first_open<R: Wait>(&self, rt: &R) -> u64 {
         self.state.lock(rt).first_open()
     }

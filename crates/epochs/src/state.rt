@@ -1,6 +1,6 @@
 //! The state that the switchboard guards: begin at `State`.
 
-ghost use Rattle.std.specs.Prelude.{ℕ, ◌≡◌, ◌⊎◌, ◌<◌, Bool, false, None, Some, IfSome, IsTrue, length, map, slice_get};
+ghost use Rattle.std.specs.Prelude.{ℕ, ◌≡◌, ◌⊎◌, ◌<◌, Bool, false, None, Some, IfSome, IsTrue, length, slice_get};
 ghost use Rattle.chain.specs.Opening.{IsOpen};
 ghost use Rattle.chain.specs.Slots.{chain_size};
 ghost use Rattle.chain.specs.declared.opening.Known.{Known};
@@ -81,17 +81,6 @@ impl Running {
     }
 }
 
-/// Returns the least of this number and of the epochs that run.
-fn least_running(first: u64, running: &[Running]) -> u64
-    ensures { result ≡ least first (map (λ one. one.epoch) running.now) }
-{
-    let mut least = first;
-    for one in running {
-        least = least.min(one.epoch);
-    }
-    least
-}
-
 /// Returns the least of this number and of these epochs.
 fn least_of(first: u64, epochs: &[u64]) -> u64
     ensures { result ≡ least first epochs.now }
@@ -99,17 +88,6 @@ fn least_of(first: u64, epochs: &[u64]) -> u64
     let mut least = first;
     for epoch in epochs {
         least = least.min(*epoch);
-    }
-    least
-}
-
-/// Returns the least of this number and of the epochs that are asked for.
-fn least_asked(first: u64, asks: &[Ask]) -> u64
-    ensures { result ≡ least first (map (λ ask. ask.epoch) asks.now) }
-{
-    let mut least = first;
-    for ask in asks {
-        least = least.min(ask.epoch);
     }
     least
 }
@@ -180,14 +158,13 @@ impl State {
         self.verdicts.len() as u64
     }
 
-    /// Returns the first epoch that isn't closed here: it runs, isn't done, or is asked for. If
-    /// there is none, that is the first without a journal.
+    /// Returns the first epoch that isn't closed here: the newest, or one before it that isn't
+    /// done. One for which a peer asks is its concern: a peer that lacks something says so of
+    /// itself.
     pub(crate) fn first_open(&self) -> u64
         ensures { result ≡ first_open self.now }
     {
-        let running = least_running(self.made(), self.running.as_slice());
-        let undone = least_of(running, self.undone.as_slice());
-        least_asked(undone, self.asks.as_slice())
+        least_of(self.newest, self.undone.as_slice())
     }
 
     /// Adds the next epoch whose journal is there.
@@ -216,9 +193,10 @@ impl State {
         }
     }
 
-    /// The epoch isn't done: somebody wants something of it.
+    /// The epoch isn't done: somebody wants something of it. One whose journal was put away stays
+    /// done.
     pub(crate) fn call(&mut self, epoch: u64) {
-        if !self.undone.contains(&epoch) {
+        if !self.is_gone(epoch) && !self.undone.contains(&epoch) {
             let _unheard = self.undone.push(epoch).is_err();
             self.change();
         }
@@ -440,16 +418,23 @@ impl State {
         }
     }
 
-    /// The epoch has ended. Those that wait at its doors wait for it to run again.
+    /// The epoch has ended. Those that wait at its doors wait for it to run again, unless its
+    /// journal was put away: then they are closed.
     pub(crate) fn leave<R: Wait>(&mut self, rt: &R, epoch: u64, verdicts: Verdicts) {
         self.forget_asks(epoch);
         if let Some(cell) = self.verdicts.get_mut(epoch as usize) {
             *cell = verdicts;
         }
+        let is_gone = self.is_gone(epoch);
+        if is_gone {
+            self.finish(epoch);
+        }
         if let Some(ended) = self.take_out(epoch) {
             for arrival in ended.doors.clients.close(rt) {
-                self.call(epoch);
-                self.park(epoch, false, arrival);
+                if !is_gone {
+                    self.call(epoch);
+                    self.park(epoch, false, arrival);
+                }
             }
             let _closed = ended.doors.links.close(rt);
         }

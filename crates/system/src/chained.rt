@@ -6,7 +6,7 @@ ghost use Rattle.std.specs.Prelude.{◌≡◌, [], false};
 
 use crate::addresses::{addresses_of, socket_address};
 use crate::apart::own_links;
-use crate::epoch_files::{Span, epoch_path, epochs_in, look_into, make_journal};
+use crate::epoch_files::{Span, epoch_path, epochs_in, is_missing, look_into, make_journal};
 use crate::fault::Fault;
 use crate::files::{Purpose, Source, open_good_disk};
 use crate::forgotten::{put_aside, refuse_forgotten};
@@ -221,6 +221,14 @@ impl Chained<'_> {
         }
     }
 
+    /// Returns `true` if the journal of an epoch behind the newest was put away while the process
+    /// runs. Such an epoch doesn't run: a peer that asks for it ends nothing.
+    fn is_put_away<R: Machine>(&self, rt: &R, epoch: &Epoch<'_>) -> bool {
+        let made = *self.made.lock(rt);
+        let is_behind = epoch.number < made && epoch.number < self.board.newest(rt);
+        is_behind && is_missing(&self.host, epoch.path)
+    }
+
     /// Runs an epoch to its end, and returns how its questions were decided.
     fn run_one<R: Machine>(&self, rt: &R, number: u64, doors: Doors) -> Result<Verdicts, Failure> {
         let header = self.header(number)?;
@@ -230,6 +238,9 @@ impl Chained<'_> {
             path: path.as_str(),
             header,
         };
+        if self.is_put_away(rt, &epoch) {
+            return Ok(Verdicts::gone(self.host.alloc()));
+        }
         self.run_at::<R, Brand>(rt, &epoch, doors)?;
         look_into(&self.host, path.as_str(), &header)
     }

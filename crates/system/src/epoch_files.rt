@@ -32,7 +32,7 @@ pub(crate) fn first_journal(alloc: Global, settings: &Settings) -> Result<String
 }
 
 /// Returns `true` if nothing has this path.
-fn is_missing(host: &HostRuntime, path: &str) -> bool {
+pub(crate) fn is_missing(host: &HostRuntime, path: &str) -> bool {
     match fs::symlink_metadata(host, path) {
         Ok(_) => false,
         Err(error) => error.kind() == io::ErrorKind::NotFound,
