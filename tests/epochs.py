@@ -421,24 +421,51 @@ def epochs_of_made_up_desks():
     expect(status == 1 and said.startswith("bracha: file\n"), f"no file: {said} {status}")
 
 
+def await_closed(client, least):
+    """The number of epochs that all members have closed, once it is so great, and what is printed then."""
+    begun = time.monotonic()
+    said, status, closed = "", 1, 0
+    while closed < least and time.monotonic() < begun + 60:
+        time.sleep(0.5)
+        said, status, _ = told_epochs(client)
+        last = re.search(r"^closed (\d+)$", said, re.M)
+        closed = int(last.group(1)) if last else 0
+    expect(closed >= least and status == 0, f"too few are closed: {said} {status}")
+    print(f"  closed {closed} after {time.monotonic() - begun:.1f} s")
+    return closed, said
+
+
+def put_away_while_it_runs():
+    """Journals that are put away while their member runs end nothing, whoever asks for their epochs; their slots are gone then."""
+    with chain(27800) as it:
+        bits = drawn(96)
+        decide([it.desk(me) for me in range(4)], bits, range(96))
+        await_closed(it.client(), 3)
+        for epoch in (0, 1):
+            os.remove(f"{it.journals(0)}/{epoch}.journal")
+        for epoch in (0, 1, 0, 1):
+            with socket.create_connection(("127.0.0.1", it.port), timeout=5) as stream:
+                stream.sendall(hello(it, epoch, 3, 0))
+                time.sleep(0.5)
+        desk = it.desk(0)
+        replies = desk.ask("ASK 0", "PROPOSE 16 1", "TRANSCRIPT 3", f"ASK {95}", "ASK 17")
+        expect(it.runs[0].poll() is None, f"it ends: {it.log(0)[-300:]}")
+        expect(replies == ["ERR 5 gone"] * 3 + [f"DECIDED {bits[95]}", "ERR 5 gone"], f"{replies}")
+        said = subprocess.run([PROGRAM, "ask", f"127.0.0.1:{desk.port}", "5"], capture_output=True, text=True, check=False)
+        expect((said.stdout, said.returncode) == ("ERR 5 gone\n", 1), f"ask: {said}")
+        await_closed(it.client(), 3)
+
+
 def closed_epochs():
     """All members close old epochs, which `bracha epochs` tells; and not while one of them is down."""
     with chain(27900) as it:
         bits = drawn(96)
         decide([it.desk(me) for me in range(4)], bits, range(96))
         client = it.client()
-        begun = time.monotonic()
-        said, status, closed = "", 1, 0
-        while not closed and time.monotonic() < begun + 60:
-            time.sleep(0.5)
-            said, status, _ = told_epochs(client)
-            last = re.search(r"^closed (\d+)$", said, re.M)
-            closed = int(last.group(1)) if last else 0
-        expect(closed > 0 and status == 0, f"nothing is closed: {said} {status}")
-        print(f"  closed {closed} after {time.monotonic() - begun:.1f} s")
+        closed, said = await_closed(client, 1)
         told = re.findall(r"^member (\d) closed (\d+) newest (\d+)$", said, re.M)
         expect([int(me) for me, _, _ in told] == [0, 1, 2, 3] and closed == min(int(first) for _, first, _ in told), f"{said}")
-        expect(all(int(newest) == 5 and int(first) <= 6 for _, first, newest in told), f"{said}")
+        expect(all(int(newest) == 5 and int(first) <= 5 for _, first, newest in told), f"{said}")
         it.kill(2)
         said, status, _ = told_epochs(client, "--timeout", "5")
         expect(status == 1 and "\nmember 2 no answer\n" in said and said.endswith("\nclosed unknown\n"), f"one is down: {said} {status}")
@@ -544,7 +571,7 @@ def thousand_epochs():
 
 
 def main():
-    checks = [slots_over_many_epochs, dumps_name_their_clusters, restarts, comeback, followers, quiet, ends, put_away, epochs_of_made_up_desks,
+    checks = [slots_over_many_epochs, dumps_name_their_clusters, restarts, comeback, followers, quiet, ends, put_away, put_away_while_it_runs, epochs_of_made_up_desks,
               closed_epochs, new_cluster, liar_and_kills]
     if LONG:
         checks = [lambda: liar_and_kills(100_000, 200, questions=1024, width=256), thousand_epochs]
