@@ -571,8 +571,8 @@ def thousand_epochs():
 
 
 def main():
-    checks = [slots_over_many_epochs, dumps_name_their_clusters, restarts, comeback, followers, quiet, ends, put_away, put_away_while_it_runs, epochs_of_made_up_desks,
-              closed_epochs, new_cluster, liar_and_kills]
+    checks = [slots_over_many_epochs, dumps_name_their_clusters, restarts, comeback, followers, quiet, ends, put_away,
+              put_away_while_it_runs, epochs_of_made_up_desks, closed_epochs, new_cluster, liar_and_kills]
     if LONG:
         checks = [lambda: liar_and_kills(100_000, 200, questions=1024, width=256), thousand_epochs]
     failed = 0
