@@ -1162,10 +1162,9 @@ def block_term():
     signal.pthread_sigmask(signal.SIG_BLOCK, {signal.SIGTERM})
 
 
-def waits_for_more(process):
-    """The number of a process's TCP connections that wait before they send what is short; 0 where the system shows none."""
-    libc, count = ctypes.CDLL(None, use_errno=True), 0
-    whose = os.pidfd_open(process.pid)
+def connections_of(process):
+    """The connections of a process, each as a copy of its descriptor while it is looked at; none where the system shows none."""
+    libc, whose = ctypes.CDLL(None, use_errno=True), os.pidfd_open(process.pid)
     for number in os.listdir(f"/proc/{process.pid}/fd"):
         # pidfd_getfd: a copy of the descriptor, if it is there still.
         copy = libc.syscall(438, whose, int(number), 0)
@@ -1175,16 +1174,29 @@ def waits_for_more(process):
             os.close(copy)
             continue
         with socket.socket(fileno=copy) as link:
-            if link.family == socket.AF_INET and not link.getsockopt(socket.SOL_SOCKET, socket.SO_ACCEPTCONN):
-                count += link.getsockopt(socket.IPPROTO_TCP, socket.TCP_NODELAY) == 0
+            if not link.getsockopt(socket.SOL_SOCKET, socket.SO_ACCEPTCONN):
+                yield link
     os.close(whose)
-    return count
+
+
+def waits_for_more(process):
+    """The number of a process's TCP connections that wait before they send what is short."""
+    return sum(link.family == socket.AF_INET and link.getsockopt(socket.IPPROTO_TCP, socket.TCP_NODELAY) == 0 for link in connections_of(process))
+
+
+def limits_of(process):
+    """How many seconds the reads and the writes of a process's connections wait: the pairs that there are."""
+    def limit(link, which):
+        seconds, micros = struct.unpack("ll", link.getsockopt(socket.SOL_SOCKET, which, 16))
+        return seconds + micros / 1_000_000
+
+    return {(limit(link, socket.SO_RCVTIMEO), limit(link, socket.SO_SNDTIMEO)) for link in connections_of(process)}
 
 
 @check
 def the_end_closes_all(folder, port):
     """A member that is ended ends in two seconds and with status 0, whoever is connected, and closes each connection. On each of them
-    it sends at once what it says."""
+    it sends at once what it says, and waits for the other side as long as for its kind and no longer."""
     peers = [f"127.0.0.1:{port + it}" for it in range(4)]
     path = settings(folder, 0, peers, f"127.0.0.1:{port + 9}", 4, 1, more=f'desk-socket = "{folder}/desk"\n')
     with serving(port + 1, welcomes), serving(port + 2, welcomes), running(path, preexec_fn=block_term) as process, \
@@ -1198,6 +1210,9 @@ def the_end_closes_all(folder, port):
             links[name].sendall(line)
         time.sleep(0.5)
         found += differs("connections on which it waits before it sends", waits_for_more(process), 0)
+        # A link to a peer, one from a peer, one that is to greet, a client.
+        limits = limits_of(process) - {(4, 10), (2.5, 10), (10, 10), (600, 10)}
+        found += differs("other limits of reads and writes, in seconds", limits, set())
         begun = time.monotonic()
         process.send_signal(signal.SIGTERM)
         try:

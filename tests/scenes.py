@@ -34,6 +34,7 @@ L a connection's name (c1..c9 are nine), S seconds, HEX bytes.
     log M LINE | LINE      these two, in either order
     told M WORDS           a line of its log begins so, soon; few M COUNT WORDS: at most that many do (both are regular expressions)
     lines M COUNT          so many lines are told, soon
+    saved M HEX            its journal has these bytes behind its header
     held M, freed M        nobody reads its log meanwhile; it is read again
     coin L L L             the member at whose other end these links are, the first one dialled by it, comes to a coin: its seed's
     files M                it has as many files open as at the last such step, or not twenty more
@@ -363,6 +364,11 @@ class Scene:
     def lines(self, me, count):
         lines = self.members[me].lines
         expect(soon(lambda: len(lines) >= int(count), 12), f"tells {lines}")
+
+    def saved(self, me, *words):
+        with open(f"{self.folder}/member-{me}.journal", "rb") as file:
+            is_so = file.read()[24:]
+        expect(is_so == self.bytes_of(words), f"has saved {is_so.hex()}")
 
     def held(self, me):
         self.members[me].reading.clear()
