@@ -1,5 +1,5 @@
 -- Which epochs run, and which are closed.
-use Rattle.std.specs.Prelude.{ℕ, ◌≡◌, ◌<◌, ◌==◌, Bool, List, [], ◌∷◌, false, length, min, slice_get, IfSome}
+use Rattle.std.specs.Prelude.{ℕ, ◌≡◌, ◌<◌, ◌==◌, Bool, List, [], ◌∷◌, false, length, map, min, slice_get, IfSome}
 use Rattle.std.specs.List.{list_any}
 use Rattle.chain.specs.Opening.{IsOpen}
 use Rattle.chain.specs.Slots.{chain_size}
@@ -32,6 +32,6 @@ abbrev pub least : ℕ → List ℕ → ℕ
 least first [] = first
 least first (epoch ∷ epochs) = least (min first epoch) epochs
 
--- the first epoch that isn't closed: the newest, or one before it that isn't done
+-- the first epoch that isn't closed: the newest, or one before it that runs or isn't done
 abbrev pub first_open : State → ℕ
-first_open state = least state.newest state.undone.items
+first_open state = least (least state.newest (map (λ one. one.epoch) state.running.items)) state.undone.items

@@ -122,8 +122,8 @@ impl Switchboard {
         self.state.lock(rt).newest
     }
 
-    /// Returns the first epoch that isn't closed here: the newest, or one before it that isn't
-    /// done.
+    /// Returns the first epoch that isn't closed here: the newest, or one before it that runs or
+    /// isn't done.
     pub fn first_open<R: Wait>(&self, rt: &R) -> u64 {
         self.state.lock(rt).first_open()
     }

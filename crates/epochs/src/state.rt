@@ -1,6 +1,6 @@
 //! The state that the switchboard guards: begin at `State`.
 
-ghost use Rattle.std.specs.Prelude.{ℕ, ◌≡◌, ◌⊎◌, ◌<◌, Bool, false, None, Some, IfSome, IsTrue, length, slice_get};
+ghost use Rattle.std.specs.Prelude.{ℕ, ◌≡◌, ◌⊎◌, ◌<◌, Bool, false, None, Some, IfSome, IsTrue, length, map, slice_get};
 ghost use Rattle.chain.specs.Opening.{IsOpen};
 ghost use Rattle.chain.specs.Slots.{chain_size};
 ghost use Rattle.chain.specs.declared.opening.Known.{Known};
@@ -81,6 +81,17 @@ impl Running {
     }
 }
 
+/// Returns the least of this number and of the epochs that run.
+fn least_running(first: u64, running: &[Running]) -> u64
+    ensures { result ≡ least first (map (λ one. one.epoch) running.now) }
+{
+    let mut least = first;
+    for one in running {
+        least = least.min(one.epoch);
+    }
+    least
+}
+
 /// Returns the least of this number and of these epochs.
 fn least_of(first: u64, epochs: &[u64]) -> u64
     ensures { result ≡ least first epochs.now }
@@ -158,13 +169,13 @@ impl State {
         self.verdicts.len() as u64
     }
 
-    /// Returns the first epoch that isn't closed here: the newest, or one before it that isn't
-    /// done. One for which a peer asks is its concern: a peer that lacks something says so of
-    /// itself.
+    /// Returns the first epoch that isn't closed here: the newest, or one before it that runs or
+    /// isn't done. One for which a peer asks and that doesn't run is the peer's concern.
     pub(crate) fn first_open(&self) -> u64
         ensures { result ≡ first_open self.now }
     {
-        least_of(self.newest, self.undone.as_slice())
+        let running = least_running(self.newest, self.running.as_slice());
+        least_of(running, self.undone.as_slice())
     }
 
     /// Adds the next epoch whose journal is there.
