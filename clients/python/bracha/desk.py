@@ -4,7 +4,8 @@ import asyncio
 from collections import deque
 from collections.abc import AsyncIterator
 
-from .replies import told_in
+from .course import Course
+from .replies import Decision, told_in
 from .settings import Settings, address_of
 
 CONNECT = 3.0  # seconds for a connection
@@ -122,24 +123,20 @@ class Desk:
                 reply = await wire.say(line) if wire else None
             return reply
 
-    async def follow(self, number: int, settings: Settings) -> AsyncIterator[tuple[int, bool]]:
+    async def follow(self, number: int, settings: Settings) -> AsyncIterator[Decision]:
         """Yields the member's decisions from that number of its journal on, for ever, over any number of connections. A member
         that breaks the protocol is left alone for a while."""
-        seen: set[int] = set()
+        course = Course(settings, number)
         while True:
             rest = REST
             try:
                 async with asyncio.timeout(CONNECT):
                     reader, writer = await asyncio.open_connection(*self._address, limit=LONGEST)
                 try:
-                    writer.write(f"FOLLOW {number}\n".encode())
+                    writer.write(f"FOLLOW {course.begin()}\n".encode())
                     lines = _Lines(reader)
-                    while told := await lines.next():
-                        if told[0] >= settings.limit or told[0] in seen:
-                            break
-                        seen.add(told[0])
-                        number = settings.number_after(number, told[0])
-                        yield told
+                    while (told := await lines.next()) and (place := course.take(told[0])) is not None:
+                        yield Decision(*told, place)
                 finally:
                     writer.transport.abort()
                 rest = DISTRUST

@@ -57,6 +57,16 @@ class Fake:
         self._listener.close()
 
 
+def says(reply):
+    """What a desk does that gives this reply to each line."""
+    return lambda line: [reply + "\n"]
+
+
+def silent(line):
+    """What a desk does that never replies."""
+    yield 60.0
+
+
 def comes(holds):
     """Waits until this holds, for ten seconds at most, and returns whether it does."""
     end = time.monotonic() + 10
@@ -98,8 +108,9 @@ def free_ports():
 class Members:
     """Four members of the program, in a folder of their own."""
 
-    def __init__(self, program, questions):
+    def __init__(self, program, questions, *more):
         self._program = program
+        self._more = more  # options of new-cluster
         self._room = tempfile.TemporaryDirectory()
         self._running = {}
         for _ in range(20):
@@ -114,7 +125,7 @@ class Members:
         first = free_ports()
         self.path = Path(self._room.name) / str(first)
         size = ("--cluster", "7", "--n", "4", "--t", "1", "--questions", str(questions))
-        self._do("new-cluster", *size, "--port", str(first), str(self.path))
+        self._do("new-cluster", *self._more, *size, "--port", str(first), str(self.path))
         for member in range(4):
             self._do("init", f"member-{member}.toml", cwd=self.path)
             self.start(member)
@@ -138,6 +149,23 @@ class Members:
         process.kill()
         process.wait()
         process.stdout.close()
+
+    def restart(self, member):
+        """Kills a member, and starts it again."""
+        self.kill(member)
+        for _ in range(20):
+            try:
+                return self.start(member)
+            except RuntimeError:  # another process had the port for a moment
+                self.kill(member)
+                time.sleep(0.2)
+
+    def put_away(self, member, epochs):
+        """Kills a member of a chain, puts the journals of its first epochs away, and starts it again."""
+        self.kill(member)
+        for epoch in range(epochs):
+            (self.path / f"member-{member}.epochs" / f"{epoch}.journal").unlink()
+        self.start(member)
 
     def _kill_all(self):
         for member in list(self._running):
