@@ -13,8 +13,8 @@ correct member tells only decisions that it has saved. README.md says where that
 
 `AsyncCluster` has the same methods for asyncio.
 
-A question is a number below `Settings.questions`. If the members run a chain of epochs, which client.toml says by `chain = true`, it is
-a slot, any number below 2**64, and there is always a next one.
+A question is a number below `Settings.questions`. If the members run a chain of epochs, which client.toml says by `chain = true`,
+it is a slot, any number below 2**64, and there is always a next one.
 """
 
 from .asynchronous import AsyncCluster
@@ -25,6 +25,6 @@ from .settings import Settings
 from .synchronous import Cluster
 
 __all__ = [
-    "Answer", "AsyncCluster", "BadSettings", "BrachaError", "Closed", "Cluster", "Decision", "Gone", "NoSuchMember", "NoSuchQuestion",
-    "Reading", "Refusal", "Settings", "Stage", "State", "Status", "TooFar", "Undecided", "Unreachable",
+    "Answer", "AsyncCluster", "BadSettings", "BrachaError", "Closed", "Cluster", "Decision", "Gone", "NoSuchMember",
+    "NoSuchQuestion", "Reading", "Refusal", "Settings", "Stage", "State", "Status", "TooFar", "Undecided", "Unreachable",
 ]

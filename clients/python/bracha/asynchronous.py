@@ -28,8 +28,8 @@ class AsyncCluster:
 
     All its calls are of one event loop, and as many as you like may be under way. `close` ends each with Closed.
 
-    The members may run a chain of epochs (`settings.chain`). Then a question is a slot, any number below 2**64: slot s is question s mod Q
-    of epoch s // Q, with Q = `settings.questions`. Propose slots in order, and leave none out.
+    The members may run a chain of epochs (`settings.chain`). Then a question is a slot, any number below 2**64: slot s is question
+    s mod Q of epoch s // Q, with Q = `settings.questions`. Propose slots in order, and leave none out.
     """
 
     def __init__(self, settings: Settings) -> None:
@@ -76,8 +76,8 @@ class AsyncCluster:
         """Returns the decision that more than t members tell, or None while there is none to be believed.
 
         With `trust`, it returns that member's word alone, which is worth as much as that member. Unreachable: t or fewer members
-        answered, or the trusted one didn't. Gone: more than t members of a chain have put the slot's journal away, or the trusted one
-        has.
+        answered, or the trusted one didn't. Gone: more than t members of a chain have put the slot's journal away, or the trusted
+        one has.
         """
         question = self._checked(question)
         if trust is not None:
@@ -108,25 +108,25 @@ class AsyncCluster:
         return await self._settle(self._checked(question), timeout, propose)
 
     async def wait(self, question: int, *, timeout: float | None = 60.0) -> bool:
-        """Returns the decision once more than t members tell it. It proposes nothing. Undecided: the time, if any, is over. Gone: more
-        than t members of a chain have put the slot's journal away, and the time is over or n - t have."""
+        """Returns the decision once more than t members tell it. It proposes nothing. Undecided: the time, if any, is over. Gone:
+        more than t members of a chain have put the slot's journal away, and the time is over or n - t have."""
         return await self._settle(self._checked(question), timeout)
 
     def follow(
         self, *, first: int = 0, known: Collection[int] = (), trust: int | None = None, number: int = 0
     ) -> AsyncIterator[Decision]:
         """Returns an iterator over decisions, for ever, also over restarts of members: first those of before, then each once more
-        than t members tell it. Questions below `first` and those in `known` are left out: after a restart, name those that you have.
-        An `anext` that is cancelled, as by a timeout, loses nothing.
+        than t members tell it. Questions below `first` and those in `known` are left out: after a restart, name those that you
+        have. An `anext` that is cancelled, as by a timeout, loses nothing.
 
-        In a chain it reads nothing of epochs before that of `first`. It has a connection to each member, which ends when it is dropped,
-        and reads no more while nobody takes decisions. Slots come roughly in order. Those may be left out that were decided after
-        members had passed their epoch, or of an epoch whose journal some members have put away: `ask` for them.
+        In a chain it reads nothing of epochs before that of `first`. It has a connection to each member, which ends when it is
+        dropped, and reads no more while nobody takes decisions. Slots come roughly in order. Those may be left out that were
+        decided after members had passed their epoch, or of an epoch whose journal some members have put away: `ask` for them.
 
         With `trust`, it yields what that member alone tells, in the order of its journal, from that number on. An `anext` that is
-        cancelled ends it: go on with another, from the number after the last. In a chain, epoch e has the numbers from e Q on; go on
-        from the greatest that was told, and one more. A decision that comes late of an epoch that was passed may have a lower number
-        than those before it.
+        cancelled ends it: go on with another, from the number after the last. In a chain, epoch e has the numbers from e Q on; go
+        on from the greatest that was told, and one more. A decision that comes late of an epoch that was passed may have a lower
+        number than those before it.
         """
         self._check_open()
         if trust is not None:
@@ -167,7 +167,8 @@ class AsyncCluster:
         return operator.index(member)
 
     async def _say(self, desk: Desk, line: str, timeout: float) -> bytes | None:
-        """Sends a line to one member and returns its reply, or None if none comes in time. Only members of a chain refuse slots. Closed."""
+        """Sends a line to one member and returns its reply, or None if none comes in time. Only members of a chain refuse slots.
+        Closed."""
         reply = None
         try:
             async with asyncio.timeout(timeout):

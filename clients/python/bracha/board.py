@@ -106,8 +106,8 @@ class Held:
             self._board.waiters.wake(self.question)
 
     def outcome(self) -> bool | None:
-        """Returns the decision that is believed, or None if it may still come. Gone, TooFar: at least n - t members refuse the slot,
-        so t or fewer are left."""
+        """Returns the decision that is believed, or None if it may still come. Gone, TooFar: at least n - t members refuse the
+        slot, so t or fewer are left."""
         if self.decision is None and (error := self._entry.refused_by(self._settings.n - self._settings.t)):
             raise error
         return self.decision

@@ -22,8 +22,9 @@ class Epoch:
 class Course:
     """The number of a member's next decision, and which questions it told.
 
-    A member of a chain tells its slots epoch by epoch. It passes an epoch in which slots stay open, and may tell decisions of it later,
-    on the same connection. Epochs are remembered until 32 others were begun: so the size is bounded, whatever a member tells.
+    A member of a chain tells its slots epoch by epoch. It passes an epoch in which slots stay open, and may tell decisions of it
+    later, on the same connection. Epochs are remembered until 32 others were begun: so the size is bounded, whatever a member
+    tells.
     """
 
     def __init__(self, settings: Settings, number: int) -> None:

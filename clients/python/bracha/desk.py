@@ -15,6 +15,7 @@ REST = 0.25  # seconds before another connection to a member that wasn't there
 DISTRUST = 5.0  # seconds before another connection to a member that broke the protocol
 LONGEST = 4096  # bytes of a line
 UNDER_WAY = 1024  # lines without a reply on one connection
+TURN = 64  # lines to a follower after which others have their turn
 
 
 class Wire(asyncio.Protocol):
@@ -162,10 +163,14 @@ class _Lines:
         self._reader = reader
         self._begun = asyncio.get_running_loop().time()
         self._empty = 0
+        self._count = 0
 
     async def next(self) -> tuple[int, bool] | None:
         """Returns what the next line tells that isn't empty. None: it isn't of the protocol, or empty ones come too often."""
         while True:
+            self._count += 1
+            if self._count % TURN == 0:
+                await asyncio.sleep(0)  # lines that have come already are read without waiting
             async with asyncio.timeout(SILENCE):
                 line = (await self._reader.readuntil(b"\n"))[:-1]
             self._empty += not line

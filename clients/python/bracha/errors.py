@@ -22,8 +22,8 @@ class Undecided(BrachaError, TimeoutError):
 
 
 class Gone(BrachaError):
-    """More than t members of a chain have put the journal of the slot's epoch away, and no bit was told by more than t. The slot may be
-    decided, but it can't be learned from these. `members` has those that say so; if one alone was asked, that one."""
+    """More than t members of a chain have put the journal of the slot's epoch away, and no bit was told by more than t. The slot
+    may be decided, but it can't be learned from these. `members` has those that say so; if one alone was asked, that one."""
 
     def __init__(self, members: list[int]) -> None:
         super().__init__(f"put away by member {_listed(members)}")
@@ -31,8 +31,8 @@ class Gone(BrachaError):
 
 
 class TooFar(BrachaError):
-    """More than t members of a chain take no proposal for the slot, because its epoch is too far ahead of their newest one; `members`
-    has those that say so. Try again once slots before it are decided."""
+    """More than t members of a chain take no proposal for the slot, because its epoch is too far ahead of their newest one;
+    `members` has those that say so. Try again once slots before it are decided."""
 
     def __init__(self, members: list[int]) -> None:
         super().__init__(f"too far ahead for member {_listed(members)}")

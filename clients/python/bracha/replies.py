@@ -23,8 +23,8 @@ class Refusal(Enum):
 
 @dataclass(frozen=True)
 class Answer:
-    """One member's answer to a proposal: the bit that it has as its proposal, or None if it didn't answer, is stopped or refuses the
-    slot. `refusal` tells why it does, in a chain, and is otherwise None."""
+    """One member's answer to a proposal: the bit that it has as its proposal, or None if it didn't answer, is stopped or refuses
+    the slot. `refusal` tells why it does, in a chain, and is otherwise None."""
 
     member: int
     stands: bool | None

@@ -21,7 +21,7 @@ class Settings:
     questions: int
     desks: tuple[str, ...]
     chain: bool = False
-    """The members run a chain of epochs: questions are slots, without end. Slot s is question s % questions of epoch s // questions."""
+    """The members run a chain of epochs: questions are slots, any number, and each epoch has `questions` of them."""
 
     @property
     def limit(self) -> int:

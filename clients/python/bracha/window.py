@@ -23,9 +23,9 @@ class Epoch:
 class Window:
     """The decisions of a chain as more than t members tell them, each once, for one who takes them.
 
-    It keeps the slots of some epochs in a row. The oldest epoch is dropped once all its slots are decided, or once n - t members are
-    past the newest: more than t of these are correct, so all that they told of the oldest is believed by then. A member that is past
-    the newest waits, and all wait while too many decisions aren't taken. So the size is bounded, whatever members tell.
+    It keeps the slots of some epochs in a row. The oldest epoch is dropped once all its slots are decided, or once n - t members
+    are past the newest: more than t of these are correct, so all that they told of the oldest is believed by then. A member that is
+    past the newest waits, and all wait while too many decisions aren't taken. So the size is bounded, whatever members tell.
     """
 
     def __init__(self, settings: Settings, slot: int) -> None:

@@ -11,8 +11,7 @@ from contextlib import suppress
 from itertools import count, islice, repeat
 from unittest import mock
 
-from bracha import (AsyncCluster, Closed, Cluster, Gone, NoSuchQuestion, Refusal, Settings, Stage, TooFar, Undecided,
-                    Unreachable)
+from bracha import (AsyncCluster, Closed, Cluster, Gone, NoSuchQuestion, Refusal, Settings, Stage, TooFar, Undecided, Unreachable)
 from bracha.board import Board
 from bracha.course import KEPT, Course
 from bracha.window import Window
@@ -296,6 +295,19 @@ class Beside(unittest.TestCase):
                 self.assertEqual(sorted(it.question for it in told), [*range(1000)])
                 self.assertEqual({it.bit for it in told}, {True})
 
+    def test_a_flood_of_slots_holds_up_nobody(self):
+        def flood(line):
+            lies = ("".join(f"DECIDED {slot} 0\n" for slot in range(first, first + 4096)) for first in count(0, 4096))
+            return lies if line.startswith("FOLLOW") else ["UNDECIDED\n"]
+
+        fakes = self.desks(flood, *[member("", "UNDECIDED")] * 3)
+        cluster = self.cluster(fakes)
+        self.assertRaises(Undecided, cluster.wait, 5, timeout=0.5)  # all are followed from now on
+        begun = time.monotonic()
+        for slot in range(20):
+            self.assertIsNone(cluster.ask(slot, trust=1))
+        self.assertLess(time.monotonic() - begun, 12)  # some two seconds each, if all that has come was read at a time
+
     def test_what_followers_are_not_told_is_asked_for(self):
         decided = threading.Event()
 
@@ -469,7 +481,7 @@ class Beside(unittest.TestCase):
             if line.startswith("ASK"):
                 return ["UNDECIDED\n"]
             first = int(line.split()[1])
-            return [*("".join(f"DECIDED {slot} 1\n" for slot in range(some, min(some + 500, slots))) for some in range(first, slots, 500)), 60.0]
+            return ["".join(f"DECIDED {slot} 1\n" for slot in range(first, slots)), 60.0]
 
         def objects():
             gc.collect()
