@@ -51,8 +51,8 @@ class Window:
         """Takes the next decision, once there is one. A call that is cancelled loses nothing. Closed."""
         while not self._decisions:
             await self._waiters.wait("decision")
-        if len(self._decisions) == SLOTS:
-            self._waiters.wake("room")
+        if len(self._decisions) == SLOTS // 2:
+            self._waiters.wake("room")  # those that wait tell many then, rather than one after each that is taken
         return self._decisions.popleft()
 
     def close(self) -> None:

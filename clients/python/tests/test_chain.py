@@ -8,6 +8,7 @@ import time
 import unittest
 from concurrent.futures import ThreadPoolExecutor
 from contextlib import suppress
+from functools import partial
 from itertools import count, islice, repeat
 from unittest import mock
 
@@ -164,6 +165,7 @@ class Windows(unittest.IsolatedAsyncioTestCase):
         async def tell():
             for slot in slots:
                 await window.take(member, slot, bit_of(slot) != (member == 3))
+                await asyncio.sleep(0)  # in which the others tell
 
         async def until_closed():
             with suppress(Closed):
@@ -171,8 +173,17 @@ class Windows(unittest.IsolatedAsyncioTestCase):
 
         return asyncio.create_task(until_closed())
 
+    async def stays(self, count, number):
+        """Waits until this counts so many, and looks whether it stays so."""
+        async with asyncio.timeout(20):
+            while count() < number:
+                await asyncio.sleep(0.01)
+        for _ in range(500):
+            await asyncio.sleep(0)
+        self.assertEqual(count(), number)
+
     async def taken(self, window, number):
-        async with asyncio.timeout(60):
+        async with asyncio.timeout(20):
             told = [await window.next() for _ in range(number)]
         self.assertTrue(all(it.bit == bit_of(it.question) for it in told))
         return [it.question for it in told]
@@ -208,9 +219,7 @@ class Windows(unittest.IsolatedAsyncioTestCase):
     async def test_one_that_is_ahead_waits_for_the_others(self):
         window = self.window(64)
         ahead, far = self.tells(window, 0, range(3000)), self.tells(window, 2, [LAST])
-        for _ in range(3):
-            await asyncio.sleep(0.05)
-            self.assertEqual(window._reached[0], 8)
+        await self.stays(lambda: window._reached[0], 8)
         slow = self.tells(window, 1, range(3000))
         self.assertEqual(await self.taken(window, 3000), [*range(3000)])
         await slow
@@ -227,8 +236,7 @@ class Windows(unittest.IsolatedAsyncioTestCase):
     async def test_who_takes_nothing_is_told_no_more(self):
         window = self.window(16)
         tells = [self.tells(window, member, range(3000)) for member in range(2)]
-        await asyncio.sleep(0.2)
-        self.assertEqual(len(window._decisions), 512)
+        await self.stays(lambda: len(window._decisions), 512)
         self.assertEqual(await self.taken(window, 3000), [*range(3000)])
         await asyncio.gather(*tells)
 
@@ -362,9 +370,9 @@ class Beside(unittest.TestCase):
         gone, open_yet = self.desks(*[member("", "ERR 5 gone")] * 3), self.desks(*[member("", "UNDECIDED")] * 3)
         three = self.cluster([gone[0], open_yet[0], gone[1], gone[2]])
         begun = time.monotonic()
-        for call in (three.ask, three.wait, lambda slot: three.decide(slot, True)):
-            self.refused(Gone, [0, 2, 3], call, 5)
-        self.assertLess(time.monotonic() - begun, 4)
+        for call in (three.ask, three.wait, partial(three.decide, bit=True)):
+            self.refused(Gone, [0, 2, 3], call, 5, timeout=10)
+        self.assertLess(time.monotonic() - begun, 8)
         self.refused(Gone, [0], three.ask, 5, trust=0)
         self.assertIsNone(three.ask(5, trust=1))
         answers = three.propose(5, True)
@@ -389,8 +397,8 @@ class Beside(unittest.TestCase):
         fakes = self.desks(far, far, far, member("", "OK"))
         cluster = self.cluster(fakes)
         begun = time.monotonic()
-        self.refused(TooFar, [0, 1, 2], cluster.decide, FAR, True)
-        self.assertLess(time.monotonic() - begun, 4)
+        self.refused(TooFar, [0, 1, 2], cluster.decide, FAR, True, timeout=10)
+        self.assertLess(time.monotonic() - begun, 8)
         answers = cluster.propose(FAR, True)
         self.assertEqual([(it.stands, it.refusal) for it in answers[2:]], [(None, Refusal.TOO_FAR), (True, None)])
         self.assertIsNone(cluster.ask(FAR))
@@ -475,7 +483,7 @@ class Beside(unittest.TestCase):
 
     @mock.patch("bracha.window.SLOTS", 512)
     def test_slots_without_end_take_bounded_memory(self):
-        slots = 10_000
+        slots = 4000
 
         def answer(line):
             if line.startswith("ASK"):
@@ -495,7 +503,7 @@ class Beside(unittest.TestCase):
         idle = cluster.follow()
         next(idle)
         time.sleep(0.5)  # whoever takes no decisions holds no memory either
-        self.assertLess(objects() - begun, 8000)  # a slot that is kept has a few
+        self.assertLess(objects() - begun, 6000)  # a slot that is kept has two or more
         followed.close()
         idle.close()
 
