@@ -19,6 +19,7 @@ class Fake:
         self.desk = f"127.0.0.1:{self._listener.getsockname()[1]}"
         self.lines = []
         self.links, self.ended = [], 0
+        self._closed = threading.Event()
         threading.Thread(target=self._accept, daemon=True).start()
 
     def _accept(self):
@@ -37,18 +38,19 @@ class Fake:
                     for line in lines:
                         self.lines.append(line.strip())
                         for reply in self._answer(line.strip()):
-                            if isinstance(reply, float):
-                                time.sleep(reply)
-                            elif reply is None:
+                            if reply is None:
                                 return
-                            else:
+                            if not isinstance(reply, float):
                                 link.sendall(reply.encode())
+                            elif self._closed.wait(reply):
+                                return
             except OSError:
                 pass
             finally:
                 self.ended += 1
 
     def close(self):
+        self._closed.set()
         for end in (self._listener, *self.links):
             try:
                 end.shutdown(socket.SHUT_RDWR)
@@ -86,8 +88,9 @@ def links_to(fakes):
     ports, count = {int(fake.desk.rpartition(":")[2]) for fake in fakes}, 0
     for file in os.listdir("/proc/self/fd"):
         try:
-            with socket.socket(fileno=os.dup(int(file))) as link:
-                count += link.getpeername()[1] in ports
+            if os.readlink(f"/proc/self/fd/{file}").startswith("socket:"):
+                with socket.socket(fileno=os.dup(int(file))) as link:
+                    count += link.getpeername()[1] in ports
         except (OSError, TypeError, IndexError):
             pass
     return count

@@ -183,7 +183,7 @@ class Windows(unittest.IsolatedAsyncioTestCase):
         self.assertEqual(count(), number)
 
     async def taken(self, window, number):
-        async with asyncio.timeout(20):
+        async with asyncio.timeout(15):
             told = [await window.next() for _ in range(number)]
         self.assertTrue(all(it.bit == bit_of(it.question) for it in told))
         return [it.question for it in told]
@@ -218,7 +218,7 @@ class Windows(unittest.IsolatedAsyncioTestCase):
 
     async def test_one_that_is_ahead_waits_for_the_others(self):
         window = self.window(64)
-        ahead, far = self.tells(window, 0, range(3000)), self.tells(window, 2, [LAST])
+        ahead, far = self.tells(window, 0, range(3000)), self.tells(window, 2, [100_000])
         await self.stays(lambda: window._reached[0], 8)
         slow = self.tells(window, 1, range(3000))
         self.assertEqual(await self.taken(window, 3000), [*range(3000)])
