@@ -328,7 +328,7 @@ class Beside(unittest.TestCase):
         cluster = self.cluster(fakes)
         self.assertRaises(Undecided, cluster.wait, 4, timeout=3)
         asked = fakes[0].lines.count("ASK 4")
-        self.assertIn(asked, range(3, 6))  # at once, and after 0.25, 0.75, 1.75 and 2.75 seconds
+        self.assertIn(asked, range(4, 6))  # at once, and after 0.25, 0.75, 1.75 and 2.75 seconds
         with ThreadPoolExecutor() as pool:
             decides = pool.submit(cluster.decide, 5, True, timeout=10)
             self.assertTrue(comes(lambda: "PROPOSE 5 1" in fakes[0].lines))
@@ -475,7 +475,8 @@ class Beside(unittest.TestCase):
                 self.assertEqual(len(cluster._tasks), 0)
                 decisions = cluster.follow()
             with self.assertRaises(Closed):
-                await anext(decisions)
+                async with asyncio.timeout(5):
+                    await anext(decisions)
 
         asyncio.run(follows())
         with Cluster(self.settings(fakes)) as cluster:
