@@ -6,7 +6,7 @@
 #
 #   tests/clients.sh [PROGRAM]   by default crates/bracha/out/bracha, which `rt run` makes in crates/bracha
 #
-# It takes a minute on two cores, no network but 127.0.0.1, ports below 32768 that are free, and no registry of packages. A tool that
+# It takes two minutes on two cores, no network but 127.0.0.1, ports below 32768 that are free, and no registry of packages. A tool that
 # is missing is named and its tests are left out, unless CI is set in the environment: then it fails. The last line is
 # `N passed, M failed`; the status is 1 where M isn't 0.
 set -euo pipefail
@@ -34,7 +34,7 @@ does() {
 # counts WHAT PATTERN COMMAND..: adds how many tests passed, which the pattern finds in what is said; one failure if any failed.
 counts() {
     local said count
-    if said=$(timeout 120 "${@:3}" 2>&1 </dev/null); then
+    if said=$(timeout 300 "${@:3}" 2>&1 </dev/null); then
         count=$(grep -oE "$2" <<<"$said" | grep -oE '[0-9]+' | awk '{ sum += $1 } END { print sum + 0 }')
         if [ "$count" = 0 ]; then fails "$1: no tests" "$said"; else passed=$((passed + count)); fi
         if grep -q skipped <<<"$said"; then fails "$1: tests were left out" "$said"; fi

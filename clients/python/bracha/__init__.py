@@ -12,16 +12,19 @@ correct member tells only decisions that it has saved. README.md says where that
             print(decision.question, decision.bit)
 
 `AsyncCluster` has the same methods for asyncio.
+
+A question is a number below `Settings.questions`. If the members run a chain of epochs, which client.toml says by `chain = true`,
+it is a slot, any number below 2**64, and there is always a next one.
 """
 
 from .asynchronous import AsyncCluster
-from .errors import BadSettings, BrachaError, Closed, NoSuchMember, NoSuchQuestion, Undecided, Unreachable
+from .errors import BadSettings, BrachaError, Closed, Gone, NoSuchMember, NoSuchQuestion, TooFar, Undecided, Unreachable
 from .reading import Reading
-from .replies import Answer, Decision, Stage, State, Status
+from .replies import Answer, Decision, Refusal, Stage, State, Status
 from .settings import Settings
 from .synchronous import Cluster
 
 __all__ = [
-    "Answer", "AsyncCluster", "BadSettings", "BrachaError", "Closed", "Cluster", "Decision", "NoSuchMember", "NoSuchQuestion",
-    "Reading", "Settings", "Stage", "State", "Status", "Undecided", "Unreachable",
+    "Answer", "AsyncCluster", "BadSettings", "BrachaError", "Closed", "Cluster", "Decision", "Gone", "NoSuchMember",
+    "NoSuchQuestion", "Reading", "Refusal", "Settings", "Stage", "State", "Status", "TooFar", "Undecided", "Unreachable",
 ]

@@ -1,96 +1,128 @@
 """What a client believes of all questions."""
 
-import asyncio
-from collections.abc import AsyncIterator, Collection
+from collections.abc import Iterator
+from contextlib import contextmanager
 
-from .errors import Closed
+from .errors import BrachaError, Gone, TooFar, Undecided
 from .reading import Reading
-from .replies import Decision
+from .replies import Decision, Refusal
+from .settings import Settings
+from .waiters import Waiters
+
+
+class Entry:
+    """What members say of one question, and how many calls want it."""
+
+    def __init__(self, settings: Settings) -> None:
+        self.reading = Reading(settings.n, settings.t)
+        self.refusals: dict[int, Refusal] = {}
+        self.holders = 0
+
+    def refused_by(self, least: int) -> BrachaError | None:
+        """Returns the error of a slot that at least so many members refuse for one cause."""
+        for cause, error in ((Refusal.GONE, Gone), (Refusal.TOO_FAR, TooFar)):
+            members = sorted(member for member, refusal in self.refusals.items() if refusal is cause)
+            if len(members) >= least:
+                return error(members)
+        return None
 
 
 class Board:
-    """A reading of each question, the decisions that they believe, and who waits for them. Its size is bounded by the cluster's:
-    it takes words on questions that exist, and of each member one a question."""
+    """What members say of questions, the decisions that are believed, and who waits for them. In a chain it knows only the slots
+    that a call holds, and keeps no decisions. Otherwise it takes words on questions that exist, and of each member one a question.
+    So its size is bounded."""
 
-    def __init__(self, n: int, t: int) -> None:
-        self._size = (n, t)
-        self._readings: dict[int, Reading] = {}
+    def __init__(self, settings: Settings) -> None:
+        self._settings = settings
+        self._entries: dict[int, Entry] = {}
         self._decisions: list[Decision] = []
-        self._waiting: dict[int | None, set[asyncio.Future[None]]] = {}
-        self._closed = False
+        self.waiters = Waiters()
+
+    def _entry(self, question: int) -> Entry:
+        if question not in self._entries:
+            self._entries[question] = Entry(self._settings)
+        return self._entries[question]
+
+    @contextmanager
+    def hold(self, question: int) -> Iterator["Held"]:
+        """Holds a question for a call: what members say of it is kept meanwhile."""
+        entry = self._entry(question)
+        entry.holders += 1
+        try:
+            yield Held(self, self._settings, question, entry)
+        finally:
+            entry.holders -= 1
+            if self._settings.chain and not entry.holders:
+                del self._entries[question]
 
     def take(self, member: int, question: int, bit: bool) -> None:
         """Takes a member's word."""
-        reading = self._readings.setdefault(question, Reading(*self._size))
+        if self._settings.chain and question not in self._entries:
+            return
+        reading = self._entry(question).reading
         before = reading.decision
         reading.take(member, bit)
         if before is None and reading.decision is not None:
-            self._decisions.append(Decision(question, reading.decision))
-            self._wake(question)
-            self._wake(None)
-
-    def decision(self, question: int) -> bool | None:
-        """Returns the decision of a question that is believed, or None."""
-        reading = self._readings.get(question)
-        return reading.decision if reading else None
-
-    def words(self, question: int) -> dict[int, bool]:
-        """Returns each member's first word on a question."""
-        reading = self._readings.get(question)
-        return reading.words if reading else {}
-
-    async def wait(self, question: int) -> bool:
-        """Returns the decision of a question once it is believed. The caller limits the time. Closed."""
-        while (bit := self.decision(question)) is None:
-            await self._next(question)
-        return bit
+            if not self._settings.chain:
+                self._decisions.append(Decision(question, reading.decision))
+            self.waiters.wake(question)
+            self.waiters.wake(None)
 
     async def at(self, place: int) -> Decision:
         """Returns the decision at a place of the order in which they came to be believed, once there is one. Closed."""
         while place >= len(self._decisions):
-            await self._next(None)
+            await self.waiters.wait(None)
         return self._decisions[place]
-
-    async def _next(self, question: int | None) -> None:
-        """Waits for the decision of a question, or for any. Closed."""
-        if self._closed:
-            raise Closed("the cluster is closed")
-        more: asyncio.Future[None] = asyncio.get_running_loop().create_future()
-        self._waiting.setdefault(question, set()).add(more)
-        try:
-            await more
-        finally:
-            left = self._waiting.get(question, set())
-            left.discard(more)
-            if not left:
-                self._waiting.pop(question, None)
-
-    def _wake(self, question: int | None) -> None:
-        for more in self._waiting.get(question, ()):
-            if not more.done():
-                more.set_result(None)
 
     def close(self) -> None:
         """Ends all that wait."""
-        self._closed = True
-        for question in self._waiting:
-            self._wake(question)
+        self.waiters.close()
 
 
-class Decisions(AsyncIterator[Decision]):
-    """The decisions on a board, for ever. It holds nothing, so it may be dropped, and an `anext` that is cancelled loses nothing."""
+class Held:
+    """A question that a call wants."""
 
-    def __init__(self, board: Board, left_out: Collection[int]) -> None:
+    def __init__(self, board: Board, settings: Settings, question: int, entry: Entry) -> None:
         self._board = board
-        self._left_out = frozenset(left_out)
-        self._place = 0
+        self._settings = settings
+        self._entry = entry
+        self.question = question
 
-    async def __anext__(self) -> Decision:
-        while True:
-            decision = await self._board.at(self._place)
-            self._place += 1
-            if decision.question not in self._left_out:
-                return decision
+    @property
+    def decision(self) -> bool | None:
+        """The decision that is believed, or None."""
+        return self._entry.reading.decision
 
-    async def aclose(self) -> None:
-        """Does nothing: as a generator has it, for the same use."""
+    def take(self, member: int, bit: bool) -> None:
+        """Takes a member's word."""
+        self._board.take(member, self.question, bit)
+
+    def refuse(self, member: int, refusal: Refusal | None) -> None:
+        """Takes the cause for which a member refuses the slot, or None if it doesn't. The last one counts."""
+        if refusal is None:
+            self._entry.refusals.pop(member, None)
+        else:
+            self._entry.refusals[member] = refusal
+            self._board.waiters.wake(self.question)
+
+    def outcome(self) -> bool | None:
+        """Returns the decision that is believed, or None if it may still come. Gone, TooFar: at least n - t members refuse the
+        slot, so t or fewer are left."""
+        if self.decision is None and (error := self._entry.refused_by(self._settings.n - self._settings.t)):
+            raise error
+        return self.decision
+
+    async def wait(self) -> bool:
+        """Returns the decision once it is believed. The caller limits the time. Gone, TooFar, Closed."""
+        while (bit := self.outcome()) is None:
+            await self._board.waiters.wait(self.question)
+        return bit
+
+    def refusal(self) -> BrachaError | None:
+        """Returns the error of a slot that more than t members refuse."""
+        return self._entry.refused_by(self._settings.t + 1)
+
+    def failure(self, timeout: float | None) -> BrachaError:
+        """Returns the error of a call whose time is over."""
+        words = self._entry.reading.words
+        return self.refusal() or Undecided(f"question {self.question} after {timeout} seconds; told by members: {words}")

@@ -4,7 +4,8 @@ import asyncio
 from collections import deque
 from collections.abc import AsyncIterator
 
-from .replies import told_in
+from .course import Course
+from .replies import Decision, told_in
 from .settings import Settings, address_of
 
 CONNECT = 3.0  # seconds for a connection
@@ -14,6 +15,7 @@ REST = 0.25  # seconds before another connection to a member that wasn't there
 DISTRUST = 5.0  # seconds before another connection to a member that broke the protocol
 LONGEST = 4096  # bytes of a line
 UNDER_WAY = 1024  # lines without a reply on one connection
+TURN = 64  # lines to a follower after which others have their turn
 
 
 class Wire(asyncio.Protocol):
@@ -122,24 +124,20 @@ class Desk:
                 reply = await wire.say(line) if wire else None
             return reply
 
-    async def follow(self, number: int, settings: Settings) -> AsyncIterator[tuple[int, bool]]:
+    async def follow(self, number: int, settings: Settings) -> AsyncIterator[Decision]:
         """Yields the member's decisions from that number of its journal on, for ever, over any number of connections. A member
         that breaks the protocol is left alone for a while."""
-        seen: set[int] = set()
+        course = Course(settings, number)
         while True:
             rest = REST
             try:
                 async with asyncio.timeout(CONNECT):
                     reader, writer = await asyncio.open_connection(*self._address, limit=LONGEST)
                 try:
-                    writer.write(f"FOLLOW {number}\n".encode())
+                    writer.write(f"FOLLOW {course.begin()}\n".encode())
                     lines = _Lines(reader)
-                    while told := await lines.next():
-                        if told[0] >= settings.limit or told[0] in seen:
-                            break
-                        seen.add(told[0])
-                        number = settings.number_after(number, told[0])
-                        yield told
+                    while (told := await lines.next()) and (place := course.take(told[0])) is not None:
+                        yield Decision(*told, place)
                 finally:
                     writer.transport.abort()
                 rest = DISTRUST
@@ -165,10 +163,14 @@ class _Lines:
         self._reader = reader
         self._begun = asyncio.get_running_loop().time()
         self._empty = 0
+        self._count = 0
 
     async def next(self) -> tuple[int, bool] | None:
         """Returns what the next line tells that isn't empty. None: it isn't of the protocol, or empty ones come too often."""
         while True:
+            self._count += 1
+            if self._count % TURN == 0:
+                await asyncio.sleep(0)  # lines that have come already are read without waiting
             async with asyncio.timeout(SILENCE):
                 line = (await self._reader.readuntil(b"\n"))[:-1]
             self._empty += not line

@@ -6,19 +6,29 @@ from enum import Enum
 
 @dataclass(frozen=True)
 class Decision:
-    """A decision. `number` is its place in one member's journal, from 0, if that member alone is trusted, and otherwise None."""
+    """A decision. `number` is its place in one member's journal, from 0, if that member alone is trusted, and otherwise None. In a
+    chain, place p of epoch e has the number e Q + p, with Q questions an epoch."""
 
     question: int
     bit: bool
     number: int | None = None
 
 
+class Refusal(Enum):
+    """Why a member of a chain refuses a line on a slot."""
+
+    GONE = "gone"  # the journal of the slot's epoch was put away: it knows nothing of it
+    TOO_FAR = "too far"  # the slot's epoch is too far ahead of its newest one for a proposal
+
+
 @dataclass(frozen=True)
 class Answer:
-    """One member's answer to a proposal: the bit that it has as its proposal, or None if it didn't answer or is stopped."""
+    """One member's answer to a proposal: the bit that it has as its proposal, or None if it didn't answer, is stopped or refuses
+    the slot. `refusal` tells why it does, in a chain, and is otherwise None."""
 
     member: int
     stands: bool | None
+    refusal: Refusal | None = None
 
 
 @dataclass(frozen=True)
@@ -38,6 +48,7 @@ class Stage(Enum):
     OPEN = "open"
     SPENT = "spent"  # undecided after its last round: it says no more of its own
     DECIDED = "decided"
+    GONE = "gone"  # in a chain: it has put the journal of the slot's epoch away
 
 
 @dataclass(frozen=True)
@@ -62,6 +73,11 @@ def stands_in(reply: bytes | None, bit: bool) -> bool | None:
     return {b"OK": bit, b"HAVE 0": False, b"HAVE 1": True}.get(reply or b"")
 
 
+def refusal_in(reply: bytes | None) -> Refusal | None:
+    """Returns why the member that gave this reply refuses the slot, or None if it doesn't."""
+    return {b"ERR 5 gone": Refusal.GONE, b"ERR 2 question": Refusal.TOO_FAR}.get(reply or b"")
+
+
 def number_in(word: bytes) -> int | None:
     """Returns the number in a word of at most 20 decimal digits, without zeros before it."""
     return int(word) if word.isdigit() and len(word) <= 20 and (word == b"0" or word[:1] != b"0") else None
@@ -81,7 +97,7 @@ def state_in(member: int, reply: bytes | None) -> State:
     bit = decision_in(reply)
     if bit is not None:
         return State(member, Stage.DECIDED, bit=bit)
-    stage = {b"UNPROPOSED": Stage.UNPROPOSED, b"SPENT": Stage.SPENT}.get(reply or b"")
+    stage = {b"UNPROPOSED": Stage.UNPROPOSED, b"SPENT": Stage.SPENT, b"ERR 5 gone": Stage.GONE}.get(reply or b"")
     words = (reply or b"").split(b" ")
     if len(words) == 3 and words[0] == b"OPEN":
         round_, step = map(number_in, words[1:])

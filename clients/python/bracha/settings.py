@@ -21,20 +21,16 @@ class Settings:
     questions: int
     desks: tuple[str, ...]
     chain: bool = False
-    """The members run a chain of epochs: questions are slots, without end."""
+    """The members run a chain of epochs: questions are slots, any number, and each epoch has `questions` of them."""
 
     @property
     def limit(self) -> int:
         """The number that all questions are below: `questions`, or 2**64 in a chain."""
         return 2**64 if self.chain else self.questions
 
-    def number_after(self, number: int, question: int) -> int:
-        """Returns the number of a member's next decision, after the one of that number told this question. In a chain an epoch with
-        open slots may be passed, and a decision of it may come late: then the number stays."""
-        first = question // self.questions * self.questions
-        if not self.chain:
-            return number + 1
-        return number if first < number // self.questions * self.questions else max(number, first) + 1
+    def first_of(self, question: int) -> int:
+        """Returns the first slot of this one's epoch. A cluster that is no chain has one epoch."""
+        return question - question % self.questions if self.chain else 0
 
     def __post_init__(self) -> None:
         for key, least, most in _RANGES:

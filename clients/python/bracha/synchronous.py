@@ -98,11 +98,13 @@ class Cluster:
         """As `AsyncCluster.wait`."""
         return self._run(self._cluster.wait(question, timeout=timeout))
 
-    def follow(self, *, known: Collection[int] = (), trust: int | None = None, number: int = 0) -> Iterator[Decision]:
+    def follow(
+        self, *, first: int = 0, known: Collection[int] = (), trust: int | None = None, number: int = 0
+    ) -> Iterator[Decision]:
         """As `AsyncCluster.follow`. An iterator that is dropped ends what it holds; `close` of the cluster ends it with Closed."""
 
         async def begin() -> AsyncIterator[Decision]:
-            return self._cluster.follow(known=known, trust=trust, number=number)
+            return self._cluster.follow(first=first, known=known, trust=trust, number=number)
 
         decisions = self._run(begin())
 

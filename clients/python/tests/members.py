@@ -19,6 +19,7 @@ class Fake:
         self.desk = f"127.0.0.1:{self._listener.getsockname()[1]}"
         self.lines = []
         self.links, self.ended = [], 0
+        self._closed = threading.Event()
         threading.Thread(target=self._accept, daemon=True).start()
 
     def _accept(self):
@@ -37,24 +38,35 @@ class Fake:
                     for line in lines:
                         self.lines.append(line.strip())
                         for reply in self._answer(line.strip()):
-                            if isinstance(reply, float):
-                                time.sleep(reply)
-                            elif reply is None:
+                            if reply is None:
                                 return
-                            else:
+                            if not isinstance(reply, float):
                                 link.sendall(reply.encode())
+                            elif self._closed.wait(reply):
+                                return
             except OSError:
                 pass
             finally:
                 self.ended += 1
 
     def close(self):
+        self._closed.set()
         for end in (self._listener, *self.links):
             try:
                 end.shutdown(socket.SHUT_RDWR)
             except OSError:
                 pass
         self._listener.close()
+
+
+def says(reply):
+    """What a desk does that gives this reply to each line."""
+    return lambda line: [reply + "\n"]
+
+
+def silent(line):
+    """What a desk does that never replies."""
+    yield 60.0
 
 
 def comes(holds):
@@ -76,8 +88,9 @@ def links_to(fakes):
     ports, count = {int(fake.desk.rpartition(":")[2]) for fake in fakes}, 0
     for file in os.listdir("/proc/self/fd"):
         try:
-            with socket.socket(fileno=os.dup(int(file))) as link:
-                count += link.getpeername()[1] in ports
+            if os.readlink(f"/proc/self/fd/{file}").startswith("socket:"):
+                with socket.socket(fileno=os.dup(int(file))) as link:
+                    count += link.getpeername()[1] in ports
         except (OSError, TypeError, IndexError):
             pass
     return count
@@ -98,8 +111,9 @@ def free_ports():
 class Members:
     """Four members of the program, in a folder of their own."""
 
-    def __init__(self, program, questions):
+    def __init__(self, program, questions, *more):
         self._program = program
+        self._more = more  # options of new-cluster
         self._room = tempfile.TemporaryDirectory()
         self._running = {}
         for _ in range(20):
@@ -114,7 +128,7 @@ class Members:
         first = free_ports()
         self.path = Path(self._room.name) / str(first)
         size = ("--cluster", "7", "--n", "4", "--t", "1", "--questions", str(questions))
-        self._do("new-cluster", *size, "--port", str(first), str(self.path))
+        self._do("new-cluster", *self._more, *size, "--port", str(first), str(self.path))
         for member in range(4):
             self._do("init", f"member-{member}.toml", cwd=self.path)
             self.start(member)
@@ -138,6 +152,23 @@ class Members:
         process.kill()
         process.wait()
         process.stdout.close()
+
+    def restart(self, member):
+        """Kills a member, and starts it again."""
+        self.kill(member)
+        for _ in range(20):
+            try:
+                return self.start(member)
+            except RuntimeError:  # another process had the port for a moment
+                self.kill(member)
+                time.sleep(0.2)
+
+    def put_away(self, member, epochs):
+        """Kills a member of a chain, puts the journals of its first epochs away, and starts it again."""
+        self.kill(member)
+        for epoch in range(epochs):
+            (self.path / f"member-{member}.epochs" / f"{epoch}.journal").unlink()
+        self.start(member)
 
     def _kill_all(self):
         for member in list(self._running):

@@ -18,15 +18,7 @@ from unittest import mock
 
 from bracha import (AsyncCluster, BadSettings, Closed, Cluster, NoSuchMember, NoSuchQuestion, Reading, Settings, Stage, State,
                     Undecided, Unreachable)
-from tests.members import PROGRAM, Fake, Kills, Members, closed_port, comes, links_to
-
-
-def says(reply):
-    return lambda line: [reply + "\n"]
-
-
-def silent(line):
-    yield 60.0
+from tests.members import PROGRAM, Fake, Kills, Members, closed_port, comes, links_to, says, silent
 
 
 def true(line):
