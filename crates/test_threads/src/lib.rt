@@ -1,9 +1,7 @@
-//! Tests of books and links that threads share, which use only what these offer.
+//! Tests of a member's line that threads share.
 #![tactic(auto)]
 
 #[cfg(test)]
 mod beginnings;
 #[cfg(test)]
-mod books;
-#[cfg(test)]
-mod sessions;
+mod pauses;
