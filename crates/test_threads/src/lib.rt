@@ -1,9 +1,9 @@
-//! Tests of books and links that threads share, which use only what these offer.
+//! Tests of a member that threads share: its line, and its links beside an asker.
 #![tactic(auto)]
 
 #[cfg(test)]
+mod at_once;
+#[cfg(test)]
 mod beginnings;
 #[cfg(test)]
-mod books;
-#[cfg(test)]
-mod sessions;
+mod pauses;

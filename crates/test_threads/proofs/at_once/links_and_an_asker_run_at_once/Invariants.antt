@@ -1,5 +1,5 @@
 use Rattle.terms_prelude.specs.Terms.{new_header, new_size}
-use Rattle.test_threads.proofs.sessions.links_and_an_asker_run_at_once.Given as goal
+use Rattle.test_threads.proofs.at_once.links_and_an_asker_run_at_once.Given as goal
 
 -- the board that was just made
 abbrev pub ghosts-at_once : goal.ghosts-at_once

@@ -1,7 +1,7 @@
 use Rattle.std.proofs.Common.{◌≡◌, ◌<◌, ℕ, sym, ap, subst, arith}
 use Rattle.terms_prelude.specs.Terms.{Header}
 use Rattle.journal.specs.Readers.{journal_header}
-use Rattle.test_threads.proofs.beginnings.start.Goals as goal
+use Rattle.test_threads.proofs.at_once.start.Goals as goal
 
 pub append-requires-clause-well_formed : goal.append-requires-clause-well_formed
 append-requires-clause-well_formed g c =

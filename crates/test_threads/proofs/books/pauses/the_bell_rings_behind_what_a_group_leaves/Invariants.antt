@@ -1,6 +1,0 @@
-use Rattle.terms_prelude.specs.Terms.{new_header, new_size}
-use Rattle.test_threads.proofs.books.pauses.the_bell_rings_behind_what_a_group_leaves.Given as goal
-
--- the board that was just made
-abbrev pub ghosts-open_and_play : goal.ghosts-open_and_play
-ghosts-open_and_play g a = record { names = a.board; header = new_header 7 (new_size 16 5 40) 1 }
