@@ -356,8 +356,10 @@ fn work<R: Caller>(rt: &R, host: &HostRuntime, task: Task, quiet: bool) -> Resul
 /// The status to end with where the words ask for nothing to be done: 0 for the help and the
 /// version, 2 for a fault of the words.
 fn status_of(error: &clap::Error) -> u8
-    ensures shown { (kind_of error.now ≡ DisplayHelp) ⊎ (kind_of error.now ≡ DisplayVersion) → result ≡ 0 }
-    ensures fault { kind_of error.now ≢ DisplayHelp → kind_of error.now ≢ DisplayVersion → result ≡ 2 }
+    ensures shown { (kind_of error.now ≡ DisplayHelp) ⊎ (kind_of error.now ≡ DisplayVersion) →
+        result ≡ 0 }
+    ensures fault { kind_of error.now ≢ DisplayHelp → kind_of error.now ≢ DisplayVersion →
+        result ≡ 2 }
 {
     error.exit_code() as u8
 }

@@ -19,8 +19,8 @@ pub extern "C" fn bracha_batch_head(
     me: u8,
     head: &mut [u8; 25],
 ) -> i32
-    ensures status { IsHead cluster n t questions me result head.new ⊎ WrongSize n t questions result
-        ⊎ WrongMember n t questions me result }
+    ensures status { IsHead cluster n t questions me result head.new
+        ⊎ WrongSize n t questions result ⊎ WrongMember n t questions me result }
     ensures same { result ≢ pos 0 → head.new ≡ head.old }
 {
     let size = match Size::new(n, t, questions) {
@@ -84,8 +84,8 @@ pub extern "C" fn bracha_batch_read(
     written: &mut usize,
     end: &mut usize,
 ) -> i32
-    ensures { IsRead cluster n t questions me file.now result written.new end.new records.old records.new
-        ⊎ WrongSize n t questions result ⊎ WrongMember n t questions me result
+    ensures { IsRead cluster n t questions me file.now result written.new end.new records.old
+        records.new ⊎ WrongSize n t questions result ⊎ WrongMember n t questions me result
         ⊎ WrongFile cluster n t questions me file.now result written.new records.old records.new }
 {
     let size = match Size::new(n, t, questions) {

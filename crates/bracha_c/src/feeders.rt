@@ -49,7 +49,8 @@ pub extern "C" fn bracha_feeder_close(feeder: FeederHandle) {
 /// Reads a piece of the link's bytes.
 #[unsafe(no_mangle)]
 pub extern "C" fn bracha_feeder_feed(feeder: &mut FeederHandle, bytes: &[u8]) -> i32
-    ensures fed { FedAs feeder.old.inbox feeder.new.inbox bytes.now result ⊎ NotFed feeder.old.inbox feeder.new.inbox result }
+    ensures fed { FedAs feeder.old.inbox feeder.new.inbox bytes.now result
+        ⊎ NotFed feeder.old.inbox feeder.new.inbox result }
     ensures size { size_of feeder.new.inbox ≡ size_of feeder.old.inbox }
 {
     match feeder.inbox().feed(bytes) {

@@ -34,8 +34,9 @@ pub extern "C" fn bracha_encode_hello(
     to: u8,
     frame: &mut [u8; 18],
 ) -> i32
-    ensures status { IsHello version cluster n t questions from to result frame.new ⊎ WrongSize n t questions result
-        ⊎ WrongVersion version n t questions result ⊎ WrongMembers n t questions from to result }
+    ensures status { IsHello version cluster n t questions from to result frame.new
+        ⊎ WrongSize n t questions result ⊎ WrongVersion version n t questions result
+        ⊎ WrongMembers n t questions from to result }
     ensures same { result ≢ pos 0 → frame.new ≡ frame.old }
 {
     let size = match Size::new(n, t, questions) {
@@ -67,7 +68,8 @@ pub extern "C" fn bracha_encode_welcome(next: u64, frame: &mut [u8; 11])
 /// Writes the frame of the statement of seven bytes.
 #[unsafe(no_mangle)]
 pub extern "C" fn bracha_encode_statement(statement: &[u8; 7], frame: &mut [u8; 10]) -> i32
-    ensures { IsStatementFrame statement.now result frame.new ⊎ WrongStatement statement.now result frame.old frame.new }
+    ensures { IsStatementFrame statement.now result frame.new
+        ⊎ WrongStatement statement.now result frame.old frame.new }
 {
     match statement_frame(statement) {
         Some(made) => {

@@ -113,8 +113,10 @@ pub extern "C" fn bracha_core_hear(
     records: &mut [u8; MOST_BYTES],
     count: &mut usize,
 ) -> i32
-    ensures { HeardAs (core_of core.old.engine) (core_of core.new.engine) toss from statement.now result count.new records.old records.new
-        ⊎ NotHeard (core_of core.old.engine) (core_of core.new.engine) from statement.now result count.new records.old records.new }
+    ensures { HeardAs (core_of core.old.engine)
+        (core_of core.new.engine) toss from statement.now result count.new records.old records.new
+        ⊎ NotHeard (core_of core.old.engine)
+        (core_of core.new.engine) from statement.now result count.new records.old records.new }
 {
     match core.engine().hear(from, statement, Toss(toss), records) {
         Ok(told) => {
@@ -139,8 +141,10 @@ pub extern "C" fn bracha_core_propose(
     records: &mut [u8; MOST_BYTES],
     count: &mut usize,
 ) -> i32
-    ensures { Replied (core_of core.old.engine) (core_of core.new.engine) toss (Proposal question bit) result count.new records.old records.new
-        ⊎ NotReplied (core_of core.old.engine) (core_of core.new.engine) (Proposal question bit) result count.new records.old records.new }
+    ensures { Replied (core_of core.old.engine) (core_of core.new.engine) toss
+        (Proposal question bit) result count.new records.old records.new
+        ⊎ NotReplied (core_of core.old.engine) (core_of core.new.engine)
+        (Proposal question bit) result count.new records.old records.new }
 {
     match core.engine().propose(question, bit, Toss(toss), records) {
         Ok(told) => {
@@ -163,11 +167,13 @@ pub extern "C" fn bracha_core_verdict(
     decision: &mut Decision,
 ) -> bool
     ensures known { (records : List Record) (heard : List (ℕ × Statement)) →
-        CoreStandsFor (core_of core.old.engine) records heard → question < (core_size (core_of core.old.engine)).questions →
+        CoreStandsFor (core_of core.old.engine) records heard →
+        question < (core_size (core_of core.old.engine)).questions →
         TellsDecision (decided records question) result decision.old decision.new }
     ensures unknown { (core_size (core_of core.old.engine)).questions ≤ question →
         TellsDecision None result decision.old decision.new }
-    ensures failed { core_failed (core_of core.old.engine) ≡ true → TellsDecision None result decision.old decision.new }
+    ensures failed { core_failed (core_of core.old.engine) ≡ true →
+        TellsDecision None result decision.old decision.new }
     ensures same { core.new.engine ≡ core.old.engine }
 {
     let known = core.engine().verdict(question);

@@ -99,7 +99,8 @@ impl Chain {
     pub fn route(&self, known: &Known<'_>, cluster: u64) -> Option<u64>
         ensures some { IfSome result (λ epoch. HasCluster self.now epoch cluster) }
         ensures open { IfSome result (IsOpen (chain_size self.now) known.now) }
-        ensures none { IsNone result → (epoch : ℕ) → HasCluster self.now epoch cluster → IsOpen (chain_size self.now) known.now epoch → ⊥ }
+        ensures none { IsNone result → (epoch : ℕ) → HasCluster self.now epoch cluster →
+            IsOpen (chain_size self.now) known.now epoch → ⊥ }
     {
         let epoch = self.epoch_of(cluster)?;
         if self.is_open(known, epoch) {

@@ -37,7 +37,8 @@ impl Chain {
     /// Returns the cluster number of an epoch. `None` past the last number, 2^64 - 1.
     #[tactic(auto, unfolding(crate::specs::Slots::chain_first))]
     pub fn cluster_of(&self, epoch: u64) -> Option<u64>
-        ensures { MatchOption result (2 ^ 64 ≤ chain_first self.now + epoch) (HasCluster self.now epoch) }
+        ensures { MatchOption result (2 ^ 64 ≤ chain_first self.now + epoch)
+            (HasCluster self.now epoch) }
     {
         self.first.checked_add(epoch)
     }
@@ -45,7 +46,8 @@ impl Chain {
     /// Returns the epoch with this cluster number. `None` if the number is below that of the first.
     #[tactic(auto, unfolding(crate::specs::Slots::chain_first))]
     pub fn epoch_of(&self, cluster: u64) -> Option<u64>
-        ensures { MatchOption result (cluster < chain_first self.now) (λ epoch. HasCluster self.now epoch cluster) }
+        ensures { MatchOption result (cluster < chain_first self.now)
+            (λ epoch. HasCluster self.now epoch cluster) }
     {
         cluster.checked_sub(self.first)
     }
@@ -76,7 +78,8 @@ impl Chain {
     #[tactic(auto, unfolding(crate::specs::Slots::chain_size))]
     pub fn number_of(&self, slot: Slot) -> Option<u64>
         ensures some { IfSome result (λ number. IsSlot self.now number slot) }
-        ensures none { IsNone result → (number : ℕ) → IsSlot self.now number slot → 2 ^ 64 ≤ number }
+        ensures none { IsNone result → (number : ℕ) → IsSlot self.now number slot →
+            2 ^ 64 ≤ number }
     {
         if slot.question >= self.size.questions() {
             return None;

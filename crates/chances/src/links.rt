@@ -47,9 +47,11 @@ fn take_at(queue: &mut Vec<Statement>, place: usize) -> Option<Statement>
 
 /// Takes the statement at this place off the queue to this receiver.
 fn take_in(row: &mut Vec<Vec<Statement>>, to: u8, place: usize) -> Option<Statement>
-    ensures some { IfSome result (TakesOut place (queue_to row.old.items to) (queue_to row.new.items to)) }
+    ensures some { IfSome result
+        (TakesOut place (queue_to row.old.items to) (queue_to row.new.items to)) }
     ensures none { IsNone result ↔ length (queue_to row.old.items to) ≤ place }
-    ensures others { (other : ℕ) → other ≢ to → queue_to row.new.items other ≡ queue_to row.old.items other }
+    ensures others { (other : ℕ) → other ≢ to →
+        queue_to row.new.items other ≡ queue_to row.old.items other }
 {
     match row.get_mut(usize::from(to)) {
         Some(queue) => take_at(queue, place),
@@ -91,7 +93,8 @@ impl Links {
 
     /// Takes the statement at this place, from 0, off the queue of the link.
     pub fn take(&mut self, from: u8, to: u8, place: usize) -> Option<Statement>
-        ensures some { IfSome result (TakesOut place (queue_of self.old from to) (queue_of self.new from to)) }
+        ensures some { IfSome result
+            (TakesOut place (queue_of self.old from to) (queue_of self.new from to)) }
         ensures none { IsNone result ↔ length (queue_of self.old from to) ≤ place }
         ensures others { (sender receiver : ℕ) → (sender ≢ from) ⊎ (receiver ≢ to) →
             queue_of self.new sender receiver ≡ queue_of self.old sender receiver }

@@ -24,7 +24,9 @@ impl Step {
     /// Returns the statement of this kind and value on the broadcast of this origin in this step,
     /// or `None` if there is none: the step is behind the last, or the value isn't one of the step.
     pub fn statement(self, kind: Kind, origin: u8, value: Value) -> Option<Statement>
-        ensures { IfSome result (λ s. s ≡ new_statement kind (new_place 0 origin (round_of self.0) (step_of self.0)) value) }
+        ensures { IfSome result
+            (λ s. s ≡ new_statement kind (new_place 0 origin (round_of self.0) (step_of self.0))
+            value) }
     {
         if self.0 >= STEPS {
             return None;

@@ -42,7 +42,8 @@ impl Reading {
     #[tactic(auto, unfolding(crate::specs::Readings::Reads, crate::specs::Readings::size_of))]
     pub fn take(&mut self, member: u8, bit: bool) -> bool
         ensures taken { IsTrue result ↔ member < (size_of self.old).n }
-        ensures words { IsTrue result → (words : List (ℕ × Bool)) → Reads self.old words → Reads self.new (words ++ (member, bit) ∷ []) }
+        ensures words { IsTrue result → (words : List (ℕ × Bool)) → Reads self.old words →
+            Reads self.new (words ++ (member, bit) ∷ []) }
         ensures same { IsFalse result → self.new ≡ self.old }
         ensures size { size_of self.new ≡ size_of self.old }
     {
@@ -62,7 +63,8 @@ impl Reading {
     /// [`crate::laws::what_is_read_is_decided`].
     #[tactic(auto, unfolding(crate::specs::Readings::Reads, crate::specs::Readings::size_of))]
     pub fn decision(&self) -> Option<bool>
-        ensures { (words : List (ℕ × Bool)) → Reads self.now words → DecidesBy (size_of self.now) words result }
+        ensures { (words : List (ℕ × Bool)) → Reads self.now words →
+            DecidesBy (size_of self.now) words result }
     {
         self.decision
     }
@@ -71,7 +73,8 @@ impl Reading {
     /// another one lies, where at most t members do.
     #[tactic(auto, unfolding(crate::specs::Readings::Reads))]
     pub fn word_of(&self, member: u8) -> Option<bool>
-        ensures { (words : List (ℕ × Bool)) → Reads self.now words → member < 64 → result ≡ first_word words member }
+        ensures { (words : List (ℕ × Bool)) → Reads self.now words → member < 64 →
+            result ≡ first_word words member }
     {
         if member >= 64 {
             return None;

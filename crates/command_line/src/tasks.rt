@@ -309,7 +309,8 @@ fn named<'a>(alloc: Global, name: &'a str, about: &'a str, examples: &'a str) ->
 
 /// The command with one word or option more.
 fn with_arg<'a>(command: Built<'a>, arg: Arg<'a>) -> Built<'a>
-    ensures { (app : App) (rule : Rule) → Builds app command.entry → rule_of arg.entry ≡ rule → IsTrue rule.is_simple → Builds (with_rule app rule) result }
+    ensures { (app : App) (rule : Rule) → Builds app command.entry → rule_of arg.entry ≡ rule →
+        IsTrue rule.is_simple → Builds (with_rule app rule) result }
 {
     command?.arg(arg)
 }
@@ -544,7 +545,8 @@ fn transcript<'a>(alloc: Global) -> Built<'a>
 
 /// The options that name the size that a transcript in a file is for.
 fn with_audited<'a>(alloc: Global, command: Built<'a>) -> Built<'a>
-    ensures { (app : App) → Builds app command.entry → Builds (with_rules app audited_rules) result }
+    ensures { (app : App) → Builds app command.entry →
+        Builds (with_rules app audited_rules) result }
 {
     let n = option(alloc, "n", "N", "Number of members (1 to 64)");
     let liars = "Number of lying members to tolerate (N > 3T)";
@@ -664,7 +666,8 @@ fn with_choice<'a>(alloc: Global, command: Built<'a>) -> Built<'a>
 
 /// The options of a simulation without a script.
 fn with_forever<'a>(alloc: Global, command: Built<'a>) -> Built<'a>
-    ensures { (app : App) → Builds app command.entry → Builds (with_rules app forever_rules) result }
+    ensures { (app : App) → Builds app command.entry →
+        Builds (with_rules app forever_rules) result }
 {
     let forever = "Play random scripts, one after another, in place of SCRIPT";
     let seed = "With --forever: seed of the scripts [default: the time]";
@@ -743,8 +746,8 @@ fn bare<'a>(alloc: Global) -> Built<'a>
 
 /// The program with one command more, which takes `--quiet` and `--verbose` as the program does.
 fn with_command<'a>(alloc: Global, program: Built<'a>, command: Built<'a>) -> Built<'a>
-    ensures { (app below : App) → Builds app program.entry → Builds below command.entry → IsTrue below.top.is_plain →
-        Builds (with_subcommand app (with_telling below).top) result }
+    ensures { (app below : App) → Builds app program.entry → Builds below command.entry →
+        IsTrue below.top.is_plain → Builds (with_subcommand app (with_telling below).top) result }
 {
     program?.subcommand(with_telling(alloc, command)?)
 }
@@ -810,7 +813,8 @@ fn flag_of(options: &ArgMatches<'_>, id: &str) -> bool
 /// The values of `hear`'s options, each of which the parser has demanded.
 fn hear_of<'a>(options: &ArgMatches<'a>) -> Option<Task<'a>>
     ensures some { IfSome result (Names (codes "hear") (rows_in options.now)) }
-    ensures none { IsNone result → (task : Task) → Names (codes "hear") (rows_in options.now) task → ⊥ }
+    ensures none { IsNone result → (task : Task) → Names (codes "hear") (rows_in options.now) task →
+        ⊥ }
 {
     Some(Task::Hear {
         n: u16_of(options, "n")?,
@@ -823,7 +827,8 @@ fn hear_of<'a>(options: &ArgMatches<'a>) -> Option<Task<'a>>
 /// The values of `new-cluster`'s words.
 fn new_cluster_of<'a>(options: &ArgMatches<'a>) -> Option<Task<'a>>
     ensures some { IfSome result (Names (codes "new-cluster") (rows_in options.now)) }
-    ensures none { IsNone result → (task : Task) → Names (codes "new-cluster") (rows_in options.now) task → ⊥ }
+    ensures none { IsNone result → (task : Task) →
+        Names (codes "new-cluster") (rows_in options.now) task → ⊥ }
 {
     let n = u16_of(options, "n")?;
     let t = u16_of(options, "t")?;
@@ -850,7 +855,8 @@ fn new_cluster_of<'a>(options: &ArgMatches<'a>) -> Option<Task<'a>>
 /// The value of `init`'s word.
 fn init_of<'a>(options: &ArgMatches<'a>) -> Option<Task<'a>>
     ensures some { IfSome result (Names (codes "init") (rows_in options.now)) }
-    ensures none { IsNone result → (task : Task) → Names (codes "init") (rows_in options.now) task → ⊥ }
+    ensures none { IsNone result → (task : Task) → Names (codes "init") (rows_in options.now) task →
+        ⊥ }
 {
     Some(Task::Init {
         settings: text_of(options, "settings")?,
@@ -860,7 +866,8 @@ fn init_of<'a>(options: &ArgMatches<'a>) -> Option<Task<'a>>
 /// The values of `check`'s words.
 fn check_of<'a>(options: &ArgMatches<'a>) -> Option<Task<'a>>
     ensures some { IfSome result (Names (codes "check") (rows_in options.now)) }
-    ensures none { IsNone result → (task : Task) → Names (codes "check") (rows_in options.now) task → ⊥ }
+    ensures none { IsNone result → (task : Task) →
+        Names (codes "check") (rows_in options.now) task → ⊥ }
 {
     Some(Task::Check {
         settings: text_of(options, "settings")?,
@@ -871,7 +878,8 @@ fn check_of<'a>(options: &ArgMatches<'a>) -> Option<Task<'a>>
 /// The values of `run`'s words.
 fn run_of<'a>(options: &ArgMatches<'a>) -> Option<Task<'a>>
     ensures some { IfSome result (Names (codes "run") (rows_in options.now)) }
-    ensures none { IsNone result → (task : Task) → Names (codes "run") (rows_in options.now) task → ⊥ }
+    ensures none { IsNone result → (task : Task) → Names (codes "run") (rows_in options.now) task →
+        ⊥ }
 {
     Some(Task::Run {
         settings: text_of(options, "settings")?,
@@ -885,7 +893,8 @@ fn run_of<'a>(options: &ArgMatches<'a>) -> Option<Task<'a>>
 /// The values of `propose`'s words.
 fn propose_of<'a>(options: &ArgMatches<'a>) -> Option<Task<'a>>
     ensures some { IfSome result (Names (codes "propose") (rows_in options.now)) }
-    ensures none { IsNone result → (task : Task) → Names (codes "propose") (rows_in options.now) task → ⊥ }
+    ensures none { IsNone result → (task : Task) →
+        Names (codes "propose") (rows_in options.now) task → ⊥ }
 {
     let to_all = flag_of(options, "all");
     Some(Task::Propose {
@@ -900,7 +909,8 @@ fn propose_of<'a>(options: &ArgMatches<'a>) -> Option<Task<'a>>
 /// The values of `ask`'s words.
 fn ask_of<'a>(options: &ArgMatches<'a>) -> Option<Task<'a>>
     ensures some { IfSome result (Names (codes "ask") (rows_in options.now)) }
-    ensures none { IsNone result → (task : Task) → Names (codes "ask") (rows_in options.now) task → ⊥ }
+    ensures none { IsNone result → (task : Task) → Names (codes "ask") (rows_in options.now) task →
+        ⊥ }
 {
     let all = flag_of(options, "all");
     Some(Task::Ask {
@@ -916,7 +926,8 @@ fn ask_of<'a>(options: &ArgMatches<'a>) -> Option<Task<'a>>
 /// The values of `decide`'s words.
 fn decide_of<'a>(options: &ArgMatches<'a>) -> Option<Task<'a>>
     ensures some { IfSome result (Names (codes "decide") (rows_in options.now)) }
-    ensures none { IsNone result → (task : Task) → Names (codes "decide") (rows_in options.now) task → ⊥ }
+    ensures none { IsNone result → (task : Task) →
+        Names (codes "decide") (rows_in options.now) task → ⊥ }
 {
     Some(Task::Decide {
         file: text_of(options, "file")?,
@@ -930,7 +941,8 @@ fn decide_of<'a>(options: &ArgMatches<'a>) -> Option<Task<'a>>
 /// The values of `status`'s words.
 fn status_of<'a>(options: &ArgMatches<'a>) -> Option<Task<'a>>
     ensures some { IfSome result (Names (codes "status") (rows_in options.now)) }
-    ensures none { IsNone result → (task : Task) → Names (codes "status") (rows_in options.now) task → ⊥ }
+    ensures none { IsNone result → (task : Task) →
+        Names (codes "status") (rows_in options.now) task → ⊥ }
 {
     Some(Task::Status {
         address: text_of(options, "address")?,
@@ -946,7 +958,8 @@ fn status_of<'a>(options: &ArgMatches<'a>) -> Option<Task<'a>>
 /// The values of `transcript`'s words.
 fn transcript_of<'a>(options: &ArgMatches<'a>) -> Option<Task<'a>>
     ensures some { IfSome result (Names (codes "transcript") (rows_in options.now)) }
-    ensures none { IsNone result → (task : Task) → Names (codes "transcript") (rows_in options.now) task → ⊥ }
+    ensures none { IsNone result → (task : Task) →
+        Names (codes "transcript") (rows_in options.now) task → ⊥ }
 {
     Some(Task::Transcript {
         address: text_of(options, "address")?,
@@ -959,7 +972,8 @@ fn transcript_of<'a>(options: &ArgMatches<'a>) -> Option<Task<'a>>
 /// The values of `audit`'s words.
 fn audit_of<'a>(options: &ArgMatches<'a>) -> Option<Task<'a>>
     ensures some { IfSome result (Names (codes "audit") (rows_in options.now)) }
-    ensures none { IsNone result → (task : Task) → Names (codes "audit") (rows_in options.now) task → ⊥ }
+    ensures none { IsNone result → (task : Task) →
+        Names (codes "audit") (rows_in options.now) task → ⊥ }
 {
     Some(Task::Audit {
         file: text_of(options, "file")?,
@@ -975,7 +989,8 @@ fn audit_of<'a>(options: &ArgMatches<'a>) -> Option<Task<'a>>
 /// The values of `gateway`'s words.
 fn gateway_of<'a>(options: &ArgMatches<'a>) -> Option<Task<'a>>
     ensures some { IfSome result (Names (codes "gateway") (rows_in options.now)) }
-    ensures none { IsNone result → (task : Task) → Names (codes "gateway") (rows_in options.now) task → ⊥ }
+    ensures none { IsNone result → (task : Task) →
+        Names (codes "gateway") (rows_in options.now) task → ⊥ }
 {
     Some(Task::Gateway {
         file: text_of(options, "file")?,
@@ -987,7 +1002,8 @@ fn gateway_of<'a>(options: &ArgMatches<'a>) -> Option<Task<'a>>
 /// The values of `epochs`'s words.
 fn epochs_of<'a>(options: &ArgMatches<'a>) -> Option<Task<'a>>
     ensures some { IfSome result (Names (codes "epochs") (rows_in options.now)) }
-    ensures none { IsNone result → (task : Task) → Names (codes "epochs") (rows_in options.now) task → ⊥ }
+    ensures none { IsNone result → (task : Task) →
+        Names (codes "epochs") (rows_in options.now) task → ⊥ }
 {
     Some(Task::Epochs {
         file: text_of(options, "file")?,
@@ -999,7 +1015,8 @@ fn epochs_of<'a>(options: &ArgMatches<'a>) -> Option<Task<'a>>
 /// The values of `dump`'s words.
 fn dump_of<'a>(options: &ArgMatches<'a>) -> Option<Task<'a>>
     ensures some { IfSome result (Names (codes "dump") (rows_in options.now)) }
-    ensures none { IsNone result → (task : Task) → Names (codes "dump") (rows_in options.now) task → ⊥ }
+    ensures none { IsNone result → (task : Task) → Names (codes "dump") (rows_in options.now) task →
+        ⊥ }
 {
     Some(Task::Dump {
         journal: text_of(options, "journal")?,
@@ -1011,7 +1028,8 @@ fn dump_of<'a>(options: &ArgMatches<'a>) -> Option<Task<'a>>
 /// The values of `migrate`'s words.
 fn migrate_of<'a>(options: &ArgMatches<'a>) -> Option<Task<'a>>
     ensures some { IfSome result (Names (codes "migrate") (rows_in options.now)) }
-    ensures none { IsNone result → (task : Task) → Names (codes "migrate") (rows_in options.now) task → ⊥ }
+    ensures none { IsNone result → (task : Task) →
+        Names (codes "migrate") (rows_in options.now) task → ⊥ }
 {
     Some(Task::Migrate {
         old: text_of(options, "old")?,
@@ -1022,7 +1040,8 @@ fn migrate_of<'a>(options: &ArgMatches<'a>) -> Option<Task<'a>>
 /// The values of `simulate`'s words.
 fn simulate_of<'a>(options: &ArgMatches<'a>) -> Option<Task<'a>>
     ensures some { IfSome result (Names (codes "simulate") (rows_in options.now)) }
-    ensures none { IsNone result → (task : Task) → Names (codes "simulate") (rows_in options.now) task → ⊥ }
+    ensures none { IsNone result → (task : Task) →
+        Names (codes "simulate") (rows_in options.now) task → ⊥ }
 {
     Some(Task::Simulate {
         script: text_of(options, "script"),
@@ -1042,7 +1061,8 @@ fn simulate_of<'a>(options: &ArgMatches<'a>) -> Option<Task<'a>>
 /// The values of `rounds`'s options.
 fn rounds_of<'a>(options: &ArgMatches<'a>) -> Option<Task<'a>>
     ensures some { IfSome result (Names (codes "rounds") (rows_in options.now)) }
-    ensures none { IsNone result → (task : Task) → Names (codes "rounds") (rows_in options.now) task → ⊥ }
+    ensures none { IsNone result → (task : Task) →
+        Names (codes "rounds") (rows_in options.now) task → ⊥ }
 {
     Some(Task::Rounds {
         n: u16_of(options, "n")?,
@@ -1084,7 +1104,8 @@ fn named_task<'a>(name: &str, options: &ArgMatches<'a>) -> Option<Task<'a>>
 /// The task of the command that was given.
 fn task_of<'a>(matches: &ArgMatches<'a>) -> Option<Task<'a>>
     ensures some { IfSome result (IsAskedFor (subcommand_rows_of matches.now)) }
-    ensures none { IsNone result → (task : Task) → IsAskedFor (subcommand_rows_of matches.now) task → ⊥ }
+    ensures none { IsNone result → (task : Task) →
+        IsAskedFor (subcommand_rows_of matches.now) task → ⊥ }
 {
     let (name, options) = matches.subcommand()?;
     named_task(name, options)

@@ -72,7 +72,8 @@ fn value_at(table: &Table, key: Key) -> Option<&Value>
 /// The address that an entry names.
 fn address_in(value: &Value) -> Option<Address>
     ensures some { IfSome result (IsAddressText (view value.now)) }
-    ensures exact { (address : Address) → IsAddressText (view value.now) address → result ≡ Some address }
+    ensures exact { (address : Address) → IsAddressText (view value.now) address →
+        result ≡ Some address }
 {
     Address::parse(value.as_str()?)
 }
@@ -165,7 +166,9 @@ fn first_other(digits: &[u8]) -> Option<usize>
 
 /// Returns how many digits of a seed there are, or bytes, and which of them is no digit.
 fn digits_words(alloc: Global, digits: &[u8]) -> Result<String, AllocError>
-    ensures { IfOk result (λ text. string_bytes text ≡ digits_words (length digits.now) (position_from is_other 0 digits.now)) }
+    ensures { IfOk result
+        (λ text. string_bytes text ≡ digits_words (length digits.now)
+        (position_from is_other 0 digits.now)) }
 {
     let count = digits.len();
     match first_other(digits) {
@@ -178,7 +181,8 @@ fn digits_words(alloc: Global, digits: &[u8]) -> Result<String, AllocError>
 
 /// The text of the seed.
 fn seed_of(table: &Table) -> Option<&str>
-    ensures some { IfSome result (λ digits. HasValue (table_view table.now) Seed (string digits.now)) }
+    ensures some { IfSome result
+        (λ digits. HasValue (table_view table.now) Seed (string digits.now)) }
     ensures none { IsNone result → LacksSeed (table_view table.now) }
 {
     value_at(table, Key::Seed)?.as_str()
@@ -220,7 +224,8 @@ fn value_words(alloc: Global, table: &Table, key: Key) -> Result<String, AllocEr
 
 /// Returns what is said of the key in the table of this text.
 fn table_words(alloc: Global, text: &str, table: &Table, key: Key) -> Result<String, AllocError>
-    ensures { IfOk result (λ words. IsTableWords key text.now (table_view table.now) (string_bytes words)) }
+    ensures { IfOk result
+        (λ words. IsTableWords key text.now (table_view table.now) (string_bytes words)) }
 {
     match value_at(table, key) {
         None => lack_words(alloc, text, key),

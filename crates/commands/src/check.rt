@@ -42,7 +42,9 @@ fn peer_lines(alloc: Global, peers: &[Address]) -> Result<String, AllocError>
 
 /// The line of the address that is listened at, if there is one.
 fn listen_line(alloc: Global, listen: &Option<Address>) -> Result<String, AllocError>
-    ensures { IfOk result (λ text. string_bytes text ≡ option_line (codes "listen") (option_map address_text listen.now)) }
+    ensures { IfOk result
+        (λ text. string_bytes text ≡ option_line (codes "listen")
+        (option_map address_text listen.now)) }
 {
     match listen {
         Some(address) => format!(in alloc; "listen {}\n", address_text(alloc, address)?),
@@ -52,7 +54,9 @@ fn listen_line(alloc: Global, listen: &Option<Address>) -> Result<String, AllocE
 
 /// The line of the path of a Unix socket, if there is one.
 fn socket_line(alloc: Global, socket: &Option<String>) -> Result<String, AllocError>
-    ensures { IfOk result (λ text. string_bytes text ≡ option_line (codes "desk-socket") (option_map string_bytes socket.now)) }
+    ensures { IfOk result
+        (λ text. string_bytes text ≡ option_line (codes "desk-socket")
+        (option_map string_bytes socket.now)) }
 {
     match socket {
         Some(path) => format!(in alloc; "desk-socket {path}\n"),
@@ -62,7 +66,9 @@ fn socket_line(alloc: Global, socket: &Option<String>) -> Result<String, AllocEr
 
 /// The line of the folder of a chain's journals, if there is one.
 fn epochs_line(alloc: Global, epochs: &Option<String>) -> Result<String, AllocError>
-    ensures { IfOk result (λ text. string_bytes text ≡ option_line (codes "epochs") (option_map string_bytes epochs.now)) }
+    ensures { IfOk result
+        (λ text. string_bytes text ≡ option_line (codes "epochs")
+        (option_map string_bytes epochs.now)) }
 {
     match epochs {
         Some(folder) => format!(in alloc; "epochs {folder}\n"),
@@ -104,7 +110,8 @@ pub fn print_settings<W: Write>(
     settings: &Settings,
     output: &mut W,
 ) -> Result<(), DumpFault>
-    ensures all { OnOk result (Appends (W.contents output.old) (W.contents output.new) (settings_text settings.now)) }
+    ensures all { OnOk result
+        (Appends (W.contents output.old) (W.contents output.new) (settings_text settings.now)) }
     ensures only { IfErr result IsOfPrint }
 {
     let text = settings_text(alloc, settings)?;
@@ -135,8 +142,11 @@ pub fn check_journal<D: Disk, W: Write>(
     ensures all { D.keeps disk.new → OnOk result ((records : List Record)
         × Holds header.now records (D.state disk.old).seen
         × Appends (W.contents output.old) (W.contents output.new) (records_line (length records))) }
-    ensures fault { D.keeps disk.new → (fault : JournalFault) → result ≡ Err (DumpFault.Journal fault) → IsOfFile fault → RefusesFile header.now fault (D.state disk.old).seen }
-    ensures nothing { (fault : JournalFault) → result ≡ Err (DumpFault.Journal fault) → output.new ≡ output.old }
+    ensures fault { D.keeps disk.new → (fault : JournalFault) →
+        result ≡ Err (DumpFault.Journal fault) → IsOfFile fault →
+        RefusesFile header.now fault (D.state disk.old).seen }
+    ensures nothing { (fault : JournalFault) → result ≡ Err (DumpFault.Journal fault) →
+        output.new ≡ output.old }
     ensures only { IfErr result IsOfDump }
     ensures untouched { IsUntouched D.Disk disk.old disk.new }
 {
@@ -157,11 +167,16 @@ pub fn print_check<D: Disk, W: Write>(
     output: &mut W,
 ) -> Result<u8, DumpFault>
     ensures status { IfOk result (λ status. status ≡ 0) }
-    ensures all { D.keeps disk.new → OnOk result ((records : List Record)
+    ensures all { D.keeps disk.new →
+        OnOk result ((records : List Record)
         × Holds settings.now.header records (D.state disk.old).seen
-        × Appends (W.contents output.old) (W.contents output.new) (check_object settings.now (length records))) }
-    ensures fault { D.keeps disk.new → (fault : JournalFault) → result ≡ Err (DumpFault.Journal fault) → IsOfFile fault → RefusesFile settings.now.header fault (D.state disk.old).seen }
-    ensures nothing { (fault : JournalFault) → result ≡ Err (DumpFault.Journal fault) → output.new ≡ output.old }
+        × Appends (W.contents output.old) (W.contents output.new)
+        (check_object settings.now (length records))) }
+    ensures fault { D.keeps disk.new → (fault : JournalFault) →
+        result ≡ Err (DumpFault.Journal fault) → IsOfFile fault →
+        RefusesFile settings.now.header fault (D.state disk.old).seen }
+    ensures nothing { (fault : JournalFault) → result ≡ Err (DumpFault.Journal fault) →
+        output.new ≡ output.old }
     ensures only { IfErr result IsOfDump }
     ensures untouched { IsUntouched D.Disk disk.old disk.new }
 {

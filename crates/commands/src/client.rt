@@ -106,7 +106,8 @@ pub fn ready_status(reply: &[u8]) -> u8
 
 /// The next byte of the connection, if there is one.
 fn next_byte<R: Read>(connection: &mut R) -> Option<u8>
-    ensures { IfSome result (λ byte. Consumes (R.remaining connection.old) (R.remaining connection.new) (byte ∷ [])) }
+    ensures { IfSome result
+        (λ byte. Consumes (R.remaining connection.old) (R.remaining connection.new) (byte ∷ [])) }
 {
     let mut byte = [0];
     match connection.read(&mut byte) {
@@ -117,8 +118,9 @@ fn next_byte<R: Read>(connection: &mut R) -> Option<u8>
 
 /// The reply: a line without its end.
 pub(crate) fn reply_of<R: Read>(alloc: Global, connection: &mut R) -> Result<Vec<u8>, TalkFault>
-    ensures { IfOk result (λ reply. NoEnd reply.items
-        × Consumes (R.remaining connection.old) (R.remaining connection.new) (reply.items ++ 10 ∷ [])) }
+    ensures { IfOk result
+        (λ reply. NoEnd reply.items × Consumes (R.remaining connection.old)
+        (R.remaining connection.new) (reply.items ++ 10 ∷ [])) }
 {
     let mut reply = Vec::new(alloc);
     for _ in 0..LONGEST_REPLY {
@@ -133,7 +135,8 @@ pub(crate) fn reply_of<R: Read>(alloc: Global, connection: &mut R) -> Result<Vec
 
 /// Sends the line.
 pub(crate) fn send<W: Write>(line: &str, connection: &mut W) -> Result<(), TalkFault>
-    ensures sent { IfOk result (λ _. Appends (W.contents connection.old) (W.contents connection.new) line.now) }
+    ensures sent { IfOk result
+        (λ _. Appends (W.contents connection.old) (W.contents connection.new) line.now) }
     ensures only { IfErr result (λ fault. fault ≡ NoAnswer) }
 {
     match connection.write_all(line.as_bytes()) {
@@ -175,7 +178,8 @@ pub fn exchange<R: Read, S: Write>(
 ///
 /// [`TalkFault::Stream`]: the write failed. [`TalkFault::Memory`]: memory was refused.
 pub fn tell<W: Write>(mut reply: Vec<u8>, output: &mut W) -> Result<u8, TalkFault>
-    ensures all { IfOk result (λ status. Appends (W.contents output.old) (W.contents output.new) (reply.items ++ 10 ∷ [])
+    ensures all { IfOk result
+        (λ status. Appends (W.contents output.old) (W.contents output.new) (reply.items ++ 10 ∷ [])
         × HasStatus reply.items status) }
     ensures only { result ≢ Err NoAnswer }
 {
@@ -213,8 +217,9 @@ pub fn tell_of<W: Write>(
     reply: &[u8],
     output: &mut W,
 ) -> Result<u8, TalkFault>
-    ensures all { IfOk result (λ status. Appends (W.contents output.old) (W.contents output.new) (member_line member reply.now)
-        × HasStatus reply.now status) }
+    ensures all { IfOk result
+        (λ status. Appends (W.contents output.old) (W.contents output.new)
+        (member_line member reply.now) × HasStatus reply.now status) }
     ensures only { result ≢ Err NoAnswer }
 {
     let line = reply_line(alloc, usize::from(member), reply)?;
@@ -231,7 +236,8 @@ fn object_line(alloc: Global, member: u8, object: &str) -> Result<String, AllocE
 
 /// The same, of an object that is a string.
 fn text_line(alloc: Global, member: u8, object: &String) -> Result<String, AllocError>
-    ensures { IfOk result (λ text. string_bytes text ≡ member_object member (string_bytes object.now)) }
+    ensures { IfOk result
+        (λ text. string_bytes text ≡ member_object member (string_bytes object.now)) }
 {
     format!(in alloc; "{{\"member\":{member},\"reply\":{object}}}\n")
 }
@@ -278,8 +284,10 @@ pub fn tell_object_of<W: Write>(
     reply: &[u8],
     output: &mut W,
 ) -> Result<u8, TalkFault>
-    ensures all { IfOk result (λ status. (text : List ℕ) × IsMemberObject member reply.now text
-        × Appends (W.contents output.old) (W.contents output.new) text × HasStatus reply.now status) }
+    ensures all { IfOk result
+        (λ status. (text : List ℕ) × IsMemberObject member reply.now text
+        × Appends (W.contents output.old) (W.contents output.new) text
+        × HasStatus reply.now status) }
     ensures only { result ≢ Err NoAnswer }
 {
     let text = member_object(alloc, member, reply)?;
@@ -364,7 +372,8 @@ pub fn talk<R: Read, S: Write, W: Write>(
 
 /// Writes the reply.
 pub(crate) fn print_reply<W: Write>(reply: &[u8], output: &mut W) -> Result<(), TalkFault>
-    ensures written { IfOk result (λ _. Appends (W.contents output.old) (W.contents output.new) reply.now) }
+    ensures written { IfOk result
+        (λ _. Appends (W.contents output.old) (W.contents output.new) reply.now) }
     ensures only { result ≢ Err NoAnswer }
 {
     output.write_all(reply)?;

@@ -297,8 +297,12 @@ pub fn tell_epochs<W: Write>(
     output: &mut W,
 ) -> Result<u8, TalkFault>
     ensures status { IfOk result (λ status. status ≡ closed_status (least_closed told.now)) }
-    ensures lines { json ≡ false → IfOk result (λ _. Appends (W.contents output.old) (W.contents output.new) (epochs_text told.now)) }
-    ensures object { json ≡ true → IfOk result (λ _. Appends (W.contents output.old) (W.contents output.new) (epochs_object told.now)) }
+    ensures lines { json ≡ false →
+        IfOk result (λ _. Appends (W.contents output.old) (W.contents output.new)
+        (epochs_text told.now)) }
+    ensures object { json ≡ true →
+        IfOk result (λ _. Appends (W.contents output.old) (W.contents output.new)
+        (epochs_object told.now)) }
     ensures only { result ≢ Err NoAnswer }
 {
     let words = epochs_words(alloc, told, json)?;

@@ -40,7 +40,8 @@ pub(crate) fn disk_of(alloc: Global, bytes: &[u8]) -> Result<MemDisk, Memory>
 /// The header with which the file begins, if it begins with one.
 pub(crate) fn header_of(alloc: Global, file: &[u8]) -> Result<Option<Header>, Memory>
     ensures some { IfOk result (λ found. IfSome found (λ header. HasHeader header file.now)) }
-    ensures none { IfOk result (λ found. IsNone found → (header : Header) → HasHeader header file.now → ⊥) }
+    ensures none { IfOk result
+        (λ found. IsNone found → (header : Header) → HasHeader header file.now → ⊥) }
 {
     let mut disk = disk_of(alloc, file)?;
     match journal::peek(&mut disk) {
@@ -54,7 +55,9 @@ pub(crate) fn header_of(alloc: Global, file: &[u8]) -> Result<Option<Header>, Me
 /// The bytes that are a batch by its gate and its count, if these begin so, and what stands behind
 /// them: there is an open gate, and no byte is missing up to the next gate.
 fn split_batch(bytes: &[u8]) -> Option<(&[u8], &[u8])>
-    ensures some { IfSome result (λ parts. IsChunk parts.0.now × (bytes.now ≡ parts.0.now ++ parts.1.now) × (length parts.1.now < length bytes.now) × (0 < length parts.1.now)) }
+    ensures some { IfSome result
+        (λ parts. IsChunk parts.0.now × (bytes.now ≡ parts.0.now ++ parts.1.now)
+        × (length parts.1.now < length bytes.now) × (0 < length parts.1.now)) }
     ensures none { IsNone result → NoChunk bytes.now }
 {
     let [gate, high, low, behind @ ..] = bytes else {
@@ -83,8 +86,12 @@ pub(crate) fn file_of(alloc: Global, front: &[u8], bytes: &[u8]) -> Result<Vec<u
 
 /// Returns `true` if the file of this header's bytes, these and a closed gate is a journal.
 fn is_journal(alloc: Global, header: &Header, front: &[u8], bytes: &[u8]) -> Result<bool, Memory>
-    ensures yes { IfOk result (λ is. is ≡ true → (records : List Record) × Holds header.now records (front.now ++ bytes.now ++ 0 ∷ [])) }
-    ensures no { IfOk result (λ is. is ≡ false → (fault : JournalFault) × RefusesFile header.now fault (front.now ++ bytes.now ++ 0 ∷ [])) }
+    ensures yes { IfOk result
+        (λ is. is ≡ true → (records : List Record)
+        × Holds header.now records (front.now ++ bytes.now ++ 0 ∷ [])) }
+    ensures no { IfOk result
+        (λ is. is ≡ false → (fault : JournalFault)
+        × RefusesFile header.now fault (front.now ++ bytes.now ++ 0 ∷ [])) }
 {
     let file = file_of(alloc, front, bytes)?;
     let disk = disk_of(alloc, &file)?;
@@ -105,8 +112,10 @@ fn behind_batch<'a>(
 ) -> Result<Option<&'a [u8]>, Memory>
     requires lawful { IsHeader header.now }
     requires front { front.now ≡ header_text header.now }
-    ensures some { IfOk result (λ found. IfSome found (λ behind. BeginsWithBatch header.now bytes.now behind.now)) }
-    ensures shorter { IfOk result (λ found. IfSome found (λ behind. length behind.now < length bytes.now)) }
+    ensures some { IfOk result
+        (λ found. IfSome found (λ behind. BeginsWithBatch header.now bytes.now behind.now)) }
+    ensures shorter { IfOk result
+        (λ found. IfSome found (λ behind. length behind.now < length bytes.now)) }
     ensures none { IfOk result (λ found. IsNone found → NoBatch header.now bytes.now) }
 {
     let Some((batch, behind)) = split_batch(bytes) else {
@@ -140,8 +149,11 @@ fn behind_batches<'a>(
 /// Returns how many bytes of a journal's file, from its start, are its header and whole batches. 0
 /// where it begins with no header.
 fn good_length(alloc: Global, file: &[u8]) -> Result<usize, Memory>
-    ensures good { IfOk result (λ place. (header : Header) → HasHeader header file.now → IsGoodUpTo header place file.now) }
-    ensures none { IfOk result (λ place. ((header : Header) → HasHeader header file.now → ⊥) → place ≡ 0) }
+    ensures good { IfOk result
+        (λ place. (header : Header) → HasHeader header file.now →
+        IsGoodUpTo header place file.now) }
+    ensures none { IfOk result
+        (λ place. ((header : Header) → HasHeader header file.now → ⊥) → place ≡ 0) }
 {
     let Some(header) = header_of(alloc, file)? else {
         return Ok(0);

@@ -107,7 +107,8 @@ fn print_batches<W: Write>(
     output: &mut W,
 ) -> Result<(), DumpFault>
     ensures all { (left : List Record) → HasLeft batches.old left →
-        OnOk result (Appends (W.contents output.old) (W.contents output.new) (records_text form left)) }
+        OnOk result (Appends (W.contents output.old) (W.contents output.new)
+        (records_text form left)) }
     ensures only { (left : List Record) → HasLeft batches.old left → IfErr result IsOfPrint }
 {
     let mut records = Vec::new(alloc);
@@ -120,7 +121,8 @@ fn print_batches<W: Write>(
 
 /// Gathers all records that are left, in order.
 fn gather(alloc: Global, batches: &mut Batches) -> Result<Vec<Record>, AllocError>
-    ensures { (left : List Record) → HasLeft batches.old left → IfOk result (λ all. all.items ≡ left) }
+    ensures { (left : List Record) → HasLeft batches.old left →
+        IfOk result (λ all. all.items ≡ left) }
 {
     let mut all = Vec::new(alloc);
     let mut records = Vec::new(alloc);
@@ -141,8 +143,11 @@ pub(crate) fn read_records<D: Disk>(
     disk: &mut D,
     header: &Header,
 ) -> Result<Vec<Record>, JournalFault>
-    ensures held { D.keeps disk.new → IfOk result (λ records. Holds header.now records.items (D.state disk.old).seen) }
-    ensures fault { D.keeps disk.new → IfErr result (λ fault. IsOfFile fault → RefusesFile header.now fault (D.state disk.old).seen) }
+    ensures held { D.keeps disk.new →
+        IfOk result (λ records. Holds header.now records.items (D.state disk.old).seen) }
+    ensures fault { D.keeps disk.new →
+        IfErr result (λ fault. IsOfFile fault →
+        RefusesFile header.now fault (D.state disk.old).seen) }
     ensures device { IsErrOf result Device → D.failures disk.old < D.failures disk.new }
     ensures only { IfErr result IsFaultOfOpening }
     ensures untouched { IsUntouched D.Disk disk.old disk.new }
@@ -156,7 +161,8 @@ pub(crate) fn read_records<D: Disk>(
 fn look<D: Disk>(alloc: Global, disk: &mut D) -> Result<(Header, Batches), JournalFault>
     ensures held { IfOk result (λ seen. (records : List Record) × HasLeft seen.1 records
         × (D.keeps disk.new → Holds seen.0 records (D.state disk.old).seen)) }
-    ensures fault { D.keeps disk.new → IfErr result (λ fault. (fault ≡ Memory) ⊎ IsUnreadable fault (D.state disk.old).seen) }
+    ensures fault { D.keeps disk.new →
+        IfErr result (λ fault. (fault ≡ Memory) ⊎ IsUnreadable fault (D.state disk.old).seen) }
     ensures device { IsErrOf result Device → D.failures disk.old < D.failures disk.new }
     ensures only { IfErr result IsFaultOfOpening }
     ensures untouched { IsUntouched D.Disk disk.old disk.new }
@@ -177,12 +183,17 @@ fn print_records<D: Disk, W: Write>(
     output: &mut W,
 ) -> Result<u8, DumpFault>
     ensures status { IfOk result (λ status. status ≡ 0) }
-    ensures all { D.keeps disk.new → OnOk result ((header : Header) × (records : List Record)
+    ensures all { D.keeps disk.new →
+        OnOk result ((header : Header) × (records : List Record)
         × Holds header records (D.state disk.old).seen
-        × Appends (W.contents output.old) (W.contents output.new) (head_text form header ++ records_text form records)) }
-    ensures fault { D.keeps disk.new → (fault : JournalFault) → result ≡ Err (DumpFault.Journal fault) → IsUnreadable fault (D.state disk.old).seen }
-    ensures nothing { (fault : JournalFault) → result ≡ Err (DumpFault.Journal fault) → output.new ≡ output.old }
-    ensures device { result ≡ Err (DumpFault.Journal Device) → D.failures disk.old < D.failures disk.new }
+        × Appends (W.contents output.old) (W.contents output.new)
+        (head_text form header ++ records_text form records)) }
+    ensures fault { D.keeps disk.new → (fault : JournalFault) →
+        result ≡ Err (DumpFault.Journal fault) → IsUnreadable fault (D.state disk.old).seen }
+    ensures nothing { (fault : JournalFault) → result ≡ Err (DumpFault.Journal fault) →
+        output.new ≡ output.old }
+    ensures device { result ≡ Err (DumpFault.Journal Device) →
+        D.failures disk.old < D.failures disk.new }
     ensures untouched { IsUntouched D.Disk disk.old disk.new }
     ensures only { IfErr result IsOfDump }
 {
@@ -205,9 +216,12 @@ fn print_count<D: Disk, W: Write>(
     ensures all { D.keeps disk.new → OnOk result ((header : Header) × (records : List Record)
         × Holds header records (D.state disk.old).seen
         × Appends (W.contents output.old) (W.contents output.new) (count_text form records)) }
-    ensures fault { D.keeps disk.new → (fault : JournalFault) → result ≡ Err (DumpFault.Journal fault) → IsUnreadable fault (D.state disk.old).seen }
-    ensures nothing { (fault : JournalFault) → result ≡ Err (DumpFault.Journal fault) → output.new ≡ output.old }
-    ensures device { result ≡ Err (DumpFault.Journal Device) → D.failures disk.old < D.failures disk.new }
+    ensures fault { D.keeps disk.new → (fault : JournalFault) →
+        result ≡ Err (DumpFault.Journal fault) → IsUnreadable fault (D.state disk.old).seen }
+    ensures nothing { (fault : JournalFault) → result ≡ Err (DumpFault.Journal fault) →
+        output.new ≡ output.old }
+    ensures device { result ≡ Err (DumpFault.Journal Device) →
+        D.failures disk.old < D.failures disk.new }
     ensures untouched { IsUntouched D.Disk disk.old disk.new }
     ensures only { IfErr result IsOfDump }
 {
@@ -234,9 +248,12 @@ pub fn dump_lines<D: Disk, W: Write>(
     ensures all { D.keeps disk.new → OnOk result ((header : Header) × (records : List Record)
         × Holds header records (D.state disk.old).seen
         × Appends (W.contents output.old) (W.contents output.new) (dump_text header records)) }
-    ensures fault { D.keeps disk.new → (fault : JournalFault) → result ≡ Err (DumpFault.Journal fault) → IsUnreadable fault (D.state disk.old).seen }
-    ensures nothing { (fault : JournalFault) → result ≡ Err (DumpFault.Journal fault) → output.new ≡ output.old }
-    ensures device { result ≡ Err (DumpFault.Journal Device) → D.failures disk.old < D.failures disk.new }
+    ensures fault { D.keeps disk.new → (fault : JournalFault) →
+        result ≡ Err (DumpFault.Journal fault) → IsUnreadable fault (D.state disk.old).seen }
+    ensures nothing { (fault : JournalFault) → result ≡ Err (DumpFault.Journal fault) →
+        output.new ≡ output.old }
+    ensures device { result ≡ Err (DumpFault.Journal Device) →
+        D.failures disk.old < D.failures disk.new }
     ensures untouched { IsUntouched D.Disk disk.old disk.new }
     ensures only { IfErr result IsOfDump }
 {
@@ -254,9 +271,12 @@ pub fn dump_count<D: Disk, W: Write>(
     ensures all { D.keeps disk.new → OnOk result ((header : Header) × (records : List Record)
         × Holds header records (D.state disk.old).seen
         × Appends (W.contents output.old) (W.contents output.new) (number_text records)) }
-    ensures fault { D.keeps disk.new → (fault : JournalFault) → result ≡ Err (DumpFault.Journal fault) → IsUnreadable fault (D.state disk.old).seen }
-    ensures nothing { (fault : JournalFault) → result ≡ Err (DumpFault.Journal fault) → output.new ≡ output.old }
-    ensures device { result ≡ Err (DumpFault.Journal Device) → D.failures disk.old < D.failures disk.new }
+    ensures fault { D.keeps disk.new → (fault : JournalFault) →
+        result ≡ Err (DumpFault.Journal fault) → IsUnreadable fault (D.state disk.old).seen }
+    ensures nothing { (fault : JournalFault) → result ≡ Err (DumpFault.Journal fault) →
+        output.new ≡ output.old }
+    ensures device { result ≡ Err (DumpFault.Journal Device) →
+        D.failures disk.old < D.failures disk.new }
     ensures untouched { IsUntouched D.Disk disk.old disk.new }
     ensures only { IfErr result IsOfDump }
 {
@@ -275,9 +295,12 @@ pub fn dump_objects<D: Disk, W: Write>(
     ensures all { D.keeps disk.new → OnOk result ((header : Header) × (records : List Record)
         × Holds header records (D.state disk.old).seen
         × Appends (W.contents output.old) (W.contents output.new) (objects_text header records)) }
-    ensures fault { D.keeps disk.new → (fault : JournalFault) → result ≡ Err (DumpFault.Journal fault) → IsUnreadable fault (D.state disk.old).seen }
-    ensures nothing { (fault : JournalFault) → result ≡ Err (DumpFault.Journal fault) → output.new ≡ output.old }
-    ensures device { result ≡ Err (DumpFault.Journal Device) → D.failures disk.old < D.failures disk.new }
+    ensures fault { D.keeps disk.new → (fault : JournalFault) →
+        result ≡ Err (DumpFault.Journal fault) → IsUnreadable fault (D.state disk.old).seen }
+    ensures nothing { (fault : JournalFault) → result ≡ Err (DumpFault.Journal fault) →
+        output.new ≡ output.old }
+    ensures device { result ≡ Err (DumpFault.Journal Device) →
+        D.failures disk.old < D.failures disk.new }
     ensures untouched { IsUntouched D.Disk disk.old disk.new }
     ensures only { IfErr result IsOfDump }
 {
@@ -295,9 +318,12 @@ pub fn dump_count_object<D: Disk, W: Write>(
     ensures all { D.keeps disk.new → OnOk result ((header : Header) × (records : List Record)
         × Holds header records (D.state disk.old).seen
         × Appends (W.contents output.old) (W.contents output.new) (count_object (length records))) }
-    ensures fault { D.keeps disk.new → (fault : JournalFault) → result ≡ Err (DumpFault.Journal fault) → IsUnreadable fault (D.state disk.old).seen }
-    ensures nothing { (fault : JournalFault) → result ≡ Err (DumpFault.Journal fault) → output.new ≡ output.old }
-    ensures device { result ≡ Err (DumpFault.Journal Device) → D.failures disk.old < D.failures disk.new }
+    ensures fault { D.keeps disk.new → (fault : JournalFault) →
+        result ≡ Err (DumpFault.Journal fault) → IsUnreadable fault (D.state disk.old).seen }
+    ensures nothing { (fault : JournalFault) → result ≡ Err (DumpFault.Journal fault) →
+        output.new ≡ output.old }
+    ensures device { result ≡ Err (DumpFault.Journal Device) →
+        D.failures disk.old < D.failures disk.new }
     ensures untouched { IsUntouched D.Disk disk.old disk.new }
     ensures only { IfErr result IsOfDump }
 {

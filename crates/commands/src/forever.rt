@@ -31,7 +31,8 @@ fn trace(alloc: Global, simulation: &Simulation) -> Result<Vec<u8>, SimulateFaul
 
 /// Plays the script, and judges the trace that `simulate` prints of it.
 fn try_trial(alloc: Global, trial: Trial) -> Result<Tried, SimulateFault>
-    ensures { IfOk result (λ tried. IsJudged (string_bytes trial.text) trial.least tried.judgement) }
+    ensures { IfOk result
+        (λ tried. IsJudged (string_bytes trial.text) trial.least tried.judgement) }
 {
     let simulation = Simulation::run(alloc, trial.text.as_bytes())?;
     let trace = trace(alloc, &simulation)?;

@@ -25,8 +25,10 @@ fn bring_over<D: Disk, E: Disk>(
     old: &mut D,
     new: E,
 ) -> Result<(E, u64), (MigrateFault, E)>
-    ensures migrated { IfOk result (λ done. HasMigrated D.Disk E.Disk old.old old.new new done.1 done.0) }
-    ensures fault { IfErr result (λ refused. HasNotMigrated D.Disk E.Disk old.old old.new new refused.0 refused.1) }
+    ensures migrated { IfOk result
+        (λ done. HasMigrated D.Disk E.Disk old.old old.new new done.1 done.0) }
+    ensures fault { IfErr result
+        (λ refused. HasNotMigrated D.Disk E.Disk old.old old.new new refused.0 refused.1) }
     ensures untouched { IsUntouched D.Disk old.old old.new }
 {
     let header = match peek_old(old) {
@@ -45,8 +47,10 @@ fn bring_over<D: Disk, E: Disk>(
 
 /// Writes the line that says how many records were brought over.
 fn print_migrated<W: Write>(alloc: Global, count: u64, output: &mut W) -> Result<(), MigrationFault>
-    ensures all { OnOk result (Appends (W.contents output.old) (W.contents output.new) (migrated_text count)) }
-    ensures fault { IfErr result (λ fault. (why : MigrateFault) → fault ≡ MigrationFault.Migrate why →
+    ensures all { OnOk result
+        (Appends (W.contents output.old) (W.contents output.new) (migrated_text count)) }
+    ensures fault { IfErr result
+        (λ fault. (why : MigrateFault) → fault ≡ MigrationFault.Migrate why →
         (why ≡ MigrateFault.Memory) × (output.new ≡ output.old)) }
 {
     let text = migrated_text(alloc, count)?;
@@ -71,13 +75,16 @@ pub fn migrate_disks<D: Disk, E: Disk, W: Write>(
     new: E,
     output: &mut W,
 ) -> Result<E, (MigrationFault, E)>
-    ensures migrated { IfOk result (λ disk. (count : ℕ) × HasMigrated D.Disk E.Disk old.old old.new new count disk
+    ensures migrated { IfOk result
+        (λ disk. (count : ℕ) × HasMigrated D.Disk E.Disk old.old old.new new count disk
         × Appends (W.contents output.old) (W.contents output.new) (migrated_text count)) }
     ensures whole_at_stream { IfErr result (λ refused. refused.0 ≡ MigrationFault.Stream →
         (count : ℕ) × HasMigrated D.Disk E.Disk old.old old.new new count refused.1) }
-    ensures fault { IfErr result (λ refused. (why : MigrateFault) → refused.0 ≡ MigrationFault.Migrate why →
+    ensures fault { IfErr result
+        (λ refused. (why : MigrateFault) → refused.0 ≡ MigrationFault.Migrate why →
         HasNotMigrated D.Disk E.Disk old.old old.new new why refused.1) }
-    ensures nothing { IfErr result (λ refused. (why : MigrateFault) → refused.0 ≡ MigrationFault.Migrate why →
+    ensures nothing { IfErr result
+        (λ refused. (why : MigrateFault) → refused.0 ≡ MigrationFault.Migrate why →
         output.new ≡ output.old) }
     ensures untouched { IsUntouched D.Disk old.old old.new }
 {

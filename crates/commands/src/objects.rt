@@ -208,7 +208,8 @@ fn check_doors(
 
 /// The field of the path of that name, if there is one.
 fn path_field(alloc: Global, name: &str, path: &Option<String>) -> Result<Vec<u8>, AllocError>
-    ensures { IfOk result (λ bytes. bytes.items ≡ path_field name.now (option_map string_bytes path.now)) }
+    ensures { IfOk result
+        (λ bytes. bytes.items ≡ path_field name.now (option_map string_bytes path.now)) }
 {
     let mut bytes = Vec::new(alloc);
     let Some(path) = path else {

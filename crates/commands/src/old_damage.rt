@@ -17,7 +17,8 @@ const RECORD: usize = 7;
 /// Returns the header with which the file begins, if it begins with one.
 fn header_of(alloc: Global, file: &[u8]) -> Result<Option<Header>, Memory>
     ensures some { IfOk result (λ found. IfSome found (λ header. HasOldHeader header file.now)) }
-    ensures none { IfOk result (λ found. IsNone found → (header : Header) → HasOldHeader header file.now → ⊥) }
+    ensures none { IfOk result
+        (λ found. IsNone found → (header : Header) → HasOldHeader header file.now → ⊥) }
 {
     let mut disk = disk_of(alloc, file)?;
     match peek_old(&mut disk) {
@@ -30,7 +31,9 @@ fn header_of(alloc: Global, file: &[u8]) -> Result<Option<Header>, Memory>
 /// Splits off the bytes that are a batch by its gate and its count, if there are such: the gate is
 /// open, and no byte is missing up to the next gate.
 fn split_batch(bytes: &[u8]) -> Option<(&[u8], &[u8])>
-    ensures some { IfSome result (λ parts. IsOldChunk parts.0.now × (bytes.now ≡ parts.0.now ++ parts.1.now) × (length parts.1.now < length bytes.now) × (0 < length parts.1.now)) }
+    ensures some { IfSome result
+        (λ parts. IsOldChunk parts.0.now × (bytes.now ≡ parts.0.now ++ parts.1.now)
+        × (length parts.1.now < length bytes.now) × (0 < length parts.1.now)) }
     ensures none { IsNone result → NoOldChunk bytes.now }
 {
     let [gate, high, low, behind @ ..] = bytes else {
@@ -49,8 +52,12 @@ fn split_batch(bytes: &[u8]) -> Option<(&[u8], &[u8])>
 /// Checks whether the file of this header's bytes, these and a closed gate is a journal of version
 /// 1.
 fn is_journal(alloc: Global, header: &Header, front: &[u8], bytes: &[u8]) -> Result<bool, Memory>
-    ensures yes { IfOk result (λ is. is ≡ true → (records : List Record) × HoldsOld header.now records (front.now ++ bytes.now ++ 0 ∷ [])) }
-    ensures no { IfOk result (λ is. is ≡ false → (fault : MigrateFault) × RefusesOld header.now fault (front.now ++ bytes.now ++ 0 ∷ [])) }
+    ensures yes { IfOk result
+        (λ is. is ≡ true → (records : List Record)
+        × HoldsOld header.now records (front.now ++ bytes.now ++ 0 ∷ [])) }
+    ensures no { IfOk result
+        (λ is. is ≡ false → (fault : MigrateFault)
+        × RefusesOld header.now fault (front.now ++ bytes.now ++ 0 ∷ [])) }
 {
     let file = file_of(alloc, front, bytes)?;
     match read_old(alloc, header, &file) {
@@ -69,8 +76,10 @@ fn behind_batch<'a>(
 ) -> Result<Option<&'a [u8]>, Memory>
     requires lawful { IsOldHeader header.now }
     requires front { front.now ≡ old_header_text header.now }
-    ensures some { IfOk result (λ found. IfSome found (λ behind. BeginsWithOldBatch header.now bytes.now behind.now)) }
-    ensures shorter { IfOk result (λ found. IfSome found (λ behind. length behind.now < length bytes.now)) }
+    ensures some { IfOk result
+        (λ found. IfSome found (λ behind. BeginsWithOldBatch header.now bytes.now behind.now)) }
+    ensures shorter { IfOk result
+        (λ found. IfSome found (λ behind. length behind.now < length bytes.now)) }
     ensures none { IfOk result (λ found. IsNone found → NoOldBatch header.now bytes.now) }
 {
     let Some((batch, behind)) = split_batch(bytes) else {
@@ -104,8 +113,11 @@ fn behind_batches<'a>(
 /// Counts the bytes of the file that are its header and whole batches. Returns 0 if it begins with
 /// no header.
 fn good_length(alloc: Global, file: &[u8]) -> Result<usize, Memory>
-    ensures good { IfOk result (λ place. (header : Header) → HasOldHeader header file.now → IsOldGoodUpTo header place file.now) }
-    ensures none { IfOk result (λ place. ((header : Header) → HasOldHeader header file.now → ⊥) → place ≡ 0) }
+    ensures good { IfOk result
+        (λ place. (header : Header) → HasOldHeader header file.now →
+        IsOldGoodUpTo header place file.now) }
+    ensures none { IfOk result
+        (λ place. ((header : Header) → HasOldHeader header file.now → ⊥) → place ≡ 0) }
 {
     let Some(header) = header_of(alloc, file)? else {
         return Ok(0);

@@ -63,7 +63,8 @@ fn other_words(alloc: Global, found: &Header, asked: &Header) -> Result<String, 
 ///
 /// [`Memory`]: memory was refused.
 pub fn other_owner(alloc: Global, file: &[u8], asked: &Header) -> Result<Option<String>, Memory>
-    ensures some { IfOk result (λ found. IfSome found (λ text. IsOtherOwner file.now asked.now (string_bytes text))) }
+    ensures some { IfOk result
+        (λ found. IfSome found (λ text. IsOtherOwner file.now asked.now (string_bytes text))) }
     ensures none { IfOk result (λ found. IsNone found → IsHeadless file.now) }
 {
     let Some(found) = header_of(alloc, file)? else {
@@ -103,7 +104,8 @@ fn count_in(alloc: Global, header: &Header, file: &[u8]) -> Result<Option<usize>
 ///
 /// [`Memory`]: memory was refused.
 pub fn owner(alloc: Global, file: &[u8]) -> Result<Option<String>, Memory>
-    ensures some { IfOk result (λ found. IfSome found (λ text. IsOwner file.now (string_bytes text))) }
+    ensures some { IfOk result
+        (λ found. IfSome found (λ text. IsOwner file.now (string_bytes text))) }
     ensures none { IfOk result (λ found. IsNone found → IsNoJournal file.now) }
 {
     let Some(header) = header_of(alloc, file)? else {
@@ -133,7 +135,8 @@ fn long_words(alloc: Global, header: &Header, length: u64) -> Result<String, All
 ///
 /// [`Memory`]: memory was refused.
 pub fn long_owner(alloc: Global, front: &[u8], length: u64) -> Result<Option<String>, Memory>
-    ensures some { IfOk result (λ found. IfSome found (λ text. IsLongOwner front.now length (string_bytes text))) }
+    ensures some { IfOk result
+        (λ found. IfSome found (λ text. IsLongOwner front.now length (string_bytes text))) }
     ensures none { IfOk result (λ found. IsNone found → IsHeadless front.now) }
 {
     let Some(header) = header_of(alloc, front)? else {

@@ -106,7 +106,8 @@ pub(crate) fn has_links(reply: &[u8]) -> bool
 
 /// Returns `true` if as many links come in and go out as are needed.
 fn are_enough(links: &Links) -> bool
-    ensures { IsTrue result ↔ ((links.now.needed ≤ links.now.coming) × (links.now.needed ≤ links.now.going)) }
+    ensures { IsTrue result
+        ↔ ((links.now.needed ≤ links.now.coming) × (links.now.needed ≤ links.now.going)) }
 {
     links.needed <= links.coming && links.needed <= links.going
 }
@@ -188,7 +189,8 @@ fn up_object(alloc: Global, statements: u64, decided: u64) -> Result<String, All
 /// The object that says the same as a reply that isn't of links and none to `STATE`; none where the
 /// line is no such reply.
 fn plain_object(alloc: Global, reply: &[u8]) -> Result<Option<String>, AllocError>
-    ensures some { IfOk result (λ found. IfSome found (λ text. SaysPlain reply.now (string_bytes text))) }
+    ensures some { IfOk result
+        (λ found. IfSome found (λ text. SaysPlain reply.now (string_bytes text))) }
     ensures none { IfOk result (λ found. IsNone found → IsPlainReply reply.now → ⊥) }
 {
     if let Some(object) = fixed_object(reply) {
@@ -216,7 +218,8 @@ fn links_object(alloc: Global, links: &Links) -> Result<String, AllocError>
 /// The object that says the same as a reply that isn't of links; none where the line is no such
 /// reply.
 fn unlinked_object(alloc: Global, reply: &[u8]) -> Result<Option<String>, AllocError>
-    ensures some { IfOk result (λ found. IfSome found (λ text. SaysUnlinked reply.now (string_bytes text))) }
+    ensures some { IfOk result
+        (λ found. IfSome found (λ text. SaysUnlinked reply.now (string_bytes text))) }
     ensures none { IfOk result (λ found. IsNone found → IsUnlinked reply.now → ⊥) }
 {
     match stage_object_of(alloc, reply)? {
@@ -227,7 +230,8 @@ fn unlinked_object(alloc: Global, reply: &[u8]) -> Result<Option<String>, AllocE
 
 /// The object that says the same as the reply; none where the line is no reply.
 pub fn object_of(alloc: Global, reply: &[u8]) -> Result<Option<String>, AllocError>
-    ensures some { IfOk result (λ found. IfSome found (λ text. SaysSame reply.now (string_bytes text))) }
+    ensures some { IfOk result
+        (λ found. IfSome found (λ text. SaysSame reply.now (string_bytes text))) }
     ensures none { IfOk result (λ found. IsNone found → IsReply reply.now → ⊥) }
 {
     match links_of(reply) {

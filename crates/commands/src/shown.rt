@@ -77,11 +77,14 @@ fn put_pages<S: Shelf>(
     text: &[u8],
     shelf: &mut S,
 ) -> Result<String, SimulationEnd<S::Fault>>
-    ensures all { IfOk result (λ made. (simulation : Simulation) × IsScript text.now simulation.script
+    ensures all { IfOk result
+        (λ made. (simulation : Simulation) × IsScript text.now simulation.script
         × IsOutcome simulation.script simulation.outcome × S.has simulation shelf.new
         × (string_bytes made ≡ simulation_text simulation.outcome)) }
-    ensures script { (fault : SimulateFault) → result ≡ Err (ends.Script fault) → IsOfSimulate text.now fault }
-    ensures unput { (fault : SimulateFault) → result ≡ Err (ends.Script fault) → shelf.new ≡ shelf.old }
+    ensures script { (fault : SimulateFault) → result ≡ Err (ends.Script fault) →
+        IsOfSimulate text.now fault }
+    ensures unput { (fault : SimulateFault) → result ≡ Err (ends.Script fault) →
+        shelf.new ≡ shelf.old }
     ensures no_printing { (fault : SimulateFault) → result ≢ Err (ends.Printing fault) }
 {
     let simulation = match Simulation::run(alloc, text) {
@@ -105,11 +108,15 @@ fn play<S: Shelf>(
     has_pages: bool,
     shelf: &mut S,
 ) -> Result<String, SimulationEnd<S::Fault>>
-    ensures all { IfOk result (λ made. (simulation : Simulation) × IsScript text.now simulation.script
-        × IsOutcome simulation.script simulation.outcome × (has_pages ≡ true → S.has simulation shelf.new)
+    ensures all { IfOk result
+        (λ made. (simulation : Simulation) × IsScript text.now simulation.script
+        × IsOutcome simulation.script simulation.outcome
+        × (has_pages ≡ true → S.has simulation shelf.new)
         × (string_bytes made ≡ simulation_text simulation.outcome)) }
-    ensures script { (fault : SimulateFault) → result ≡ Err (ends.Script fault) → IsOfSimulate text.now fault }
-    ensures unput { (fault : SimulateFault) → result ≡ Err (ends.Script fault) → shelf.new ≡ shelf.old }
+    ensures script { (fault : SimulateFault) → result ≡ Err (ends.Script fault) →
+        IsOfSimulate text.now fault }
+    ensures unput { (fault : SimulateFault) → result ≡ Err (ends.Script fault) →
+        shelf.new ≡ shelf.old }
     ensures no_printing { (fault : SimulateFault) → result ≢ Err (ends.Printing fault) }
 {
     if has_pages {
@@ -135,21 +142,29 @@ pub fn show_simulation<S: Shelf, W: Write, E: Write>(
     ensures status { IfOk result (λ status. status ≡ 0) }
     // What was put and is printed is of a simulation of the script that the text says, which is a
     // run of the world.
-    ensures all { OnOk result ((simulation : Simulation)
-        × IsScript text.now simulation.script × IsOutcome simulation.script simulation.outcome
-        × (wants_pages paths.now ≡ true → S.has simulation shelf.new) × AreSaid paths.now
-        (Appends (W.contents output.old) (W.contents output.new) (simulation_text simulation.outcome))
-        (Appends (E.contents errors.old) (E.contents errors.new) (simulation_text simulation.outcome))) }
+    ensures all { OnOk result
+        ((simulation : Simulation) × IsScript text.now simulation.script
+        × IsOutcome simulation.script simulation.outcome
+        × (wants_pages paths.now ≡ true → S.has simulation shelf.new)
+        × AreSaid paths.now (Appends (W.contents output.old) (W.contents output.new)
+        (simulation_text simulation.outcome))
+        (Appends (E.contents errors.old) (E.contents errors.new)
+        (simulation_text simulation.outcome))) }
     // The other writer is left alone.
     ensures no_output { TakesOutput paths.now → output.new ≡ output.old }
     ensures no_errors { (TakesOutput paths.now → ⊥) → errors.new ≡ errors.old }
     // A fault of the script comes before anything is put or printed, and one of a page before
     // anything is printed.
-    ensures script { (fault : SimulateFault) → result ≡ Err (ends.Script fault) → IsOfSimulate text.now fault }
-    ensures unput { (fault : SimulateFault) → result ≡ Err (ends.Script fault) → shelf.new ≡ shelf.old }
-    ensures unprinted { (fault : SimulateFault) → result ≡ Err (ends.Script fault) → (output.new ≡ output.old) × (errors.new ≡ errors.old) }
-    ensures page { (fault : S.Fault) → result ≡ Err (ends.Page fault) → (output.new ≡ output.old) × (errors.new ≡ errors.old) }
-    ensures printing { (fault : SimulateFault) → result ≡ Err (ends.Printing fault) → IsOfWriting fault }
+    ensures script { (fault : SimulateFault) → result ≡ Err (ends.Script fault) →
+        IsOfSimulate text.now fault }
+    ensures unput { (fault : SimulateFault) → result ≡ Err (ends.Script fault) →
+        shelf.new ≡ shelf.old }
+    ensures unprinted { (fault : SimulateFault) → result ≡ Err (ends.Script fault) →
+        (output.new ≡ output.old) × (errors.new ≡ errors.old) }
+    ensures page { (fault : S.Fault) → result ≡ Err (ends.Page fault) → (output.new ≡ output.old)
+        × (errors.new ≡ errors.old) }
+    ensures printing { (fault : SimulateFault) → result ≡ Err (ends.Printing fault) →
+        IsOfWriting fault }
 {
     let verdicts = match play(alloc, text, has_pages(paths), shelf) {
         Ok(verdicts) => verdicts,

@@ -59,7 +59,8 @@ fn skipped(marks: &[Mark]) -> usize
 
 /// The line of so many events, of which so many were skipped.
 fn count_line(alloc: Global, counts: EventCounts) -> Result<String, AllocError>
-    ensures { IfOk result (λ text. string_bytes text ≡ line_of_counts counts.events counts.skipped) }
+    ensures { IfOk result
+        (λ text. string_bytes text ≡ line_of_counts counts.events counts.skipped) }
 {
     let EventCounts { events, skipped } = counts;
     format!(in alloc; "events {events} skipped {skipped}\n")
@@ -82,8 +83,9 @@ fn outcome_text(
     verdicts: &[(u8, u16, u8, bool)],
     counts: EventCounts,
 ) -> Result<String, AllocError>
-    ensures { IfOk result (λ text.
-        string_bytes text ≡ flat_map verdict_line verdicts.now ++ line_of_counts counts.events counts.skipped) }
+    ensures { IfOk result
+        (λ text. string_bytes text ≡ flat_map verdict_line verdicts.now
+        ++ line_of_counts counts.events counts.skipped) }
 {
     let mut text = verdict_lines(alloc, verdicts)?;
     text.push_str(count_line(alloc, counts)?.as_str())?;
@@ -114,11 +116,12 @@ fn play_batch(
     ensures room { IfOk result (λ now. now.events ≡ counts.events + length events.now) }
     ensures fewer { IfOk result (λ now. now.skipped ≤ now.events) }
     ensures counted { (size : Size) (liars : List ℕ) (all left : List TossedAct) →
-        CountsPlayed size liars all (map tossed_act events.now ++ left) cluster.old counts.events counts.skipped →
-        IfOk result (λ now. CountsPlayed size liars all left cluster.new now.events now.skipped) }
+        CountsPlayed size liars all (map tossed_act events.now ++ left) cluster.old counts.events
+        counts.skipped → IfOk result (λ now. CountsPlayed size liars all left cluster.new now.events
+        now.skipped) }
     ensures memory { (size : Size) (liars : List ℕ) (all left : List TossedAct) →
-        CountsPlayed size liars all (map tossed_act events.now ++ left) cluster.old counts.events counts.skipped →
-        IfErr result (λ fault. fault ≡ SimFault.Memory) }
+        CountsPlayed size liars all (map tossed_act events.now ++ left) cluster.old counts.events
+        counts.skipped → IfErr result (λ fault. fault ≡ SimFault.Memory) }
 {
     let mut played = counts.events;
     let mut skipped = counts.skipped;
@@ -141,9 +144,12 @@ fn play_all(
     cluster: &mut Cluster,
 ) -> Result<EventCounts, SimulateFault>
     requires few { length source.old.left ≤ MOST_EVENTS }
-    ensures counted { (size : Size) (liars : List ℕ) → ClusterStandsFor (unplayed size (among liars) (λ p. false)) cluster.old →
-        IfOk result (λ counts. CountsPlayed size liars source.old.left [] cluster.new counts.events counts.skipped) }
-    ensures memory { (size : Size) (liars : List ℕ) → ClusterStandsFor (unplayed size (among liars) (λ p. false)) cluster.old →
+    ensures counted { (size : Size) (liars : List ℕ) →
+        ClusterStandsFor (unplayed size (among liars) (λ p. false)) cluster.old →
+        IfOk result (λ counts. CountsPlayed size liars source.old.left [] cluster.new counts.events
+        counts.skipped) }
+    ensures memory { (size : Size) (liars : List ℕ) →
+        ClusterStandsFor (unplayed size (among liars) (λ p. false)) cluster.old →
         IfErr result (λ fault. fault ≡ SimulateFault.Memory) }
 {
     let mut counts = EventCounts {
@@ -159,8 +165,9 @@ fn play_all(
 /// Plays the script over empty disks in memory, keeps nothing of its events but their counts, and
 /// makes the text of its outcome. The faults are those of [`Simulation::run`].
 pub(crate) fn counted_text(alloc: Global, text: &[u8]) -> Result<String, SimulateFault>
-    ensures all { IfOk result (λ made. (script : Script) × (outcome : Outcome)
-        × IsScript text.now script × IsOutcome script outcome × (string_bytes made ≡ simulation_text outcome)) }
+    ensures all { IfOk result
+        (λ made. (script : Script) × (outcome : Outcome) × IsScript text.now script
+        × IsOutcome script outcome × (string_bytes made ≡ simulation_text outcome)) }
     ensures only { IfErr result (IsOfSimulate text.now) }
 {
     let mut source = Source::of(alloc, text)?;
@@ -221,7 +228,8 @@ impl Simulation {
     /// Writes its trace, a line for each event, as it is made. The errors are those of
     /// [`write_trace`].
     pub fn write_trace<W: Write>(&self, alloc: Global, output: &mut W) -> io::Result<()>
-        ensures { OnOk result (Appends (W.contents output.old) (W.contents output.new) (trace_of self.now)) }
+        ensures { OnOk result
+            (Appends (W.contents output.old) (W.contents output.new) (trace_of self.now)) }
     {
         write_trace(
             alloc,
@@ -240,8 +248,9 @@ impl Simulation {
         choice: Choice,
         output: &mut W,
     ) -> io::Result<u64>
-        ensures { length self.now.script.events.items ≤ MOST_EVENTS → IfOk result (λ rows. (picture : List ℕ)
-            × IsChartOf choice self.now rows picture × Appends (W.contents output.old) (W.contents output.new) picture) }
+        ensures { length self.now.script.events.items ≤ MOST_EVENTS →
+            IfOk result (λ rows. (picture : List ℕ) × IsChartOf choice self.now rows picture
+            × Appends (W.contents output.old) (W.contents output.new) picture) }
     {
         let run = Run {
             size: self.script.size,
@@ -307,7 +316,8 @@ pub fn simulate_text<W: Write>(
         × IsScript text.now script × IsOutcome script outcome
         × Appends (W.contents output.old) (W.contents output.new) (simulation_text outcome)) }
     // A fault of the script comes before anything is written.
-    ensures nothing { (fault : SimulateFault) → result ≡ Err fault → (IsOfWriting fault → ⊥) → output.new ≡ output.old }
+    ensures nothing { (fault : SimulateFault) → result ≡ Err fault → (IsOfWriting fault → ⊥) →
+        output.new ≡ output.old }
     ensures only { IfErr result (IsOfSimulate text.now) }
 {
     let verdicts = counted_text(alloc, text)?;
@@ -326,7 +336,9 @@ pub(crate) fn is_output(path: Option<&str>) -> bool
 
 /// Returns `true` if a page takes the standard output: the path of one is `-`.
 pub fn takes_output(trace: Option<&str>, chart: Option<&str>) -> bool
-    ensures { IsTrue result ↔ ((option_map (λ text. text.now) trace.entry ≡ Some (codes "-")) ⊎ (option_map (λ text. text.now) chart.entry ≡ Some (codes "-"))) }
+    ensures { IsTrue result
+        ↔ ((option_map (λ text. text.now) trace.entry ≡ Some (codes "-"))
+        ⊎ (option_map (λ text. text.now) chart.entry ≡ Some (codes "-"))) }
 {
     is_output(trace) || is_output(chart)
 }
@@ -341,8 +353,10 @@ pub fn print_verdicts<W: Write, E: Write>(
     errors: &mut E,
 ) -> Result<u8, SimulateFault>
     ensures status { IfOk result (λ status. status ≡ 0) }
-    ensures output { aside ≡ false → OnOk result (Appends (W.contents output.old) (W.contents output.new) verdicts.now) }
-    ensures aside { aside ≡ true → OnOk result (Appends (E.contents errors.old) (E.contents errors.new) verdicts.now) }
+    ensures output { aside ≡ false →
+        OnOk result (Appends (W.contents output.old) (W.contents output.new) verdicts.now) }
+    ensures aside { aside ≡ true →
+        OnOk result (Appends (E.contents errors.old) (E.contents errors.new) verdicts.now) }
     ensures no_errors { aside ≡ false → errors.new ≡ errors.old }
     ensures no_output { aside ≡ true → output.new ≡ output.old }
     ensures only { IfErr result IsOfWriting }

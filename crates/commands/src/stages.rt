@@ -35,7 +35,8 @@ fn is_round_and_step(round: u64, step: u64) -> bool
 /// Returns the round and the step that the words write.
 fn round_and_step(words: &[u8]) -> Option<(u64, u64)>
     ensures some { IfSome result (λ at. AreRoundAndStep words.now at.0 at.1) }
-    ensures exact { (round step : ℕ) → AreRoundAndStep words.now round step → result ≡ Some (round, step) }
+    ensures exact { (round step : ℕ) → AreRoundAndStep words.now round step →
+        result ≡ Some (round, step) }
 {
     match two_counts(words) {
         Some((round, step)) => {
@@ -52,7 +53,8 @@ fn round_and_step(words: &[u8]) -> Option<(u64, u64)>
 /// Returns the stage that the reply says, if it is `OPEN r s`.
 fn open_stage(reply: &[u8]) -> Option<Stage>
     ensures some { IfSome result (SaysStage reply.now) }
-    ensures exact { (round step : ℕ) → SaysStage reply.now (Open round step) → result ≡ Some (Open round step) }
+    ensures exact { (round step : ℕ) → SaysStage reply.now (Open round step) →
+        result ≡ Some (Open round step) }
 {
     match behind(reply, "OPEN ") {
         Some(words) => match round_and_step(words) {
@@ -100,7 +102,8 @@ fn stage_object(alloc: Global, stage: Stage) -> Result<String, AllocError>
 /// Returns the object that says the same as a reply to `STATE` without a decision; none for any
 /// other reply.
 pub(crate) fn stage_object_of(alloc: Global, reply: &[u8]) -> Result<Option<String>, AllocError>
-    ensures some { IfOk result (λ found. IfSome found (λ text. SaysStageSame reply.now (string_bytes text))) }
+    ensures some { IfOk result
+        (λ found. IfSome found (λ text. SaysStageSame reply.now (string_bytes text))) }
     ensures none { IfOk result (λ found. IsNone found → IsStage reply.now → ⊥) }
 {
     match stage_of(reply) {

@@ -179,7 +179,9 @@ fn tell_either<W: Write>(
     json: bool,
     output: &mut W,
 ) -> Result<u8, TalkFault>
-    ensures line { json ≡ false → IfOk result (λ _. Appends (W.contents output.old) (W.contents output.new) (reply.items ++ 10 ∷ [])) }
+    ensures line { json ≡ false →
+        IfOk result (λ _. Appends (W.contents output.old) (W.contents output.new)
+        (reply.items ++ 10 ∷ [])) }
     ensures object { json ≡ true → IfOk result (λ _. (object : List ℕ) × SaysSame reply.items object
         × Appends (W.contents output.old) (W.contents output.new) (object ++ 10 ∷ [])) }
 {
@@ -200,8 +202,11 @@ pub fn tell_decision<W: Write>(
     output: &mut W,
 ) -> Result<u8, TalkFault>
     ensures status { IfOk result (λ status. status ≡ status_for decision) }
-    ensures line { json ≡ false → IfOk result (λ _. Appends (W.contents output.old) (W.contents output.new) (decision_reply decision ++ 10 ∷ [])) }
-    ensures object { json ≡ true → IfOk result (λ _. (object : List ℕ) × SaysSame (decision_reply decision) object
+    ensures line { json ≡ false →
+        IfOk result (λ _. Appends (W.contents output.old) (W.contents output.new)
+        (decision_reply decision ++ 10 ∷ [])) }
+    ensures object { json ≡ true →
+        IfOk result (λ _. (object : List ℕ) × SaysSame (decision_reply decision) object
         × Appends (W.contents output.old) (W.contents output.new) (object ++ 10 ∷ [])) }
 {
     let mut reply = Vec::new(alloc);
@@ -236,7 +241,8 @@ fn is_transcript_of(alloc: Global, text: &[u8], question: u16, bit: u8) -> Resul
 
 /// Returns the bit of a text that begins as a transcript of this question; none if it doesn't.
 pub fn transcript_bit(alloc: Global, text: &[u8], question: u16) -> Result<Option<bool>, AllocError>
-    ensures { IfOk result (λ found. IfSome found (λ bit. IsTranscriptOf question (bit_number bit) text.now)) }
+    ensures { IfOk result
+        (λ found. IfSome found (λ bit. IsTranscriptOf question (bit_number bit) text.now)) }
 {
     if is_transcript_of(alloc, text, question, 0)? {
         return Ok(Some(false));

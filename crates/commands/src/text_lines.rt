@@ -22,7 +22,8 @@ pub fn line_at<'a>(
     text: &'a [u8],
     number: usize,
 ) -> Result<Option<&'a [u8]>, AllocError>
-    ensures { IfOk result (λ line. option_map (λ line. line.now) line ≡ slice_get (lines_in text.now) (number - 1)) }
+    ensures { IfOk result
+        (λ line. option_map (λ line. line.now) line ≡ slice_get (lines_in text.now) (number - 1)) }
 {
     let lines = lines_in(alloc, text)?;
     Ok(lines.get(number.saturating_sub(1)).copied())
@@ -112,7 +113,9 @@ fn is_behind(index: usize, place: usize, line: &[u8], name: &str) -> bool
 /// The number of the first line behind that place, counted from 1, that gives the key of that name
 /// a value.
 fn line_behind(lines: &[&[u8]], name: &str, place: usize) -> Option<usize>
-    ensures { IfSome result (λ number. (place < number) × IsSomeAnd (slice_get (texts lines.now) (number - 1)) (SaysKey name.now)) }
+    ensures { IfSome result
+        (λ number. (place < number) × IsSomeAnd (slice_get (texts lines.now) (number - 1))
+        (SaysKey name.now)) }
 {
     for (index, line) in lines.iter().enumerate() {
         if is_behind(index, place, line, name) {
@@ -147,7 +150,9 @@ pub fn line_of_byte(alloc: Global, text: &[u8], place: usize) -> Result<usize, A
 /// where the text is TOML.
 pub fn text_fault(alloc: Global, text: &str) -> Result<Option<(usize, String)>, AllocError>
     ensures none { IfOk result (λ found. IsNone found → IsSome (parse_document text.now)) }
-    ensures some { IfOk result (λ found. IfSome found (λ found. (parse_document text.now ≡ None) × IsLineIn text.now found.0)) }
+    ensures some { IfOk result
+        (λ found. IfSome found (λ found. (parse_document text.now ≡ None)
+        × IsLineIn text.now found.0)) }
 {
     let Err(error) = toml::table_from_str(alloc, text) else {
         return Ok(None);

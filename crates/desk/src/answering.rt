@@ -44,8 +44,10 @@ pub(crate) fn propose<D: Disk, J: Naming>(
     toss: Toss,
 ) -> Reply
     ensures reply { Proposes book.old question bit toss.0 result book.new }
-    ensures stopped { result ≡ reply.Stopped → WhyStopped D.failures book.old question bit toss.0 book.new }
-    ensures memory { result ≡ reply.Memory → member_disk book.new.member ≡ member_disk book.old.member }
+    ensures stopped { result ≡ reply.Stopped →
+        WhyStopped D.failures book.old question bit toss.0 book.new }
+    ensures memory { result ≡ reply.Memory →
+        member_disk book.new.member ≡ member_disk book.old.member }
 {
     match book.propose(question, bit, toss) {
         Ok(Answer::Taken(_)) => Reply::Taken,
@@ -145,7 +147,8 @@ pub(crate) fn dossier_of<D: Disk, J: Naming>(
     book: &Book<D, J>,
     question: u16,
 ) -> Result<Dossier, Reply>
-    ensures ok { IfOk result (λ dossier. MayBeShown book.now question × IsDossier book.now question dossier) }
+    ensures ok { IfOk result
+        (λ dossier. MayBeShown book.now question × IsDossier book.now question dossier) }
     ensures err { IfErr result (IsTranscriptReply book.now question) }
 {
     if question >= book.header().size().questions() {
@@ -221,21 +224,22 @@ fn transcribe<D: Disk, J: Naming>(book: &Book<D, J>, question: u16) -> Reply
 pub fn answer<D: Disk, J: Naming>(book: &mut Book<D, J>, command: &Command, toss: Toss) -> Reply
     ensures propose { (question : ℕ) (bit : Bool) → command.now ≡ Propose question bit →
         Proposes book.old question bit toss.0 result book.new }
-    ensures stopped { (question : ℕ) (bit : Bool) → command.now ≡ Propose question bit → result ≡ reply.Stopped →
-        WhyStopped D.failures book.old question bit toss.0 book.new }
-    ensures memory { (question : ℕ) (bit : Bool) → command.now ≡ Propose question bit → result ≡ reply.Memory →
-        member_disk book.new.member ≡ member_disk book.old.member }
+    ensures stopped { (question : ℕ) (bit : Bool) → command.now ≡ Propose question bit →
+        result ≡ reply.Stopped → WhyStopped D.failures book.old question bit toss.0 book.new }
+    ensures memory { (question : ℕ) (bit : Bool) → command.now ≡ Propose question bit →
+        result ≡ reply.Memory → member_disk book.new.member ≡ member_disk book.old.member }
     ensures ask { (question : ℕ) → command.now ≡ Ask question →
         (book.new ≡ book.old) × (result ≡ asking_reply book.old question) }
     ensures awaited { (question : ℕ) → command.now ≡ Await question →
         (book.new ≡ book.old) × (result ≡ asking_reply book.old question) }
-    ensures status { command.now ≡ Status → (book.new ≡ book.old) × (result ≡ status_reply book.old) }
+    ensures status { command.now ≡ Status → (book.new ≡ book.old)
+        × (result ≡ status_reply book.old) }
     ensures transcript { (question : ℕ) → command.now ≡ Transcript question →
         (book.new ≡ book.old) × IsTranscriptReply book.old question result }
     ensures state { (question : ℕ) → command.now ≡ State question →
         (book.new ≡ book.old) × IsStateReply book.old question result }
-    ensures links { command.now ≡ Links →
-        (book.new ≡ book.old) × (result ≡ links_reply book.old (record { incoming = 0; outgoing = 0 })) }
+    ensures links { command.now ≡ Links → (book.new ≡ book.old)
+        × (result ≡ links_reply book.old (record { incoming = 0; outgoing = 0 })) }
 {
     match *command {
         Command::Propose { question, bit } => propose(book, question, bit, toss),

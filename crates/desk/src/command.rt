@@ -101,7 +101,8 @@ fn command_for(asked: LineRequest, questions: u16) -> Result<Command, Reply>
 /// [`Reply::BadQuestion`], where there is no such question; [`Reply::BadBit`], where v is neither
 /// `0` nor `1`.
 pub fn parse(line: &[u8], size: Size) -> Result<Command, Reply>
-    ensures asked { (asked : LineRequest) → LineAsks line.now asked → result ≡ command_for size.questions asked }
+    ensures asked { (asked : LineRequest) → LineAsks line.now asked →
+        result ≡ command_for size.questions asked }
     ensures none { AsksNothing line.now → result ≡ Err BadLine }
     ensures either { Parses size.questions line.now result }
 {

@@ -72,7 +72,8 @@ fn is_word(text: &[u8]) -> bool
 /// The question and the bit that a proposal has.
 fn proposal(text: &[u8]) -> Option<(u64, Option<bool>)>
     ensures some { IfSome result (λ found. IsProposal text.now found.0 found.1) }
-    ensures exact { (question : ℕ) (bit : Option Bool) → IsProposal text.now question bit → result ≡ Some (question, bit) }
+    ensures exact { (question : ℕ) (bit : Option Bool) → IsProposal text.now question bit →
+        result ≡ Some (question, bit) }
 {
     let Some((digits, word)) = split_at_space(text) else {
         return None;
@@ -90,7 +91,8 @@ fn proposal(text: &[u8]) -> Option<(u64, Option<bool>)>
 /// Returns what the text proposes.
 fn proposed(text: &[u8]) -> Option<LineRequest>
     ensures some { IfSome result (λ asked. IsPropose asked × Asks text.now asked) }
-    ensures exact { (asked : LineRequest) → IsPropose asked → Asks text.now asked → result ≡ Some asked }
+    ensures exact { (asked : LineRequest) → IsPropose asked → Asks text.now asked →
+        result ≡ Some asked }
 {
     match behind(text, "PROPOSE ") {
         Some(rest) => match proposal(rest) {
@@ -104,7 +106,8 @@ fn proposed(text: &[u8]) -> Option<LineRequest>
 /// The request of a text that asks how a question stands, or proposes.
 fn asked_last(text: &[u8]) -> Option<LineRequest>
     ensures some { IfSome result (Asks text.now) }
-    ensures exact { (asked : LineRequest) → AsksLast asked → Asks text.now asked → result ≡ Some asked }
+    ensures exact { (asked : LineRequest) → AsksLast asked → Asks text.now asked →
+        result ≡ Some asked }
 {
     match behind(text, "STATE ") {
         Some(digits) => match question(digits) {
@@ -138,7 +141,8 @@ fn asked(text: &[u8]) -> Option<LineRequest>
 /// The request of a text that is neither `STATUS`, `LINKS` nor `ASK q`.
 fn asked_longer(text: &[u8]) -> Option<LineRequest>
     ensures some { IfSome result (Asks text.now) }
-    ensures exact { (asked : LineRequest) → AsksLonger asked → Asks text.now asked → result ≡ Some asked }
+    ensures exact { (asked : LineRequest) → AsksLonger asked → Asks text.now asked →
+        result ≡ Some asked }
 {
     match behind(text, "AWAIT ") {
         Some(digits) => match question(digits) {

@@ -86,7 +86,8 @@ fn is_lost(end: DeskEnd) -> bool
 /// Writes the replies that are held, and returns `true` if that didn't fail.
 fn tell_held<S: Stream>(stream: &mut S, held: &mut Block) -> bool
     ensures { MatchBool result
-        (has_written (S.told stream.new) held.new.items ≡ has_written (S.told stream.old) held.old.items)
+        (has_written (S.told stream.new) held.new.items
+        ≡ has_written (S.told stream.old) held.old.items)
         (Loses (has_written (S.told stream.old) held.old.items) (S.told stream.new) []) }
 {
     match write_held(stream, held) {
@@ -97,7 +98,8 @@ fn tell_held<S: Stream>(stream: &mut S, held: &mut Block) -> bool
 
 /// Answers a line that ends the session with [`Reply::BadLine`], and says why it ended.
 fn refuse<S: Stream>(stream: &mut S, held: &mut Block, why: DeskEnd) -> DeskEnd
-    ensures { Refuses (has_written (S.told stream.old) held.old.items) (S.told stream.new) held.new.items why result }
+    ensures { Refuses (has_written (S.told stream.old) held.old.items)
+        (S.told stream.new) held.new.items why result }
 {
     match write_reply(stream, held, &Reply::BadLine) {
         Ok(()) => why,
@@ -108,8 +110,10 @@ fn refuse<S: Stream>(stream: &mut S, held: &mut Block, why: DeskEnd) -> DeskEnd
 /// Writes the replies that are held at a session's end, and says how it ended. Where its stream
 /// failed it writes nothing.
 fn leave<S: Stream>(stream: &mut S, held: &mut Block, end: DeskEnd) -> DeskEnd
-    ensures lost { end ≡ DeskEnd.Lost → (result ≡ DeskEnd.Lost) × (S.told stream.new ≡ S.told stream.old) }
-    ensures over { (end ≡ DeskEnd.Lost → ⊥) → IsLeft (has_written (S.told stream.old) held.old.items) (S.told stream.new) end result }
+    ensures lost { end ≡ DeskEnd.Lost → (result ≡ DeskEnd.Lost)
+        × (S.told stream.new ≡ S.told stream.old) }
+    ensures over { (end ≡ DeskEnd.Lost → ⊥) →
+        IsLeft (has_written (S.told stream.old) held.old.items) (S.told stream.new) end result }
 {
     if is_lost(end) {
         return DeskEnd::Lost;
@@ -211,7 +215,8 @@ impl<D: Disk, J: Naming, R: Wait + Clock> Server<'_, D, J, R> {
         ensures more { KnowsMore pass.old.known pass.new.known }
         ensures reply { IsAwaitReply D (known_at pass.new.known question) result.0 }
         ensures told { MatchBool result.1
-            (has_written (S.told stream.new) held.new.items ≡ has_written (S.told stream.old) held.old.items)
+            (has_written (S.told stream.new) held.new.items
+            ≡ has_written (S.told stream.old) held.old.items)
             (Loses (has_written (S.told stream.old) held.old.items) (S.told stream.new) []) }
     {
         let begun = self.hub.seconds();
@@ -261,7 +266,8 @@ impl<D: Disk, J: Naming, R: Wait + Clock> Server<'_, D, J, R> {
     /// Writes the replies that are held, if a proposal has to wait for the member to speak.
     fn ready_to_propose<S: Stream>(&self, stream: &mut S, held: &mut Block) -> bool
         ensures { MatchBool result
-            (has_written (S.told stream.new) held.new.items ≡ has_written (S.told stream.old) held.old.items)
+            (has_written (S.told stream.new) held.new.items
+            ≡ has_written (S.told stream.old) held.old.items)
             (Loses (has_written (S.told stream.old) held.old.items) (S.told stream.new) []) }
     {
         if !self.hub.is_listening() {
@@ -282,9 +288,12 @@ impl<D: Disk, J: Naming, R: Wait + Clock> Server<'_, D, J, R> {
     ) -> (Reply, bool)
         requires { pass.old.cells ≡ J.names.cells }
         ensures cells { pass.new.cells ≡ J.names.cells }
-        ensures reply { AnswersCommand D T.may_toss (sitting pass.old.known tosser.old) command result.0 (sitting pass.new.known tosser.new) }
+        ensures reply { AnswersCommand D T.may_toss
+            (sitting pass.old.known tosser.old) command result.0
+            (sitting pass.new.known tosser.new) }
         ensures told { MatchBool result.1
-            (has_written (S.told stream.new) held.new.items ≡ has_written (S.told stream.old) held.old.items)
+            (has_written (S.told stream.new) held.new.items
+            ≡ has_written (S.told stream.old) held.old.items)
             (Loses (has_written (S.told stream.old) held.old.items) (S.told stream.new) []) }
     {
         match command {
@@ -315,11 +324,14 @@ impl<D: Disk, J: Naming, R: Wait + Clock> Server<'_, D, J, R> {
     ) -> (Reply, bool)
         requires { pass.old.cells ≡ J.names.cells }
         ensures cells { pass.new.cells ≡ J.names.cells }
-        ensures reply { AnswersLine D T.may_toss self.now.hub.now.size.questions (sitting pass.old.known tosser.old) sheet.old.line result.0
+        ensures reply { AnswersLine D T.may_toss self.now.hub.now.size.questions
+            (sitting pass.old.known tosser.old) sheet.old.line result.0
             (sitting pass.new.known tosser.new) }
         ensures told { MatchBool result.1
-            (has_written (S.told stream.new) sheet.new.replies.items ≡ has_written (S.told stream.old) sheet.old.replies.items)
-            (Loses (has_written (S.told stream.old) sheet.old.replies.items) (S.told stream.new) []) }
+            (has_written (S.told stream.new) sheet.new.replies.items
+            ≡ has_written (S.told stream.old) sheet.old.replies.items)
+            (Loses (has_written (S.told stream.old) sheet.old.replies.items)
+            (S.told stream.new) []) }
     {
         match parse(sheet.line.line(), self.hub.header().size()) {
             Err(refusal) => (refusal, true),
@@ -340,12 +352,18 @@ impl<D: Disk, J: Naming, R: Wait + Clock> Server<'_, D, J, R> {
         requires { pass.old.cells ≡ J.names.cells }
         ensures cells { pass.new.cells ≡ J.names.cells }
         ensures line { sheet.new.line ≡ [] }
-        ensures ok { OnOk result (Says (λ said. AnswersLine D T.may_toss self.now.hub.now.size.questions (sitting pass.old.known tosser.old)
-            sheet.old.line said (sitting pass.new.known tosser.new)) (has_written (S.told stream.old) sheet.old.replies.items)
+        ensures ok { OnOk result
+            (Says (λ said. AnswersLine D T.may_toss self.now.hub.now.size.questions
+            (sitting pass.old.known tosser.old) sheet.old.line said
+            (sitting pass.new.known tosser.new))
+            (has_written (S.told stream.old) sheet.old.replies.items)
             (has_written (S.told stream.new) sheet.new.replies.items)) }
-        ensures err { IfErr result (λ why. (why ≡ DeskEnd.Lost)
-            × FailsToSay (λ said. AnswersLine D T.may_toss self.now.hub.now.size.questions (sitting pass.old.known tosser.old)
-            sheet.old.line said (sitting pass.new.known tosser.new)) (has_written (S.told stream.old) sheet.old.replies.items) (S.told stream.new)) }
+        ensures err { IfErr result
+            (λ why. (why ≡ DeskEnd.Lost) × FailsToSay
+            (λ said. AnswersLine D T.may_toss self.now.hub.now.size.questions
+            (sitting pass.old.known tosser.old) sheet.old.line said
+            (sitting pass.new.known tosser.new))
+            (has_written (S.told stream.old) sheet.old.replies.items) (S.told stream.new)) }
     {
         let (reply, is_told) = self.reply_to(pass, tosser, sheet, stream);
         sheet.line.clear();
@@ -367,11 +385,18 @@ impl<D: Disk, J: Naming, R: Wait + Clock> Server<'_, D, J, R> {
         requires { pass.old.cells ≡ J.names.cells }
         ensures cells { pass.new.cells ≡ J.names.cells }
         ensures on { (begun : Sitting T) (old : Told) (more : List ℕ) →
-            Serving (AnswersLine D T.may_toss self.now.hub.now.size.questions) begun (sitting pass.old.known tosser.old) old (has_written (S.told stream.old) sheet.old.replies.items) sheet.old.line (byte ∷ more) →
-            OnOk result (Serving (AnswersLine D T.may_toss self.now.hub.now.size.questions) begun (sitting pass.new.known tosser.new) old (has_written (S.told stream.new) sheet.new.replies.items) sheet.new.line more) }
+            Serving (AnswersLine D T.may_toss self.now.hub.now.size.questions) begun
+            (sitting pass.old.known tosser.old) old
+            (has_written (S.told stream.old) sheet.old.replies.items) sheet.old.line (byte ∷ more) →
+            OnOk result (Serving (AnswersLine D T.may_toss self.now.hub.now.size.questions) begun
+            (sitting pass.new.known tosser.new) old
+            (has_written (S.told stream.new) sheet.new.replies.items) sheet.new.line more) }
         ensures off { (begun : Sitting T) (old : Told) (more : List ℕ) →
-            Serving (AnswersLine D T.may_toss self.now.hub.now.size.questions) begun (sitting pass.old.known tosser.old) old (has_written (S.told stream.old) sheet.old.replies.items) sheet.old.line (byte ∷ more) →
-            IfErr result (Leaves (AnswersLine D T.may_toss self.now.hub.now.size.questions) begun (sitting pass.new.known tosser.new) old (S.told stream.new) sheet.new.replies.items) }
+            Serving (AnswersLine D T.may_toss self.now.hub.now.size.questions) begun
+            (sitting pass.old.known tosser.old) old
+            (has_written (S.told stream.old) sheet.old.replies.items) sheet.old.line (byte ∷ more) →
+            IfErr result (Leaves (AnswersLine D T.may_toss self.now.hub.now.size.questions) begun
+            (sitting pass.new.known tosser.new) old (S.told stream.new) sheet.new.replies.items) }
     {
         match sheet.line.read(byte) {
             LineStep::More => Ok(()),
@@ -400,11 +425,18 @@ impl<D: Disk, J: Naming, R: Wait + Clock> Server<'_, D, J, R> {
         requires { pass.old.cells ≡ J.names.cells }
         ensures cells { pass.new.cells ≡ J.names.cells }
         ensures on { (begun : Sitting T) (old : Told) →
-            Serving (AnswersLine D T.may_toss self.now.hub.now.size.questions) begun (sitting pass.old.known tosser.old) old (has_written (S.told stream.old) sheet.old.replies.items) sheet.old.line piece.now →
-            OnOk result (Serving (AnswersLine D T.may_toss self.now.hub.now.size.questions) begun (sitting pass.new.known tosser.new) old (has_written (S.told stream.new) sheet.new.replies.items) sheet.new.line []) }
+            Serving (AnswersLine D T.may_toss self.now.hub.now.size.questions) begun
+            (sitting pass.old.known tosser.old) old
+            (has_written (S.told stream.old) sheet.old.replies.items) sheet.old.line piece.now →
+            OnOk result (Serving (AnswersLine D T.may_toss self.now.hub.now.size.questions) begun
+            (sitting pass.new.known tosser.new) old
+            (has_written (S.told stream.new) sheet.new.replies.items) sheet.new.line []) }
         ensures off { (begun : Sitting T) (old : Told) →
-            Serving (AnswersLine D T.may_toss self.now.hub.now.size.questions) begun (sitting pass.old.known tosser.old) old (has_written (S.told stream.old) sheet.old.replies.items) sheet.old.line piece.now →
-            IfErr result (Leaves (AnswersLine D T.may_toss self.now.hub.now.size.questions) begun (sitting pass.new.known tosser.new) old (S.told stream.new) sheet.new.replies.items) }
+            Serving (AnswersLine D T.may_toss self.now.hub.now.size.questions) begun
+            (sitting pass.old.known tosser.old) old
+            (has_written (S.told stream.old) sheet.old.replies.items) sheet.old.line piece.now →
+            IfErr result (Leaves (AnswersLine D T.may_toss self.now.hub.now.size.questions) begun
+            (sitting pass.new.known tosser.new) old (S.told stream.new) sheet.new.replies.items) }
     {
         for byte in piece {
             if let Err(end) = self.serve_byte(pass, tosser, sheet, stream, *byte) {
@@ -426,8 +458,11 @@ impl<D: Disk, J: Naming, R: Wait + Clock> Server<'_, D, J, R> {
         ensures cells { pass.new.cells ≡ J.names.cells }
         ensures off { (begun : Sitting T) (old : Told) (before : Told) →
             has_written (S.told stream.old) sheet.old.replies.items ≡ has_ended before →
-            Serving (AnswersLine D T.may_toss self.now.hub.now.size.questions) begun (sitting pass.old.known tosser.old) old before sheet.old.line [] →
-            Leaves (AnswersLine D T.may_toss self.now.hub.now.size.questions) begun (sitting pass.new.known tosser.new) old (S.told stream.new) sheet.new.replies.items result }
+            Serving (AnswersLine D T.may_toss self.now.hub.now.size.questions) begun
+            (sitting pass.old.known tosser.old) old before sheet.old.line [] →
+            Leaves (AnswersLine D T.may_toss self.now.hub.now.size.questions) begun
+            (sitting pass.new.known tosser.new) old
+            (S.told stream.new) sheet.new.replies.items result }
     {
         if sheet.line.line().is_empty() {
             return DeskEnd::Ended;
@@ -449,11 +484,18 @@ impl<D: Disk, J: Naming, R: Wait + Clock> Server<'_, D, J, R> {
         requires { pass.old.cells ≡ J.names.cells }
         ensures cells { pass.new.cells ≡ J.names.cells }
         ensures on { (begun : Sitting T) (old : Told) →
-            Serving (AnswersLine D T.may_toss self.now.hub.now.size.questions) begun (sitting pass.old.known tosser.old) old (has_written (S.told stream.old) sheet.old.replies.items) sheet.old.line [] →
-            OnOk result (Serving (AnswersLine D T.may_toss self.now.hub.now.size.questions) begun (sitting pass.new.known tosser.new) old (has_written (S.told stream.new) sheet.new.replies.items) sheet.new.line []) }
+            Serving (AnswersLine D T.may_toss self.now.hub.now.size.questions) begun
+            (sitting pass.old.known tosser.old) old
+            (has_written (S.told stream.old) sheet.old.replies.items) sheet.old.line [] →
+            OnOk result (Serving (AnswersLine D T.may_toss self.now.hub.now.size.questions) begun
+            (sitting pass.new.known tosser.new) old
+            (has_written (S.told stream.new) sheet.new.replies.items) sheet.new.line []) }
         ensures off { (begun : Sitting T) (old : Told) →
-            Serving (AnswersLine D T.may_toss self.now.hub.now.size.questions) begun (sitting pass.old.known tosser.old) old (has_written (S.told stream.old) sheet.old.replies.items) sheet.old.line [] →
-            IfErr result (Leaves (AnswersLine D T.may_toss self.now.hub.now.size.questions) begun (sitting pass.new.known tosser.new) old (S.told stream.new) sheet.new.replies.items) }
+            Serving (AnswersLine D T.may_toss self.now.hub.now.size.questions) begun
+            (sitting pass.old.known tosser.old) old
+            (has_written (S.told stream.old) sheet.old.replies.items) sheet.old.line [] →
+            IfErr result (Leaves (AnswersLine D T.may_toss self.now.hub.now.size.questions) begun
+            (sitting pass.new.known tosser.new) old (S.told stream.new) sheet.new.replies.items) }
     {
         let mut piece = [0u8; PIECE];
         if let Err(end) = write_held(stream, &mut sheet.replies) {
@@ -496,8 +538,9 @@ pub fn serve<D: Disk, J: Naming, S: Stream, T: Tosser, R: Wait + Clock>(
     ensures cells { pass.new.cells ≡ J.names.cells }
     // Each reply is that to its line, by what the pass knows then and with the tosses of the
     // tosser, one a command.
-    ensures serves { ServesTogether (AnswersLine D T.may_toss desk.entry.hub.now.size.questions) (sitting pass.old.known tosser.old)
-        (sitting pass.new.known tosser.new) (S.told stream.old) (S.told stream.new) result }
+    ensures serves { ServesTogether (AnswersLine D T.may_toss desk.entry.hub.now.size.questions)
+        (sitting pass.old.known tosser.old) (sitting pass.new.known tosser.new) (S.told stream.old)
+        (S.told stream.new) result }
 {
     let Desk { hub, turns } = desk;
     let server = Server { rt, hub, turns };

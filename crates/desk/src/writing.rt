@@ -23,7 +23,9 @@ const LINE: usize = 64;
 /// Writes these bytes.
 fn write_bytes<S: Stream>(stream: &mut S, bytes: &[u8]) -> Result<(), DeskEnd>
     ensures ok { OnOk result (S.told stream.new ≡ has_written (S.told stream.old) bytes.now) }
-    ensures err { IfErr result (λ why. (why ≡ DeskEnd.Lost) × BreaksOff (S.told stream.old) (S.told stream.new) bytes.now) }
+    ensures err { IfErr result
+        (λ why. (why ≡ DeskEnd.Lost) × BreaksOff (S.told stream.old)
+        (S.told stream.new) bytes.now) }
 {
     match write_all(stream, bytes) {
         Ok(()) => Ok(()),
@@ -87,10 +89,13 @@ fn write_up<S: Stream>(
     statements: u64,
     decided: u16,
 ) -> Result<(), DeskEnd>
-    ensures ok { OnOk result (has_written (S.told stream.new) held.new.items
-        ≡ has_written (has_written (S.told stream.old) held.old.items) (line (reply_text (reply.Up statements decided)))) }
-    ensures err { IfErr result (λ why. (why ≡ DeskEnd.Lost)
-        × Loses (has_written (S.told stream.old) held.old.items) (S.told stream.new) (line (reply_text (reply.Up statements decided)))) }
+    ensures ok { OnOk result
+        (has_written (S.told stream.new) held.new.items
+        ≡ has_written (has_written (S.told stream.old) held.old.items)
+        (line (reply_text (reply.Up statements decided)))) }
+    ensures err { IfErr result
+        (λ why. (why ≡ DeskEnd.Lost) × Loses (has_written (S.told stream.old) held.old.items)
+        (S.told stream.new) (line (reply_text (reply.Up statements decided)))) }
 {
     let mut digits = Buffer::new();
     let mut block = Block::new();
@@ -109,10 +114,13 @@ fn write_links<S: Stream>(
     count: LinkCount,
     size: Size,
 ) -> Result<(), DeskEnd>
-    ensures ok { OnOk result (has_written (S.told stream.new) held.new.items
-        ≡ has_written (has_written (S.told stream.old) held.old.items) (line (reply_text (reply.Links count size)))) }
-    ensures err { IfErr result (λ why. (why ≡ DeskEnd.Lost)
-        × Loses (has_written (S.told stream.old) held.old.items) (S.told stream.new) (line (reply_text (reply.Links count size)))) }
+    ensures ok { OnOk result
+        (has_written (S.told stream.new) held.new.items
+        ≡ has_written (has_written (S.told stream.old) held.old.items)
+        (line (reply_text (reply.Links count size)))) }
+    ensures err { IfErr result
+        (λ why. (why ≡ DeskEnd.Lost) × Loses (has_written (S.told stream.old) held.old.items)
+        (S.told stream.new) (line (reply_text (reply.Links count size)))) }
 {
     let mut digits = Buffer::new();
     let mut block = Block::new();
@@ -135,10 +143,13 @@ fn write_open<S: Stream>(
     round: u8,
     step: u8,
 ) -> Result<(), DeskEnd>
-    ensures ok { OnOk result (has_written (S.told stream.new) held.new.items
-        ≡ has_written (has_written (S.told stream.old) held.old.items) (line (reply_text (reply.State (Open round step))))) }
-    ensures err { IfErr result (λ why. (why ≡ DeskEnd.Lost)
-        × Loses (has_written (S.told stream.old) held.old.items) (S.told stream.new) (line (reply_text (reply.State (Open round step))))) }
+    ensures ok { OnOk result
+        (has_written (S.told stream.new) held.new.items
+        ≡ has_written (has_written (S.told stream.old) held.old.items)
+        (line (reply_text (reply.State (Open round step))))) }
+    ensures err { IfErr result
+        (λ why. (why ≡ DeskEnd.Lost) × Loses (has_written (S.told stream.old) held.old.items)
+        (S.told stream.new) (line (reply_text (reply.State (Open round step))))) }
 {
     let mut digits = Buffer::new();
     let mut block = Block::new();
@@ -156,10 +167,13 @@ fn write_state<S: Stream>(
     held: &mut Block,
     state: QuestionState,
 ) -> Result<(), DeskEnd>
-    ensures ok { OnOk result (has_written (S.told stream.new) held.new.items
-        ≡ has_written (has_written (S.told stream.old) held.old.items) (line (reply_text (reply.State state)))) }
-    ensures err { IfErr result (λ why. (why ≡ DeskEnd.Lost)
-        × Loses (has_written (S.told stream.old) held.old.items) (S.told stream.new) (line (reply_text (reply.State state)))) }
+    ensures ok { OnOk result
+        (has_written (S.told stream.new) held.new.items
+        ≡ has_written (has_written (S.told stream.old) held.old.items)
+        (line (reply_text (reply.State state)))) }
+    ensures err { IfErr result
+        (λ why. (why ≡ DeskEnd.Lost) × Loses (has_written (S.told stream.old) held.old.items)
+        (S.told stream.new) (line (reply_text (reply.State state)))) }
 {
     match state {
         QuestionState::Unproposed => hold(stream, held, b"UNPROPOSED\n"),
@@ -178,10 +192,13 @@ fn write_transcript<S: Stream>(
     question: u16,
     transcript: &Transcript,
 ) -> Result<(), DeskEnd>
-    ensures ok { OnOk result (has_written (S.told stream.new) held.new.items
-        ≡ has_written (has_written (S.told stream.old) held.old.items) (line (reply_text (reply.Transcript question transcript.now)))) }
-    ensures err { IfErr result (λ why. (why ≡ DeskEnd.Lost)
-        × Loses (has_written (S.told stream.old) held.old.items) (S.told stream.new) (line (reply_text (reply.Transcript question transcript.now)))) }
+    ensures ok { OnOk result
+        (has_written (S.told stream.new) held.new.items
+        ≡ has_written (has_written (S.told stream.old) held.old.items)
+        (line (reply_text (reply.Transcript question transcript.now)))) }
+    ensures err { IfErr result
+        (λ why. (why ≡ DeskEnd.Lost) × Loses (has_written (S.told stream.old) held.old.items)
+        (S.told stream.new) (line (reply_text (reply.Transcript question transcript.now)))) }
 {
     if let Err(end) = make_room(stream, held) {
         return Err(end);
@@ -210,10 +227,13 @@ pub(crate) fn write_reply<S: Stream>(
     held: &mut Block,
     reply: &Reply,
 ) -> Result<(), DeskEnd>
-    ensures ok { OnOk result (has_written (S.told stream.new) held.new.items
-        ≡ has_written (has_written (S.told stream.old) held.old.items) (line (reply_text reply.now))) }
-    ensures err { IfErr result (λ why. (why ≡ DeskEnd.Lost)
-        × Loses (has_written (S.told stream.old) held.old.items) (S.told stream.new) (line (reply_text reply.now))) }
+    ensures ok { OnOk result
+        (has_written (S.told stream.new) held.new.items
+        ≡ has_written (has_written (S.told stream.old) held.old.items)
+        (line (reply_text reply.now))) }
+    ensures err { IfErr result
+        (λ why. (why ≡ DeskEnd.Lost) × Loses (has_written (S.told stream.old) held.old.items)
+        (S.told stream.new) (line (reply_text reply.now))) }
 {
     match reply {
         Reply::Taken => hold(stream, held, b"OK\n"),

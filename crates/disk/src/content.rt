@@ -61,7 +61,8 @@ impl Content {
     /// nothing changes.
     pub(crate) fn write(&mut self, at: usize, bytes: &[u8]) -> Result<(), AllocError>
         requires { at ≤ length (content_state self.old).seen }
-        ensures ok { OnOk result (content_state self.new ≡ after_write (content_state self.old) at bytes.now) }
+        ensures ok { OnOk result
+            (content_state self.new ≡ after_write (content_state self.old) at bytes.now) }
         ensures err { OnErr result (content_state self.new ≡ content_state self.old) }
     {
         let inside = bytes.len().min(self.seen.len() - at);
@@ -79,7 +80,8 @@ impl Content {
     /// A write of that length at a place that fails: the bytes stay. Where memory is refused
     /// nothing changes.
     pub(crate) fn fail_write(&mut self, at: usize, len: usize) -> Result<(), AllocError>
-        ensures ok { OnOk result (content_state self.new ≡ after_failed_write (content_state self.old) at len) }
+        ensures ok { OnOk result
+            (content_state self.new ≡ after_failed_write (content_state self.old) at len) }
         ensures err { OnErr result (content_state self.new ≡ content_state self.old) }
     {
         Ok(self.written.push((at, len))?)

@@ -39,7 +39,8 @@ fn first_place(synced: usize, written: &[(usize, usize)]) -> usize
 
 /// Returns what is left at a place, where the file had this length at the last sync.
 fn left_at(place: usize, kept: u8, synced: usize, written: &[(usize, usize)], byte: u8) -> u8
-    ensures { result ≡ (if nat_le synced place || is_touched place written.now then byte else kept) }
+    ensures { result
+        ≡ (if nat_le synced place || is_touched place written.now then byte else kept) }
 {
     if synced <= place || is_touched(place, written) {
         byte

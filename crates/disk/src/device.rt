@@ -77,7 +77,8 @@ pub trait Disk {
     /// Puts on the disk what reads give. A fault changes nothing: a crash may leave what it might
     /// have left before.
     fn sync(&mut self) -> Result<(), DeviceFault>
-        ensures synced { keeps self.new → OnOk result (state self.new ≡ at_rest (state self.old).seen) }
+        ensures synced { keeps self.new →
+            OnOk result (state self.new ≡ at_rest (state self.old).seen) }
         ensures failed { keeps self.new → OnErr result (state self.new ≡ state self.old) }
         ensures time { keeps self.new → Elapses (moment self.old) (moment self.new)
             (since self.old) (since self.new) (state self.old) (state self.new) result }

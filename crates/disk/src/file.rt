@@ -83,7 +83,8 @@ impl<P: Premise> FileDisk<P> {
     /// An error is that memory was refused: nothing is kept then.
     pub fn keep_first_error(&mut self, alloc: Global) -> Result<Arc<FirstError>, AllocError>
         ensures failures { file_failures self.new ≡ file_failures self.old }
-        ensures done { (file_done self.new ≡ file_done self.old) × (folder_done self.new ≡ folder_done self.old) }
+        ensures done { (file_done self.new ≡ file_done self.old)
+            × (folder_done self.new ≡ folder_done self.old) }
         ensures named { is_named self.new ≡ is_named self.old }
         ensures replies { file_replies self.new ≡ file_replies self.old }
         ensures state { file_state P.file self.new ≡ file_state P.file self.old }
@@ -140,14 +141,17 @@ impl<P: Premise> Disk for FileDisk<P> {
         ensures told { IfOk result (λ n. file_done self.new ≡ with_told (file_done self.old) n) }
         ensures reply { IfOk result (λ n. file_replies self.new ≡ Told n ∷ file_replies self.old) }
         ensures refused { OnErr result (file_replies self.new ≡ Refused ∷ file_replies self.old) }
-        ensures answer { AnswersAs P.file self.new → IfOk result (λ n. n ≡ length (file_state P.file self.old).seen) }
-        ensures same { AnswersAs P.file self.new → file_state P.file self.new ≡ file_state P.file self.old }
+        ensures answer { AnswersAs P.file self.new →
+            IfOk result (λ n. n ≡ length (file_state P.file self.old).seen) }
+        ensures same { AnswersAs P.file self.new →
+            file_state P.file self.new ≡ file_state P.file self.old }
         ensures time { AnswersAs P.file self.new →
             Elapses (file_moment P.file self.old) (file_moment P.file self.new)
             (file_since P.file self.old) (file_since P.file self.new)
             (file_state P.file self.old) (file_state P.file self.new) result }
         ensures kept { AnswersAs P.file self.new → AnswersAs P.file self.old }
-        ensures folder { (folder_done self.new ≡ folder_done self.old) × (is_named self.new ≡ is_named self.old) }
+        ensures folder { (folder_done self.new ≡ folder_done self.old)
+            × (is_named self.new ≡ is_named self.old) }
         ensures cause { CountsFailures (file_failures self.old) (file_failures self.new) result }
     {
         match self.named.len() {
@@ -164,17 +168,21 @@ impl<P: Premise> Disk for FileDisk<P> {
 
     fn read_at(&mut self, at: usize, buf: &mut [u8]) -> Result<(), DeviceFault>
         ensures got { OnOk result (file_done self.new ≡ with_read (file_done self.old) at buf.new) }
-        ensures reply { OnOk result (file_replies self.new ≡ Gave at buf.new ∷ file_replies self.old) }
+        ensures reply { OnOk result
+            (file_replies self.new ≡ Gave at buf.new ∷ file_replies self.old) }
         ensures refused { OnErr result (file_replies self.new ≡ Refused ∷ file_replies self.old) }
         ensures answer { AnswersAs P.file self.new →
-            OnOk result (buf.new ≡ take (length buf.old) (drop at (file_state P.file self.old).seen)) }
-        ensures same { AnswersAs P.file self.new → file_state P.file self.new ≡ file_state P.file self.old }
+            OnOk result (buf.new ≡ take (length buf.old)
+            (drop at (file_state P.file self.old).seen)) }
+        ensures same { AnswersAs P.file self.new →
+            file_state P.file self.new ≡ file_state P.file self.old }
         ensures time { AnswersAs P.file self.new →
             Elapses (file_moment P.file self.old) (file_moment P.file self.new)
             (file_since P.file self.old) (file_since P.file self.new)
             (file_state P.file self.old) (file_state P.file self.new) result }
         ensures kept { AnswersAs P.file self.new → AnswersAs P.file self.old }
-        ensures folder { (folder_done self.new ≡ folder_done self.old) × (is_named self.new ≡ is_named self.old) }
+        ensures folder { (folder_done self.new ≡ folder_done self.old)
+            × (is_named self.new ≡ is_named self.old) }
         ensures cause { CountsFailures (file_failures self.old) (file_failures self.new) result }
     {
         match self.named.read_at(at, buf) {
@@ -190,21 +198,28 @@ impl<P: Premise> Disk for FileDisk<P> {
     }
 
     fn write_at(&mut self, at: usize, bytes: &[u8]) -> Result<(), DeviceFault>
-        ensures whole { OnOk result (file_done self.new ≡ with_written (file_done self.old) at bytes.now) }
-        ensures part { OnErr result (WroteSome (file_done self.old) (file_done self.new) at bytes.now) }
-        ensures reply { OnOk result (file_replies self.new ≡ Wrote at bytes.now ∷ file_replies self.old) }
-        ensures lost { OnErr result (file_replies self.new ≡ Lost at (length bytes.now) ∷ file_replies self.old) }
+        ensures whole { OnOk result
+            (file_done self.new ≡ with_written (file_done self.old) at bytes.now) }
+        ensures part { OnErr result
+            (WroteSome (file_done self.old) (file_done self.new) at bytes.now) }
+        ensures reply { OnOk result
+            (file_replies self.new ≡ Wrote at bytes.now ∷ file_replies self.old) }
+        ensures lost { OnErr result
+            (file_replies self.new ≡ Lost at (length bytes.now) ∷ file_replies self.old) }
         ensures written { AnswersAs P.file self.new →
-            OnOk result (file_state P.file self.new ≡ after_write (file_state P.file self.old) at bytes.now) }
+            OnOk result (file_state P.file self.new
+            ≡ after_write (file_state P.file self.old) at bytes.now) }
         ensures torn { AnswersAs P.file self.new →
             OnErr result ((file_moment P.file self.new ≡ file_moment P.file self.old)
-            ⊎ FailedWrite at (length bytes.now) (file_state P.file self.old) (file_state P.file self.new)) }
+            ⊎ FailedWrite at (length bytes.now) (file_state P.file self.old)
+            (file_state P.file self.new)) }
         ensures time { AnswersAs P.file self.new →
             Elapses (file_moment P.file self.old) (file_moment P.file self.new)
             (file_since P.file self.old) (file_since P.file self.new)
             (file_state P.file self.old) (file_state P.file self.new) result }
         ensures kept { AnswersAs P.file self.new → AnswersAs P.file self.old }
-        ensures folder { (folder_done self.new ≡ folder_done self.old) × (is_named self.new ≡ is_named self.old) }
+        ensures folder { (folder_done self.new ≡ folder_done self.old)
+            × (is_named self.new ≡ is_named self.old) }
         ensures cause { CountsFailures (file_failures self.old) (file_failures self.new) result }
     {
         match self.named.write_at(at, bytes) {
@@ -221,14 +236,17 @@ impl<P: Premise> Disk for FileDisk<P> {
 
     fn sync(&mut self) -> Result<(), DeviceFault>
         ensures file { OnOk result (file_done self.new ≡ with_synced (file_done self.old)) }
-        ensures folder { OnOk result (is_named self.old ≡ false → folder_done self.new ≡ with_synced (folder_done self.old)) }
+        ensures folder { OnOk result
+            (is_named self.old ≡ false → folder_done self.new
+            ≡ with_synced (folder_done self.old)) }
         ensures named { OnOk result (is_named self.new ≡ true) }
         ensures unnamed { OnErr result (is_named self.new ≡ is_named self.old) }
         ensures reply { OnOk result (file_replies self.new ≡ Synced ∷ file_replies self.old) }
         ensures refused { OnErr result (file_replies self.new ≡ Refused ∷ file_replies self.old) }
         ensures synced { AnswersAs P.file self.new →
             OnOk result (file_state P.file self.new ≡ at_rest (file_state P.file self.old).seen) }
-        ensures failed { AnswersAs P.file self.new → OnErr result (file_state P.file self.new ≡ file_state P.file self.old) }
+        ensures failed { AnswersAs P.file self.new →
+            OnErr result (file_state P.file self.new ≡ file_state P.file self.old) }
         ensures time { AnswersAs P.file self.new →
             Elapses (file_moment P.file self.old) (file_moment P.file self.new)
             (file_since P.file self.old) (file_since P.file self.new)

@@ -63,9 +63,12 @@ impl MemDisk {
     /// names. All of it is on the disk, no call was made of it, and the fuse is out. It takes no
     /// memory, and is always Ok.
     pub fn crash(mut self, pick: Pick) -> Result<MemDisk, AllocError>
-        ensures state { IfOk result (λ disk. memory_state disk ≡ at_rest (left (memory_state self) pick)) }
-        ensures may_leave { IfOk result (λ disk. MayLeave (memory_state self) (memory_state disk).seen) }
-        ensures as_it_began { IfOk result (λ disk. memory_state disk ≡ at_rest (memory_begun disk)) }
+        ensures state { IfOk result
+            (λ disk. memory_state disk ≡ at_rest (left (memory_state self) pick)) }
+        ensures may_leave { IfOk result
+            (λ disk. MayLeave (memory_state self) (memory_state disk).seen) }
+        ensures as_it_began { IfOk result
+            (λ disk. memory_state disk ≡ at_rest (memory_begun disk)) }
         ensures moment { IfOk result (λ disk. memory_moment disk ≡ 0) }
         ensures failures { IfOk result (λ disk. memory_failures disk ≡ 0) }
         ensures fuse { IfOk result (λ disk. fuse_left disk ≡ None) }
@@ -100,7 +103,8 @@ impl MemDisk {
         ensures log { self.new.log ≡ self.old.log }
         ensures ok { IsOk result ↔ IsTrue (lets_pass (fuse_left self.old)) }
         ensures burnt { fuse_left self.new ≡ burnt (fuse_left self.old) }
-        ensures cause { CountsFailures (memory_failures self.old) (memory_failures self.new) result }
+        ensures cause { CountsFailures (memory_failures self.old)
+            (memory_failures self.new) result }
         ensures counted { CountsFault (memory_failures self.old) (memory_failures self.new) result }
     {
         let passes = self.passes();
@@ -113,7 +117,8 @@ impl MemDisk {
         ensures log { self.new.log ≡ self.old.log }
         ensures err { IsErr result }
         ensures fuse { fuse_left self.new ≡ fuse_left self.old }
-        ensures cause { CountsFailures (memory_failures self.old) (memory_failures self.new) result }
+        ensures cause { CountsFailures (memory_failures self.old)
+            (memory_failures self.new) result }
         ensures counted { CountsFault (memory_failures self.old) (memory_failures self.new) result }
     {
         self.failures = self.failures.then(&Failure);
@@ -148,7 +153,8 @@ impl Disk for MemDisk {
 
     ghost failures = { memory_failures };
 
-    ghost counts_now = { λ disk t file keeps le may. counts_now disk.log.start disk.log.calls t file le may };
+    ghost counts_now = { λ disk t file keeps le may. counts_now disk.log.start disk.log.calls t file
+        le may };
 
     ghost only_now = { λ disk file keeps left. only_now disk.log.start disk.log.calls file left };
 
@@ -158,12 +164,14 @@ impl Disk for MemDisk {
         ensures answer { IfOk result (λ n. n ≡ length (memory_state self.old).seen) }
         ensures same { memory_state self.new ≡ memory_state self.old }
         ensures time { Elapses (memory_moment self.old) (memory_moment self.new)
-            (memory_since self.old) (memory_since self.new) (memory_state self.old) (memory_state self.new) result }
+            (memory_since self.old) (memory_since self.new) (memory_state self.old)
+            (memory_state self.new) result }
         ensures listed { memory_moment self.new ≡ memory_moment self.old + 1 }
         ensures fuse { Burns (memory_moment self.old) (memory_moment self.new)
             (fuse_left self.old) (fuse_left self.new) result }
         ensures begun { memory_begun self.new ≡ memory_begun self.old }
-        ensures cause { CountsFailures (memory_failures self.old) (memory_failures self.new) result }
+        ensures cause { CountsFailures (memory_failures self.old)
+            (memory_failures self.new) result }
         ensures counted { CountsFault (memory_failures self.old) (memory_failures self.new) result }
     {
         self.log.look();
@@ -173,15 +181,18 @@ impl Disk for MemDisk {
 
     fn read_at(&mut self, at: usize, buf: &mut [u8]) -> Result<(), DeviceFault>
         requires { at + length buf.old ≤ length (memory_state self.old).seen }
-        ensures answer { OnOk result (buf.new ≡ take (length buf.old) (drop at (memory_state self.old).seen)) }
+        ensures answer { OnOk result
+            (buf.new ≡ take (length buf.old) (drop at (memory_state self.old).seen)) }
         ensures same { memory_state self.new ≡ memory_state self.old }
         ensures time { Elapses (memory_moment self.old) (memory_moment self.new)
-            (memory_since self.old) (memory_since self.new) (memory_state self.old) (memory_state self.new) result }
+            (memory_since self.old) (memory_since self.new) (memory_state self.old)
+            (memory_state self.new) result }
         ensures listed { memory_moment self.new ≡ memory_moment self.old + 1 }
         ensures fuse { Burns (memory_moment self.old) (memory_moment self.new)
             (fuse_left self.old) (fuse_left self.new) result }
         ensures begun { memory_begun self.new ≡ memory_begun self.old }
-        ensures cause { CountsFailures (memory_failures self.old) (memory_failures self.new) result }
+        ensures cause { CountsFailures (memory_failures self.old)
+            (memory_failures self.new) result }
         ensures counted { CountsFault (memory_failures self.old) (memory_failures self.new) result }
     {
         self.log.look();
@@ -192,16 +203,20 @@ impl Disk for MemDisk {
 
     fn write_at(&mut self, at: usize, bytes: &[u8]) -> Result<(), DeviceFault>
         requires { at ≤ length (memory_state self.old).seen }
-        ensures written { OnOk result (memory_state self.new ≡ after_write (memory_state self.old) at bytes.now) }
+        ensures written { OnOk result
+            (memory_state self.new ≡ after_write (memory_state self.old) at bytes.now) }
         ensures torn { OnErr result ((memory_moment self.new ≡ memory_moment self.old)
             ⊎ FailedWrite at (length bytes.now) (memory_state self.old) (memory_state self.new)) }
-        ensures stopped { OnErr result ((memory_state self.new).seen ≡ (memory_state self.old).seen) }
+        ensures stopped { OnErr result
+            ((memory_state self.new).seen ≡ (memory_state self.old).seen) }
         ensures time { Elapses (memory_moment self.old) (memory_moment self.new)
-            (memory_since self.old) (memory_since self.new) (memory_state self.old) (memory_state self.new) result }
+            (memory_since self.old) (memory_since self.new) (memory_state self.old)
+            (memory_state self.new) result }
         ensures fuse { Burns (memory_moment self.old) (memory_moment self.new)
             (fuse_left self.old) (fuse_left self.new) result }
         ensures begun { memory_begun self.new ≡ memory_begun self.old }
-        ensures cause { CountsFailures (memory_failures self.old) (memory_failures self.new) result }
+        ensures cause { CountsFailures (memory_failures self.old)
+            (memory_failures self.new) result }
         ensures counted { CountsFault (memory_failures self.old) (memory_failures self.new) result }
     {
         let passes = self.passes();
@@ -212,15 +227,18 @@ impl Disk for MemDisk {
     }
 
     fn sync(&mut self) -> Result<(), DeviceFault>
-        ensures synced { OnOk result (memory_state self.new ≡ at_rest (memory_state self.old).seen) }
+        ensures synced { OnOk result
+            (memory_state self.new ≡ at_rest (memory_state self.old).seen) }
         ensures failed { OnErr result (memory_state self.new ≡ memory_state self.old) }
         ensures time { Elapses (memory_moment self.old) (memory_moment self.new)
-            (memory_since self.old) (memory_since self.new) (memory_state self.old) (memory_state self.new) result }
+            (memory_since self.old) (memory_since self.new) (memory_state self.old)
+            (memory_state self.new) result }
         ensures listed { memory_moment self.new ≡ memory_moment self.old + 1 }
         ensures fuse { Burns (memory_moment self.old) (memory_moment self.new)
             (fuse_left self.old) (fuse_left self.new) result }
         ensures begun { memory_begun self.new ≡ memory_begun self.old }
-        ensures cause { CountsFailures (memory_failures self.old) (memory_failures self.new) result }
+        ensures cause { CountsFailures (memory_failures self.old)
+            (memory_failures self.new) result }
         ensures counted { CountsFault (memory_failures self.old) (memory_failures self.new) result }
     {
         let passes = self.passes();

@@ -75,7 +75,8 @@ impl<F: SystemFile> NamedFile<F> {
 
     /// Returns how many bytes the file has.
     pub(crate) fn len(&mut self) -> Result<usize, DeviceFault>
-        ensures told { IfOk result (λ n. F.done self.new.file ≡ with_told (F.done self.old.file) n) }
+        ensures told { IfOk result
+            (λ n. F.done self.new.file ≡ with_told (F.done self.old.file) n) }
         ensures folder { (self.new.folder ≡ self.old.folder) × (self.new.named ≡ self.old.named) }
         ensures cause { CountsFailures self.old.failures.value self.new.failures.value result }
     {
@@ -85,7 +86,8 @@ impl<F: SystemFile> NamedFile<F> {
 
     /// Fills the buffer with the bytes from a place on.
     pub(crate) fn read_at(&mut self, at: usize, buf: &mut [u8]) -> Result<(), DeviceFault>
-        ensures got { OnOk result (F.done self.new.file ≡ with_read (F.done self.old.file) at buf.new) }
+        ensures got { OnOk result
+            (F.done self.new.file ≡ with_read (F.done self.old.file) at buf.new) }
         ensures folder { (self.new.folder ≡ self.old.folder) × (self.new.named ≡ self.old.named) }
         ensures cause { CountsFailures self.old.failures.value self.new.failures.value result }
     {
@@ -95,8 +97,10 @@ impl<F: SystemFile> NamedFile<F> {
 
     /// Writes the bytes from a place on. After a fault a beginning of them was written.
     pub(crate) fn write_at(&mut self, at: usize, bytes: &[u8]) -> Result<(), DeviceFault>
-        ensures whole { OnOk result (F.done self.new.file ≡ with_written (F.done self.old.file) at bytes.now) }
-        ensures part { OnErr result (WroteSome (F.done self.old.file) (F.done self.new.file) at bytes.now) }
+        ensures whole { OnOk result
+            (F.done self.new.file ≡ with_written (F.done self.old.file) at bytes.now) }
+        ensures part { OnErr result
+            (WroteSome (F.done self.old.file) (F.done self.new.file) at bytes.now) }
         ensures folder { (self.new.folder ≡ self.old.folder) × (self.new.named ≡ self.old.named) }
         ensures cause { CountsFailures self.old.failures.value self.new.failures.value result }
     {
@@ -107,7 +111,9 @@ impl<F: SystemFile> NamedFile<F> {
     /// Puts the file on the disk, and the folder too until that has once succeeded.
     pub(crate) fn sync(&mut self) -> Result<(), DeviceFault>
         ensures file { OnOk result (F.done self.new.file ≡ with_synced (F.done self.old.file)) }
-        ensures folder { OnOk result (self.old.named ≡ false → F.done self.new.folder ≡ with_synced (F.done self.old.folder)) }
+        ensures folder { OnOk result
+            (self.old.named ≡ false → F.done self.new.folder
+            ≡ with_synced (F.done self.old.folder)) }
         ensures named { OnOk result (self.new.named ≡ true) }
         ensures unnamed { OnErr result (self.new.named ≡ self.old.named) }
         ensures cause { CountsFailures self.old.failures.value self.new.failures.value result }
@@ -126,7 +132,8 @@ impl<F: SystemFile> NamedFile<F> {
 /// Puts the file on the disk, and the folder where it isn't there yet.
 fn settle_both<F: SystemFile>(file: &mut F, folder: &mut F, named: bool) -> io::Result<()>
     ensures file { OnOk result (F.done file.new ≡ with_synced (F.done file.old)) }
-    ensures folder { OnOk result (named ≡ false → F.done folder.new ≡ with_synced (F.done folder.old)) }
+    ensures folder { OnOk result
+        (named ≡ false → F.done folder.new ≡ with_synced (F.done folder.old)) }
 {
     settle(file)?;
     if named {

@@ -26,13 +26,15 @@ pub(crate) trait SystemFile {
     /// the end.
     fn read_at(&mut self, at: usize, buf: &mut [u8]) -> io::Result<usize>
         ensures within { IfOk result (λ n. n ≤ length buf.new) }
-        ensures ok { IfOk result (λ n. done self.new ≡ with_read (done self.old) at (take n buf.new)) }
+        ensures ok { IfOk result
+            (λ n. done self.new ≡ with_read (done self.old) at (take n buf.new)) }
         ensures err { OnErr result (done self.new ≡ done self.old) };
 
     /// Writes some of these bytes, from their front, from a place on, and answers how many.
     fn write_at(&mut self, at: usize, bytes: &[u8]) -> io::Result<usize>
         ensures within { IfOk result (λ n. n ≤ length bytes.now) }
-        ensures ok { IfOk result (λ n. done self.new ≡ with_written (done self.old) at (take n bytes.now)) }
+        ensures ok { IfOk result
+            (λ n. done self.new ≡ with_written (done self.old) at (take n bytes.now)) }
         ensures err { OnErr result (done self.new ≡ done self.old) };
 
     /// Puts it on the disk.

@@ -49,7 +49,8 @@ pub(crate) fn settle<F: SystemFile>(file: &mut F) -> io::Result<()>
 /// Reads once, and again where a signal interrupted it.
 fn read_some<F: SystemFile>(file: &mut F, at: usize, buf: &mut [u8]) -> io::Result<usize>
     ensures within { IfOk result (λ n. n ≤ length buf.new) }
-    ensures ok { IfOk result (λ n. F.done file.new ≡ with_read (F.done file.old) at (take n buf.new)) }
+    ensures ok { IfOk result
+        (λ n. F.done file.new ≡ with_read (F.done file.old) at (take n buf.new)) }
     ensures err { OnErr result (F.done file.new ≡ F.done file.old) }
 {
     for _ in 0..TRIES {
@@ -64,7 +65,8 @@ fn read_some<F: SystemFile>(file: &mut F, at: usize, buf: &mut [u8]) -> io::Resu
 /// Writes once, and again where a signal interrupted it.
 fn write_some<F: SystemFile>(file: &mut F, at: usize, bytes: &[u8]) -> io::Result<usize>
     ensures within { IfOk result (λ n. n ≤ length bytes.now) }
-    ensures ok { IfOk result (λ n. F.done file.new ≡ with_written (F.done file.old) at (take n bytes.now)) }
+    ensures ok { IfOk result
+        (λ n. F.done file.new ≡ with_written (F.done file.old) at (take n bytes.now)) }
     ensures err { OnErr result (F.done file.new ≡ F.done file.old) }
 {
     for _ in 0..TRIES {

@@ -86,7 +86,8 @@ fn journal_statement(s: Statement) -> [u8; 6]
 pub fn encode_batch(alloc: Global, bytes: &[u8]) -> Result<Vec<u8>, EngineFault>
     ensures batch { IfOk result (λ batch. IsShutBatchOf bytes.now batch.items) }
     ensures bad { IsErrOf result EngineFault.BadRecords → IsNoBatch bytes.now }
-    ensures only { IfErr result (λ fault. (fault ≡ EngineFault.BadRecords) ⊎ (fault ≡ EngineFault.Memory)) }
+    ensures only { IfErr result
+        (λ fault. (fault ≡ EngineFault.BadRecords) ⊎ (fault ≡ EngineFault.Memory)) }
 {
     let records = match records::records_of(alloc, bytes) {
         Ok(records) => records,
@@ -140,7 +141,8 @@ pub fn read_batches(
     file: &[u8],
 ) -> Result<JournalRead, JournalFault>
     ensures read { IfOk result (λ read. IsReadOf header.now file.now read.gate read.records.items) }
-    ensures refused { IfErr result (λ fault. IsOfFile fault → RefusesFile header.now fault file.now) }
+    ensures refused { IfErr result
+        (λ fault. IsOfFile fault → RefusesFile header.now fault file.now) }
     ensures only { IfErr result (λ fault. IsOfFile fault ⊎ (fault ≡ Memory)) }
 {
     let (gate, held) = match read_file(alloc, header, file) {

@@ -20,7 +20,8 @@ pub const MOST_FRAME: usize = 697;
 
 /// The version of a byte, 1 or 2.
 pub fn version_of(byte: u8) -> Option<Version>
-    ensures { MatchOption result ((version : Version) → version_byte version ≢ byte) (λ version. version_byte version ≡ byte) }
+    ensures { MatchOption result ((version : Version) → version_byte version ≢ byte)
+        (λ version. version_byte version ≡ byte) }
 {
     match byte {
         1 => Some(Version::One),
@@ -80,7 +81,8 @@ pub fn welcome_frame(next: u64) -> [u8; 11]
 /// The frame of the statement of seven bytes, if they are one's. It is one of both versions of the
 /// wire.
 pub fn statement_frame(bytes: &[u8; 7]) -> Option<[u8; 10]>
-    ensures some { IfSome result (λ frame. (s : Statement) × IsStatement s × (bytes.now ≡ statement_bytes s)
+    ensures some { IfSome result
+        (λ frame. (s : Statement) × IsStatement s × (bytes.now ≡ statement_bytes s)
         × (frame ≡ frame_bytes (message.Statement s))) }
     ensures none { IsNone result → NoStatement bytes.now }
 {
@@ -100,7 +102,8 @@ pub fn statements_frame(alloc: Global, bytes: &[u8], out: &mut [u8]) -> Result<u
     requires { 697 ≤ length out.old }
     ensures written { IfOk result (λ count. IsFrameOf bytes.now count out.old out.new) }
     ensures bad { IsErrOf result EngineFault.BadStatement → IsNoFrame bytes.now }
-    ensures only { IfErr result (λ fault. (fault ≡ EngineFault.BadStatement) ⊎ (fault ≡ EngineFault.Memory)) }
+    ensures only { IfErr result
+        (λ fault. (fault ≡ EngineFault.BadStatement) ⊎ (fault ≡ EngineFault.Memory)) }
 {
     let statements = match statements_of(alloc, bytes) {
         Ok(statements) => statements,
@@ -116,7 +119,8 @@ pub fn statements_frame(alloc: Global, bytes: &[u8], out: &mut [u8]) -> Result<u
 fn write_frame(alloc: Global, message: &Message, out: &mut [u8]) -> Result<usize, EngineFault>
     requires { length (frame_bytes message.now) ≤ length out.old }
     ensures count { IfOk result (λ count. count ≡ length (frame_bytes message.now)) }
-    ensures written { OnOk result (out.new ≡ frame_bytes message.now ++ drop (length (frame_bytes message.now)) out.old) }
+    ensures written { OnOk result
+        (out.new ≡ frame_bytes message.now ++ drop (length (frame_bytes message.now)) out.old) }
     ensures only { IfErr result (λ fault. fault ≡ EngineFault.Memory) }
 {
     let mut frame = Vec::new(alloc);
@@ -142,9 +146,11 @@ fn message_of(statements: Vec<Statement>) -> Option<Message>
 
 /// The statements of the bytes, in order.
 fn statements_of(alloc: Global, bytes: &[u8]) -> Result<Vec<Statement>, EngineFault>
-    ensures read { IfOk result (λ all. AreStatements all.items × (bytes.now ≡ statements_bytes all.items)) }
+    ensures read { IfOk result
+        (λ all. AreStatements all.items × (bytes.now ≡ statements_bytes all.items)) }
     ensures bad { IsErrOf result EngineFault.BadStatement → NoStatements bytes.now }
-    ensures only { IfErr result (λ fault. (fault ≡ EngineFault.BadStatement) ⊎ (fault ≡ EngineFault.Memory)) }
+    ensures only { IfErr result
+        (λ fault. (fault ≡ EngineFault.BadStatement) ⊎ (fault ≡ EngineFault.Memory)) }
 {
     let mut all = Vec::new(alloc);
     let mut rest = bytes;

@@ -43,8 +43,9 @@ impl Inbox {
     ///
     /// [`Memory`]: there was none. Nothing changed, and the same call can be made again.
     pub fn feed(&mut self, piece: &[u8]) -> Result<Fed, Memory>
-        ensures reads { IfOk result (λ _.
-            Feeds (size_of self.old) (end_of self.old) piece.now (waiting self.old) (waiting self.new) (end_of self.new)) }
+        ensures reads { IfOk result
+            (λ _. Feeds (size_of self.old) (end_of self.old) piece.now (waiting self.old)
+            (waiting self.new) (end_of self.new)) }
         ensures answers { IfOk result (λ fed. fed ≡ answer_of (end_of self.new)) }
         ensures size { size_of self.new ≡ size_of self.old }
         ensures ok_when_broken { IsBroken (end_of self.old) → IsOk result }
@@ -68,8 +69,9 @@ impl Inbox {
 
 /// Takes out the message that was read first of those that are left.
 fn take_first(read: &mut Vec<Message>, first: &mut Vec<Message>) -> Option<Message>
-    ensures some { IfSome result (λ message.
-        reverse first.old.items ++ read.old.items ≡ message ∷ (reverse first.new.items ++ read.new.items)) }
+    ensures some { IfSome result
+        (λ message. reverse first.old.items ++ read.old.items ≡ message
+        ∷ (reverse first.new.items ++ read.new.items)) }
     ensures none { IsNone result → reverse first.old.items ++ read.old.items ≡ [] }
     ensures none_same { IsNone result → reverse first.new.items ++ read.new.items ≡ [] }
 {
@@ -79,7 +81,8 @@ fn take_first(read: &mut Vec<Message>, first: &mut Vec<Message>) -> Option<Messa
 
 /// Puts what was read into `first`, where nothing stands there.
 fn refill(read: &mut Vec<Message>, first: &mut Vec<Message>)
-    ensures same { reverse first.new.items ++ read.new.items ≡ reverse first.old.items ++ read.old.items }
+    ensures same { reverse first.new.items ++ read.new.items ≡ reverse first.old.items
+        ++ read.old.items }
     ensures all { first.new.items ≡ [] → read.new.items ≡ [] }
 {
     if !first.is_empty() {

@@ -301,7 +301,9 @@ impl State {
 
     /// Returns `true` if the epoch's journal was put away.
     fn is_gone(&self, epoch: u64) -> bool
-        ensures { result ≡ false → IfSome (slice_get self.now.verdicts.items epoch) (λ verdicts. 0 < length verdicts.cells.items) }
+        ensures { result ≡ false →
+            IfSome (slice_get self.now.verdicts.items epoch)
+            (λ verdicts. 0 < length verdicts.cells.items) }
     {
         match self.verdicts.get(epoch as usize) {
             Some(verdicts) => verdicts.is_gone(),
@@ -485,7 +487,8 @@ impl State {
 
     /// Returns `true` if an epoch that runs is to end: by the rules it isn't open.
     pub(crate) fn is_over(&self, chain: &Chain, epoch: u64) -> bool
-        ensures { result ≡ false → (known : Known) → IsKnown self.now known → IsOpen (chain_size chain.now) known epoch }
+        ensures { result ≡ false → (known : Known) → IsKnown self.now known →
+            IsOpen (chain_size chain.now) known epoch }
     {
         !chain.is_open(&self.known(), epoch)
     }
@@ -518,7 +521,9 @@ impl State {
 
     /// Returns what is known of a question of an epoch that doesn't run; none of one that does.
     pub(crate) fn stored(&self, epoch: u64, question: u16) -> Option<Stored>
-        ensures { (bit : Bool) → result ≡ Some (Decided bit) → IfSome (slice_get self.now.verdicts.items epoch) (λ one. verdict_at one question ≡ Some bit) }
+        ensures { (bit : Bool) → result ≡ Some (Decided bit) →
+            IfSome (slice_get self.now.verdicts.items epoch)
+            (λ one. verdict_at one question ≡ Some bit) }
     {
         if self.running_at(epoch).is_some() {
             return None;

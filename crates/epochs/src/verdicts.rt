@@ -69,8 +69,12 @@ impl Verdicts {
     /// The question was decided for this bit. Of several decisions the first counts.
     fn decide(&mut self, question: u16, bit: bool) -> Result<(), Memory>
         ensures first { (verdict_at self.old question ≡ None → ⊥) → self.new ≡ self.old }
-        ensures told { (q : ℕ) (b : Bool) → verdict_at self.new q ≡ Some b → (verdict_at self.old q ≡ Some b) ⊎ ((q ≡ question) × (b ≡ bit)) }
-        ensures decided { IfOk result (λ _. (q : ℕ) → q < length self.old.cells.items → verdict_at self.new q ≡ first_of (verdict_at self.old q) (cond (question == q) (Some bit) None)) }
+        ensures told { (q : ℕ) (b : Bool) → verdict_at self.new q ≡ Some b →
+            (verdict_at self.old q ≡ Some b) ⊎ ((q ≡ question) × (b ≡ bit)) }
+        ensures decided { IfOk result
+            (λ _. (q : ℕ) → q < length self.old.cells.items →
+            verdict_at self.new q ≡ first_of (verdict_at self.old q)
+            (cond (question == q) (Some bit) None)) }
         ensures size { length self.new.cells.items ≡ length self.old.cells.items }
     {
         if self.of(question).is_some() || usize::from(question) >= self.cells.len() {

@@ -34,7 +34,8 @@ fn word_item(alloc: Global, member: u8, word: Option<bool>) -> Result<String, Al
 fn word_items(alloc: Global, watch: &Watch, question: u16, n: u8) -> Result<String, AllocError>
     requires { n ≤ 64 }
     ensures { (heard : List Told) → Watches watch.now heard →
-        IfOk result (λ text. string_bytes text ≡ word_items (first_word (words_on question heard)) 0 n) }
+        IfOk result (λ text. string_bytes text
+        ≡ word_items (first_word (words_on question heard)) 0 n) }
 {
     let mut text = String::new(alloc);
     for member in 0..n {
@@ -93,7 +94,8 @@ pub fn question_text(
     stage: Stage,
 ) -> Result<Vec<u8>, AllocError>
     ensures { (heard : List Told) → Watches watch.now heard →
-        IfOk result (λ bytes. TellsQuestion (watch_size watch.now) heard question stage bytes.items) }
+        IfOk result (λ bytes. TellsQuestion
+        (watch_size watch.now) heard question stage bytes.items) }
 {
     let standing = standing_of(watch.decision(question), stage);
     let n = watch.size().n();
@@ -120,7 +122,8 @@ pub fn proposal_text(
     taken: u8,
     have: u8,
 ) -> Result<String, AllocError>
-    ensures { IfOk result (λ text. string_bytes text ≡ proposal_object question standing taken have) }
+    ensures { IfOk result
+        (λ text. string_bytes text ≡ proposal_object question standing taken have) }
 {
     format!(in alloc;
         "{{\"question\":{question},{},\"taken\":{taken},\"have\":{have}}}\n",
@@ -277,7 +280,8 @@ pub fn questions_text(
     lately: &[u32],
     standings: &[Standing],
 ) -> Result<Vec<u8>, AllocError>
-    ensures { IfOk result (λ bytes. bytes.items ≡ states_object moment.now lately.now standings.now) }
+    ensures { IfOk result
+        (λ bytes. bytes.items ≡ states_object moment.now lately.now standings.now) }
 {
     let front = states_front(alloc, moment, lately)?;
     let letters = states_text(alloc, standings)?;

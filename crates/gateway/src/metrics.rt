@@ -209,7 +209,9 @@ fn total_value(metric: Total, tally: &Tally) -> u64
 
 /// Returns the row of a metric of the cluster.
 fn total_row(alloc: Global, tally: &Tally, metric: Total) -> Result<String, AllocError>
-    ensures { IfOk result (λ text. string_bytes text ≡ total_name metric ++ (codes " " ++ (decimal (total_value metric tally.now) ++ codes "\n"))) }
+    ensures { IfOk result
+        (λ text. string_bytes text ≡ total_name metric
+        ++ (codes " " ++ (decimal (total_value metric tally.now) ++ codes "\n"))) }
 {
     format!(in alloc; "{} {}\n", total_name(metric), total_value(metric, tally))
 }

@@ -29,7 +29,8 @@ fn place_of(text: &[u8], mark: u8) -> Option<usize>
 
 /// Returns what stands before the first such byte and after it.
 fn cut_at(text: &[u8], mark: u8) -> Option<(&[u8], &[u8])>
-    ensures { MatchOption result (Lacks mark text.now) (λ parts. (text.now ≡ parts.0.now ++ mark ∷ parts.1.now) × Lacks mark parts.0.now) }
+    ensures { MatchOption result (Lacks mark text.now)
+        (λ parts. (text.now ≡ parts.0.now ++ mark ∷ parts.1.now) × Lacks mark parts.0.now) }
 {
     match place_of(text, mark) {
         Some(place) => Some((&text[..place], &text[place + 1..])),
@@ -66,7 +67,8 @@ pub(crate) fn wait_of(query: &[u8]) -> Option<u16>
 /// Returns the words before and after `&to=`.
 fn both_words(rest: &[u8]) -> Option<(&[u8], &[u8])>
     ensures some { IfSome result (λ parts. IsCut rest.now parts.0.now parts.1.now) }
-    ensures exact { (first second : List ℕ) → IsCut rest.now first second → MatchOption result ⊥ (λ parts. (parts.0.now ≡ first) × (parts.1.now ≡ second)) }
+    ensures exact { (first second : List ℕ) → IsCut rest.now first second →
+        MatchOption result ⊥ (λ parts. (parts.0.now ≡ first) × (parts.1.now ≡ second)) }
 {
     match cut_at(rest, b'&') {
         Some((first, more)) => match behind(more, "to=") {
@@ -79,8 +81,10 @@ fn both_words(rest: &[u8]) -> Option<(&[u8], &[u8])>
 
 /// Returns the two numbers that the words write.
 fn both_numbers(first: &[u8], second: &[u8]) -> Option<(u16, u16)>
-    ensures some { IfSome result (λ found. IsBelow 16 first.now found.0 × IsBelow 16 second.now found.1) }
-    ensures exact { (from to : ℕ) → IsBelow 16 first.now from → IsBelow 16 second.now to → result ≡ Some (from, to) }
+    ensures some { IfSome result
+        (λ found. IsBelow 16 first.now found.0 × IsBelow 16 second.now found.1) }
+    ensures exact { (from to : ℕ) → IsBelow 16 first.now from → IsBelow 16 second.now to →
+        result ≡ Some (from, to) }
 {
     match number16(first) {
         Some(from) => match number16(second) {

@@ -218,7 +218,8 @@ fn transcript_task(
     request: &Request<'_>,
 ) -> Result<Task, Refusal>
     ensures ok { IfOk result (IsRead size (route.Transcript question) request.now) }
-    ensures err { IfErr result (IsRefusedAt policy.now size (route.Transcript question) request.now) }
+    ensures err { IfErr result
+        (IsRefusedAt policy.now size (route.Transcript question) request.now) }
 {
     if question >= size.questions() {
         return Err(Refusal::Question);
@@ -252,7 +253,8 @@ fn read_task(
 /// Refuses a request that may not propose, whatever it proposes.
 fn refuse_stranger(policy: &Policy<'_>, request: &Request<'_>) -> Option<Refusal>
     ensures none { IsNone result → MayPropose policy.now request.now }
-    ensures some { request.now.method ≡ method.Post → (size : Size) (at : Route) → IfSome result (IsRefusedAt policy.now size at request.now) }
+    ensures some { request.now.method ≡ method.Post → (size : Size) (at : Route) →
+        IfSome result (IsRefusedAt policy.now size at request.now) }
 {
     if !takes_proposals(policy) {
         return Some(Refusal::Closed);
@@ -272,7 +274,8 @@ fn refuse_stranger(policy: &Policy<'_>, request: &Request<'_>) -> Option<Refusal
 /// Returns the bit that the body proposes.
 fn bit_task(alloc: Global, request: &Request<'_>) -> Result<bool, Refusal>
     ensures ok { IfOk result (IsMotion request.now.body.now) }
-    ensures err { request.now.method ≡ method.Post → (policy : Policy) (size : Size) (at : Route) → IfErr result (IsRefusedAt policy size at request.now) }
+    ensures err { request.now.method ≡ method.Post → (policy : Policy) (size : Size) (at : Route) →
+        IfErr result (IsRefusedAt policy size at request.now) }
 {
     match motion_of(alloc, request.body) {
         Ok(Some(bit)) => Ok(bit),
@@ -291,7 +294,8 @@ fn motion_task(
 ) -> Result<Task, Refusal>
     requires { MayPropose policy.now request.now }
     ensures ok { IfOk result (Proposes policy.now size (route.Question question) request.now) }
-    ensures err { request.now.method ≡ method.Post → IfErr result (IsRefusedAt policy.now size (route.Question question) request.now) }
+    ensures err { request.now.method ≡ method.Post →
+        IfErr result (IsRefusedAt policy.now size (route.Question question) request.now) }
 {
     if question >= size.questions() {
         return Err(Refusal::Question);
@@ -318,7 +322,8 @@ fn proposal_task(
     request: &Request<'_>,
 ) -> Result<Task, Refusal>
     ensures ok { IfOk result (Proposes policy.now size (route.Question question) request.now) }
-    ensures err { request.now.method ≡ method.Post → IfErr result (IsRefusedAt policy.now size (route.Question question) request.now) }
+    ensures err { request.now.method ≡ method.Post →
+        IfErr result (IsRefusedAt policy.now size (route.Question question) request.now) }
 {
     match refuse_stranger(policy, request) {
         Some(refusal) => Err(refusal),
@@ -335,7 +340,8 @@ fn change_task(
     request: &Request<'_>,
 ) -> Result<Task, Refusal>
     ensures ok { IfOk result (Proposes policy.now size route request.now) }
-    ensures err { request.now.method ≡ method.Post → IfErr result (IsRefusedAt policy.now size route request.now) }
+    ensures err { request.now.method ≡ method.Post →
+        IfErr result (IsRefusedAt policy.now size route request.now) }
 {
     match route {
         Route::Question(question) => proposal_task(alloc, policy, size, question, request),

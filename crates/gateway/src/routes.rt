@@ -66,7 +66,8 @@ fn list_route(path: &[u8]) -> Option<Route>
 /// Returns the part of the text before this end, if the text ends so.
 fn before<'a>(text: &'a [u8], end: &str) -> Option<&'a [u8]>
     ensures some { IfSome result (λ front. text.now ≡ front.now ++ end.now) }
-    ensures exact { (front : List ℕ) → text.now ≡ front ++ end.now → MatchOption result ⊥ (λ found. found.now ≡ front) }
+    ensures exact { (front : List ℕ) → text.now ≡ front ++ end.now →
+        MatchOption result ⊥ (λ found. found.now ≡ front) }
 {
     let length = end.len();
     if text.len() < length {

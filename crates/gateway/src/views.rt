@@ -122,7 +122,8 @@ fn member_counts(alloc: Global, view: &MemberView) -> Result<String, AllocError>
 
 /// Returns what stands before a member's contradictions.
 fn member_front(alloc: Global, member: usize, view: &MemberView) -> Result<String, AllocError>
-    ensures { IfOk result (λ text. string_bytes text ≡ member_head member view.now ++ member_counts view.now) }
+    ensures { IfOk result
+        (λ text. string_bytes text ≡ member_head member view.now ++ member_counts view.now) }
 {
     let mut text = member_head(alloc, member, view)?;
     let counts = member_counts(alloc, view)?;
@@ -215,7 +216,8 @@ pub fn members_text(
 
 /// Returns `true` if as many links come in and go out as a member needs to decide.
 fn has_links(size: Size, view: &MemberView) -> bool
-    ensures { IsTrue result ↔ ((size.n - size.t ≤ view.now.coming) × (size.n - size.t ≤ view.now.going)) }
+    ensures { IsTrue result
+        ↔ ((size.n - size.t ≤ view.now.coming) × (size.n - size.t ≤ view.now.going)) }
 {
     size.recall();
     let needed = u64::from(size.n() - size.t());

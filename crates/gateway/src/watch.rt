@@ -66,11 +66,13 @@ impl Watch {
     /// Returns `false` if there is no such member or question, and then nothing changed.
     #[tactic(auto, unfolding(crate::specs::Watches::Watches, crate::specs::Watches::watch_size))]
     pub fn take(&mut self, told: Told) -> bool
-        ensures words { IsTrue result → (heard : List Told) → Watches self.old heard → Watches self.new (heard ++ told ∷ []) }
+        ensures words { IsTrue result → (heard : List Told) → Watches self.old heard →
+            Watches self.new (heard ++ told ∷ []) }
         ensures same { IsFalse result → self.new ≡ self.old }
         ensures size { watch_size self.new ≡ watch_size self.old }
         ensures taken { (heard : List Told) → Watches self.old heard →
-            (IsTrue result ↔ ((told.member < (watch_size self.old).n) × (told.question < (watch_size self.old).questions))) }
+            (IsTrue result ↔ ((told.member < (watch_size self.old).n)
+            × (told.question < (watch_size self.old).questions))) }
     {
         let place = usize::from(told.question);
         if place >= self.readings.len() {
@@ -87,7 +89,8 @@ impl Watch {
     /// Returns the decision of the question: the first bit that more than t members told.
     #[tactic(auto, unfolding(crate::specs::Watches::Watches, crate::specs::Watches::watch_size))]
     pub fn decision(&self, question: u16) -> Option<bool>
-        ensures { (heard : List Told) → Watches self.now heard → Decides (watch_size self.now) heard question result }
+        ensures { (heard : List Told) → Watches self.now heard →
+            Decides (watch_size self.now) heard question result }
     {
         match self.readings.get(usize::from(question)) {
             Some(reading) => reading.decision(),
@@ -99,7 +102,8 @@ impl Watch {
     /// isn't below 64 told none.
     #[tactic(auto, unfolding(crate::specs::Watches::Watches))]
     pub fn word_of(&self, question: u16, member: u8) -> Option<bool>
-        ensures { (heard : List Told) → Watches self.now heard → member < 64 → result ≡ first_word (words_on question heard) member }
+        ensures { (heard : List Told) → Watches self.now heard → member < 64 →
+            result ≡ first_word (words_on question heard) member }
     {
         match self.readings.get(usize::from(question)) {
             Some(reading) => reading.word_of(member),
@@ -125,7 +129,8 @@ impl Watch {
     #[tactic(auto, unfolding(crate::specs::Watches::watch_size))]
     pub fn contradictions(&self, alloc: Global, member: u8) -> Result<Vec<Option<bool>>, AllocError>
         ensures { (heard : List Told) → Watches self.now heard → member < 64 →
-            IfOk result (λ found. AreContradictions (watch_size self.now) heard member (watch_size self.now).questions found.items) }
+            IfOk result (λ found. AreContradictions (watch_size self.now) heard member
+            (watch_size self.now).questions found.items) }
     {
         let mut found = Vec::new(alloc);
         for question in 0..self.size.questions() {

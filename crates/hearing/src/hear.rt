@@ -39,12 +39,15 @@ pub fn hear_lines<R: BufRead, W: Write>(
 ) -> Result<u8, HearFault>
     // Where the bytes of the streams are known, what is written is the answer to what is read, and
     // nothing else.
-    ensures all { IfOk result (λ status. (status ≡ 0)
-        × WritesReplies size me (R.remaining input.old) None (W.contents output.old) (W.contents output.new)) }
+    ensures all { IfOk result
+        (λ status. (status ≡ 0) × WritesReplies size me (R.remaining input.old) None
+        (W.contents output.old) (W.contents output.new)) }
     ensures line { (number : ℕ) → result ≡ Err (HearFault.Line number) →
-        WritesReplies size me (R.remaining input.old) (Some number) (W.contents output.old) (W.contents output.new) }
+        WritesReplies size me (R.remaining input.old) (Some number) (W.contents output.old)
+        (W.contents output.new) }
     ensures me { (result ≡ Err HearFault.Me) ↔ (size.n ≤ me) }
-    ensures none { result ≡ Err HearFault.Me → Keeps (W.contents output.old) (W.contents output.new) }
+    ensures none { result ≡ Err HearFault.Me →
+        Keeps (W.contents output.old) (W.contents output.new) }
 {
     if me >= size.n() {
         return Err(HearFault::Me);

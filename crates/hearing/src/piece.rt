@@ -31,7 +31,9 @@ impl Piece {
     /// The piece that the line names, or none where it isn't a line of that form, for a cluster of
     /// n members.
     pub fn parse(alloc: Global, n: u8, line: &[u8]) -> Result<Option<Piece>, Memory>
-        ensures { IfOk result (λ found. MatchOption found (IsNoPiece n line.now) (λ piece. IsPiece n line.now piece.sender piece.bytes.items)) }
+        ensures { IfOk result
+            (λ found. MatchOption found (IsNoPiece n line.now)
+            (λ piece. IsPiece n line.now piece.sender piece.bytes.items)) }
     {
         let Some((digits, hexes)) = split_at_space(line) else {
             return Ok(None);

@@ -27,7 +27,8 @@ use wire::{Fed, Feeder, Message, WireFault, encode};
 
 /// Adds the frame in lower case hexadecimal digits, and the end of a line.
 fn show_frame(alloc: Global, message: &Message, text: &mut Vec<u8>) -> Result<(), Memory>
-    ensures { OnOk result (text.new.items ≡ text.old.items ++ line (encode_lower (text_of message.now))) }
+    ensures { OnOk result
+        (text.new.items ≡ text.old.items ++ line (encode_lower (text_of message.now))) }
 {
     let mut frame = Vec::new(alloc);
     encode(message, &mut frame)?;
@@ -47,8 +48,12 @@ fn say(
     text: &mut Vec<u8>,
 ) -> Result<(), Memory>
     requires { place.origin < (broadcasts_size broadcasts.old).n }
-    ensures text { OnOk result (FitsIf place due → text.new.items ≡ text.old.items ++ flat_map frame_line (said_if kind place due)) }
-    ensures stands { OnOk result (FitsIf place due → (past : Past) → BroadcastsStandFor broadcasts.old past → place.question ≡ past.question →
+    ensures text { OnOk result
+        (FitsIf place due → text.new.items ≡ text.old.items
+        ++ flat_map frame_line (said_if kind place due)) }
+    ensures stands { OnOk result
+        (FitsIf place due → (past : Past) → BroadcastsStandFor broadcasts.old past →
+        place.question ≡ past.question →
         BroadcastsStandFor broadcasts.new (after_records past (said_if kind place due))) }
     ensures size { broadcasts_size broadcasts.new ≡ broadcasts_size broadcasts.old }
 {
@@ -75,9 +80,11 @@ fn hear(
 ) -> Result<(), Memory>
     requires from { from < (broadcasts_size broadcasts.old).n }
     requires origin { statement.now.place.origin < (broadcasts_size broadcasts.old).n }
-    ensures answers { OnOk result ((past : Past) → BroadcastsStandFor broadcasts.old past → statement.now.place.question ≡ past.question → AllFit past →
-        FitsStep statement.now.place.step statement.now.value →
-        (after : Past) × (others : List ℕ) × AnswersStatement from past statement.now after others
+    ensures answers { OnOk result
+        ((past : Past) → BroadcastsStandFor broadcasts.old past →
+        statement.now.place.question ≡ past.question → AllFit past →
+        FitsStep statement.now.place.step statement.now.value → (after : Past) × (others : List ℕ)
+        × AnswersStatement from past statement.now after others
         × BroadcastsStandFor broadcasts.new after × (text.new.items ≡ text.old.items ++ others)) }
     ensures size { broadcasts_size broadcasts.new ≡ broadcasts_size broadcasts.old }
 {
@@ -107,9 +114,11 @@ fn hear_one(
     requires has { HasBroadcasts size broadcasts.old.items }
     requires from { from < size.n }
     requires well { IsWellFormed size statement.now }
-    ensures answers { OnOk result ((h : Hearing) → EachStandsFor size broadcasts.old.items h →
-        (after : Hearing) × (others : List ℕ) × AnswersOne from h statement.now after others
-        × EachStandsFor size broadcasts.new.items after × (text.new.items ≡ text.old.items ++ others)) }
+    ensures answers { OnOk result
+        ((h : Hearing) → EachStandsFor size broadcasts.old.items h → (after : Hearing)
+        × (others : List ℕ) × AnswersOne from h statement.now after others
+        × EachStandsFor size broadcasts.new.items after
+        × (text.new.items ≡ text.old.items ++ others)) }
     ensures has { OnOk result (HasBroadcasts size broadcasts.new.items) }
 {
     let question = usize::from(statement.place().question());
@@ -129,9 +138,11 @@ fn hear_each(
     requires has { HasBroadcasts size broadcasts.old.items }
     requires from { from < size.n }
     requires well { AllByRecursion (IsWellFormed size) statements.now }
-    ensures answers { OnOk result ((h : Hearing) → EachStandsFor size broadcasts.old.items h →
-        (after : Hearing) × (others : List ℕ) × InTurn (AnswersOne from) h statements.now after others
-        × EachStandsFor size broadcasts.new.items after × (text.new.items ≡ text.old.items ++ others)) }
+    ensures answers { OnOk result
+        ((h : Hearing) → EachStandsFor size broadcasts.old.items h → (after : Hearing)
+        × (others : List ℕ) × InTurn (AnswersOne from) h statements.now after others
+        × EachStandsFor size broadcasts.new.items after
+        × (text.new.items ≡ text.old.items ++ others)) }
     ensures has { OnOk result (HasBroadcasts size broadcasts.new.items) }
 {
     for statement in statements {
@@ -152,9 +163,11 @@ fn hear_message(
     requires has { HasBroadcasts size broadcasts.old.items }
     requires from { from < size.n }
     requires fits { Fits size message.now }
-    ensures answers { OnOk result ((h : Hearing) → EachStandsFor size broadcasts.old.items h →
-        (after : Hearing) × (others : List ℕ) × AnswersMessage from h message.now after others
-        × EachStandsFor size broadcasts.new.items after × (text.new.items ≡ text.old.items ++ others)) }
+    ensures answers { OnOk result
+        ((h : Hearing) → EachStandsFor size broadcasts.old.items h → (after : Hearing)
+        × (others : List ℕ) × AnswersMessage from h message.now after others
+        × EachStandsFor size broadcasts.new.items after
+        × (text.new.items ≡ text.old.items ++ others)) }
     ensures has { OnOk result (HasBroadcasts size broadcasts.new.items) }
 {
     match message {
@@ -182,9 +195,11 @@ fn hear_all(
     requires has { HasBroadcasts size broadcasts.old.items }
     requires from { from < size.n }
     requires fits { AllByRecursion (Fits size) messages.now }
-    ensures answers { OnOk result ((h : Hearing) → EachStandsFor size broadcasts.old.items h →
-        (after : Hearing) × (others : List ℕ) × InTurn (AnswersMessage from) h messages.now after others
-        × EachStandsFor size broadcasts.new.items after × (text.new.items ≡ text.old.items ++ others)) }
+    ensures answers { OnOk result
+        ((h : Hearing) → EachStandsFor size broadcasts.old.items h → (after : Hearing)
+        × (others : List ℕ) × InTurn (AnswersMessage from) h messages.now after others
+        × EachStandsFor size broadcasts.new.items after
+        × (text.new.items ≡ text.old.items ++ others)) }
     ensures has { OnOk result (HasBroadcasts size broadcasts.new.items) }
 {
     for message in messages {
@@ -195,7 +210,8 @@ fn hear_all(
 
 /// Adds the line that names the fault.
 fn show_fault(fault: WireFault, text: &mut Vec<u8>) -> Result<(), Memory>
-    ensures { OnOk result (text.new.items ≡ text.old.items ++ line (codes "broken " ++ fault_name fault)) }
+    ensures { OnOk result
+        (text.new.items ≡ text.old.items ++ line (codes "broken " ++ fault_name fault)) }
 {
     let name: &str = match fault {
         WireFault::BadLength => "BadLength",
@@ -249,8 +265,9 @@ impl Session {
     pub fn hear(&mut self, sender: u8, piece: &[u8], text: &mut Vec<u8>) -> Result<(), Memory>
         requires sound { IsWhole self.old.size self.old }
         requires sender { sender < self.old.size.n }
-        ensures answers { OnOk result ((h : Hearing) → SessionStandsFor self.old h →
-            (after : Hearing) × (others : List ℕ) × AnswersPiece self.old.size sender h piece.now after others
+        ensures answers { OnOk result
+            ((h : Hearing) → SessionStandsFor self.old h → (after : Hearing) × (others : List ℕ)
+            × AnswersPiece self.old.size sender h piece.now after others
             × SessionStandsFor self.new after × (text.new.items ≡ text.old.items ++ others)) }
         ensures sound { OnOk result (IsWhole self.old.size self.new) }
     {
@@ -282,7 +299,8 @@ impl Session {
         requires { IsWhole self.old.size self.old }
         ensures answers { result ≡ Ok true → (h : Hearing) → SessionStandsFor self.old h →
             (after : Hearing) × (text : List ℕ) × AnswersInput self.old.size h line.now after text
-            × SessionStandsFor self.new after × Appends (W.contents output.old) (W.contents output.new) text }
+            × SessionStandsFor self.new after
+            × Appends (W.contents output.old) (W.contents output.new) text }
         ensures sound { result ≡ Ok true → IsWhole self.old.size self.new }
         ensures no_piece { result ≡ Ok false → IsNoPiece self.old.size.n line.now }
         ensures nothing { result ≡ Ok false → output.new ≡ output.old }

@@ -44,7 +44,8 @@ impl Batches {
         ensures left { IfOk result (λ batches. (records : List Record) × HasLeft batches records
             × (D.keeps disk.new → Holds header.now records (D.state disk.old).seen)) }
         ensures read { OnOk result (WasRead D.Disk disk.old disk.new) }
-        ensures fault { IfErr result (λ fault. HandsBack D.Disk disk.old header.now fault disk.new) }
+        ensures fault { IfErr result
+            (λ fault. HandsBack D.Disk disk.old header.now fault disk.new) }
     {
         let bytes = fetch(alloc, disk)?;
         check_file(alloc, header, &bytes)?;
@@ -62,11 +63,15 @@ impl Batches {
     /// at.
     #[tactic(auto, unfolding(crate::specs::Left::bytes_left))]
     pub fn next(&mut self, records: &mut Vec<Record>) -> Result<bool, JournalFault>
-        ensures some { (left : List Record) → HasLeft self.old left → IfOk result (λ more. more ≡ true →
-            (later : List Record) × (left ≡ records.new.items ++ later) × HasLeft self.new later) }
-        ensures none { (left : List Record) → HasLeft self.old left → IfOk result (λ more. more ≡ false → left ≡ []) }
-        ensures fault { (left : List Record) → HasLeft self.old left → IfErr result (λ fault. fault ≡ Memory) }
-        ensures shorter { IfOk result (λ more. more ≡ true → bytes_left self.new < bytes_left self.old) }
+        ensures some { (left : List Record) → HasLeft self.old left →
+            IfOk result (λ more. more ≡ true → (later : List Record)
+            × (left ≡ records.new.items ++ later) × HasLeft self.new later) }
+        ensures none { (left : List Record) → HasLeft self.old left →
+            IfOk result (λ more. more ≡ false → left ≡ []) }
+        ensures fault { (left : List Record) → HasLeft self.old left →
+            IfErr result (λ fault. fault ≡ Memory) }
+        ensures shorter { IfOk result
+            (λ more. more ≡ true → bytes_left self.new < bytes_left self.old) }
     {
         records.clear();
         match read_batch(&self.header, rest_from(&self.bytes, self.at), records)? {
@@ -88,7 +93,9 @@ fn rest_from(bytes: &[u8], at: usize) -> &[u8]
 
 /// Looks at all batches behind a header.
 fn check(alloc: Global, header: &Header, bytes: &[u8]) -> Result<(), JournalFault>
-    ensures whole { OnOk result ((records : List Record) × (rest : List ℕ) × TakesBatches header.now bytes.now records (0 ∷ rest)) }
+    ensures whole { OnOk result
+        ((records : List Record) × (rest : List ℕ)
+        × TakesBatches header.now bytes.now records (0 ∷ rest)) }
     ensures refused { IfErr result (λ fault. BreaksBatches header.now fault bytes.now) }
 {
     let mut records = Vec::new(alloc);
@@ -104,9 +111,11 @@ fn check(alloc: Global, header: &Header, bytes: &[u8]) -> Result<(), JournalFaul
 
 /// Looks at a whole file.
 fn check_file(alloc: Global, header: &Header, bytes: &[u8]) -> Result<(), JournalFault>
-    ensures whole { OnOk result ((records : List Record) × (rest : List ℕ)
-        × Holds header.now records bytes.now × TakesBatches header.now (drop 24 bytes.now) records (0 ∷ rest)) }
-    ensures refused { IfErr result (λ fault. IsOfFile fault → RefusesFile header.now fault bytes.now) }
+    ensures whole { OnOk result
+        ((records : List Record) × (rest : List ℕ) × Holds header.now records bytes.now
+        × TakesBatches header.now (drop 24 bytes.now) records (0 ∷ rest)) }
+    ensures refused { IfErr result
+        (λ fault. IsOfFile fault → RefusesFile header.now fault bytes.now) }
     ensures only { IfErr result (λ fault. IsOfFile fault ⊎ (fault ≡ Memory)) }
 {
     let behind = behind_header(header, bytes)?;

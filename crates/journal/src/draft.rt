@@ -37,7 +37,8 @@ impl<D: Disk> Draft<D> {
     #[tactic(auto, unfolding(crate::specs::Drafts::draft_disk, crate::specs::Drafts::draft_header, crate::specs::Drafts::draft_gate))]
     pub fn begin(alloc: Global, mut disk: D, header: &Header) -> Result<Draft<D>, (JournalFault, D)>
         ensures begun { IfOk result (λ draft. HasBegun D.Disk disk header.now draft) }
-        ensures fault { IfErr result (λ refused. HasNotBegun D.Disk disk header.now refused.0 refused.1) }
+        ensures fault { IfErr result
+            (λ refused. HasNotBegun D.Disk disk header.now refused.0 refused.1) }
     {
         match write_new(&mut disk, &new_draft(header)) {
             Ok(()) => Ok(Draft {
@@ -61,21 +62,27 @@ impl<D: Disk> Draft<D> {
         requires some { 0 < length records.now }
         requires count { length records.now ≤ 65535 }
         requires well_formed { AreWellFormedFor (draft_header self.old) records.now }
-        requires drafted { D.keeps (draft_disk self.old) → (batches : List Batch) × IsDraftOf D.state batches self.old }
+        requires drafted { D.keeps (draft_disk self.old) → (batches : List Batch)
+            × IsDraftOf D.state batches self.old }
 
-        ensures added { D.keeps (draft_disk self.new) → OnOk result ((batches : List Batch) →
-            IsDraftOf D.state batches self.old → IsDraftOf D.state (batches ++ new_batch records.now ∷ []) self.new) }
+        ensures added { D.keeps (draft_disk self.new) →
+            OnOk result ((batches : List Batch) → IsDraftOf D.state batches self.old →
+            IsDraftOf D.state (batches ++ new_batch records.now ∷ []) self.new) }
         ensures any_moment { D.keeps (draft_disk self.new) →
             LeavesOnly D.moment D.since (draft_disk self.old) (draft_disk self.new) IsNoJournal }
         ensures four_calls { D.keeps (draft_disk self.new) → OnOk result (
             D.moment (draft_disk self.new) ≡ D.moment (draft_disk self.old) + 4) }
-        ensures gate { OnOk result (draft_gate self.new ≡ draft_gate self.old + 3 + 6 * length records.now) }
+        ensures gate { OnOk result
+            (draft_gate self.new ≡ draft_gate self.old + 3 + 6 * length records.now) }
         ensures room { OnOk result (draft_gate self.old + 3 + 6 * length records.now ≤ 2 ^ 31) }
-        ensures quiet { OnOk result (D.failures (draft_disk self.new) ≡ D.failures (draft_disk self.old)) }
+        ensures quiet { OnOk result
+            (D.failures (draft_disk self.new) ≡ D.failures (draft_disk self.old)) }
 
         ensures only { IfErr result IsFaultOfAdding }
-        ensures full { IsErrOf result JournalFault.Full ↔ (2 ^ 31 < draft_gate self.old + 3 + 6 * length records.now) }
-        ensures device { IsErrOf result JournalFault.Device → D.failures (draft_disk self.old) < D.failures (draft_disk self.new) }
+        ensures full { IsErrOf result JournalFault.Full
+            ↔ (2 ^ 31 < draft_gate self.old + 3 + 6 * length records.now) }
+        ensures device { IsErrOf result JournalFault.Device →
+            D.failures (draft_disk self.old) < D.failures (draft_disk self.new) }
         ensures later { D.failures (draft_disk self.old) ≤ D.failures (draft_disk self.new) }
         ensures kept { D.keeps (draft_disk self.new) → D.keeps (draft_disk self.old) }
         ensures header { draft_header self.new ≡ draft_header self.old }

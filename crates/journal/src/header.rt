@@ -38,7 +38,8 @@ pub(crate) fn new_file(header: &Header) -> [u8; 25]
 /// The header of these bytes, if they are one.
 pub fn header_of(bytes: &[u8; 24]) -> Option<Header>
     ensures some { IfSome result (λ header. IsHeader header × (bytes.now ≡ header_text header)) }
-    ensures none { IsNone result → (header : Header) → IsHeader header → bytes.now ≡ header_text header → ⊥ }
+    ensures none { IsNone result → (header : Header) → IsHeader header →
+        bytes.now ≡ header_text header → ⊥ }
 {
     if !is_marked(bytes) {
         return None;
@@ -55,7 +56,8 @@ pub fn header_of(bytes: &[u8; 24]) -> Option<Header>
 
 /// Returns `true` if they begin and end as each header does.
 fn is_marked(bytes: &[u8; 24]) -> bool
-    ensures { IsTrue result ↔ (take 8 bytes.now ≡ codes "BRACHAJ2") × (take 3 (drop 21 bytes.now) ≡ 0 ∷ 0 ∷ 0 ∷ []) }
+    ensures { IsTrue result ↔ (take 8 bytes.now ≡ codes "BRACHAJ2")
+        × (take 3 (drop 21 bytes.now) ≡ 0 ∷ 0 ∷ 0 ∷ []) }
 {
     bytes[..8] == MARK[..] && bytes[21..] == ZEROS[..]
 }

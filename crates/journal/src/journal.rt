@@ -45,7 +45,8 @@ impl<D: Disk> Journal<D> {
             (header : Header) × (all : List Record) × IsAtRest D.state header all self.old }
 
         ensures added { OnOk result (HasAdded D.Disk self.old records.now self.new) }
-        ensures fault { IfErr result (λ fault. HasNotAdded D.Disk self.old records.now fault self.new) }
+        ensures fault { IfErr result
+            (λ fault. HasNotAdded D.Disk self.old records.now fault self.new) }
         ensures batch { AddsAllOrNothing D.Disk self.old records.now self.new }
     {
         if self.stopped {
@@ -75,9 +76,11 @@ impl<D: Disk> Journal<D> {
         D: Release,
         requires released { (fault : JournalFault) (after : D) →
             HandsBack D.Disk disk header.now fault after → D.may_go after }
-        ensures opened { IfOk result (λ opened. HasOpened D.Disk disk header.now opened.1.items opened.0) }
+        ensures opened { IfOk result
+            (λ opened. HasOpened D.Disk disk header.now opened.1.items opened.0) }
         // `released` speaks of the disk that is gone; this is why it is.
-        ensures fault { IfErr result (λ fault. (after : D) × HandsBack D.Disk disk header.now fault after) }
+        ensures fault { IfErr result
+            (λ fault. (after : D) × HandsBack D.Disk disk header.now fault after) }
     {
         match Journal::adopt(alloc, disk, header) {
             Ok(opened) => Ok(opened),
@@ -103,8 +106,10 @@ impl<D: Disk> Journal<D> {
         mut disk: D,
         header: &Header,
     ) -> Result<(Journal<D>, Vec<Record>), (JournalFault, D)>
-        ensures opened { IfOk result (λ opened. HasOpened D.Disk disk header.now opened.1.items opened.0) }
-        ensures fault { IfErr result (λ refused. HandsBack D.Disk disk header.now refused.0 refused.1) }
+        ensures opened { IfOk result
+            (λ opened. HasOpened D.Disk disk header.now opened.1.items opened.0) }
+        ensures fault { IfErr result
+            (λ refused. HandsBack D.Disk disk header.now refused.0 refused.1) }
     {
         match load(alloc, &mut disk, header) {
             Ok((gate, records)) => Ok((

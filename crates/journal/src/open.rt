@@ -21,7 +21,8 @@ use terms::{Header, Record};
 /// - `NotEmpty`: the file has bytes already. Nothing was written.
 /// - `Device`: the disk failed. The file may have any of the bytes.
 pub fn create<D: Disk>(disk: &mut D, header: &Header) -> Result<(), JournalFault>
-    ensures file { D.keeps disk.new → OnOk result (D.state disk.new ≡ at_rest (header_text header.now ++ 0 ∷ [])) }
+    ensures file { D.keeps disk.new →
+        OnOk result (D.state disk.new ≡ at_rest (header_text header.now ++ 0 ∷ [])) }
     ensures created { D.keeps disk.new → OnOk result (Holds header.now [] (D.state disk.new).seen) }
     ensures durable { D.keeps disk.new → OnOk result (
         (file : List ℕ) → MayLeave (D.state disk.new) file → Holds header.now [] file) }
@@ -30,15 +31,18 @@ pub fn create<D: Disk>(disk: &mut D, header: &Header) -> Result<(), JournalFault
     // the one write.
     ensures any_moment { D.keeps disk.new → LeavesOnly D.moment D.since disk.old disk.new
         (MayLeave (after_write (D.state disk.old) 0 (header_text header.now ++ 0 ∷ []))) }
-    ensures three_calls { D.keeps disk.new → OnOk result (D.moment disk.new ≡ D.moment disk.old + 3) }
+    ensures three_calls { D.keeps disk.new →
+        OnOk result (D.moment disk.new ≡ D.moment disk.old + 3) }
 
     ensures was_empty { D.keeps disk.new → OnOk result (length (D.state disk.old).seen ≡ 0) }
-    ensures not_empty { D.keeps disk.new → IsErrOf result JournalFault.NotEmpty → 0 < length (D.state disk.old).seen }
+    ensures not_empty { D.keeps disk.new → IsErrOf result JournalFault.NotEmpty →
+        0 < length (D.state disk.old).seen }
     ensures not_empty_same { D.keeps disk.new → IsErrOf result JournalFault.NotEmpty →
         D.state disk.new ≡ D.state disk.old }
     // A file that has bytes is never written, whichever the fault.
     ensures spared { SparesBytes D.Disk disk.old disk.new }
-    ensures device { IsErrOf result JournalFault.Device → D.failures disk.old < D.failures disk.new }
+    ensures device { IsErrOf result JournalFault.Device →
+        D.failures disk.old < D.failures disk.new }
     ensures only { IfErr result IsFaultOfCreate }
     ensures later { D.failures disk.old ≤ D.failures disk.new }
     ensures kept { D.keeps disk.new → D.keeps disk.old }
@@ -53,16 +57,19 @@ pub(crate) fn write_new<D: Disk>(disk: &mut D, bytes: &[u8]) -> Result<(), Journ
     ensures file { D.keeps disk.new → OnOk result (D.state disk.new ≡ at_rest bytes.now) }
     ensures any_moment { D.keeps disk.new → LeavesOnly D.moment D.since disk.old disk.new
         (MayLeave (after_write (D.state disk.old) 0 bytes.now)) }
-    ensures three_calls { D.keeps disk.new → OnOk result (D.moment disk.new ≡ D.moment disk.old + 3) }
+    ensures three_calls { D.keeps disk.new →
+        OnOk result (D.moment disk.new ≡ D.moment disk.old + 3) }
     ensures quiet { OnOk result (D.failures disk.new ≡ D.failures disk.old) }
 
     ensures was_empty { D.keeps disk.new → OnOk result (length (D.state disk.old).seen ≡ 0) }
-    ensures not_empty { D.keeps disk.new → IsErrOf result JournalFault.NotEmpty → 0 < length (D.state disk.old).seen }
+    ensures not_empty { D.keeps disk.new → IsErrOf result JournalFault.NotEmpty →
+        0 < length (D.state disk.old).seen }
     ensures not_empty_same { D.keeps disk.new → IsErrOf result JournalFault.NotEmpty →
         D.state disk.new ≡ D.state disk.old }
     // A file that has bytes is never written, whichever the fault.
     ensures spared { SparesBytes D.Disk disk.old disk.new }
-    ensures device { IsErrOf result JournalFault.Device → D.failures disk.old < D.failures disk.new }
+    ensures device { IsErrOf result JournalFault.Device →
+        D.failures disk.old < D.failures disk.new }
     ensures only { IfErr result IsFaultOfCreate }
     ensures later { D.failures disk.old ≤ D.failures disk.new }
     ensures kept { D.keeps disk.new → D.keeps disk.old }
@@ -81,16 +88,22 @@ pub(crate) fn write_new<D: Disk>(disk: &mut D, bytes: &[u8]) -> Result<(), Journ
 /// - `OldVersion`: the file is of version 1.
 /// - `Device`: the disk failed.
 pub fn peek<D: Disk>(disk: &mut D) -> Result<Header, JournalFault>
-    ensures header { D.keeps disk.new → IfOk result (λ header. HasHeader header (D.state disk.old).seen) }
+    ensures header { D.keeps disk.new →
+        IfOk result (λ header. HasHeader header (D.state disk.old).seen) }
     ensures bad_header { D.keeps disk.new → IsErrOf result JournalFault.BadHeader →
         (header : Header) → HasHeader header (D.state disk.old).seen → ⊥ }
-    ensures not_old { D.keeps disk.new → IsErrOf result JournalFault.BadHeader → IsOldVersion (D.state disk.old).seen → ⊥ }
-    ensures old_version { D.keeps disk.new → IsErrOf result JournalFault.OldVersion → IsOldVersion (D.state disk.old).seen }
+    ensures not_old { D.keeps disk.new → IsErrOf result JournalFault.BadHeader →
+        IsOldVersion (D.state disk.old).seen → ⊥ }
+    ensures old_version { D.keeps disk.new → IsErrOf result JournalFault.OldVersion →
+        IsOldVersion (D.state disk.old).seen }
     ensures same { D.keeps disk.new → D.state disk.new ≡ D.state disk.old }
-    ensures any_moment { D.keeps disk.new → LeavesOnly D.moment D.since disk.old disk.new (MayLeave (D.state disk.old)) }
-    ensures two_calls { D.keeps disk.new → IsErrOf result JournalFault.Device ⊎ (D.moment disk.new ≡ D.moment disk.old + 2) }
+    ensures any_moment { D.keeps disk.new →
+        LeavesOnly D.moment D.since disk.old disk.new (MayLeave (D.state disk.old)) }
+    ensures two_calls { D.keeps disk.new → IsErrOf result JournalFault.Device
+        ⊎ (D.moment disk.new ≡ D.moment disk.old + 2) }
 
-    ensures device { IsErrOf result JournalFault.Device → D.failures disk.old < D.failures disk.new }
+    ensures device { IsErrOf result JournalFault.Device →
+        D.failures disk.old < D.failures disk.new }
     ensures only { IfErr result IsFaultOfPeek }
     ensures later { D.failures disk.old ≤ D.failures disk.new }
     ensures kept { D.keeps disk.new → D.keeps disk.old }
@@ -115,7 +128,8 @@ pub(crate) fn load<D: Disk>(
     disk: &mut D,
     header: &Header,
 ) -> Result<(usize, Vec<Record>), JournalFault>
-    ensures held { D.keeps disk.new → IfOk result (λ held. IsHeld (D.state disk.new) header.now held.0 held.1.items) }
+    ensures held { D.keeps disk.new →
+        IfOk result (λ held. IsHeld (D.state disk.new) header.now held.0 held.1.items) }
     ensures read { OnOk result (WasRead D.Disk disk.old disk.new) }
     ensures fault { IfErr result (λ fault. HandsBack D.Disk disk.old header.now fault disk.new) }
 {
@@ -125,9 +139,11 @@ pub(crate) fn load<D: Disk>(
 
 /// All the bytes, once they are on the disk.
 pub(crate) fn fetch<D: Disk>(alloc: Global, disk: &mut D) -> Result<Vec<u8>, JournalFault>
-    ensures bytes { D.keeps disk.new → IfOk result (λ bytes. bytes.items ≡ (D.state disk.old).seen) }
+    ensures bytes { D.keeps disk.new →
+        IfOk result (λ bytes. bytes.items ≡ (D.state disk.old).seen) }
     ensures read { OnOk result (WasRead D.Disk disk.old disk.new) }
-    ensures fault { IfErr result (λ fault. (header : Header) → HandsBack D.Disk disk.old header fault disk.new) }
+    ensures fault { IfErr result
+        (λ fault. (header : Header) → HandsBack D.Disk disk.old header fault disk.new) }
 {
     disk.sync()?;
     let len = disk.len()?;
@@ -168,7 +184,8 @@ pub fn read_file(
     bytes: &[u8],
 ) -> Result<(usize, Vec<Record>), JournalFault>
     ensures held { IfOk result (λ held. IsHeld (at_rest bytes.now) header.now held.0 held.1.items) }
-    ensures refused { IfErr result (λ fault. IsOfFile fault → RefusesFile header.now fault bytes.now) }
+    ensures refused { IfErr result
+        (λ fault. IsOfFile fault → RefusesFile header.now fault bytes.now) }
     ensures only { IfErr result (λ fault. IsOfFile fault ⊎ (fault ≡ Memory)) }
 {
     let behind = behind_header(header, bytes)?;

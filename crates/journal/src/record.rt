@@ -52,8 +52,10 @@ fn said_bytes(s: Statement) -> [u8; 6]
 
 /// The record of these bytes, if they are one that is well formed for the header.
 pub fn record_of(header: &Header, bytes: &[u8; 6]) -> Option<Record>
-    ensures some { IfSome result (λ r. IsWellFormedFor header.now r × (bytes.now ≡ record_bytes r)) }
-    ensures none { IsNone result → (r : Record) → IsWellFormedFor header.now r → bytes.now ≢ record_bytes r }
+    ensures some { IfSome result
+        (λ r. IsWellFormedFor header.now r × (bytes.now ≡ record_bytes r)) }
+    ensures none { IsNone result → (r : Record) → IsWellFormedFor header.now r →
+        bytes.now ≢ record_bytes r }
 {
     header.size().recall();
     let [kind, high, low, origin, round, last] = *bytes;
@@ -99,9 +101,11 @@ fn said_of(
 
 /// The decision of these numbers.
 fn decided_of(header: &Header, question: u16, round: u8, bit: u8) -> Option<Record>
-    ensures some { IfSome result (λ r. (b : Bool) × (r ≡ Decided question round b) × IsDecisionFor header.now question round
+    ensures some { IfSome result
+        (λ r. (b : Bool) × (r ≡ Decided question round b) × IsDecisionFor header.now question round
         × (bit ≡ bit_byte b)) }
-    ensures none { IsNone result → IsDecisionFor header.now question round → (b : Bool) → bit ≢ bit_byte b }
+    ensures none { IsNone result → IsDecisionFor header.now question round → (b : Bool) →
+        bit ≢ bit_byte b }
 {
     let in_cluster = question < header.size().questions();
     if in_cluster && 1 <= round && round <= LAST_ROUND && bit <= 1 {

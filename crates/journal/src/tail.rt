@@ -50,20 +50,28 @@ impl<D: Disk> Tail<D> {
         requires few { length records.now ≤ 65535 }
         requires shut { D.keeps self.old.disk → IsShut self.old.gate (D.state self.old.disk) }
 
-        ensures done { D.keeps self.new.disk → OnOk result (
-            D.state self.new.disk ≡ at_rest (with_batch self.old.gate records.now (D.state self.old.disk).seen)) }
-        ensures any_moment { D.keeps self.new.disk → LeavesOnly D.moment D.since self.old.disk self.new.disk
-            (IsCommit (take self.old.gate (D.state self.old.disk).seen) (batch_body records.now ++ 0 ∷ [])) }
-        ensures four_calls { D.keeps self.new.disk → OnOk result (D.moment self.new.disk ≡ D.moment self.old.disk + 4) }
-        ensures calls { D.keeps self.new.disk → OnOk result (PassesThrough D.Disk self.old.disk
-            (commit_states (D.state self.old.disk) self.old.gate (batch_body records.now ++ 0 ∷ [])) self.new.disk) }
+        ensures done { D.keeps self.new.disk →
+            OnOk result (D.state self.new.disk
+            ≡ at_rest (with_batch self.old.gate records.now (D.state self.old.disk).seen)) }
+        ensures any_moment { D.keeps self.new.disk →
+            LeavesOnly D.moment D.since self.old.disk self.new.disk
+            (IsCommit (take self.old.gate (D.state self.old.disk).seen)
+            (batch_body records.now ++ 0 ∷ [])) }
+        ensures four_calls { D.keeps self.new.disk →
+            OnOk result (D.moment self.new.disk ≡ D.moment self.old.disk + 4) }
+        ensures calls { D.keeps self.new.disk →
+            OnOk result (PassesThrough D.Disk self.old.disk
+            (commit_states (D.state self.old.disk) self.old.gate (batch_body records.now ++ 0 ∷ []))
+            self.new.disk) }
         ensures gate { OnOk result (self.new.gate ≡ self.old.gate + 3 + 6 * length records.now) }
         ensures room { OnOk result (self.old.gate + 3 + 6 * length records.now ≤ 2 ^ 31) }
         ensures quiet { OnOk result (D.failures self.new.disk ≡ D.failures self.old.disk) }
 
         ensures only { IfErr result IsFaultOfAdding }
-        ensures full { IsErrOf result JournalFault.Full ↔ (2 ^ 31 < self.old.gate + 3 + 6 * length records.now) }
-        ensures device { IsErrOf result JournalFault.Device → D.failures self.old.disk < D.failures self.new.disk }
+        ensures full { IsErrOf result JournalFault.Full
+            ↔ (2 ^ 31 < self.old.gate + 3 + 6 * length records.now) }
+        ensures device { IsErrOf result JournalFault.Device →
+            D.failures self.old.disk < D.failures self.new.disk }
         ensures same { IfErr result (λ fault. fault ≢ JournalFault.Device → self.new ≡ self.old) }
         ensures later { D.failures self.old.disk ≤ D.failures self.new.disk }
         ensures kept { D.keeps self.new.disk → D.keeps self.old.disk }

@@ -76,8 +76,10 @@ fn push_tossed<T: Tosser>(
     statement: Statement,
     tosser: &mut T,
 ) -> Result<(), Memory>
-    ensures said { OnOk result (said_in events.new.items ≡ said_in events.old.items ++ statement ∷ []) }
-    ensures toss { OnOk result ((begun : T) → Draws T.may_toss begun (tosses_in events.old.items) tosser.old →
+    ensures said { OnOk result
+        (said_in events.new.items ≡ said_in events.old.items ++ statement ∷ []) }
+    ensures toss { OnOk result
+        ((begun : T) → Draws T.may_toss begun (tosses_in events.old.items) tosser.old →
         Draws T.may_toss begun (tosses_in events.new.items) tosser.new) }
     ensures spent { DrawsSome T.may_toss tosser.old tosser.new }
 {
@@ -94,8 +96,10 @@ fn push_each<T: Tosser>(
     statements: &[Statement],
     tosser: &mut T,
 ) -> Result<(), Memory>
-    ensures said { OnOk result (said_in events.new.items ≡ said_in events.old.items ++ statements.now) }
-    ensures toss { OnOk result ((begun : T) → Draws T.may_toss begun (tosses_in events.old.items) tosser.old →
+    ensures said { OnOk result
+        (said_in events.new.items ≡ said_in events.old.items ++ statements.now) }
+    ensures toss { OnOk result
+        ((begun : T) → Draws T.may_toss begun (tosses_in events.old.items) tosser.old →
         Draws T.may_toss begun (tosses_in events.new.items) tosser.new) }
     ensures spent { DrawsSome T.may_toss tosser.old tosser.new }
 {
@@ -114,7 +118,8 @@ fn gather<T: Tosser>(
     tosser: &mut T,
 ) -> Result<Vec<(Statement, Toss)>, Memory>
     ensures said { IfOk result (λ events. said_in events.items ≡ in_order version messages.now) }
-    ensures tosses { IfOk result (λ events. Draws T.may_toss tosser.old (tosses_in events.items) tosser.new) }
+    ensures tosses { IfOk result
+        (λ events. Draws T.may_toss tosser.old (tosses_in events.items) tosser.new) }
     ensures spent { DrawsSome T.may_toss tosser.old tosser.new }
 {
     let mut events = Vec::new(alloc);
@@ -186,8 +191,10 @@ impl<D: Disk, J: Naming, G: Gate, R: Wait + Clock> Reader<'_, D, J, G, R> {
     /// its way.
     fn hand_in_group(&self, seat: &mut Seat<J>, group: &[(Statement, Toss)]) -> Result<(), LinkEnd>
         requires { length group.now ≤ 256 }
-        ensures heard { OnOk result (0 < length group.now → WasHeard (heard_from seat.old.peer group.now) seat.new.log) }
-        ensures refused { IfErr result (RefusesGroup D self.now.hub.now.size (heard_from seat.old.peer group.now)) }
+        ensures heard { OnOk result
+            (0 < length group.now → WasHeard (heard_from seat.old.peer group.now) seat.new.log) }
+        ensures refused { IfErr result
+            (RefusesGroup D self.now.hub.now.size (heard_from seat.old.peer group.now)) }
         ensures ok { OnOk result (HandsInAll seat.old seat.new (said_in group.now)) }
         ensures err { OnErr result (seat.new ≡ seat.old) }
         ensures only { IfErr result (λ why. (why ≡ LinkEnd.Stopped) ⊎ (why ≡ LinkEnd.Memory)) }
@@ -211,7 +218,8 @@ impl<D: Disk, J: Naming, G: Gate, R: Wait + Clock> Reader<'_, D, J, G, R> {
         ensures some { OnErr result (HandsInSome seat.old seat.new (said_in events.now)) }
         ensures refused { OnErr result (HandsInFewer seat.old seat.new (said_in events.now)) }
         ensures whole { OnOk result (HandsPart seat.old seat.new events.now []) }
-        ensures front { (rest : List (Statement × Toss)) × HandsPart seat.old seat.new events.now rest }
+        ensures front { (rest : List (Statement × Toss))
+            × HandsPart seat.old seat.new events.now rest }
         ensures only { IfErr result (λ why. (why ≡ LinkEnd.Stopped) ⊎ (why ≡ LinkEnd.Memory)) }
     {
         seat.recall();
@@ -234,15 +242,21 @@ impl<D: Disk, J: Naming, G: Gate, R: Wait + Clock> Reader<'_, D, J, G, R> {
         messages: &[Message],
         tosser: &mut T,
     ) -> Result<(), LinkEnd>
-        ensures ok { OnOk result (HandsInAll seat.old seat.new (in_order self.now.version messages.now)) }
+        ensures ok { OnOk result
+            (HandsInAll seat.old seat.new (in_order self.now.version messages.now)) }
         ensures in_place { OnOk result (all_in_place self.now.version messages.now ≡ true) }
-        ensures some { OnErr result (HandsInSome seat.old seat.new (in_order self.now.version messages.now)) }
-        ensures refused { IsErrOf result LinkEnd.Stopped → HandsInFewer seat.old seat.new (in_order self.now.version messages.now) }
-        ensures order { IsErrOf result LinkEnd.OutOfOrder → HandsInAll seat.old seat.new (in_order self.now.version messages.now) }
-        ensures out_of_order { IsErrOf result LinkEnd.OutOfOrder → all_in_place self.now.version messages.now ≡ false }
+        ensures some { OnErr result
+            (HandsInSome seat.old seat.new (in_order self.now.version messages.now)) }
+        ensures refused { IsErrOf result LinkEnd.Stopped →
+            HandsInFewer seat.old seat.new (in_order self.now.version messages.now) }
+        ensures order { IsErrOf result LinkEnd.OutOfOrder →
+            HandsInAll seat.old seat.new (in_order self.now.version messages.now) }
+        ensures out_of_order { IsErrOf result LinkEnd.OutOfOrder →
+            all_in_place self.now.version messages.now ≡ false }
         ensures tossed { OnOk result (HandsTossed T.may_toss tosser.old tosser.new seat.old seat.new
             (in_order self.now.version messages.now)) }
-        ensures tossed_some { IfErr result (λ why. HandsTossedSome T.may_toss tosser.old tosser.new seat.old seat.new why
+        ensures tossed_some { IfErr result
+            (λ why. HandsTossedSome T.may_toss tosser.old tosser.new seat.old seat.new why
             (in_order self.now.version messages.now)) }
         ensures only { IfErr result (λ why.
             (why ≡ LinkEnd.OutOfOrder) ⊎ ((why ≡ LinkEnd.Stopped) ⊎ (why ≡ LinkEnd.Memory))) }
@@ -272,10 +286,12 @@ impl<D: Disk, J: Naming, G: Gate, R: Wait + Clock> Reader<'_, D, J, G, R> {
         tosser: &mut T,
     ) -> Result<(), LinkEnd>
         ensures on { (rest : List ℕ) → Waits feeder.old rest →
-            OnOk result (ReadsOn self.now.version (HandsTossed T.may_toss tosser.old tosser.new seat.old seat.new)
-            (S.told stream.old) (S.told stream.new) feeder.old.size rest feeder.new seat.old seat.new) }
+            OnOk result (ReadsOn self.now.version
+            (HandsTossed T.may_toss tosser.old tosser.new seat.old seat.new) (S.told stream.old)
+            (S.told stream.new) feeder.old.size rest feeder.new seat.old seat.new) }
         ensures off { (rest : List ℕ) → Waits feeder.old rest →
-            IfErr result (λ why. ReadsOff self.now.version (HandsTossedSome T.may_toss tosser.old tosser.new seat.old seat.new why)
+            IfErr result (λ why. ReadsOff self.now.version
+            (HandsTossedSome T.may_toss tosser.old tosser.new seat.old seat.new why)
             (S.told stream.old) (S.told stream.new) feeder.old.size rest seat.old seat.new why) }
     {
         seat.recall();
@@ -361,7 +377,8 @@ pub fn read_link<D: Disk, J: Naming, S: Stream, G: Gate, T: Tosser, R: Wait + Cl
     // this peer.
     ensures counted { IsLawfulSeat seat }
     // It hands in what it read.
-    ensures reads { ReadsLink version hub.now.size (S.told stream.old) (S.told stream.new) seat result.0 result.1 }
+    ensures reads { ReadsLink version hub.now.size (S.told stream.old)
+        (S.told stream.new) seat result.0 result.1 }
     // The k-th statement that it hands in goes with the k-th toss that it draws, and the hub's book
     // hears it so.
     ensures tosses { TossesLink T.may_toss tosser.old tosser.new version hub.now.size

@@ -28,8 +28,11 @@ const WELCOME: usize = 11;
 
 /// The next of the Welcome that the stream gives.
 fn read_welcome<S: Stream>(alloc: Global, stream: &mut S, size: Size) -> Result<u64, LinkEnd>
-    ensures ok { IfOk result (λ next. S.told stream.new ≡ has_read (S.told stream.old) (frame_bytes (message.Welcome next))) }
-    ensures err { IfErr result (λ why. Unwelcomed size (S.told stream.old) (S.told stream.new) why) }
+    ensures ok { IfOk result
+        (λ next. S.told stream.new ≡ has_read (S.told stream.old)
+        (frame_bytes (message.Welcome next))) }
+    ensures err { IfErr result
+        (λ why. Unwelcomed size (S.told stream.old) (S.told stream.new) why) }
 {
     match read_first(alloc, stream, size, WELCOME) {
         Ok(Message::Welcome { next }) => Ok(next),
@@ -79,8 +82,10 @@ fn write_idle<S: Stream>(
     version: Version,
     from: u64,
 ) -> Result<(), LinkEnd>
-    ensures ok { IfOk result (λ _. WritesGroups version (S.told stream.old) (S.told stream.new) from from) }
-    ensures err { IfErr result (λ why. WritesOn version (S.told stream.old) (S.told stream.new) from why) }
+    ensures ok { IfOk result
+        (λ _. WritesGroups version (S.told stream.old) (S.told stream.new) from from) }
+    ensures err { IfErr result
+        (λ why. WritesOn version (S.told stream.old) (S.told stream.new) from why) }
 {
     match write_message(alloc, stream, &Message::Idle) {
         Ok(()) => Ok(()),
@@ -100,8 +105,10 @@ fn write_items<S: Stream>(
     requires some { 0 < length items.now }
     requires numbered { is_numbered from items.now ≡ true }
     requires fits { from + length items.now < 2 ^ 64 }
-    ensures ok { IfOk result (λ next. WritesGroups version (S.told stream.old) (S.told stream.new) from next) }
-    ensures err { IfErr result (λ why. WritesOn version (S.told stream.old) (S.told stream.new) from why) }
+    ensures ok { IfOk result
+        (λ next. WritesGroups version (S.told stream.old) (S.told stream.new) from next) }
+    ensures err { IfErr result
+        (λ why. WritesOn version (S.told stream.old) (S.told stream.new) from why) }
 {
     match send(alloc, stream, version, items) {
         Ok(()) => Ok(from + items.len() as u64),
@@ -136,8 +143,11 @@ impl<D: Disk, J: Naming, R: Wait> Writer<'_, D, J, R> {
 
     /// Writes what is new, or one Idle frame.
     fn write_some<S: Stream>(&self, stream: &mut S, from: u64) -> Result<u64, LinkEnd>
-        ensures ok { IfOk result (λ next. WritesGroups self.now.version (S.told stream.old) (S.told stream.new) from next) }
-        ensures err { IfErr result (λ why. WritesOn self.now.version (S.told stream.old) (S.told stream.new) from why) }
+        ensures ok { IfOk result
+            (λ next. WritesGroups self.now.version (S.told stream.old)
+            (S.told stream.new) from next) }
+        ensures err { IfErr result
+            (λ why. WritesOn self.now.version (S.told stream.old) (S.told stream.new) from why) }
     {
         match self.next_items(from) {
             Err(why) => Err(why),
@@ -169,7 +179,8 @@ impl<D: Disk, J: Naming, R: Wait> Writer<'_, D, J, R> {
 
     /// A session but for the closing of its stream.
     fn write_session<S: Stream>(&self, peer: u8, stream: &mut S) -> (LinkEnd, bool)
-        ensures { WritesLink self.now.hub.now self.now.version peer (S.told stream.old) (S.told stream.new) result.0 result.1 }
+        ensures { WritesLink self.now.hub.now self.now.version peer (S.told stream.old)
+            (S.told stream.new) result.0 result.1 }
     {
         let header = self.hub.header();
         let greeting = hello(&header, self.version, peer);
@@ -215,7 +226,8 @@ pub fn write_link<D: Disk, J: Naming, S: Stream, G: Gate, R: Wait>(
 ) -> (LinkEnd, bool)
     // What it wrote begins its Hello and then the numbered frames; past the Hello it went where it
     // was welcomed.
-    ensures writes { WritesLink hub.now version peer (S.told stream.old) (S.told stream.new) result.0 result.1 }
+    ensures writes { WritesLink hub.now version peer (S.told stream.old)
+        (S.told stream.new) result.0 result.1 }
     ensures closed { S.is_closed stream.new ≡ true }
 {
     let writer = Writer {

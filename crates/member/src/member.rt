@@ -53,7 +53,8 @@ impl<D: Disk> Member<D> {
         ensures opened { IfOk result (λ m. IsOpened D.Disk disk header.now m) }
         ensures restart { IfOk result (λ m. IsARestart D.Disk disk header.now m) }
         // `released` speaks of the disk that is gone; this is why it is.
-        ensures fault { IfErr result (λ fault. (after : D) × IsNotOpened D.Disk disk header.now fault after) }
+        ensures fault { IfErr result
+            (λ fault. (after : D) × IsNotOpened D.Disk disk header.now fault after) }
     {
         match Member::adopt(alloc, disk, header) {
             Ok(opened) => Ok(opened),
@@ -73,7 +74,8 @@ impl<D: Disk> Member<D> {
     pub fn adopt(alloc: Global, disk: D, header: &Header) -> Result<Member<D>, (JournalFault, D)>
         ensures opened { IfOk result (λ m. IsOpened D.Disk disk header.now m) }
         ensures restart { IfOk result (λ m. IsARestart D.Disk disk header.now m) }
-        ensures fault { IfErr result (λ refused. IsNotOpened D.Disk disk header.now refused.0 refused.1) }
+        ensures fault { IfErr result
+            (λ refused. IsNotOpened D.Disk disk header.now refused.0 refused.1) }
     {
         match Journal::adopt(alloc, disk, header) {
             Ok((journal, records)) => match begin(alloc, header, &records) {
@@ -106,17 +108,21 @@ impl<D: Disk> Member<D> {
         ensures sound { IsSound D.Disk self.new }
 
         // It answers what the definitions say, and saves the records of its answer.
-        ensures answer { IfOk result (λ answer. AnswersTo self.old toss.0 (Hearing from s.now) (reply_of answer) self.new) }
-        ensures saved { IfOk result (λ answer. HasSaved D.Disk self.old (records_of (reply_of answer)) self.new) }
+        ensures answer { IfOk result
+            (λ answer. AnswersTo self.old toss.0 (Hearing from s.now) (reply_of answer) self.new) }
+        ensures saved { IfOk result
+            (λ answer. HasSaved D.Disk self.old (records_of (reply_of answer)) self.new) }
         ensures event { IsOneEvent D.Disk toss.0 (Hearing from s.now) self.old result self.new }
 
         // Each refusal has its cause, and leaves what was saved and handed out.
         ensures ok { OnOk result (refusal self.old (Hearing from s.now) ≡ None) }
-        ensures fault { IfErr result (λ fault.
-            HasFailed D.Disk self.old (refusal self.old (Hearing from s.now)) (IsFull self.old toss.0 (Hearing from s.now)) fault self.new) }
+        ensures fault { IfErr result
+            (λ fault. HasFailed D.Disk self.old (refusal self.old (Hearing from s.now))
+            (IsFull self.old toss.0 (Hearing from s.now)) fault self.new) }
         ensures memory_only_at_news { IsErrOf result MemberFault.Memory →
-            (records : List Record) (heard : List (ℕ × Statement)) → MemberStandsFor self.old records heard →
-            (is_foreign from s.now ≡ false) × (got heard from s.now.kind s.now.place ≡ None) }
+            (records : List Record) (heard : List (ℕ × Statement)) →
+            MemberStandsFor self.old records heard → (is_foreign from s.now ≡ false)
+            × (got heard from s.now.kind s.now.place ≡ None) }
         ensures stays { StaysOn D.Disk self.old self.new }
     {
         if self.stopped {
@@ -140,16 +146,21 @@ impl<D: Disk> Member<D> {
         ensures sound { IsSound D.Disk self.new }
 
         // It answers what the definitions say, and saves the records of its answer.
-        ensures answer { IfOk result (λ answer. AnswersTo self.old toss.0 (Proposal question bit) (reply_of answer) self.new) }
-        ensures saved { IfOk result (λ answer. HasSaved D.Disk self.old (records_of (reply_of answer)) self.new) }
+        ensures answer { IfOk result
+            (λ answer. AnswersTo self.old toss.0 (Proposal question bit)
+            (reply_of answer) self.new) }
+        ensures saved { IfOk result
+            (λ answer. HasSaved D.Disk self.old (records_of (reply_of answer)) self.new) }
         ensures event { IsOneEvent D.Disk toss.0 (Proposal question bit) self.old result self.new }
 
         // Each refusal has its cause, and leaves what was saved and handed out.
         ensures ok { OnOk result (refusal self.old (Proposal question bit) ≡ None) }
-        ensures fault { IfErr result (λ fault.
-            HasFailed D.Disk self.old (refusal self.old (Proposal question bit)) (IsFull self.old toss.0 (Proposal question bit)) fault self.new) }
+        ensures fault { IfErr result
+            (λ fault. HasFailed D.Disk self.old (refusal self.old (Proposal question bit))
+            (IsFull self.old toss.0 (Proposal question bit)) fault self.new) }
         ensures memory_only_at_first { IsErrOf result MemberFault.Memory →
-            (records : List Record) (heard : List (ℕ × Statement)) → MemberStandsFor self.old records heard →
+            (records : List Record) (heard : List (ℕ × Statement)) →
+            MemberStandsFor self.old records heard →
             said records Initial (new_place question (member_header self.old).me 1 1) ≡ None }
         ensures stays { StaysOn D.Disk self.old self.new }
     {
@@ -173,7 +184,8 @@ impl<D: Disk> Member<D> {
     #[inline(always)]
     fn keep(&mut self, answer: Result<Answer, CoreFault>) -> Result<Answer, MemberFault>
         requires few { IfOk answer (λ a. length (records_of (reply_of a)) ≤ 99) }
-        requires well_formed { IfOk answer (λ a. AreWellFormedFor (member_header self.old) (records_of (reply_of a))) }
+        requires well_formed { IfOk answer
+            (λ a. AreWellFormedFor (member_header self.old) (records_of (reply_of a))) }
         requires going { member_is_stopped self.old ≡ false }
         requires filed { IsFiled D.Disk self.old }
         ensures { Kept D.Disk self.old self.old.core answer result self.new }
@@ -219,8 +231,10 @@ fn begin(
     ensures outbox { IfOk result (λ begun. begun.1.items ≡ sealed_from 0 records.now) }
     ensures lawful { OnOk result (IsSize header.now.size) }
     ensures asked { OnOk result (records_fault header.now.size records.now ≡ None) }
-    ensures memory { IfErr result (λ fault. records_fault header.now.size records.now ≡ None → fault ≡ JournalFault.Memory) }
-    ensures only { IfErr result (λ fault. (fault ≡ JournalFault.Memory) ⊎ (fault ≡ JournalFault.BadRecord)) }
+    ensures memory { IfErr result
+        (λ fault. records_fault header.now.size records.now ≡ None → fault ≡ JournalFault.Memory) }
+    ensures only { IfErr result
+        (λ fault. (fault ≡ JournalFault.Memory) ⊎ (fault ≡ JournalFault.BadRecord)) }
 {
     header.size().recall();
     match Core::new(alloc, header.size(), header.me(), records) {

@@ -9,14 +9,16 @@ ghost use Rattle.migration.specs.Old.{IsOldHeader, HoldsOld, RefusesOld};
 
 /// A file of version 1 holds one list of records at most, by one header.
 pub fn an_old_file_holds_one()
-    ensures { (header other : Header) (records others : List Record) (file : List ℕ)
-        → HoldsOld header records file → HoldsOld other others file → (header ≡ other) × (records ≡ others) }
+    ensures { (header other : Header) (records others : List Record) (file : List ℕ) →
+        HoldsOld header records file → HoldsOld other others file → (header ≡ other)
+        × (records ≡ others) }
 {}
 
 /// Each file of bytes holds records of version 1 by a header, or is refused by it.
 pub fn an_old_file_holds_or_is_refused()
-    ensures { (header : Header) (file : List ℕ) → IsOldHeader header → AreBytes file
-        → ((records : List Record) × HoldsOld header records file) ⊎ ((fault : MigrateFault) × RefusesOld header fault file) }
+    ensures { (header : Header) (file : List ℕ) → IsOldHeader header → AreBytes file →
+        ((records : List Record) × HoldsOld header records file)
+        ⊎ ((fault : MigrateFault) × RefusesOld header fault file) }
 {}
 
 /// No file that holds records of version 1 by a header is refused by it.
@@ -33,5 +35,6 @@ pub fn an_old_file_has_one_fault()
 
 /// Opening refuses each file that holds records of version 1, and names the version.
 pub fn an_old_file_is_named()
-    ensures { (header : Header) (records : List Record) (file : List ℕ) → HoldsOld header records file → IsOldVersion file }
+    ensures { (header : Header) (records : List Record) (file : List ℕ) →
+        HoldsOld header records file → IsOldVersion file }
 {}

@@ -27,14 +27,18 @@ use read::read;
 /// - `NotOld`: the file begins with no header of that version.
 /// - `OldDevice`: the disk failed.
 pub fn peek_old<D: Disk>(disk: &mut D) -> Result<Header, MigrateFault>
-    ensures header { D.keeps disk.new → IfOk result (λ header. HasOldHeader header (D.state disk.old).seen) }
+    ensures header { D.keeps disk.new →
+        IfOk result (λ header. HasOldHeader header (D.state disk.old).seen) }
     ensures not_old { D.keeps disk.new → IsErrOf result MigrateFault.NotOld →
         (header : Header) → HasOldHeader header (D.state disk.old).seen → ⊥ }
     ensures same { D.keeps disk.new → D.state disk.new ≡ D.state disk.old }
-    ensures any_moment { D.keeps disk.new → LeavesOnly D.moment D.since disk.old disk.new (MayLeave (D.state disk.old)) }
-    ensures two_calls { D.keeps disk.new → IsErrOf result MigrateFault.OldDevice ⊎ (D.moment disk.new ≡ D.moment disk.old + 2) }
+    ensures any_moment { D.keeps disk.new →
+        LeavesOnly D.moment D.since disk.old disk.new (MayLeave (D.state disk.old)) }
+    ensures two_calls { D.keeps disk.new → IsErrOf result MigrateFault.OldDevice
+        ⊎ (D.moment disk.new ≡ D.moment disk.old + 2) }
 
-    ensures device { IsErrOf result MigrateFault.OldDevice → D.failures disk.old < D.failures disk.new }
+    ensures device { IsErrOf result MigrateFault.OldDevice →
+        D.failures disk.old < D.failures disk.new }
     ensures only { IfErr result IsFaultOfPeeking }
     ensures later { D.failures disk.old ≤ D.failures disk.new }
     ensures kept { D.keeps disk.new → D.keeps disk.old }
@@ -58,7 +62,8 @@ pub(crate) fn load<D: Disk>(
     disk: &mut D,
     header: &Header,
 ) -> Result<Vec<Record>, MigrateFault>
-    ensures held { D.keeps disk.new → IfOk result (λ records. HoldsOld header.now records.items (D.state disk.old).seen) }
+    ensures held { D.keeps disk.new →
+        IfOk result (λ records. HoldsOld header.now records.items (D.state disk.old).seen) }
     ensures well_formed { IfOk result (λ records. AreWellFormedFor header.now records.items) }
     ensures read { OnOk result (WasRead D.Disk disk.old disk.new) }
     ensures fault { IfErr result (λ fault. HandsOldBack D.Disk disk.old header.now fault disk.new) }
@@ -69,9 +74,11 @@ pub(crate) fn load<D: Disk>(
 
 /// All the bytes, once they are on the disk.
 fn fetch<D: Disk>(alloc: Global, disk: &mut D) -> Result<Vec<u8>, MigrateFault>
-    ensures bytes { D.keeps disk.new → IfOk result (λ bytes. bytes.items ≡ (D.state disk.old).seen) }
+    ensures bytes { D.keeps disk.new →
+        IfOk result (λ bytes. bytes.items ≡ (D.state disk.old).seen) }
     ensures read { OnOk result (WasRead D.Disk disk.old disk.new) }
-    ensures fault { IfErr result (λ fault. (header : Header) → HandsOldBack D.Disk disk.old header fault disk.new) }
+    ensures fault { IfErr result
+        (λ fault. (header : Header) → HandsOldBack D.Disk disk.old header fault disk.new) }
 {
     disk.sync()?;
     let len = disk.len()?;
@@ -87,7 +94,8 @@ fn fetch<D: Disk>(alloc: Global, disk: &mut D) -> Result<Vec<u8>, MigrateFault>
 pub fn read_old(alloc: Global, header: &Header, bytes: &[u8]) -> Result<Vec<Record>, MigrateFault>
     ensures held { IfOk result (λ records. HoldsOld header.now records.items bytes.now) }
     ensures well_formed { IfOk result (λ records. AreWellFormedFor header.now records.items) }
-    ensures refused { IfErr result (λ fault. IsOfOldFile fault → RefusesOld header.now fault bytes.now) }
+    ensures refused { IfErr result
+        (λ fault. IsOfOldFile fault → RefusesOld header.now fault bytes.now) }
     ensures only { IfErr result (λ fault. IsOfOldFile fault ⊎ (fault ≡ Memory)) }
 {
     let Some((front, behind)) = bytes.split_first_chunk::<HEADER>() else {

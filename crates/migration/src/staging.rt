@@ -30,9 +30,11 @@ where
     E: Release,
     requires released { (fault : MigrateFault) (after : E) →
         HasNotStaged E.Disk new header.now fault after → E.may_go after }
-    ensures begun { IfOk result (λ staging. HasBegun E.Disk new header.now (staging_draft staging)) }
+    ensures begun { IfOk result
+        (λ staging. HasBegun E.Disk new header.now (staging_draft staging)) }
     // `released` speaks of the disk that is gone; this is why it is.
-    ensures fault { IfErr result (λ fault. (after : E) × HasNotStaged E.Disk new header.now fault after) }
+    ensures fault { IfErr result
+        (λ fault. (after : E) × HasNotStaged E.Disk new header.now fault after) }
 {
     match stage(alloc, new, header) {
         Ok(staging) => Ok(staging),
@@ -55,8 +57,10 @@ pub fn stage<E: Disk>(
     new: E,
     header: &Header,
 ) -> Result<Staging<E>, (MigrateFault, E)>
-    ensures begun { IfOk result (λ staging. HasBegun E.Disk new header.now (staging_draft staging)) }
-    ensures fault { IfErr result (λ refused. HasNotStaged E.Disk new header.now refused.0 refused.1) }
+    ensures begun { IfOk result
+        (λ staging. HasBegun E.Disk new header.now (staging_draft staging)) }
+    ensures fault { IfErr result
+        (λ refused. HasNotStaged E.Disk new header.now refused.0 refused.1) }
 {
     match Draft::begin(alloc, new, header) {
         Ok(draft) => Ok(Staging { draft }),
@@ -78,9 +82,11 @@ impl<E: Disk> Staging<E> {
         requires staged { E.keeps (staging_disk self) → IsStaged E.state self }
         requires released { (fault : MigrateFault) (disk : E) (after : D) →
             HasNotCarried D.Disk E.Disk self old.old fault disk after → E.may_go disk }
-        ensures carried { IfOk result (λ done. HasCarried D.Disk E.Disk self old.old done.0 done.1 old.new) }
+        ensures carried { IfOk result
+            (λ done. HasCarried D.Disk E.Disk self old.old done.0 done.1 old.new) }
         // `released` speaks of the new disk that is gone; this is why it is.
-        ensures fault { IfErr result (λ fault. (disk : E) × HasNotCarried D.Disk E.Disk self old.old fault disk old.new) }
+        ensures fault { IfErr result
+            (λ fault. (disk : E) × HasNotCarried D.Disk E.Disk self old.old fault disk old.new) }
     {
         match self.carry(alloc, old) {
             Ok(done) => Ok(done),
@@ -112,8 +118,10 @@ impl<E: Disk> Staging<E> {
         old: &mut D,
     ) -> Result<(Journal<E>, u64), (MigrateFault, E)>
         requires staged { E.keeps (staging_disk self) → IsStaged E.state self }
-        ensures carried { IfOk result (λ done. HasCarried D.Disk E.Disk self old.old done.0 done.1 old.new) }
-        ensures fault { IfErr result (λ refused. HasNotCarried D.Disk E.Disk self old.old refused.0 refused.1 old.new) }
+        ensures carried { IfOk result
+            (λ done. HasCarried D.Disk E.Disk self old.old done.0 done.1 old.new) }
+        ensures fault { IfErr result
+            (λ refused. HasNotCarried D.Disk E.Disk self old.old refused.0 refused.1 old.new) }
     {
         let Staging { draft } = self;
         match load(alloc, old, &draft.header()) {
@@ -131,7 +139,8 @@ fn fill<E: Disk>(mut draft: Draft<E>, records: &[Record]) -> Result<Journal<E>, 
     requires well_formed { AreWellFormedFor (draft_header draft) records.now }
     requires drafted { E.keeps (draft_disk draft) → IsDraftOf E.state [] draft }
     ensures filled { IfOk result (λ journal. HasFilled E.Disk draft records.now journal) }
-    ensures fault { IfErr result (λ refused. HasNotFilled E.Disk draft records.now refused.0 refused.1) }
+    ensures fault { IfErr result
+        (λ refused. HasNotFilled E.Disk draft records.now refused.0 refused.1) }
 {
     match add_all(&mut draft, records) {
         Ok(()) => match draft.complete() {
@@ -147,7 +156,8 @@ fn add_all<E: Disk>(draft: &mut Draft<E>, records: &[Record]) -> Result<(), Migr
     requires well_formed { AreWellFormedFor (draft_header draft.old) records.now }
     requires drafted { E.keeps (draft_disk draft.old) → IsDraftOf E.state [] draft.old }
     ensures grown { OnOk result (HasGrown E.Disk draft.old (in_thousands records.now) draft.new) }
-    ensures fault { IfErr result (λ fault. HasStopped E.Disk draft.old records.now fault draft.new) }
+    ensures fault { IfErr result
+        (λ fault. HasStopped E.Disk draft.old records.now fault draft.new) }
 {
     for batch in records.chunks(BATCH) {
         draft.add(batch)?;

@@ -156,7 +156,8 @@ impl<J: Naming> Witness<J> {
 
     /// Tells whether it goes on behind the other, which is then its beginning.
     pub(crate) fn is_longer(&self, other: &Witness<J>) -> bool
-        ensures { IsTrue result → IsPrefix other.now self.now × (length other.now < length self.now) }
+        ensures { IsTrue result → IsPrefix other.now self.now
+            × (length other.now < length self.now) }
     {
         let mut both = self.seen.again();
         both.learn(&other.seen);
@@ -180,7 +181,8 @@ impl<J: Naming> Witness<J> {
         group: &X,
     ) -> bool
         requires { count.now ≡ count_of J.names.account }
-        ensures { MatchBool result (self.new ≡ self.old ++ M.ask group.now ∷ []) (self.new ≡ self.old) }
+        ensures { MatchBool result (self.new ≡ self.old ++ M.ask group.now ∷ [])
+            (self.new ≡ self.old) }
     {
         let groups = self.groups;
         if groups >= MOST {
@@ -226,7 +228,8 @@ impl<J: Naming> Model for Account<J> {
 impl<J: Naming> Account<J> {
     /// Appends a group; false, and nothing is appended, where it has as many as it can have.
     pub(crate) fn add(&mut self, group: &Vec<(u8, Statement, Toss)>) -> bool
-        ensures { MatchBool result (self.new ≡ self.old ++ hearings group.now.items ∷ []) (self.new ≡ self.old) }
+        ensures { MatchBool result (self.new ≡ self.old ++ hearings group.now.items ∷ [])
+            (self.new ≡ self.old) }
     {
         self.all
             .append::<Vec<(u8, Statement, Toss)>, Append>(&self.count, group)
@@ -235,7 +238,8 @@ impl<J: Naming> Account<J> {
     /// Appends a statement as a group; false, and nothing is appended, where it has as many as it
     /// can have.
     pub(crate) fn add_one(&mut self, one: &(u8, Statement, Toss)) -> bool
-        ensures { MatchBool result (self.new ≡ self.old ++ (hearing_of one.now ∷ []) ∷ []) (self.new ≡ self.old) }
+        ensures { MatchBool result (self.new ≡ self.old ++ (hearing_of one.now ∷ []) ∷ [])
+            (self.new ≡ self.old) }
     {
         self.all
             .append::<(u8, Statement, Toss), Append>(&self.count, one)

@@ -35,7 +35,8 @@ impl Model for Batch {
 
     ghost view = { λ batch. batch.events.items };
 
-    ghost invariant = { λ batch. (length batch.events.items ≤ 256) × AreParts batch.parts.items batch.events.items };
+    ghost invariant = { λ batch. (length batch.events.items ≤ 256)
+        × AreParts batch.parts.items batch.events.items };
 }
 
 impl Batch {

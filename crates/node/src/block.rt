@@ -43,13 +43,15 @@ impl Model for Block {
 
     ghost view = { λ block. (arc_value block.full).entries.items };
 
-    ghost invariant = { λ block. AreMarkedIn (arc_value block.full).table.marks (arc_value block.full).entries.items };
+    ghost invariant = { λ block. AreMarkedIn (arc_value block.full).table.marks
+        (arc_value block.full).entries.items };
 }
 
 impl Table {
     /// Marks the question of the entry.
     fn mark(&mut self, entry: &Noted)
-        ensures { (past : List Entry) → AreMarkedIn self.old.marks past → AreMarkedIn self.new.marks (past ++ entry.now ∷ []) }
+        ensures { (past : List Entry) → AreMarkedIn self.old.marks past →
+            AreMarkedIn self.new.marks (past ++ entry.now ∷ []) }
     {
         self.marks[usize::from(entry.question()) % PLACES] = true;
     }
@@ -57,7 +59,8 @@ impl Table {
     /// Tells that nothing of the entries is on the question; where the table can't tell, it says
     /// no.
     fn is_without(&self, question: u16) -> bool
-        ensures { (entries : List Entry) → AreMarkedIn self.now.marks entries → IsTrue result → heard_on question entries ≡ [] }
+        ensures { (entries : List Entry) → AreMarkedIn self.now.marks entries → IsTrue result →
+            heard_on question entries ≡ [] }
     {
         !self.marks[usize::from(question) % PLACES]
     }

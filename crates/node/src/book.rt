@@ -66,9 +66,16 @@ pub trait Naming {
 impl Naming for Brand {
     ghost use Rattle.std.specs.Prelude.{[]};
 
-    ghost names = { record { cells = []; account = record { number = 0; log_name = 0; cells_name = 0 } } };
+    ghost names = { record {
+      cells = [];
+      account = record { number = 0; log_name = 0; cells_name = 0 };
+    } };
 
-    ghost header = { record { cluster = 0; size = record { n = 0; t = 0; questions = 0 }; me = 0 } };
+    ghost header = { record {
+      cluster = 0;
+      size = record { n = 0; t = 0; questions = 0 };
+      me = 0;
+    } };
 }
 
 /// A member with what happened since its opening: its history has each event that it took, in
@@ -101,9 +108,17 @@ impl<D: Disk, J: Naming> Model for Book<D, J> {
 
     ghost use Rattle.node.specs.Keeps.{IsKept, IsTied};
 
-    ghost view = { λ b. record { member = b.member; opening = take b.opened (member_saved b.member); history = b.history.entries; known = b.notes.known; log = b.account } };
+    ghost view = { λ b.
+        record {
+          member = b.member;
+          opening = take b.opened (member_saved b.member);
+          history = b.history.entries;
+          known = b.notes.known;
+          log = b.account;
+        } };
 
-    ghost invariant = { λ b. IsKept D.Disk J.names.cells J.header b.notes.cells b.member b.opened b.history.entries b.notes.known b.tally × IsTied b.member b.history.entries b.account };
+    ghost invariant = { λ b. IsKept D.Disk J.names.cells J.header b.notes.cells b.member b.opened
+        b.history.entries b.notes.known b.tally × IsTied b.member b.history.entries b.account };
 }
 
 impl<D: Disk, J: Naming> Book<D, J> {
@@ -118,7 +133,8 @@ impl<D: Disk, J: Naming> Book<D, J> {
     where
         D: Drop,
         requires sound { IsSound D.Disk member }
-        requires fresh { member_is_stopped member ≡ false → MemberStandsFor member (member_saved member) [] }
+        requires fresh { member_is_stopped member ≡ false →
+            MemberStandsFor member (member_saved member) [] }
         requires header { member_header member ≡ J.header }
         requires board { arc_value board ≡ J.names.cells }
         requires account { account ≡ [] }
@@ -153,23 +169,31 @@ impl<D: Disk, J: Naming> Book<D, J> {
         statement: &Statement,
         toss: Toss,
     ) -> Result<Answer, MemberFault>
-        ensures answer { IfOk result (λ a. Applies self.old (Heard seat.old.peer statement.now toss.0) a self.new) }
-        ensures saved { IfOk result (λ a. HasSaved D.Disk self.old.member (records_of (reply_of a)) self.new.member) }
+        ensures answer { IfOk result
+            (λ a. Applies self.old (Heard seat.old.peer statement.now toss.0) a self.new) }
+        ensures saved { IfOk result
+            (λ a. HasSaved D.Disk self.old.member (records_of (reply_of a)) self.new.member) }
         ensures seat { OnOk result (HandsIn seat.old seat.new (statement.now ∷ []) 1) }
         // In the world it is the member's event, or the member hears nothing and goes down.
-        ensures life { (header : Header) (liars : ℕ → Bool) (w : World) → IsCorrect header.size liars header.me →
-            MemberIsAt D.Disk header w self.old.member → Comes w (Hearing seat.old.peer statement.now) →
-            LivesOn D.Disk header liars w toss.0 (Hearing seat.old.peer statement.now) result self.old.member self.new.member }
+        ensures life { (header : Header) (liars : ℕ → Bool) (w : World) →
+            IsCorrect header.size liars header.me → MemberIsAt D.Disk header w self.old.member →
+            Comes w (Hearing seat.old.peer statement.now) →
+            LivesOn D.Disk header liars w toss.0
+            (Hearing seat.old.peer statement.now) result self.old.member self.new.member }
         // A crash within the call: it made no call of the device, or it is that event with all
         // records in doubt.
-        ensures cut { (header : Header) (liars : ℕ → Bool) (w : World) → IsCorrect header.size liars header.me →
-            MemberIsAt D.Disk header w self.old.member → Comes w (Hearing seat.old.peer statement.now) →
-            MayBeCutOff D.Disk header liars w toss.0 (Hearing seat.old.peer statement.now) self.old.member self.new.member }
+        ensures cut { (header : Header) (liars : ℕ → Bool) (w : World) →
+            IsCorrect header.size liars header.me → MemberIsAt D.Disk header w self.old.member →
+            Comes w (Hearing seat.old.peer statement.now) →
+            MayBeCutOff D.Disk header liars w toss.0
+            (Hearing seat.old.peer statement.now) self.old.member self.new.member }
 
-        ensures fault { IfErr result (λ f. RefusesEvent self.old (Hearing seat.old.peer statement.now) f self.new) }
+        ensures fault { IfErr result
+            (λ f. RefusesEvent self.old (Hearing seat.old.peer statement.now) f self.new) }
         ensures kept { OnErr result (seat.new ≡ seat.old) }
-        ensures disk { IfErr result (λ f. Spares D.Disk
-            (IsFull self.old.member toss.0 (Hearing seat.old.peer statement.now)) f self.old.member self.new.member) }
+        ensures disk { IfErr result
+            (λ f. Spares D.Disk (IsFull self.old.member toss.0
+            (Hearing seat.old.peer statement.now)) f self.old.member self.new.member) }
         ensures stays { StaysOn D.Disk self.old.member self.new.member }
     {
         if self.member.is_stopped() {
@@ -228,26 +252,34 @@ impl<D: Disk, J: Naming> Book<D, J> {
         ensures answer { IfOk result (λ answers.
             AppliesAll self.old (heard_from seat.old.peer events.now) answers.items self.new) }
         ensures length { IfOk result (λ answers. length answers.items ≡ length events.now) }
-        ensures saved { IfOk result (λ answers.
-            HasSaved D.Disk self.old.member (records_of_all (replies_of answers.items)) self.new.member) }
+        ensures saved { IfOk result
+            (λ answers. HasSaved D.Disk self.old.member
+            (records_of_all (replies_of answers.items)) self.new.member) }
         ensures four_calls { D.keeps (member_disk self.new.member) → IfOk result (λ answers.
             0 < length (records_of_all (replies_of answers.items)) →
             D.moment (member_disk self.new.member) ≡ D.moment (member_disk self.old.member) + 4) }
-        ensures seat { OnOk result (HandsIn seat.old seat.new (said_in events.now) (length events.now)) }
+        ensures seat { OnOk result
+            (HandsIn seat.old seat.new (said_in events.now) (length events.now)) }
         // In the world it is the member's event, or the member hears nothing and goes down.
-        ensures life { (header : Header) (liars : ℕ → Bool) (w : World) → IsCorrect header.size liars header.me →
-            MemberIsAt D.Disk header w self.old.member → AllCome w (heard_from seat.old.peer events.now) →
-            LivesOnAll D.Disk header liars w (heard_from seat.old.peer events.now) result self.old.member self.new.member }
+        ensures life { (header : Header) (liars : ℕ → Bool) (w : World) →
+            IsCorrect header.size liars header.me → MemberIsAt D.Disk header w self.old.member →
+            AllCome w (heard_from seat.old.peer events.now) →
+            LivesOnAll D.Disk header liars w
+            (heard_from seat.old.peer events.now) result self.old.member self.new.member }
         // A crash within the call: it made no call of the device, or it is that event with all
         // records in doubt.
-        ensures cut { (header : Header) (liars : ℕ → Bool) (w : World) → IsCorrect header.size liars header.me →
-            MemberIsAt D.Disk header w self.old.member → AllCome w (heard_from seat.old.peer events.now) →
-            MayAllBeCutOff D.Disk header liars w (heard_from seat.old.peer events.now) self.old.member self.new.member }
+        ensures cut { (header : Header) (liars : ℕ → Bool) (w : World) →
+            IsCorrect header.size liars header.me → MemberIsAt D.Disk header w self.old.member →
+            AllCome w (heard_from seat.old.peer events.now) →
+            MayAllBeCutOff D.Disk header liars w
+            (heard_from seat.old.peer events.now) self.old.member self.new.member }
 
-        ensures fault { IfErr result (λ f. RefusesAll self.old (heard_from seat.old.peer events.now) f self.new) }
+        ensures fault { IfErr result
+            (λ f. RefusesAll self.old (heard_from seat.old.peer events.now) f self.new) }
         ensures kept { OnErr result (seat.new ≡ seat.old) }
-        ensures disk { IfErr result (λ f. Spares D.Disk
-            (IsFullOfAll self.old.member (heard_from seat.old.peer events.now)) f self.old.member self.new.member) }
+        ensures disk { IfErr result
+            (λ f. Spares D.Disk (IsFullOfAll self.old.member (heard_from seat.old.peer events.now))
+            f self.old.member self.new.member) }
         ensures memory_only_at_some { IsErrOf result MemberFault.Memory → 0 < length events.now }
         ensures stays { StaysOn D.Disk self.old.member self.new.member }
     {
@@ -288,27 +320,36 @@ impl<D: Disk, J: Naming> Book<D, J> {
         group: &Vec<(u8, Statement, Toss)>,
     ) -> Result<Vec<Answer>, MemberFault>
         requires few { length group.now.items ≤ 256 }
-        ensures answer { IfOk result (λ answers. AppliesAll self.old (hearings group.now.items) answers.items self.new) }
+        ensures answer { IfOk result
+            (λ answers. AppliesAll self.old (hearings group.now.items) answers.items self.new) }
         ensures length { IfOk result (λ answers. length answers.items ≡ length group.now.items) }
-        ensures saved { IfOk result (λ answers.
-            HasSaved D.Disk self.old.member (records_of_all (replies_of answers.items)) self.new.member) }
+        ensures saved { IfOk result
+            (λ answers. HasSaved D.Disk self.old.member
+            (records_of_all (replies_of answers.items)) self.new.member) }
         ensures four_calls { D.keeps (member_disk self.new.member) → IfOk result (λ answers.
             0 < length (records_of_all (replies_of answers.items)) →
             D.moment (member_disk self.new.member) ≡ D.moment (member_disk self.old.member) + 4) }
         // In the world it is the member's event, or the member hears nothing and goes down.
-        ensures life { (header : Header) (liars : ℕ → Bool) (w : World) → IsCorrect header.size liars header.me →
-            MemberIsAt D.Disk header w self.old.member → AllCome w (hearings group.now.items) →
-            LivesOnAll D.Disk header liars w (hearings group.now.items) result self.old.member self.new.member }
+        ensures life { (header : Header) (liars : ℕ → Bool) (w : World) →
+            IsCorrect header.size liars header.me → MemberIsAt D.Disk header w self.old.member →
+            AllCome w (hearings group.now.items) →
+            LivesOnAll D.Disk header liars w
+            (hearings group.now.items) result self.old.member self.new.member }
         // A crash within the call: it made no call of the device, or it is that event with all
         // records in doubt.
-        ensures cut { (header : Header) (liars : ℕ → Bool) (w : World) → IsCorrect header.size liars header.me →
-            MemberIsAt D.Disk header w self.old.member → AllCome w (hearings group.now.items) →
-            MayAllBeCutOff D.Disk header liars w (hearings group.now.items) self.old.member self.new.member }
+        ensures cut { (header : Header) (liars : ℕ → Bool) (w : World) →
+            IsCorrect header.size liars header.me → MemberIsAt D.Disk header w self.old.member →
+            AllCome w (hearings group.now.items) →
+            MayAllBeCutOff D.Disk header liars w
+            (hearings group.now.items) self.old.member self.new.member }
 
-        ensures fault { IfErr result (λ f. RefusesAll self.old (hearings group.now.items) f self.new) }
-        ensures disk { IfErr result (λ f. Spares D.Disk
-            (IsFullOfAll self.old.member (hearings group.now.items)) f self.old.member self.new.member) }
-        ensures memory_only_at_some { IsErrOf result MemberFault.Memory → 0 < length group.now.items }
+        ensures fault { IfErr result
+            (λ f. RefusesAll self.old (hearings group.now.items) f self.new) }
+        ensures disk { IfErr result
+            (λ f. Spares D.Disk (IsFullOfAll self.old.member (hearings group.now.items)) f
+            self.old.member self.new.member) }
+        ensures memory_only_at_some { IsErrOf result MemberFault.Memory →
+            0 < length group.now.items }
         ensures stays { StaysOn D.Disk self.old.member self.new.member }
     {
         if self.member.is_stopped() {
@@ -342,21 +383,29 @@ impl<D: Disk, J: Naming> Book<D, J> {
     /// are the member's, and those that stop it stop the book. After each fault the records and the
     /// history are as they were.
     pub fn propose(&mut self, question: u16, bit: bool, toss: Toss) -> Result<Answer, MemberFault>
-        ensures answer { IfOk result (λ a. Applies self.old (Proposed question bit toss.0) a self.new) }
-        ensures saved { IfOk result (λ a. HasSaved D.Disk self.old.member (records_of (reply_of a)) self.new.member) }
+        ensures answer { IfOk result
+            (λ a. Applies self.old (Proposed question bit toss.0) a self.new) }
+        ensures saved { IfOk result
+            (λ a. HasSaved D.Disk self.old.member (records_of (reply_of a)) self.new.member) }
         // In the world it is the member's event, or the member hears nothing and goes down.
-        ensures life { (header : Header) (liars : ℕ → Bool) (w : World) → IsCorrect header.size liars header.me →
-            MemberIsAt D.Disk header w self.old.member → Comes w (Proposal question bit) →
-            LivesOn D.Disk header liars w toss.0 (Proposal question bit) result self.old.member self.new.member }
+        ensures life { (header : Header) (liars : ℕ → Bool) (w : World) →
+            IsCorrect header.size liars header.me → MemberIsAt D.Disk header w self.old.member →
+            Comes w (Proposal question bit) →
+            LivesOn D.Disk header liars w toss.0
+            (Proposal question bit) result self.old.member self.new.member }
         // A crash within the call: it made no call of the device, or it is that event with all
         // records in doubt.
-        ensures cut { (header : Header) (liars : ℕ → Bool) (w : World) → IsCorrect header.size liars header.me →
-            MemberIsAt D.Disk header w self.old.member → Comes w (Proposal question bit) →
-            MayBeCutOff D.Disk header liars w toss.0 (Proposal question bit) self.old.member self.new.member }
+        ensures cut { (header : Header) (liars : ℕ → Bool) (w : World) →
+            IsCorrect header.size liars header.me → MemberIsAt D.Disk header w self.old.member →
+            Comes w (Proposal question bit) →
+            MayBeCutOff D.Disk header liars w toss.0
+            (Proposal question bit) self.old.member self.new.member }
 
-        ensures fault { IfErr result (λ f. RefusesEvent self.old (Proposal question bit) f self.new) }
-        ensures disk { IfErr result (λ f. Spares D.Disk
-            (IsFull self.old.member toss.0 (Proposal question bit)) f self.old.member self.new.member) }
+        ensures fault { IfErr result
+            (λ f. RefusesEvent self.old (Proposal question bit) f self.new) }
+        ensures disk { IfErr result
+            (λ f. Spares D.Disk (IsFull self.old.member toss.0 (Proposal question bit)) f
+            self.old.member self.new.member) }
         ensures stays { StaysOn D.Disk self.old.member self.new.member }
     {
         if self.member.is_stopped() {
@@ -410,7 +459,8 @@ impl<D: Disk, J: Naming> Book<D, J> {
     /// The statements of the outbox from that number on, at most so many: none where it is past the
     /// end. Where there is no memory for them nothing changes.
     pub fn pull(&self, from: u64, max: usize) -> Result<Vec<Sealed>, Memory>
-        ensures items { IfOk result (λ v. v.items ≡ take max (drop from (sealed_from 0 (member_saved self.now.member)))) }
+        ensures items { IfOk result
+            (λ v. v.items ≡ take max (drop from (sealed_from 0 (member_saved self.now.member)))) }
         ensures numbered { IfOk result (λ v. is_numbered from v.items ≡ true) }
         ensures fits { IfOk result (λ v. 0 < vec_len v → from + vec_len v < 2 ^ 64) }
     {
@@ -514,8 +564,9 @@ impl<D: Disk, J: Naming> Book<D, J> {
         ensures opening { self.new.opening ≡ self.old.opening }
         ensures log { self.new.log ≡ self.old.log }
         // In the world a member that is up hears nothing and goes down, with no record in doubt.
-        ensures life { (header : Header) (liars : ℕ → Bool) (w : World) → IsCorrect header.size liars header.me →
-            MemberIsAt D.Disk header w self.old.member → member_is_stopped self.old.member ≡ false →
+        ensures life { (header : Header) (liars : ℕ → Bool) (w : World) →
+            IsCorrect header.size liars header.me → MemberIsAt D.Disk header w self.old.member →
+            member_is_stopped self.old.member ≡ false →
             DoesStep D.Disk header liars w (Hears header.me [] [] false) self.new.member }
     {
         self.member.stop();
@@ -532,9 +583,11 @@ impl<D: Disk, J: Naming> Book<D, J> {
     /// Returns how many statements are in the outbox, and how many questions are decided; none
     /// where the member is stopped. It goes through no records and no questions.
     pub fn status(&self) -> Option<(u64, u16)>
-        ensures outbox { IfSome result (λ status. status.0 ≡ length (sealed_from 0 (member_saved self.now.member))) }
-        ensures decided { IfSome result (λ status.
-            status.1 ≡ decided_below (member_header self.now.member).size.questions (member_saved self.now.member)) }
+        ensures outbox { IfSome result
+            (λ status. status.0 ≡ length (sealed_from 0 (member_saved self.now.member))) }
+        ensures decided { IfSome result
+            (λ status. status.1 ≡ decided_below (member_header self.now.member).size.questions
+            (member_saved self.now.member)) }
         ensures up { IsSome result ↔ (member_is_stopped self.now.member ≡ false) }
         ensures status { result ≡ status_of self.now }
     {
@@ -561,7 +614,8 @@ impl<D: Disk, J: Naming> Book<D, J> {
 
     /// Returns `true` if the seats are those of all members, each with the link part of its peer.
     pub(crate) fn is_settled(&self, seats: &[Seat<J>]) -> bool
-        ensures { result ≡ is_settled (member_header self.now.member).size.n self.now.history seats.now }
+        ensures { result
+            ≡ is_settled (member_header self.now.member).size.n self.now.history seats.now }
     {
         is_settled(self.member.header().size().n(), &self.history, seats)
     }
@@ -590,7 +644,9 @@ fn make_ready<J: Naming>(
 ) -> bool
     ensures entries { history.new.entries ≡ history.old.entries }
     ensures room { result ≡ true → length events.now.items ≤ history.new.room }
-    ensures account { MatchBool result (account.new ≡ with_group account.old (hearings events.now.items)) (account.new ≡ account.old) }
+    ensures account { MatchBool result
+        (account.new ≡ with_group account.old (hearings events.now.items))
+        (account.new ≡ account.old) }
     ensures some { result ≡ false → 0 < length events.now.items }
 {
     if !history.make_room(events.len()) {
@@ -631,7 +687,8 @@ fn make_ready_for_one<J: Naming>(
     ensures firsts { firsts.new.said ≡ firsts.old.said }
     ensures room { result ≡ true → (0 < history.new.room) × (0 < firsts.new.room) }
     ensures begins { result ≡ true → IsPrefix seen.now account.old }
-    ensures account { MatchBool result (account.new ≡ account.old ++ (hearing_of one.now ∷ []) ∷ []) (account.new ≡ account.old) }
+    ensures account { MatchBool result (account.new ≡ account.old ++ (hearing_of one.now ∷ []) ∷ [])
+        (account.new ≡ account.old) }
 {
     if !history.make_room(1) {
         return false;
@@ -648,7 +705,8 @@ fn make_ready_for_one<J: Naming>(
 /// Adds the entry where the answer takes it.
 pub(crate) fn add_if_taken(history: &mut History, entry: Entry, answer: &Answer)
     requires { 0 < history.old.room }
-    ensures entries { history.new.entries ≡ lengthened history.old.entries (noted entry) (reply_of answer.now) }
+    ensures entries { history.new.entries
+        ≡ lengthened history.old.entries (noted entry) (reply_of answer.now) }
     ensures room { history.old.room ≤ history.new.room + 1 }
 {
     if let Answer::Taken(_) = answer {

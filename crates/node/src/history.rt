@@ -29,7 +29,11 @@ impl Model for History {
 
     ghost Value = { HistoryView };
 
-    ghost view = { λ h. record { entries = joined h.full.items ++ h.last.items; room = vec_capacity h.last - vec_len h.last } };
+    ghost view = { λ h.
+        record {
+          entries = joined h.full.items ++ h.last.items;
+          room = vec_capacity h.last - vec_len h.last;
+        } };
 
     ghost invariant = { λ h. AreCounted h.behind h.full.items (vec_capacity h.last) };
 }

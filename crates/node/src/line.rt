@@ -333,7 +333,8 @@ fn is_of(heard: &(u8, Statement, Toss), peer: u8, event: &(Statement, Toss)) -> 
 
 /// Has the book hear a group, and does nothing else to it.
 pub(crate) fn hear<D: Disk, J: Naming>(book: &mut Book<D, J>, batch: Batch) -> Heard<D, J>
-    ensures { (outcome : Result (List Group) MemberFault) × ComesOf book.old (hearings batch) outcome book.new }
+    ensures { (outcome : Result (List Group) MemberFault)
+        × ComesOf book.old (hearings batch) outcome book.new }
 {
     match book.hear_all(&batch.events) {
         Ok(_) => Heard {

@@ -29,7 +29,8 @@ impl Model for LinkTable {
 
     ghost Value = { LinksUp };
 
-    ghost view = { λ table. record { incoming = table.incoming.items; outgoing = table.outgoing.items } };
+    ghost view = { λ table.
+        record { incoming = table.incoming.items; outgoing = table.outgoing.items } };
 }
 
 /// Returns how many of these are true.
@@ -64,14 +65,16 @@ impl LinkTable {
 
     /// The link from that member comes in from now on, or doesn't.
     pub(crate) fn set_incoming(&mut self, member: u8, up: bool)
-        ensures { member < length self.old.incoming → self.new ≡ record self.old { incoming = slice_set self.old.incoming member up } }
+        ensures { member < length self.old.incoming →
+            self.new ≡ record self.old { incoming = slice_set self.old.incoming member up } }
     {
         set_at(&mut self.incoming, member, up);
     }
 
     /// The link to that member is welcomed from now on, or isn't.
     pub(crate) fn set_outgoing(&mut self, member: u8, up: bool)
-        ensures { member < length self.old.outgoing → self.new ≡ record self.old { outgoing = slice_set self.old.outgoing member up } }
+        ensures { member < length self.old.outgoing →
+            self.new ≡ record self.old { outgoing = slice_set self.old.outgoing member up } }
     {
         set_at(&mut self.outgoing, member, up);
     }

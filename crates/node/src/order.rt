@@ -37,7 +37,8 @@ impl Model for Order {
 
     ghost Value = { OrderView };
 
-    ghost view = { λ o. record { items = take o.count o.items.items; most = length o.items.items } };
+    ghost view = { λ o.
+        record { items = take o.count o.items.items; most = length o.items.items } };
 
     ghost invariant = { λ o. o.count ≤ length o.items.items };
 }
@@ -79,7 +80,8 @@ impl Order {
     /// Adds a decision, where there is room.
     fn add(&mut self, decision: Decision)
         ensures most { self.new.most ≡ self.old.most }
-        ensures room { length self.old.items < self.old.most → self.new.items ≡ self.old.items ++ decision ∷ [] }
+        ensures room { length self.old.items < self.old.most →
+            self.new.items ≡ self.old.items ++ decision ∷ [] }
         ensures full { self.old.most ≤ length self.old.items → self.new.items ≡ self.old.items }
     {
         if self.count < self.items.len() {

@@ -31,15 +31,18 @@ impl<D: Disk, J: Naming> Model for Published<D, J> {
 
     ghost Value = { PublishedView };
 
-    ghost view = { λ p. record { items = p.shown; decisions = p.decisions.items; status = p.status } };
+    ghost view = { λ p.
+        record { items = p.shown; decisions = p.decisions.items; status = p.status } };
 
-    ghost invariant = { λ p. IsStanding D J.header p.status × AreDecisionsOf D J.header p.decisions.items };
+    ghost invariant = { λ p. IsStanding D J.header p.status
+        × AreDecisionsOf D J.header p.decisions.items };
 }
 
 impl<D: Disk, J: Naming> Published<D, J> {
     /// Shows a book.
     pub(crate) fn of(alloc: Global, book: &Book<D, J>) -> Result<Published<D, J>, Memory>
-        ensures items { IfOk result (λ published. published.items ≡ sealed_from 0 (member_saved book.now.member)) }
+        ensures items { IfOk result
+            (λ published. published.items ≡ sealed_from 0 (member_saved book.now.member)) }
         ensures status { IfOk result (λ published. published.status ≡ status_of book.now) }
     {
         let shown = Shown::of(alloc, book.outbox())?;
@@ -57,7 +60,8 @@ impl<D: Disk, J: Naming> Published<D, J> {
     /// is shown. Where there is no memory no more statements or decisions are shown.
     pub(crate) fn show(&mut self, book: &Book<D, J>) -> bool
         ensures items { IsTrue result →
-            self.new.items ≡ self.old.items ++ drop (length self.old.items) (sealed_from 0 (member_saved book.now.member)) }
+            self.new.items ≡ self.old.items ++ drop (length self.old.items)
+            (sealed_from 0 (member_saved book.now.member)) }
         ensures same { IsFalse result → self.new.items ≡ self.old.items }
         ensures status { self.new.status ≡ status_of book.now }
     {

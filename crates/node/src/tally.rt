@@ -28,14 +28,16 @@ impl Model for Tally {
 
     ghost Value = { TallyView };
 
-    ghost view = { λ tally. record { verdicts = tally.verdicts.items; decided = tally.decided; order = tally.order } };
+    ghost view = { λ tally.
+        record { verdicts = tally.verdicts.items; decided = tally.decided; order = tally.order } };
 }
 
 impl Tally {
     /// The verdicts of a member.
     pub(crate) fn of<D: Disk>(alloc: Global, member: &Member<D>) -> Result<Tally, Memory>
         requires { IsSound D.Disk member.now }
-        ensures { IfOk result (IsTallied (member_header member.now).size.questions (member_saved member.now)) }
+        ensures { IfOk result
+            (IsTallied (member_header member.now).size.questions (member_saved member.now)) }
     {
         let mut verdicts = Vec::new(alloc);
         let mut decided = 0;
@@ -56,7 +58,8 @@ impl Tally {
 
     /// Adds the records behind the first so many, which were added before.
     pub(crate) fn add_behind(&mut self, records: &[Record], count: usize)
-        ensures { (questions : ℕ) → IsTallied questions (take count records.now) self.old → IsTallied questions records.now self.new }
+        ensures { (questions : ℕ) → IsTallied questions (take count records.now) self.old →
+            IsTallied questions records.now self.new }
     {
         for one in behind(records, count) {
             self.add(one);
@@ -75,7 +78,8 @@ impl Tally {
     /// Counts what a record decides.
     fn count(&mut self, one: &Record)
         ensures order { self.new.order ≡ self.old.order }
-        ensures counted { (questions : ℕ) (before : List Record) → AreCounted questions before self.old →
+        ensures counted { (questions : ℕ) (before : List Record) →
+            AreCounted questions before self.old →
             AreCounted questions (before ++ one.now ∷ []) self.new }
     {
         if let Record::Decided { question, bit, .. } = *one {

@@ -60,7 +60,13 @@ impl Model for Dossier {
 
     ghost Value = { DossierView };
 
-    ghost view = { λ d. record { size = d.size; question = d.question; bit = d.bit; heard = heard_on d.question (joined d.full.items) ++ d.last.items } };
+    ghost view = { λ d.
+        record {
+          size = d.size;
+          question = d.question;
+          bit = d.bit;
+          heard = heard_on d.question (joined d.full.items) ++ d.last.items;
+        } };
 }
 
 impl Dossier {
@@ -76,7 +82,8 @@ impl Dossier {
         ensures size { IfOk result (λ dossier. dossier.size ≡ size) }
         ensures question { IfOk result (λ dossier. dossier.question ≡ question) }
         ensures bit { IfOk result (λ dossier. dossier.bit ≡ bit) }
-        ensures heard { IfOk result (λ dossier. dossier.heard ≡ heard_on question history.now.entries) }
+        ensures heard { IfOk result
+            (λ dossier. dossier.heard ≡ heard_on question history.now.entries) }
     {
         let (full, last) = history.parts();
         let full = shared_on(alloc, full, question)?;
@@ -132,7 +139,9 @@ impl Dossier {
 
 /// Shares the blocks that may have something of the question.
 fn shared_on(alloc: Global, blocks: &[Block], question: u16) -> Result<Vec<Block>, Memory>
-    ensures { IfOk result (λ copies. heard_on question (joined copies.items) ≡ heard_on question (joined blocks.now)) }
+    ensures { IfOk result
+        (λ copies. heard_on question (joined copies.items)
+        ≡ heard_on question (joined blocks.now)) }
 {
     let mut copies = Vec::new(alloc);
     for block in blocks {
@@ -143,7 +152,9 @@ fn shared_on(alloc: Global, blocks: &[Block], question: u16) -> Result<Vec<Block
 
 /// Adds the block to the copies, unless it has nothing of the question.
 fn share_on(copies: &mut Vec<Block>, block: &Block, question: u16) -> Result<(), Memory>
-    ensures { OnOk result (heard_on question (joined copies.new.items) ≡ heard_on question (joined copies.old.items) ++ heard_on question block.now) }
+    ensures { OnOk result
+        (heard_on question (joined copies.new.items) ≡ heard_on question (joined copies.old.items)
+        ++ heard_on question block.now) }
 {
     if block.is_without(question) {
         return Ok(());

@@ -18,7 +18,8 @@ fn is_refusal(error: &FromHexError) -> bool
 /// no room for them.
 pub fn bytes(alloc: Global, word: &[u8]) -> Result<Option<Vec<u8>>, Memory>
     ensures some { IfOk result (λ found. IfSome found (λ bytes. IsHexOf word.now bytes.items)) }
-    ensures exact { (bytes : List ℕ) → IsHexOf word.now bytes → IfOk result (λ found. MatchOption found ⊥ (λ found. found.items ≡ bytes)) }
+    ensures exact { (bytes : List ℕ) → IsHexOf word.now bytes →
+        IfOk result (λ found. MatchOption found ⊥ (λ found. found.items ≡ bytes)) }
 {
     match hex::decode(alloc, word) {
         Ok(bytes) if bytes.is_empty() => Ok(None),
@@ -31,7 +32,8 @@ pub fn bytes(alloc: Global, word: &[u8]) -> Result<Option<Vec<u8>>, Memory>
 /// The byte that the word writes in two hexadecimal digits. [`Memory`]: no room to read it.
 pub fn byte(alloc: Global, word: &[u8]) -> Result<Option<u8>, Memory>
     ensures some { IfOk result (λ found. IfSome found (λ byte. IsHexOf word.now (byte ∷ []))) }
-    ensures exact { (byte : ℕ) → IsHexOf word.now (byte ∷ []) → IfOk result (λ found. found ≡ Some byte) }
+    ensures exact { (byte : ℕ) → IsHexOf word.now (byte ∷ []) →
+        IfOk result (λ found. found ≡ Some byte) }
 {
     match bytes(alloc, word)? {
         Some(bytes) => match bytes.as_slice() {

@@ -10,7 +10,8 @@ use terms::{Size, SizeFault};
 /// the limit is.
 pub fn size_from(n: u16, t: u16, questions: u16) -> Result<Size, SizeFault>
     ensures ok { IfOk result (λ size. size ≡ new_size n t questions) }
-    ensures exact { MatchResult result (λ _. size_fault n t questions ≡ None) (λ fault. size_fault n t questions ≡ Some fault) }
+    ensures exact { MatchResult result (λ _. size_fault n t questions ≡ None)
+        (λ fault. size_fault n t questions ≡ Some fault) }
 {
     let n = u8::try_from(n).unwrap_or(u8::MAX);
     let t = u8::try_from(t).unwrap_or(u8::MAX);

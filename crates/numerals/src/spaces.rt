@@ -17,7 +17,8 @@ pub fn first_space(line: &[u8]) -> Option<usize>
 /// Returns what stands before the first space, and what stands behind it; none where there is no
 /// space.
 pub fn split_at_space(line: &[u8]) -> Option<(&[u8], &[u8])>
-    ensures { MatchOption result (NoSpace line.now) (λ parts. (line.now ≡ parts.0.now ++ 32 ∷ parts.1.now) × NoSpace parts.0.now) }
+    ensures { MatchOption result (NoSpace line.now)
+        (λ parts. (line.now ≡ parts.0.now ++ 32 ∷ parts.1.now) × NoSpace parts.0.now) }
 {
     match first_space(line) {
         Some(space) => Some((&line[..space], &line[space + 1..])),
@@ -28,7 +29,8 @@ pub fn split_at_space(line: &[u8]) -> Option<(&[u8], &[u8])>
 /// Returns what stands behind these words, if the text begins with them.
 pub fn behind<'a>(text: &'a [u8], words: &str) -> Option<&'a [u8]>
     ensures some { IfSome result (λ rest. text.now ≡ words.now ++ rest.now) }
-    ensures exact { (rest : List ℕ) → text.now ≡ words.now ++ rest → MatchOption result ⊥ (λ found. found.now ≡ rest) }
+    ensures exact { (rest : List ℕ) → text.now ≡ words.now ++ rest →
+        MatchOption result ⊥ (λ found. found.now ≡ rest) }
 {
     let length = words.len();
     if text.len() < length {

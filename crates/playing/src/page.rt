@@ -43,7 +43,9 @@ const ROWS: &str = "],\n\"rows\":[[\"event\",\"line\",\"records\"]";
 
 /// Returns what stands between a run's name and its events.
 fn fields_json(alloc: Global, run: &Run<'_>) -> Result<String, AllocError>
-    ensures { IfOk result (λ text. string_bytes text ≡ fields_json run.now.size run.now.liars.now run.now.outcome.now) }
+    ensures { IfOk result
+        (λ text. string_bytes text ≡ fields_json run.now.size run.now.liars.now
+        run.now.outcome.now) }
 {
     let size = size_json(alloc, run.size, run.liars)?;
     let counts = counts_json(alloc, &run.outcome.marks)?;
@@ -53,8 +55,10 @@ fn fields_json(alloc: Global, run: &Run<'_>) -> Result<String, AllocError>
 
 /// Writes the object of a run in JSON.
 fn write_run<W: Write>(alloc: Global, run: &Run<'_>, output: &mut W) -> io::Result<()>
-    ensures { OnOk result (Appends (W.contents output.old) (W.contents output.new)
-        (run_json run.now.name.now run.now.size run.now.liars.now run.now.events.now run.now.outcome.now)) }
+    ensures { OnOk result
+        (Appends (W.contents output.old) (W.contents output.new)
+        (run_json run.now.name.now run.now.size run.now.liars.now run.now.events.now
+        run.now.outcome.now)) }
 {
     let name = name_json(alloc, run.name)?;
     output.write_all(&name)?;
@@ -80,8 +84,11 @@ pub fn write_page<W: Write>(
     template: &Template<'_>,
     output: &mut W,
 ) -> io::Result<()>
-    ensures { OnOk result (Appends (W.contents output.old) (W.contents output.new) (page_text template.now.before.now template.now.after.now
-        (run_json run.now.name.now run.now.size run.now.liars.now run.now.events.now run.now.outcome.now))) }
+    ensures { OnOk result
+        (Appends (W.contents output.old) (W.contents output.new)
+        (page_text template.now.before.now template.now.after.now
+        (run_json run.now.name.now run.now.size run.now.liars.now run.now.events.now
+        run.now.outcome.now))) }
 {
     output.write_all(template.before.as_bytes())?;
     write_run(alloc, run, output)?;

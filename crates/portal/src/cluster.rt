@@ -79,7 +79,8 @@ pub(crate) trait Cluster {
 
     /// Returns the answer to a task that proposes nothing.
     fn read(&self, size: Size, task: Task) -> Result<Answer, AllocError>
-        ensures { IfOk result (λ answer. answer.status ≡ 200 → SaysOf size task answer.body.items) };
+        ensures { IfOk result
+            (λ answer. answer.status ≡ 200 → SaysOf size task answer.body.items) };
 
     /// Hands a proposal on to all members, unless too many are under way, and returns the answer.
     fn propose(&mut self, proposal: Proposal) -> Result<Answer, AllocError>

@@ -122,7 +122,9 @@ fn put_fields(alloc: Global, response: &mut Response, kind: Kind) -> Result<(), 
 /// Puts an answer into a response.
 fn fill(alloc: Global, response: &mut Response, answer: &Answer) -> Result<(), AllocError>
     requires { response.old.body.items ≡ [] }
-    ensures { OnOk result ((response.new.status ≡ answer.now.status) × (response.new.body.items ≡ answer.now.body.items)) }
+    ensures { OnOk result
+        ((response.new.status ≡ answer.now.status)
+        × (response.new.body.items ≡ answer.now.body.items)) }
 {
     put_fields(alloc, response, answer.kind)?;
     response.body.put_slice(&answer.body)?;
@@ -146,7 +148,8 @@ fn starve(response: &mut Response)
 /// Makes a response of an answer, and returns whether the stream of events is asked for.
 fn respond(alloc: Global, response: &mut Response, answer: Answer) -> Option<Option<Position>>
     requires { response.old.body.items ≡ [] }
-    ensures { response.new.status ≡ 200 → (answer.status ≡ 200) × (response.new.body.items ≡ answer.body.items) }
+    ensures { response.new.status ≡ 200 → (answer.status ≡ 200)
+        × (response.new.body.items ≡ answer.body.items) }
 {
     match fill(alloc, response, &answer) {
         Ok(()) => answer.follow,
@@ -183,7 +186,8 @@ impl<'a, C: Cluster> Door<'a, C> {
     /// Does what a request asks for, and returns the answer.
     fn perform(&mut self, task: Task) -> Result<Answer, AllocError>
         ensures handed { HandsOnFor task (C.handed self.old.cluster) (C.handed self.new.cluster) }
-        ensures says { IfOk result (λ answer. answer.status ≡ 200 → SaysOf self.old.size task answer.body.items) }
+        ensures says { IfOk result
+            (λ answer. answer.status ≡ 200 → SaysOf self.old.size task answer.body.items) }
     {
         match task {
             Task::Propose {
@@ -201,8 +205,11 @@ impl<'a, C: Cluster> Door<'a, C> {
 
     /// Returns the answer to a request.
     fn answer(&mut self, request: &Request<Bytes>) -> Result<Answer, AllocError>
-        ensures proposes { Proposes self.old.policy self.old.size request.now (C.handed self.old.cluster) (C.handed self.new.cluster) }
-        ensures tells { IfOk result (λ answer. Tells self.old.policy self.old.size request.now answer.status answer.body.items) }
+        ensures proposes { Proposes self.old.policy self.old.size request.now
+            (C.handed self.old.cluster) (C.handed self.new.cluster) }
+        ensures tells { IfOk result
+            (λ answer. Tells self.old.policy self.old.size request.now answer.status
+            answer.body.items) }
     {
         let asked = asked_of(request);
         match task_of(self.alloc, &self.policy, self.size, &asked) {
@@ -218,8 +225,10 @@ impl<'a, C: Cluster> Door<'a, C> {
         response: &mut Response,
     ) -> Option<Option<Position>>
         requires { response.old.body.items ≡ [] }
-        ensures proposes { Proposes self.old.policy self.old.size request.now (C.handed self.old.cluster) (C.handed self.new.cluster) }
-        ensures tells { Tells self.old.policy self.old.size request.now response.new.status response.new.body.items }
+        ensures proposes { Proposes self.old.policy self.old.size request.now
+            (C.handed self.old.cluster) (C.handed self.new.cluster) }
+        ensures tells { Tells self.old.policy self.old.size request.now response.new.status
+            response.new.body.items }
     {
         match self.answer(request) {
             Ok(answer) => respond(self.alloc, response, answer),

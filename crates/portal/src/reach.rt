@@ -57,7 +57,8 @@ impl<'a, R: Speaker> Reach<'a, R> {
 
     /// Returns the answer about a question.
     fn question(&self, size: Size, question: u16, wait: u16) -> Result<Answer, AllocError>
-        ensures { IfOk result (λ answer. answer.status ≡ 200 → IsToldAt size question answer.body.items) }
+        ensures { IfOk result
+            (λ answer. answer.status ≡ 200 → IsToldAt size question answer.body.items) }
     {
         self.await_decision(question, wait);
         let book = self.it.book.lock(self.rt);

@@ -20,7 +20,8 @@ pub(crate) fn question_answer(
     size: Size,
     question: u16,
 ) -> Result<Answer, AllocError>
-    ensures { IfOk result (λ answer. answer.status ≡ 200 → IsToldAt size question answer.body.items) }
+    ensures { IfOk result
+        (λ answer. answer.status ≡ 200 → IsToldAt size question answer.body.items) }
 {
     let watch = book.watch();
     if watch.size() != size {

@@ -36,10 +36,13 @@ pub fn known_at(cells: &Touched, size: Size, place: Place) -> Known
 /// Says a statement at its place. Nothing is asked of memory where the place has a cell.
 pub fn say(cells: &mut Touched, size: Size, s: &Statement) -> Result<(), AllocError>
     requires { s.now.place.origin < size.n }
-    ensures ok { OnOk result ((q : Place) → known_in (touched_known cells.new) size.n q
-        ≡ cond (same_spot s.now.place q) (say_known (known_in (touched_known cells.old) size.n s.now.place) s.now.kind s.now.value)
+    ensures ok { OnOk result
+        ((q : Place) → known_in (touched_known cells.new) size.n q
+        ≡ cond (same_spot s.now.place q)
+        (say_known (known_in (touched_known cells.old) size.n s.now.place) s.now.kind s.now.value)
         (known_in (touched_known cells.old) size.n q)) }
-    ensures err { OnErr result ((spot : ℕ) → touched_known cells.new spot ≡ touched_known cells.old spot) }
+    ensures err { OnErr result
+        ((spot : ℕ) → touched_known cells.new spot ≡ touched_known cells.old spot) }
     ensures reached { touched_made cells.old (spot_of size.n s.now.place) ≡ true → IsOk result }
 {
     let spot = spot(size, s.place());
@@ -59,11 +62,15 @@ pub fn receive(
 ) -> Result<Taken, AllocError>
     requires from { from < 64 }
     requires origin { s.now.place.origin < size.n }
-    ensures taken { IfOk result (Receives size from s.now (known_in (touched_known cells.old) size.n s.now.place)
+    ensures taken { IfOk result
+        (Receives size from s.now (known_in (touched_known cells.old) size.n s.now.place)
         (known_in (touched_known cells.new) size.n s.now.place)) }
-    ensures others { OnOk result ((q : Place) → known_in (touched_known cells.new) size.n q
-        ≡ cond (same_spot s.now.place q) (known_in (touched_known cells.new) size.n s.now.place) (known_in (touched_known cells.old) size.n q)) }
-    ensures err { OnErr result ((spot : ℕ) → touched_known cells.new spot ≡ touched_known cells.old spot) }
+    ensures others { OnOk result
+        ((q : Place) → known_in (touched_known cells.new) size.n q
+        ≡ cond (same_spot s.now.place q) (known_in (touched_known cells.new) size.n s.now.place)
+        (known_in (touched_known cells.old) size.n q)) }
+    ensures err { OnErr result
+        ((spot : ℕ) → touched_known cells.new spot ≡ touched_known cells.old spot) }
     ensures reached { touched_made cells.old (spot_of size.n s.now.place) ≡ true → IsOk result }
 {
     let spot = spot(size, s.place());

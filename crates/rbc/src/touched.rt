@@ -98,9 +98,11 @@ impl Touched {
         requires number { number < length self.old }
         requires from { from < 64 }
         ensures taken { (spot : ℕ) → IsAt self.old number spot →
-            Receives size from s.now (touched_known self.old spot) (touched_known self.new spot) result }
+            Receives size from s.now (touched_known self.old spot)
+            (touched_known self.new spot) result }
         ensures others { (spot : ℕ) → IsAt self.old number spot → (other : ℕ) →
-            touched_known self.new other ≡ cond (other == spot) (touched_known self.new spot) (touched_known self.old other) }
+            touched_known self.new other ≡ cond (other == spot) (touched_known self.new spot)
+            (touched_known self.old other) }
     {
         rules::receive(&mut self.cells[number].known, size, from, s)
     }
@@ -108,8 +110,10 @@ impl Touched {
     /// Says a statement in the cell of that number.
     pub fn say(&mut self, number: usize, s: &Statement)
         requires { number < length self.old }
-        ensures { (spot : ℕ) → IsAt self.old number spot → (other : ℕ) → touched_known self.new other
-            ≡ cond (other == spot) (say_known (touched_known self.old spot) s.now.kind s.now.value) (touched_known self.old other) }
+        ensures { (spot : ℕ) → IsAt self.old number spot → (other : ℕ) →
+            touched_known self.new other ≡ cond (other == spot)
+            (say_known (touched_known self.old spot) s.now.kind s.now.value)
+            (touched_known self.old other) }
     {
         known::say(&mut self.cells[number].known, s);
     }
@@ -156,7 +160,8 @@ fn add(numbers: &mut Vec<u16>, cells: &mut Vec<Cell>, spot: u16) -> Result<usize
     requires few { spot < 8000 }
     requires unmade { touched_made cells.old.items spot ≡ false }
     ensures table { IsTable numbers.new.items cells.new.items }
-    ensures same { (other : ℕ) → touched_known cells.new.items other ≡ touched_known cells.old.items other }
+    ensures same { (other : ℕ) →
+        touched_known cells.new.items other ≡ touched_known cells.old.items other }
     ensures made { IfOk result (λ number. IsAt cells.new.items number spot) }
 {
     make_room(cells)?;

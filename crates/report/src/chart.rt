@@ -126,7 +126,8 @@ fn pick_text(alloc: Global, pick: Pick) -> Result<String, AllocError>
 
 /// Adds a part to a list behind a verb.
 fn add_part(text: &mut String, verb: &str, part: &str) -> Result<(), AllocError>
-    ensures { (parts : List (List ℕ)) → 0 < length verb.now → string_bytes text.old ≡ listed verb.now parts →
+    ensures { (parts : List (List ℕ)) → 0 < length verb.now →
+        string_bytes text.old ≡ listed verb.now parts →
         OnOk result (string_bytes text.new ≡ listed verb.now (parts ++ part.now ∷ [])) }
 {
     let before = if text.is_empty() { verb } else { "," };
@@ -153,7 +154,8 @@ fn add_kind(
     kind: Kind,
     count: usize,
 ) -> Result<(), AllocError>
-    ensures { (parts : List (List ℕ)) → 0 < length verb.now → string_bytes text.old ≡ listed verb.now parts →
+    ensures { (parts : List (List ℕ)) → 0 < length verb.now →
+        string_bytes text.old ≡ listed verb.now parts →
         OnOk result (string_bytes text.new ≡ listed verb.now (parts ++ counted kind count)) }
 {
     let word = kind_word(kind);
@@ -169,7 +171,8 @@ fn add_kind(
 
 /// Returns what was said, by kinds, behind the verb; nothing where nothing was.
 fn said_text(alloc: Global, verb: &str, saved: &[Record]) -> Result<String, AllocError>
-    ensures { 0 < length verb.now → IfOk result (λ text. string_bytes text ≡ said_text verb.now saved.now) }
+    ensures { 0 < length verb.now →
+        IfOk result (λ text. string_bytes text ≡ said_text verb.now saved.now) }
 {
     let mut text = String::new(alloc);
     for kind in [Kind::Initial, Kind::Echo, Kind::Ready] {
@@ -258,7 +261,8 @@ fn draw_head(
     member: u8,
     y: u64,
 ) -> Result<(), AllocError>
-    ensures { OnOk result (Grows events.old events.new (head_elements (slice_get columns.now member) member y)) }
+    ensures { OnOk result
+        (Grows events.old events.new (head_elements (slice_get columns.now member) member y)) }
 {
     match columns.get(usize::from(member)) {
         None => Ok(()),
@@ -317,7 +321,8 @@ fn follow_all(
     mark: Mark,
     saved: &[Record],
 ) -> Result<(), AllocError>
-    ensures follow { OnOk result (FollowAll event.now mark saved.now columns.old.items columns.new.items) }
+    ensures follow { OnOk result
+        (FollowAll event.now mark saved.now columns.old.items columns.new.items) }
     ensures count { OnOk result (length columns.new.items ≡ length columns.old.items) }
 {
     let said = said_before(columns, event);
@@ -367,7 +372,9 @@ impl Canvas {
     /// Draws the heads of the columns that far down.
     fn show_heads(&mut self, y: u64) -> Result<(), AllocError>
         ensures only { DrawsOnly self.old self.new }
-        ensures drawn { OnOk result (Grows self.old.events self.new.events (heads self.old.size.n self.old.columns.items y)) }
+        ensures drawn { OnOk result
+            (Grows self.old.events self.new.events
+            (heads self.old.size.n self.old.columns.items y)) }
     {
         let n = self.size.n();
         draw_heads(self.alloc, &mut self.events, n, self.columns.as_slice(), y)
@@ -393,9 +400,13 @@ impl Canvas {
         mark: Mark,
         saved: &[Record],
     ) -> Result<(), AllocError>
-        ensures follow { OnOk result (FollowAll event.now mark saved.now self.old.columns.items self.new.columns.items) }
-        ensures row { OnOk result (self.old.rows < MOST_EVENTS → self.new.rows ≡ self.old.rows + 1) }
-        ensures draws { OnOk result (self.old.rows < MOST_EVENTS → Draws number event.now mark saved.now self.old self.new) }
+        ensures follow { OnOk result
+            (FollowAll event.now mark saved.now self.old.columns.items self.new.columns.items) }
+        ensures row { OnOk result
+            (self.old.rows < MOST_EVENTS → self.new.rows ≡ self.old.rows + 1) }
+        ensures draws { OnOk result
+            (self.old.rows < MOST_EVENTS → Draws number event.now mark saved.now self.old
+            self.new) }
     {
         let row = self.rows;
         let y = y_of(row);
@@ -414,7 +425,9 @@ impl Canvas {
         saved: &[Record],
         is_chosen: bool,
     ) -> Result<(), AllocError>
-        ensures { OnOk result (self.old.rows < MOST_EVENTS → DrawsIf is_chosen number event.now mark saved.now self.old self.new) }
+        ensures { OnOk result
+            (self.old.rows < MOST_EVENTS → DrawsIf is_chosen number event.now mark saved.now
+            self.old self.new) }
     {
         if is_skipped(&mark) {
             return Ok(());
@@ -438,9 +451,9 @@ impl Canvas {
         saved: &[Record],
     ) -> Result<(), AllocError>
         ensures only { DrawsOnly self.old self.new }
-        ensures drawn { OnOk result ((elements : List Element) ×
-            IsRow self.old.size self.old.columns.items row y number event.now mark saved.now elements ×
-            Grows self.old.events self.new.events elements) }
+        ensures drawn { OnOk result
+            ((elements : List Element) × IsRow self.old.size self.old.columns.items row y number
+            event.now mark saved.now elements × Grows self.old.events self.new.events elements) }
     {
         self.show_heads_again(row, y)?;
         let number = format!(in self.alloc; "{number}")?;
@@ -454,8 +467,9 @@ impl Canvas {
     /// Draws what happens.
     fn show(&mut self, event: &Event, mark: Mark, y: u64) -> Result<(), AllocError>
         ensures only { DrawsOnly self.old self.new }
-        ensures drawn { OnOk result ((elements : List Element) ×
-            IsShown self.old.size self.old.columns.items event.now mark y elements × Grows self.old.events self.new.events elements) }
+        ensures drawn { OnOk result
+            ((elements : List Element) × IsShown self.old.size self.old.columns.items event.now mark
+            y elements × Grows self.old.events self.new.events elements) }
     {
         match event {
             Event::Propose {
@@ -498,7 +512,9 @@ impl Canvas {
         y: u64,
     ) -> Result<(), AllocError>
         ensures only { DrawsOnly self.old self.new }
-        ensures drawn { OnOk result (Grows self.old.events self.new.events (proposal_elements self.old.size.questions member question bit y)) }
+        ensures drawn { OnOk result
+            (Grows self.old.events self.new.events
+            (proposal_elements self.old.size.questions member question bit y)) }
     {
         let x = x_of(member);
         let on = on_question(self.alloc, self.size.questions(), question)?;
@@ -509,10 +525,14 @@ impl Canvas {
 
     /// Returns what a delivery carries.
     fn carried(&self, from: u8, to: u8, which: Which) -> Result<String, AllocError>
-        ensures text { (sender receiver : Column) (place : ℕ) → slice_get self.now.columns.items from ≡ Some sender →
-            slice_get self.now.columns.items to ≡ Some receiver → slice_get receiver.places.items from ≡ Some place →
-            IfOk result (λ text. string_bytes text ≡ text_if (delivered sender.said.items place which)) }
-        ensures carries { IfOk result (λ text. Carries self.now.columns.items from to which (string_bytes text)) }
+        ensures text { (sender receiver : Column) (place : ℕ) →
+            slice_get self.now.columns.items from ≡ Some sender →
+            slice_get self.now.columns.items to ≡ Some receiver →
+            slice_get receiver.places.items from ≡ Some place →
+            IfOk result (λ text. string_bytes text
+            ≡ text_if (delivered sender.said.items place which)) }
+        ensures carries { IfOk result
+            (λ text. Carries self.now.columns.items from to which (string_bytes text)) }
     {
         let (Some(sender), Some(receiver)) = (
             self.columns.get(usize::from(from)),
@@ -528,10 +548,14 @@ impl Canvas {
 
     /// Returns what a group carries: how many statements it has.
     fn carried_together(&self, from: u8, to: u8, count: u16) -> Result<String, AllocError>
-        ensures text { (sender receiver : Column) (place : ℕ) → slice_get self.now.columns.items from ≡ Some sender →
-            slice_get self.now.columns.items to ≡ Some receiver → slice_get receiver.places.items from ≡ Some place →
-            IfOk result (λ text. string_bytes text ≡ group_text (group_count (length sender.said.items) place count)) }
-        ensures carries { IfOk result (λ text. CarriesGroup self.now.columns.items from to count (string_bytes text)) }
+        ensures text { (sender receiver : Column) (place : ℕ) →
+            slice_get self.now.columns.items from ≡ Some sender →
+            slice_get self.now.columns.items to ≡ Some receiver →
+            slice_get receiver.places.items from ≡ Some place →
+            IfOk result (λ text. string_bytes text
+            ≡ group_text (group_count (length sender.said.items) place count)) }
+        ensures carries { IfOk result
+            (λ text. CarriesGroup self.now.columns.items from to count (string_bytes text)) }
     {
         let (Some(sender), Some(receiver)) = (
             self.columns.get(usize::from(from)),
@@ -545,8 +569,9 @@ impl Canvas {
     /// Draws a delivery.
     fn show_delivery(&mut self, from: u8, to: u8, which: Which, y: u64) -> Result<(), AllocError>
         ensures only { DrawsOnly self.old self.new }
-        ensures drawn { OnOk result ((text : List ℕ) × Carries self.old.columns.items from to which text ×
-            Grows self.old.events self.new.events (arrow_elements from to text y)) }
+        ensures drawn { OnOk result
+            ((text : List ℕ) × Carries self.old.columns.items from to which text
+            × Grows self.old.events self.new.events (arrow_elements from to text y)) }
     {
         let carried = self.carried(from, to, which)?;
         self.show_arrow(from, to, carried.as_str(), y)
@@ -555,8 +580,9 @@ impl Canvas {
     /// Draws a group, which has one arrow.
     fn show_group(&mut self, from: u8, to: u8, count: u16, y: u64) -> Result<(), AllocError>
         ensures only { DrawsOnly self.old self.new }
-        ensures drawn { OnOk result ((text : List ℕ) × CarriesGroup self.old.columns.items from to count text ×
-            Grows self.old.events self.new.events (arrow_elements from to text y)) }
+        ensures drawn { OnOk result
+            ((text : List ℕ) × CarriesGroup self.old.columns.items from to count text
+            × Grows self.old.events self.new.events (arrow_elements from to text y)) }
     {
         let carried = self.carried_together(from, to, count)?;
         self.show_arrow(from, to, carried.as_str(), y)
@@ -565,7 +591,8 @@ impl Canvas {
     /// Draws an arrow between correct members, and what it carries.
     fn show_arrow(&mut self, from: u8, to: u8, carried: &str, y: u64) -> Result<(), AllocError>
         ensures only { DrawsOnly self.old self.new }
-        ensures drawn { OnOk result (Grows self.old.events self.new.events (arrow_elements from to carried.now y)) }
+        ensures drawn { OnOk result
+            (Grows self.old.events self.new.events (arrow_elements from to carried.now y)) }
     {
         let (start, end) = (x_of(from), x_of(to));
         if from == to {
@@ -588,7 +615,8 @@ impl Canvas {
         y: u64,
     ) -> Result<(), AllocError>
         ensures only { DrawsOnly self.old self.new }
-        ensures drawn { OnOk result (Grows self.old.events self.new.events (far_words what from to carried.now y)) }
+        ensures drawn { OnOk result
+            (Grows self.old.events self.new.events (far_words what from to carried.now y)) }
     {
         if !is_long(from, to) {
             return Ok(());
@@ -609,7 +637,8 @@ impl Canvas {
     /// Draws an arrow of a liar, and what it carries.
     fn show_lie_of(&mut self, liar: u8, to: u8, label: &str, y: u64) -> Result<(), AllocError>
         ensures only { DrawsOnly self.old self.new }
-        ensures drawn { OnOk result (Grows self.old.events self.new.events (lie_elements liar to label.now y)) }
+        ensures drawn { OnOk result
+            (Grows self.old.events self.new.events (lie_elements liar to label.now y)) }
     {
         self.events.arrow(true, x_of(liar), x_of(to), y)?;
         self.events
@@ -620,7 +649,8 @@ impl Canvas {
     /// Draws a fuse that is set or taken out.
     fn show_fuse(&mut self, member: u8, calls: Option<u64>, y: u64) -> Result<(), AllocError>
         ensures only { DrawsOnly self.old self.new }
-        ensures drawn { OnOk result (Grows self.old.events self.new.events (fuse_elements member calls y)) }
+        ensures drawn { OnOk result
+            (Grows self.old.events self.new.events (fuse_elements member calls y)) }
     {
         let calls = calls_text(self.alloc, calls)?;
         let words = format!(in self.alloc; "fuse {calls}")?;
@@ -631,7 +661,8 @@ impl Canvas {
     /// Draws a crash.
     fn show_crash(&mut self, member: u8, pick: Pick, y: u64) -> Result<(), AllocError>
         ensures only { DrawsOnly self.old self.new }
-        ensures drawn { OnOk result (Grows self.old.events self.new.events (crash_elements member pick y)) }
+        ensures drawn { OnOk result
+            (Grows self.old.events self.new.events (crash_elements member pick y)) }
     {
         let left = pick_text(self.alloc, pick)?;
         let words = format!(in self.alloc; "crash {left}")?;
@@ -643,7 +674,8 @@ impl Canvas {
     /// Draws an opening, unless it failed.
     fn show_restart(&mut self, member: u8, mark: Mark, y: u64) -> Result<(), AllocError>
         ensures only { DrawsOnly self.old self.new }
-        ensures drawn { OnOk result (Grows self.old.events self.new.events (restart_elements member mark y)) }
+        ensures drawn { OnOk result
+            (Grows self.old.events self.new.events (restart_elements member mark y)) }
     {
         if mark != Mark::Done {
             return Ok(());
@@ -656,7 +688,8 @@ impl Canvas {
     /// Draws a link that starts anew.
     fn show_reset(&mut self, from: u8, to: u8, y: u64) -> Result<(), AllocError>
         ensures only { DrawsOnly self.old self.new }
-        ensures drawn { OnOk result (Grows self.old.events self.new.events (reset_elements from to y)) }
+        ensures drawn { OnOk result
+            (Grows self.old.events self.new.events (reset_elements from to y)) }
     {
         let words = format!(in self.alloc; "reset {from}")?;
         self.events.words(Words::Note, x_of(to), y, words.as_str())
@@ -665,7 +698,8 @@ impl Canvas {
     /// Draws that a disk failed, where it did.
     fn show_failure(&mut self, member: u8, mark: Mark, y: u64) -> Result<(), AllocError>
         ensures only { DrawsOnly self.old self.new }
-        ensures drawn { OnOk result (Grows self.old.events self.new.events (failure_elements member mark y)) }
+        ensures drawn { OnOk result
+            (Grows self.old.events self.new.events (failure_elements member mark y)) }
     {
         if mark != Mark::Failed {
             return Ok(());
@@ -678,7 +712,9 @@ impl Canvas {
     /// Writes what was saved because of the event.
     fn show_saved(&mut self, event: &Event, saved: &[Record], y: u64) -> Result<(), AllocError>
         ensures only { DrawsOnly self.old self.new }
-        ensures drawn { OnOk result (Grows self.old.events self.new.events (saved_elements self.old.size.questions event.now saved.now y)) }
+        ensures drawn { OnOk result
+            (Grows self.old.events self.new.events
+            (saved_elements self.old.size.questions event.now saved.now y)) }
     {
         let own = member_of(event);
         let x = x_of(own);
@@ -692,8 +728,10 @@ impl Canvas {
 
     /// Follows the event.
     fn follow(&mut self, event: &Event, mark: Mark, saved: &[Record]) -> Result<(), AllocError>
-        ensures follow { OnOk result (FollowAll event.now mark saved.now self.old.columns.items self.new.columns.items) }
-        ensures count { OnOk result (length self.new.columns.items ≡ length self.old.columns.items) }
+        ensures follow { OnOk result
+            (FollowAll event.now mark saved.now self.old.columns.items self.new.columns.items) }
+        ensures count { OnOk result
+            (length self.new.columns.items ≡ length self.old.columns.items) }
         ensures rest { self.new ≡ record self.old { columns = self.new.columns } }
     {
         follow_all(&mut self.columns, event, mark, saved)
@@ -702,7 +740,9 @@ impl Canvas {
     /// Writes what is drawn and wasn't written yet.
     fn write_out<W: Write>(&mut self, output: &mut W) -> io::Result<()>
         ensures only { OnOk result (DrawsOnly self.old self.new) }
-        ensures written { OnOk result (Appends (W.contents output.old) (W.contents output.new) (string_bytes self.old.events.text)) }
+        ensures written { OnOk result
+            (Appends (W.contents output.old) (W.contents output.new)
+            (string_bytes self.old.events.text)) }
         ensures rest { OnOk result (string_bytes self.new.events.text ≡ []) }
     {
         output.write_all(self.events.as_str().as_bytes())?;
@@ -746,7 +786,8 @@ fn write_top<W: Write>(
     lifelines: &str,
     output: &mut W,
 ) -> io::Result<()>
-    ensures { bottom + 196 < 2 ^ 64 → OnOk result (Appends (W.contents output.old) (W.contents output.new)
+    ensures { bottom + 196 < 2 ^ 64 →
+        OnOk result (Appends (W.contents output.old) (W.contents output.new)
         (picture_top width bottom lifelines.now)) }
 {
     let height = bottom.saturating_add(36 + LEGEND_HEIGHT);
@@ -758,7 +799,8 @@ fn write_top<W: Write>(
 
 /// Writes the end of a picture that is as far down as that: what the signs mean.
 fn write_bottom<W: Write>(alloc: Global, bottom: u64, output: &mut W) -> io::Result<()>
-    ensures { bottom + 36 < 2 ^ 64 → OnOk result (Appends (W.contents output.old) (W.contents output.new) (picture_end bottom)) }
+    ensures { bottom + 36 < 2 ^ 64 →
+        OnOk result (Appends (W.contents output.old) (W.contents output.new) (picture_end bottom)) }
 {
     let legend = legend_text(alloc, bottom.saturating_add(36))?;
     let end = format!(in alloc; "{legend}</svg>\n")?;
@@ -783,7 +825,9 @@ pub struct Run<'a> {
 
 /// Returns how many events are drawn: as many as the shortest of the lists has.
 fn shortest(run: &Run<'_>) -> usize
-    ensures { result ≡ min (min (length run.now.events.now) (length run.now.marks.now)) (length run.now.saved.now) }
+    ensures { result
+        ≡ min (min (length run.now.events.now) (length run.now.marks.now))
+        (length run.now.saved.now) }
 {
     run.events.len().min(run.marks.len()).min(run.saved.len())
 }
@@ -796,8 +840,9 @@ fn write_rows<W: Write>(
     chosen: &[bool],
     output: &mut W,
 ) -> io::Result<()>
-    ensures { length run.now.events.now ≤ MOST_EVENTS → OnOk result ((rows : List ℕ)
-        × AreRows run.now.size run.now.liars.now run.now.events.now run.now.marks.now run.now.saved.now chosen.now rows
+    ensures { length run.now.events.now ≤ MOST_EVENTS →
+        OnOk result ((rows : List ℕ) × AreRows run.now.size run.now.liars.now run.now.events.now
+        run.now.marks.now run.now.saved.now chosen.now rows
         × Appends (W.contents output.old) (W.contents output.new) rows) }
 {
     let count = shortest(run).min(chosen.len());
@@ -839,9 +884,11 @@ pub fn write_chart<W: Write>(
     choice: Choice,
     output: &mut W,
 ) -> io::Result<u64>
-    ensures { length run.now.events.now ≤ MOST_EVENTS → IfOk result (λ rows. (text : List ℕ)
-        × IsChart choice run.now.size run.now.liars.now run.now.events.now run.now.marks.now run.now.saved.now rows text
-        × IsSvg text × Appends (W.contents output.old) (W.contents output.new) text) }
+    ensures { length run.now.events.now ≤ MOST_EVENTS →
+        IfOk result (λ rows. (text : List ℕ)
+        × IsChart choice run.now.size run.now.liars.now run.now.events.now run.now.marks.now
+        run.now.saved.now rows text × IsSvg text
+        × Appends (W.contents output.old) (W.contents output.new) text) }
 {
     let size = run.size;
     let chosen = chosen_of(alloc, run, choice)?;

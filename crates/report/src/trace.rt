@@ -97,7 +97,9 @@ pub fn write_trace<W: Write>(
     saved: &[Vec<Record>],
     output: &mut W,
 ) -> io::Result<()>
-    ensures { OnOk result (Appends (W.contents output.old) (W.contents output.new) (trace_text events.now marks.now saved.now)) }
+    ensures { OnOk result
+        (Appends (W.contents output.old) (W.contents output.new)
+        (trace_text events.now marks.now saved.now)) }
 {
     let count = events.len().min(marks.len()).min(saved.len());
     for (index, event) in events[..count].iter().enumerate() {

@@ -41,8 +41,9 @@ impl Ahead {
     /// to `is_forgotten`.
     pub(crate) fn add(&mut self, size: Size, member: u8)
         ensures noted { member < size.n → self.new.votes ≡ with_vote self.old.votes member One }
-        ensures more { self.new.is_forgotten ≡
-            nat_lt size.t (count_below size.n (λ m. value_is (value_of false self.new.votes m) One)) }
+        ensures more { self.new.is_forgotten
+            ≡ nat_lt size.t (count_below size.n
+            (λ m. value_is (value_of false self.new.votes m) One)) }
     {
         self.votes = with_member(self.votes, size, member);
         self.is_forgotten = size.t() < self.votes.count(size, false, Value::One);

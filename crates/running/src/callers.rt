@@ -47,7 +47,8 @@ impl Claim {
     /// cluster would send.
     pub(crate) fn read(bytes: &[u8]) -> Option<Claim>
         ensures some { IfSome result (λ claim. bytes.now ≡ claim_bytes claim) }
-        ensures exact { (claim : Claim) → Fits claim → bytes.now ≡ claim_bytes claim → result ≡ Some claim }
+        ensures exact { (claim : Claim) → Fits claim → bytes.now ≡ claim_bytes claim →
+            result ≡ Some claim }
         ensures hello { (version : Version) (cluster : ℕ) (size : Size) (from to : ℕ) →
             Fits (claim_from (version_byte version) cluster size from to) →
             bytes.now ≡ frame_bytes (message.Hello version cluster size from to) →
@@ -101,7 +102,8 @@ impl Claim {
         peers: &Peers<J>,
         host: IpAddr,
     ) -> Option<Difference>
-        ensures { Differs self.now header.now (MaySpeak J.addresses J.hosts self.now.from host) result }
+        ensures { Differs self.now header.now
+            (MaySpeak J.addresses J.hosts self.now.from host) result }
     {
         if self.version != 1 && self.version != 2 {
             return Some(Difference::Version(self.version));
@@ -167,7 +169,8 @@ impl Caller {
         host: IpAddr,
     ) -> Caller
         ensures member { result.member ≡ claim.now.from }
-        ensures differs { Differs claim.now header.now (MaySpeak J.addresses J.hosts claim.now.from host) result.differs }
+        ensures differs { Differs claim.now header.now
+            (MaySpeak J.addresses J.hosts claim.now.from host) result.differs }
     {
         Caller {
             member: claim.from,

@@ -44,7 +44,8 @@ impl Opening {
 
     /// A byte more came.
     fn push(&mut self, byte: u8)
-        ensures { (before : List ℕ) → self.old ≡ take 18 before → self.new ≡ take 18 (before ++ byte ∷ []) }
+        ensures { (before : List ℕ) → self.old ≡ take 18 before →
+            self.new ≡ take 18 (before ++ byte ∷ []) }
     {
         if self.length < HELLO {
             self.bytes[self.length] = byte;
@@ -54,7 +55,8 @@ impl Opening {
 
     /// These bytes came too.
     fn extend(&mut self, bytes: &[u8])
-        ensures { (before : List ℕ) → self.old ≡ take 18 before → self.new ≡ take 18 (before ++ bytes.now) }
+        ensures { (before : List ℕ) → self.old ≡ take 18 before →
+            self.new ≡ take 18 (before ++ bytes.now) }
     {
         if self.length == HELLO {
             return;
@@ -96,9 +98,10 @@ impl Incoming {
     /// Returns what the first 18 bytes say that were read, if they are a Hello, of whatever
     /// cluster.
     pub(crate) fn claim(&self) -> Option<Claim>
-        ensures some { IfSome result (λ claim. take 18 (told_net self.now.stream).taken ≡ claim_bytes claim) }
-        ensures exact { (claim : Claim) → Fits claim → take 18 (told_net self.now.stream).taken ≡ claim_bytes claim →
-            result ≡ Some claim }
+        ensures some { IfSome result
+            (λ claim. take 18 (told_net self.now.stream).taken ≡ claim_bytes claim) }
+        ensures exact { (claim : Claim) → Fits claim →
+            take 18 (told_net self.now.stream).taken ≡ claim_bytes claim → result ≡ Some claim }
     {
         Claim::read(self.opening.bytes())
     }

@@ -169,8 +169,9 @@ pub(crate) fn address_of<D: Disk, J: Life>(it: &Shared<D, J>, peer: u8) -> Optio
 
 /// Returns who dialled from that host, by the Hello that it said, if it said one.
 fn caller_at<D: Disk, J: Life>(it: &Shared<D, J>, host: IpAddr, stream: &Incoming) -> Option<Caller>
-    ensures { IfSome result (λ caller. (claim : Claim) × (take 18 (told_net stream.now.stream).taken ≡ claim_bytes claim)
-        × (caller.member ≡ claim.from)
+    ensures { IfSome result
+        (λ caller. (claim : Claim) × (take 18 (told_net stream.now.stream).taken
+        ≡ claim_bytes claim) × (caller.member ≡ claim.from)
         × Differs claim it.now.hub (MaySpeak J.addresses J.hosts claim.from host) caller.differs) }
 {
     match stream.claim() {
@@ -186,8 +187,10 @@ fn greeted<D: Disk, J: Life>(
     guest: Guest,
     stream: &mut Incoming,
 ) -> Result<(Sender<J>, Version), LinkEnd>
-    ensures hello { IfOk result (λ greeted. told_net stream.new.stream
-        ≡ has_read (told_net stream.old.stream) (frame_bytes (hello_from it.now.hub greeted.1 greeted.0.peer))) }
+    ensures hello { IfOk result
+        (λ greeted. told_net stream.new.stream
+        ≡ has_read (told_net stream.old.stream)
+        (frame_bytes (hello_from it.now.hub greeted.1 greeted.0.peer))) }
     ensures host { IfOk result (λ greeted. greeted.0.host ≡ guest.host) }
 {
     match greet(it.alloc, stream, &it.hub.header()) {
@@ -208,8 +211,10 @@ fn seated<D: Disk, J: Life, R: Machine>(
     guest: Guest,
     stream: &mut Incoming,
 ) -> Result<Option<(Seated<J>, Version)>, LinkEnd>
-    ensures hello { IfOk result (λ seated. IfSome seated (λ seated. told_net stream.new.stream
-        ≡ has_read (told_net stream.old.stream) (frame_bytes (hello_from it.now.hub seated.1 seated.0.seat.peer)))) }
+    ensures hello { IfOk result
+        (λ seated. IfSome seated (λ seated. told_net stream.new.stream
+        ≡ has_read (told_net stream.old.stream)
+        (frame_bytes (hello_from it.now.hub seated.1 seated.0.seat.peer)))) }
     ensures host { IfOk result (λ seated. IfSome seated (λ seated. seated.0.host ≡ guest.host)) }
 {
     let (sender, version) = match greeted(it, guest, stream) {

@@ -38,10 +38,12 @@ pub(crate) struct Given {
 /// Gives a client that comes at that second a slot; none if it is to wait for one.
 pub(crate) fn give(slots: &mut Slots, now: u64) -> Option<Given>
     ensures some { IfSome result (λ given. slots.new ≡ has_come slots.old given.slot now) }
-    ensures free { IfSome result (λ given. given.displaced ≡ None → position_from is_free 0 slots.old ≡ Some given.slot) }
+    ensures free { IfSome result
+        (λ given. given.displaced ≡ None → position_from is_free 0 slots.old ≡ Some given.slot) }
     ensures instead { IfSome result (λ given. (silent : ℕ) → given.displaced ≡ Some silent →
         AreTaken slots.old × GivesWay now slots.old given.slot silent) }
-    ensures none { IfNone result ((slots.new ≡ slots.old) × AreTaken slots.old × NoneGivesWay now slots.old) }
+    ensures none { IfNone result
+        ((slots.new ≡ slots.old) × AreTaken slots.old × NoneGivesWay now slots.old) }
 {
     match slots.take(now) {
         Some(GivenSlot::Free(slot)) => Some(Given {

@@ -97,10 +97,15 @@ impl KeptRefusal {
     /// due.
     fn come_again(&self, now: u64, caller: Option<Caller>) -> (KeptRefusal, Option<RefusalCount>)
         ensures soon { is_due now self.now ≡ false →
-            (result.0 ≡ record self.now { caller = caller; held = self.now.held + 1 }) × (result.1 ≡ None) }
+            (result.0 ≡ record self.now { caller = caller; held = self.now.held + 1 })
+            × (result.1 ≡ None) }
         ensures due { is_due now self.now ≡ true →
             (result.0 ≡ record self.now { caller = caller; held = 0; told = now })
-            × (result.1 ≡ Some (record { refusal = self.now.refusal; caller = caller; count = self.now.held + 1 })) }
+            × (result.1 ≡ Some (record {
+              refusal = self.now.refusal;
+              caller = caller;
+              count = self.now.held + 1;
+            })) }
     {
         if self.is_due(now) {
             let line = RefusalCount {
@@ -247,7 +252,8 @@ fn is_same(one: Refusal, other: Refusal) -> bool
 
 /// Returns the place of a refusal, and what is kept of it.
 fn find(places: &[Option<KeptRefusal>; PLACES], refusal: Refusal) -> Option<(usize, KeptRefusal)>
-    ensures some { IfSome result (λ found. KeepsAt places.now found.0 found.1 × (found.1.refusal ≡ refusal)) }
+    ensures some { IfSome result
+        (λ found. KeepsAt places.now found.0 found.1 × (found.1.refusal ≡ refusal)) }
     ensures within { IfSome result (λ found. found.0 < 64) }
     ensures none { IfNone result (Lacks places.now refusal) }
 {
@@ -398,7 +404,8 @@ fn tell_all_due(places: &mut [Option<KeptRefusal>; PLACES], now: u64, queue: &mu
     requires { IsTable places.old }
     ensures table { IsTable places.new }
     ensures events { HaveCome queue.old (events_of (dues now places.old)) queue.new }
-    ensures after { (at : ℕ) → at < 64 → place_at places.new at ≡ after_due now (place_at places.old at) }
+    ensures after { (at : ℕ) → at < 64 →
+        place_at places.new at ≡ after_due now (place_at places.old at) }
     ensures counts { held places.new + counted_by (dues now places.old) ≡ held places.old }
 {
     for at in 0..PLACES {
@@ -441,7 +448,8 @@ impl Refusals {
     /// is a minute old, how often it came since.
     pub fn tell_due(&mut self, now: u64, queue: &mut Queue)
         ensures events { HaveCome queue.old (events_of (dues now self.old)) queue.new }
-        ensures after { (at : ℕ) → at < 64 → place_at self.new at ≡ after_due now (place_at self.old at) }
+        ensures after { (at : ℕ) → at < 64 →
+            place_at self.new at ≡ after_due now (place_at self.old at) }
         // No count is lost.
         ensures counts { held self.new + counted_by (dues now self.old) ≡ held self.old }
     {

@@ -110,7 +110,8 @@ fn share<D: Disk + Drop, J: Life>(opened: Opened<D>) -> Result<Shared<D, J>, Mem
     requires seed { opened.seed ≡ J.seed }
     requires records { length (member_saved opened.member) ≡ J.records }
     requires sound { IsSound D.Disk opened.member }
-    requires fresh { member_is_stopped opened.member ≡ false → MemberStandsFor opened.member (member_saved opened.member) [] }
+    requires fresh { member_is_stopped opened.member ≡ false →
+        MemberStandsFor opened.member (member_saved opened.member) [] }
     requires header { member_header opened.member ≡ J.header }
     requires board { opened.board ≡ J.names }
     requires cells { length opened.board.cells ≡ (member_header opened.member).size.questions }
@@ -347,7 +348,8 @@ fn run_named<D: Disk + Drop + Send, J: Life + Send + Sync, O: Operator, L: Log +
     requires seed { opened.seed ≡ J.seed }
     requires records { length (member_saved opened.member) ≡ J.records }
     requires sound { IsSound D.Disk opened.member }
-    requires fresh { member_is_stopped opened.member ≡ false → MemberStandsFor opened.member (member_saved opened.member) [] }
+    requires fresh { member_is_stopped opened.member ≡ false →
+        MemberStandsFor opened.member (member_saved opened.member) [] }
     requires header { member_header opened.member ≡ J.header }
     requires board { opened.board ≡ J.names }
     requires cells { length opened.board.cells ≡ (member_header opened.member).size.questions }
@@ -455,7 +457,8 @@ pub fn run_member<D: Disk + Drop + Send, O: Operator, L: Log + Send, R: Machine>
 ) -> Result<(), RunFault>
     requires seed { O.may_toss_from operator.old seed }
     requires sound { IsSound D.Disk member }
-    requires fresh { member_is_stopped member ≡ false → MemberStandsFor member (member_saved member) [] }
+    requires fresh { member_is_stopped member ≡ false →
+        MemberStandsFor member (member_saved member) [] }
     requires begun { HasItsFile D.Disk member }
 {
     let Addresses {

@@ -46,7 +46,8 @@ fn tossers_from(
     requires { first + count < 2 ^ 8 }
     ensures streams { records < 2 ^ 55 →
         IfOk result (λ tossers. tossers.items ≡ streams seed (records * 256 + first) count) }
-    ensures life { records < 2 ^ 55 → IfOk result (λ tossers. AreOfLife seed records tossers.items) }
+    ensures life { records < 2 ^ 55 →
+        IfOk result (λ tossers. AreOfLife seed records tossers.items) }
 {
     let mut tossers = Vec::new(alloc);
     for at in 0..count {
@@ -76,8 +77,9 @@ pub fn tossers_of<D: Disk>(
     member: &Member<D>,
 ) -> Result<Tossers, Memory>
     requires { IsSound D.Disk member.now }
-    ensures links { length (member_saved member.now) < 2 ^ 55 → IfOk result (λ tossers.
-        tossers.links.items ≡ streams seed (length (member_saved member.now) * 256) (member_header member.now).size.n) }
+    ensures links { length (member_saved member.now) < 2 ^ 55 →
+        IfOk result (λ tossers. tossers.links.items
+        ≡ streams seed (length (member_saved member.now) * 256) (member_header member.now).size.n) }
     ensures desk { length (member_saved member.now) < 2 ^ 55 → IfOk result (λ tossers.
         tossers.desk.items ≡ streams seed (length (member_saved member.now) * 256 + 128) 32) }
     ensures life { length (member_saved member.now) < 2 ^ 55 → IfOk result (λ tossers.

@@ -41,10 +41,12 @@ impl Model for Watch {
 impl Watch {
     /// Returns what was decided in earlier lives needs no telling.
     pub(crate) fn new<D: Disk, J: Naming>(alloc: Global, book: &Book<D, J>) -> Result<Watch, Memory>
-        ensures { IfOk result (λ watch. watch ≡ record {
-          told = decided_list (member_saved book.now.member) (member_header book.now.member).size.questions;
-          stopped = false;
-        }) }
+        ensures { IfOk result
+            (λ watch. watch ≡ record {
+              told = decided_list (member_saved book.now.member)
+                  (member_header book.now.member).size.questions;
+              stopped = false;
+            }) }
     {
         let mut told = Vec::new(alloc);
         for question in 0..book.header().size().questions() {
@@ -59,10 +61,12 @@ impl Watch {
     /// The decision of a question, if it is to be told. It is told once.
     fn decision<D: Disk, J: Naming>(&mut self, book: &Book<D, J>, question: u16) -> Option<LogEvent>
         ensures event { result ≡ decision_of self.old (member_saved book.now.member) question }
-        ensures told { self.new ≡ record self.old {
-          told = slice_set self.old.told question
-              (is_told self.old question || is_some (verdict_of (member_saved book.now.member) question));
-        } }
+        ensures told { self.new
+            ≡ record self.old {
+              told = slice_set self.old.told question
+                  (is_told self.old question || is_some
+                  (verdict_of (member_saved book.now.member) question));
+            } }
     {
         let at = usize::from(question);
         if at >= self.told.len() || self.told[at] {
@@ -78,7 +82,8 @@ impl Watch {
     /// The stop of the member, if it is to be told. It is told once.
     fn stop<D: Disk, J: Naming>(&mut self, book: &Book<D, J>) -> Option<LogEvent>
         ensures event { result ≡ stop_of self.old (member_is_stopped book.now.member) }
-        ensures stopped { self.new ≡ record self.old { stopped = self.old.stopped || member_is_stopped book.now.member } }
+        ensures stopped { self.new
+            ≡ record self.old { stopped = self.old.stopped || member_is_stopped book.now.member } }
     {
         if self.stopped || !book.is_stopped() {
             return None;
@@ -105,8 +110,9 @@ impl Telling {
         book: &Book<D, J>,
     ) -> Result<Telling, Memory>
         ensures queue { IfOk result (λ telling. telling.queue ≡ none) }
-        ensures told { IfOk result (λ telling.
-            telling.watch.told ≡ decided_list (member_saved book.now.member) (member_header book.now.member).size.questions) }
+        ensures told { IfOk result
+            (λ telling. telling.watch.told ≡ decided_list (member_saved book.now.member)
+            (member_header book.now.member).size.questions) }
         ensures stopped { IfOk result (λ telling. telling.watch.stopped ≡ false) }
         ensures refusals { IfOk result (λ telling. telling.refusals ≡ empty) }
     {
@@ -149,8 +155,10 @@ impl Telling {
     /// it is one too many of its minute it is counted, as a refusal is.
     pub(crate) fn put_of_link(&mut self, now: u64, peer: u8, event: LogEvent)
         ensures { HasCome self.old.queue event self.new.queue
-            ⊎ ((left line : Option RefusalCount) × IsNoted now (kinds.Unsteady peer) None self.old.refusals self.new.refusals left line
-            × HaveCome self.old.queue (events_of (option_to_list left ++ option_to_list line)) self.new.queue) }
+            ⊎ ((left line : Option RefusalCount)
+            × IsNoted now (kinds.Unsteady peer) None self.old.refusals self.new.refusals left line
+            × HaveCome self.old.queue (events_of (option_to_list left ++ option_to_list line))
+            self.new.queue) }
     {
         if self.admits_line(now, peer) {
             self.queue.put(event);
@@ -161,8 +169,10 @@ impl Telling {
 
     /// A refusal came, at that second, and what the table of refusals says of it is to be told.
     pub(crate) fn count_refusal(&mut self, now: u64, refusal: Refusal, caller: Option<Caller>)
-        ensures { (left line : Option RefusalCount) × IsNoted now refusal caller self.old.refusals self.new.refusals left line
-            × HaveCome self.old.queue (events_of (option_to_list left ++ option_to_list line)) self.new.queue }
+        ensures { (left line : Option RefusalCount)
+            × IsNoted now refusal caller self.old.refusals self.new.refusals left line
+            × HaveCome self.old.queue (events_of (option_to_list left ++ option_to_list line))
+            self.new.queue }
     {
         let (left, line) = self.refusals.count(now, refusal, caller);
         put_line(&mut self.queue, left);
@@ -172,8 +182,10 @@ impl Telling {
     /// Has told how often refusals came that are held back, and whose last line is a minute old at
     /// that second.
     pub(crate) fn tell_due(&mut self, now: u64)
-        ensures events { HaveCome self.old.queue (events_of (dues now self.old.refusals)) self.new.queue }
-        ensures counts { held self.new.refusals + counted_by (dues now self.old.refusals) ≡ held self.old.refusals }
+        ensures events { HaveCome self.old.queue
+            (events_of (dues now self.old.refusals)) self.new.queue }
+        ensures counts { held self.new.refusals + counted_by (dues now self.old.refusals)
+            ≡ held self.old.refusals }
     {
         self.refusals.tell_due(now, &mut self.queue);
     }
@@ -182,12 +194,14 @@ impl Telling {
     /// then its stop.
     pub(crate) fn look<D: Disk, J: Naming>(&mut self, book: &Book<D, J>)
         ensures events { HaveCome self.old.queue
-            (decisions_below self.old.watch (member_saved book.now.member) (member_header book.now.member).size.questions
+            (decisions_below self.old.watch (member_saved book.now.member)
+            (member_header book.now.member).size.questions
             ++ option_to_list (stop_of self.old.watch (member_is_stopped book.now.member)))
             self.new.queue }
-        ensures told { AreTold (member_saved book.now.member) (member_header book.now.member).size.questions
-            self.old.watch.told self.new.watch.told }
-        ensures stopped { self.new.watch.stopped ≡ (self.old.watch.stopped || member_is_stopped book.now.member) }
+        ensures told { AreTold (member_saved book.now.member)
+            (member_header book.now.member).size.questions self.old.watch.told self.new.watch.told }
+        ensures stopped { self.new.watch.stopped
+            ≡ (self.old.watch.stopped || member_is_stopped book.now.member) }
     {
         for question in 0..book.header().size().questions() {
             let decision = self.watch.decision(book, question);

@@ -268,7 +268,8 @@ impl Draw {
 
     /// A statement of this liar to this member, as a frame.
     pub fn lie_of(&mut self, alloc: Global, size: Size, liar: u8, to: u8) -> Result<Event, Memory>
-        ensures { IfOk result (λ event. (act_of event, self.new) ≡ drawing.lie_of size liar to self.old) }
+        ensures { IfOk result
+            (λ event. (act_of event, self.new) ≡ drawing.lie_of size liar to self.old) }
     {
         let statement = self.statement(size);
         let mut bytes = Vec::new(alloc);
@@ -294,7 +295,8 @@ impl Draw {
     #[inline(always)]
     #[tactic(auto, unfolding(crate::specs::Drawing::act_of_kind))]
     fn of_kind(&mut self, alloc: Global, size: Size, kind: u32) -> Result<Event, Memory>
-        ensures { IfOk result (λ event. (act_of event, self.new) ≡ drawing.act_of_kind size kind self.old) }
+        ensures { IfOk result
+            (λ event. (act_of event, self.new) ≡ drawing.act_of_kind size kind self.old) }
     {
         Ok(match kind {
             9 => self.deliver_at(size),

@@ -277,7 +277,8 @@ impl Fair {
     fn trouble(&mut self, draw: &mut Draw, correct: &[u8], left: u64) -> Event
         requires room { SPAN < left }
         requires correct { 0 < length correct.now }
-        ensures { ((act_of result, self.new), draw.new) ≡ fair.trouble correct.now left self.old draw.old }
+        ensures { ((act_of result, self.new), draw.new)
+            ≡ fair.trouble correct.now left self.old draw.old }
     {
         let member = one_of(draw, correct);
         let calls = draw.calls();
@@ -297,7 +298,9 @@ impl Fair {
     #[tactic(auto, using(crate::proofs::Decks::filled_has))]
     fn delivery(&mut self, draw: &mut Draw, correct: &[u8]) -> Result<Event, AllocError>
         requires { 0 < length correct.now }
-        ensures { IfOk result (λ event. ((act_of event, self.new), draw.new) ≡ fair.delivery correct.now self.old draw.old) }
+        ensures { IfOk result
+            (λ event. ((act_of event, self.new), draw.new)
+            ≡ fair.delivery correct.now self.old draw.old) }
     {
         fill(&mut self.deck, correct)?;
         let link = deal(&mut self.deck, draw);
@@ -313,7 +316,9 @@ impl Fair {
         left: u64,
     ) -> Result<Event, Memory>
         requires { 0 < length members.now.correct }
-        ensures { IfOk result (λ event. ((act_of event, self.new), draw.new) ≡ fair.drawn_event members.now left self.old draw.old) }
+        ensures { IfOk result
+            (λ event. ((act_of event, self.new), draw.new)
+            ≡ fair.drawn_event members.now left self.old draw.old) }
     {
         let n = members.size.n();
         let kind = draw.below(KINDS * u32::from(n));
@@ -335,7 +340,9 @@ impl Fair {
         members: &Members,
         left: u64,
     ) -> Result<Event, Memory>
-        ensures { IfOk result (λ event. ((act_of event, self.new), draw.new) ≡ fair.event members.now left self.old draw.old) }
+        ensures { IfOk result
+            (λ event. ((act_of event, self.new), draw.new)
+            ≡ fair.event members.now left self.old draw.old) }
     {
         if !has_some(members.correct) {
             return Ok(Event::Restart { member: 0 });

@@ -15,7 +15,8 @@ use terms::{Size, SizeFault};
 /// The number below 2^16 behind this name.
 fn named(words: &[&[u8]], name: &str) -> Option<u16>
     ensures some { IfSome result (IsNumberNamed name.now (texts words.now)) }
-    ensures exact { (number : ℕ) → IsNumberNamed name.now (texts words.now) number → result ≡ Some number }
+    ensures exact { (number : ℕ) → IsNumberNamed name.now (texts words.now) number →
+        result ≡ Some number }
 {
     match words {
         [first, word] if is(first, name) => number16(word),
@@ -26,7 +27,9 @@ fn named(words: &[&[u8]], name: &str) -> Option<u16>
 /// The number below 2^16 behind this name on the line of that place.
 fn named_at(alloc: Global, lines: &Lines, place: usize, name: &str) -> Result<u16, ScriptFault>
     ensures ok { IfOk result (HasLine lines.now place (IsNumberNamed name.now)) }
-    ensures err { IfErr result (λ fault. (fault ≡ ScriptFault.Memory) ⊎ LacksLine lines.now place (IsNumberNamed name.now) fault) }
+    ensures err { IfErr result
+        (λ fault. (fault ≡ ScriptFault.Memory)
+        ⊎ LacksLine lines.now place (IsNumberNamed name.now) fault) }
 {
     let line = lines.at(place)?;
     let words = line.words(alloc)?;
@@ -38,8 +41,10 @@ fn named_at(alloc: Global, lines: &Lines, place: usize, name: &str) -> Result<u1
 
 /// The members that these words list, or none where one of them names none.
 fn members(alloc: Global, words: &[&[u8]]) -> Result<Option<Vec<u8>>, AllocError>
-    ensures some { IfOk result (λ found. IfSome found (λ members. AreMembers (texts words.now) members.items)) }
-    ensures exact { (members : List ℕ) → AreMembers (texts words.now) members → IfOk result (λ found. MatchOption found ⊥ (λ found. found.items ≡ members)) }
+    ensures some { IfOk result
+        (λ found. IfSome found (λ members. AreMembers (texts words.now) members.items)) }
+    ensures exact { (members : List ℕ) → AreMembers (texts words.now) members →
+        IfOk result (λ found. MatchOption found ⊥ (λ found. found.items ≡ members)) }
 {
     let mut members = Vec::new(alloc);
     for word in words {
@@ -53,8 +58,10 @@ fn members(alloc: Global, words: &[&[u8]]) -> Result<Option<Vec<u8>>, AllocError
 
 /// The members that a line of liars lists.
 fn liars(alloc: Global, words: &[&[u8]]) -> Result<Option<Vec<u8>>, AllocError>
-    ensures some { IfOk result (λ found. IfSome found (λ liars. AreListedLiars (texts words.now) liars.items)) }
-    ensures exact { (liars : List ℕ) → AreListedLiars (texts words.now) liars → IfOk result (λ found. MatchOption found ⊥ (λ found. found.items ≡ liars)) }
+    ensures some { IfOk result
+        (λ found. IfSome found (λ liars. AreListedLiars (texts words.now) liars.items)) }
+    ensures exact { (liars : List ℕ) → AreListedLiars (texts words.now) liars →
+        IfOk result (λ found. MatchOption found ⊥ (λ found. found.items ≡ liars)) }
 {
     match words {
         [name, listed @ ..] if is(name, "liars") => members(alloc, listed),
@@ -65,7 +72,8 @@ fn liars(alloc: Global, words: &[&[u8]]) -> Result<Option<Vec<u8>>, AllocError>
 /// The members that the line of that place lists as liars.
 fn liars_at(alloc: Global, lines: &Lines, place: usize) -> Result<Vec<u8>, ScriptFault>
     ensures ok { IfOk result (λ liars. HasLine lines.now place AreListedLiars liars.items) }
-    ensures err { IfErr result (λ fault. (fault ≡ ScriptFault.Memory) ⊎ LacksLine lines.now place AreListedLiars fault) }
+    ensures err { IfErr result
+        (λ fault. (fault ≡ ScriptFault.Memory) ⊎ LacksLine lines.now place AreListedLiars fault) }
 {
     let line = lines.at(place)?;
     let words = line.words(alloc)?;
@@ -89,7 +97,8 @@ fn seed(words: &[&[u8]]) -> Option<u64>
 /// The seed that the line of that place writes.
 fn seed_at(alloc: Global, lines: &Lines, place: usize) -> Result<u64, ScriptFault>
     ensures ok { IfOk result (HasLine lines.now place IsSeed) }
-    ensures err { IfErr result (λ fault. (fault ≡ ScriptFault.Memory) ⊎ LacksLine lines.now place IsSeed fault) }
+    ensures err { IfErr result
+        (λ fault. (fault ≡ ScriptFault.Memory) ⊎ LacksLine lines.now place IsSeed fault) }
 {
     let line = lines.at(place)?;
     let words = line.words(alloc)?;
@@ -114,7 +123,8 @@ impl Head {
     /// Reads the first five lines. The size is looked at behind the third.
     pub fn read(alloc: Global, lines: &Lines) -> Result<Head, ScriptFault>
         ensures ok { IfOk result (λ head. IsHead lines.now head.size head.liars.items head.seed) }
-        ensures err { IfErr result (λ fault. (fault ≡ ScriptFault.Memory) ⊎ IsHeadFault lines.now fault) }
+        ensures err { IfErr result
+            (λ fault. (fault ≡ ScriptFault.Memory) ⊎ IsHeadFault lines.now fault) }
     {
         let n = named_at(alloc, lines, 0, "n")?;
         let t = named_at(alloc, lines, 1, "t")?;

@@ -22,29 +22,34 @@ ghost use Rattle.script.specs.Scripts.{SaysCluster, IsScript, IsFirstFault};
 
 /// No line says two things.
 pub fn no_line_says_two_things()
-    ensures { (words : List (List ℕ)) (a b : ScriptStep) → SaysStep words a → SaysStep words b → a ≡ b }
+    ensures { (words : List (List ℕ)) (a b : ScriptStep) → SaysStep words a → SaysStep words b →
+        a ≡ b }
 {}
 
 /// No text says two scripts.
 pub fn no_text_says_two_scripts()
-    ensures { (text : List ℕ) (a b : Script) → IsScript text a → IsScript text b
-        → (a.size ≡ b.size) × (a.liars.items ≡ b.liars.items) × (map tossed_act a.events.items ≡ map tossed_act b.events.items) }
+    ensures { (text : List ℕ) (a b : Script) → IsScript text a → IsScript text b → (a.size ≡ b.size)
+        × (a.liars.items ≡ b.liars.items)
+        × (map tossed_act a.events.items ≡ map tossed_act b.events.items) }
 {}
 
 /// No text has two first faults.
 pub fn no_text_has_two_first_faults()
-    ensures { (text : List ℕ) (a b : ScriptFault) → IsFirstFault text a → IsFirstFault text b → a ≡ b }
+    ensures { (text : List ℕ) (a b : ScriptFault) → IsFirstFault text a → IsFirstFault text b →
+        a ≡ b }
 {}
 
 /// No text says a script and has a fault.
 pub fn no_script_has_a_fault()
-    ensures { (text : List ℕ) (script : Script) (fault : ScriptFault) → IsScript text script → IsFirstFault text fault → ⊥ }
+    ensures { (text : List ℕ) (script : Script) (fault : ScriptFault) → IsScript text script →
+        IsFirstFault text fault → ⊥ }
 {}
 
 /// Each text says a cluster and its events, or has a first fault.
 pub fn each_text_says_something_or_has_a_fault()
-    ensures { (text : List ℕ) → ((size : Size) × (liars : List ℕ) × (events : List TossedAct) × SaysCluster text size liars events)
-        ⊎ ((fault : ScriptFault) × IsFirstFault text fault) }
+    ensures { (text : List ℕ) →
+        ((size : Size) × (liars : List ℕ) × (events : List TossedAct)
+        × SaysCluster text size liars events) ⊎ ((fault : ScriptFault) × IsFirstFault text fault) }
 {}
 
 /// Each crash of a line `fair K` is followed by that member's restart, at most 50 events later and

@@ -64,7 +64,8 @@ fn correct_members(alloc: Global, n: u8, liars: &[u8]) -> Result<Vec<u8>, AllocE
 pub fn read(alloc: Global, text: &[u8]) -> Result<Script, ScriptFault>
     ensures says { IfOk result (IsScript text.now) }
     ensures few { IfOk result (λ script. length script.events.items ≤ MOST_EVENTS) }
-    ensures fault { IfErr result (λ fault. (fault ≡ ScriptFault.Memory) ⊎ IsFirstFault text.now fault) }
+    ensures fault { IfErr result
+        (λ fault. (fault ≡ ScriptFault.Memory) ⊎ IsFirstFault text.now fault) }
 {
     Source::of(alloc, text)?.into_script(alloc)
 }

@@ -117,8 +117,11 @@ impl<'a> Lines<'a> {
     /// The line of that place, counted from 0, or the fault that names the line behind the text's
     /// end.
     pub fn at(&self, place: usize) -> Result<Line<'a>, ScriptFault>
-        ensures ok { IfOk result (λ line. slice_get self.now.said place ≡ Some (line.number, line.text.now)) }
-        ensures err { IfErr result (λ fault. (slice_get self.now.said place ≡ None) × (fault ≡ ScriptFault.Line self.now.next)) }
+        ensures ok { IfOk result
+            (λ line. slice_get self.now.said place ≡ Some (line.number, line.text.now)) }
+        ensures err { IfErr result
+            (λ fault. (slice_get self.now.said place ≡ None)
+            × (fault ≡ ScriptFault.Line self.now.next)) }
     {
         match self.said.get(place) {
             Some(line) => Ok(*line),

@@ -144,7 +144,8 @@ impl Making {
         left: u64,
         fair: &mut Fair,
     ) -> Result<(), ScriptFault>
-        ensures ok { OnOk result ((fair.new, self.new) ≡ add_fair members.now left fair.old self.old) }
+        ensures ok { OnOk result
+            ((fair.new, self.new) ≡ add_fair members.now left fair.old self.old) }
         ensures err { IfErr result (λ fault. fault ≡ ScriptFault.Memory) }
     {
         let mut event = fair.event(alloc, &mut self.draw, members, left)?;
@@ -162,7 +163,9 @@ impl Making {
         left: u64,
         fair: &mut Fair,
     ) -> Result<u64, ScriptFault>
-        ensures ok { IfOk result (λ rest. fairs members.now rest fair.new self.new ≡ fairs members.now left fair.old self.old) }
+        ensures ok { IfOk result
+            (λ rest. fairs members.now rest fair.new self.new
+            ≡ fairs members.now left fair.old self.old) }
         ensures fewer { IfOk result (λ rest. (left ≡ 0) ⊎ (rest < left)) }
         ensures err { IfErr result (λ fault. fault ≡ ScriptFault.Memory) }
     {
@@ -176,8 +179,9 @@ impl Making {
     /// Adds one of so many rounds, and gives the order of those behind it. Without members there is
     /// nothing to add.
     fn order_round(&mut self, count: u64, members: &[u8]) -> Result<Order, ScriptFault>
-        ensures ok { IfOk result (λ rest.
-            (size : Size) → after_step size members.now (order_step rest) self.new ≡ adds (times count (round members.now)) self.old) }
+        ensures ok { IfOk result
+            (λ rest. (size : Size) → after_step size members.now (order_step rest) self.new
+            ≡ adds (times count (round members.now)) self.old) }
         ensures fewer { IfOk result (λ rest. (count ≡ 0) ⊎ (turns (order_step rest) < count)) }
         ensures err { IfErr result (λ fault. fault ≡ ScriptFault.Memory) }
     {
@@ -193,8 +197,9 @@ impl Making {
 
     /// Adds some of so many drawn events, and gives the order of those behind them.
     fn order_drawn(&mut self, alloc: Global, size: Size, count: u64) -> Result<Order, ScriptFault>
-        ensures ok { IfOk result (λ rest.
-            (correct : List ℕ) → after_step size correct (order_step rest) self.new ≡ draws size count self.old) }
+        ensures ok { IfOk result
+            (λ rest. (correct : List ℕ) → after_step size correct (order_step rest) self.new
+            ≡ draws size count self.old) }
         ensures fewer { IfOk result (λ rest. (count ≡ 0) ⊎ (turns (order_step rest) < count)) }
         ensures err { IfErr result (λ fault. fault ≡ ScriptFault.Memory) }
     {
@@ -211,9 +216,10 @@ impl Making {
         left: u64,
         fair: Fair,
     ) -> Result<Order, ScriptFault>
-        ensures ok { IfOk result (λ rest.
-            (size : Size) (correct : List ℕ) → members.now ≡ cast_of size correct
-            → after_step size correct (order_step rest) self.new ≡ fairs members.now left fair self.old) }
+        ensures ok { IfOk result
+            (λ rest. (size : Size) (correct : List ℕ) → members.now ≡ cast_of size correct →
+            after_step size correct (order_step rest) self.new
+            ≡ fairs members.now left fair self.old) }
         ensures fewer { IfOk result (λ rest. (left ≡ 0) ⊎ (turns (order_step rest) < left)) }
         ensures err { IfErr result (λ fault. fault ≡ ScriptFault.Memory) }
     {
@@ -224,8 +230,9 @@ impl Making {
 
     /// Adds the event.
     fn take_one(&mut self, event: Event) -> Result<Order, ScriptFault>
-        ensures ok { IfOk result (λ rest.
-            (size : Size) (correct : List ℕ) → after_step size correct (order_step rest) self.new ≡ add (act_of event) self.old) }
+        ensures ok { IfOk result
+            (λ rest. (size : Size) (correct : List ℕ) →
+            after_step size correct (order_step rest) self.new ≡ add (act_of event) self.old) }
         ensures fewer { IfOk result (λ rest. turns (order_step rest) ≡ 0) }
         ensures err { IfErr result (λ fault. fault ≡ ScriptFault.Memory) }
     {
@@ -242,9 +249,12 @@ impl Making {
         correct: &[u8],
         order: Order,
     ) -> Result<Order, ScriptFault>
-        ensures ok { IfOk result (λ rest.
-            after_step size correct.now (order_step rest) self.new ≡ after_step size correct.now (order_step order) self.old) }
-        ensures fewer { IfOk result (λ rest. (turns (order_step order) ≡ 0) ⊎ (turns (order_step rest) < turns (order_step order))) }
+        ensures ok { IfOk result
+            (λ rest. after_step size correct.now (order_step rest) self.new
+            ≡ after_step size correct.now (order_step order) self.old) }
+        ensures fewer { IfOk result
+            (λ rest. (turns (order_step order) ≡ 0)
+            ⊎ (turns (order_step rest) < turns (order_step order))) }
         ensures err { IfErr result (λ fault. fault ≡ ScriptFault.Memory) }
     {
         match order {
@@ -267,7 +277,8 @@ impl Making {
 
     /// Moves the events behind those. What is drawn next stays.
     pub fn move_to(&mut self, events: &mut Vec<Event>) -> Result<(), ScriptFault>
-        ensures events { OnOk result (map tossed_act events.new.items ≡ map tossed_act events.old.items ++ self.old.events) }
+        ensures events { OnOk result
+            (map tossed_act events.new.items ≡ map tossed_act events.old.items ++ self.old.events) }
         ensures stays { OnOk result (self.new ≡ record { events = []; stream = self.old.stream }) }
         ensures memory { IfErr result (λ fault. fault ≡ ScriptFault.Memory) }
     {

@@ -25,7 +25,8 @@ fn links(members: &[u8]) -> u64
 fn with_room(have: u64, more: u64) -> Result<u64, ScriptFault>
     requires { have ≤ MOST_EVENTS }
     ensures ok { IfOk result (λ all. (all ≡ have + more) × (all ≤ MOST_EVENTS)) }
-    ensures err { IfErr result (λ fault. (MOST_EVENTS < have + more) × (fault ≡ ScriptFault.Events)) }
+    ensures err { IfErr result
+        (λ fault. (MOST_EVENTS < have + more) × (fault ≡ ScriptFault.Events)) }
 {
     if more <= MOST_EVENTS as u64 - have {
         Ok(have + more)
@@ -38,9 +39,12 @@ fn with_room(have: u64, more: u64) -> Result<u64, ScriptFault>
 /// too many.
 fn with_order(have: u64, order: &Order, correct: &[u8]) -> Result<u64, ScriptFault>
     requires { have ≤ MOST_EVENTS }
-    ensures ok { IfOk result (λ all. (all ≡ have + how_many (length correct.now) (order_step order.now)) × (all ≤ MOST_EVENTS)) }
-    ensures err { IfErr result (λ fault.
-        (MOST_EVENTS < have + how_many (length correct.now) (order_step order.now)) × (fault ≡ ScriptFault.Events)) }
+    ensures ok { IfOk result
+        (λ all. (all ≡ have + how_many (length correct.now) (order_step order.now))
+        × (all ≤ MOST_EVENTS)) }
+    ensures err { IfErr result
+        (λ fault. (MOST_EVENTS < have + how_many (length correct.now) (order_step order.now))
+        × (fault ≡ ScriptFault.Events)) }
 {
     match order {
         Order::Once(_) => with_room(have, 1),
@@ -53,8 +57,10 @@ fn with_order(have: u64, order: &Order, correct: &[u8]) -> Result<u64, ScriptFau
 /// Returns what the line says: `Line` where it says nothing.
 fn order_of(alloc: Global, line: Line) -> Result<Order, ScriptFault>
     ensures ok { IfOk result (λ order. SaysStep (words_of line.entry.text.now) (order_step order)) }
-    ensures err { IfErr result (λ fault. (fault ≡ ScriptFault.Memory)
-        ⊎ (((step : ScriptStep) → SaysStep (words_of line.entry.text.now) step → ⊥) × (fault ≡ ScriptFault.Line line.entry.number))) }
+    ensures err { IfErr result
+        (λ fault. (fault ≡ ScriptFault.Memory)
+        ⊎ (((step : ScriptStep) → SaysStep (words_of line.entry.text.now) step → ⊥)
+        × (fault ≡ ScriptFault.Line line.entry.number))) }
 {
     let words = line.words(alloc)?;
     match Order::parse(alloc, &words)? {
@@ -66,8 +72,9 @@ fn order_of(alloc: Global, line: Line) -> Result<Order, ScriptFault>
 /// Returns what the lines say, up to the first fault: `Line` where a line says nothing, `Events`
 /// where there would be too many events. It is the same whatever the seed is.
 pub fn orders(alloc: Global, correct: &[u8], lines: &[Line]) -> Result<Vec<Order>, ScriptFault>
-    ensures ok { (size : Size) (start : Made) → start.events ≡ [] → IfOk result (λ orders.
-        LeadTo size correct.now start (numbered lines.now) (made_by size correct.now orders.items start)) }
+    ensures ok { (size : Size) (start : Made) → start.events ≡ [] →
+        IfOk result (λ orders. LeadTo size correct.now start (numbered lines.now)
+        (made_by size correct.now orders.items start)) }
     ensures few { (size : Size) (start : Made) → start.events ≡ [] → IfOk result (λ orders.
         length (made_by size correct.now orders.items start).events ≤ MOST_EVENTS) }
     ensures err { (size : Size) (start : Made) → start.events ≡ [] → IfErr result (λ fault.

@@ -61,10 +61,12 @@ impl Source {
     /// The first fault from the top, as [`read`](crate::read) has it. [`ScriptFault::Memory`] where
     /// memory was refused.
     pub fn of(alloc: Global, text: &[u8]) -> Result<Source, ScriptFault>
-        ensures says { IfOk result (λ source. SaysCluster text.now source.size source.liars source.left) }
+        ensures says { IfOk result
+            (λ source. SaysCluster text.now source.size source.liars source.left) }
         ensures none { IfOk result (λ source. source.batch ≡ []) }
         ensures few { IfOk result (λ source. length source.left ≤ MOST_EVENTS) }
-        ensures fault { IfErr result (λ fault. (fault ≡ ScriptFault.Memory) ⊎ IsFirstFault text.now fault) }
+        ensures fault { IfErr result
+            (λ fault. (fault ≡ ScriptFault.Memory) ⊎ IsFirstFault text.now fault) }
     {
         let lines = Lines::of(alloc, text)?;
         let Head { size, liars, seed } = Head::read(alloc, &lines)?;
@@ -133,7 +135,8 @@ impl Source {
 
     /// Moves the events that were made last behind those.
     fn move_batch(&mut self, events: &mut Vec<Event>) -> Result<(), ScriptFault>
-        ensures events { OnOk result (map tossed_act events.new.items ≡ map tossed_act events.old.items ++ self.old.batch) }
+        ensures events { OnOk result
+            (map tossed_act events.new.items ≡ map tossed_act events.old.items ++ self.old.batch) }
         ensures stays { OnOk result (self.new ≡ record self.old { batch = [] }) }
         ensures memory { IfErr result (λ fault. fault ≡ ScriptFault.Memory) }
     {
@@ -146,7 +149,8 @@ impl Source {
     ///
     /// [`ScriptFault::Memory`] where memory was refused.
     pub fn into_script(self, alloc: Global) -> Result<Script, ScriptFault>
-        ensures cluster { IfOk result (λ script. (script.size ≡ self.size) × (script.liars.items ≡ self.liars)) }
+        ensures cluster { IfOk result
+            (λ script. (script.size ≡ self.size) × (script.liars.items ≡ self.liars)) }
         ensures events { IfOk result (λ script. map tossed_act script.events.items ≡ self.left) }
         ensures memory { IfErr result (λ fault. fault ≡ ScriptFault.Memory) }
     {

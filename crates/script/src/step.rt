@@ -58,8 +58,10 @@ pub enum Order {
 
 /// Returns what the words behind `propose` say.
 fn propose(words: &[&[u8]]) -> Option<Order>
-    ensures some { IfSome result (λ order. SaysBehind Verb.Propose (texts words.now) (order_step order)) }
-    ensures exact { (step : ScriptStep) → SaysBehind Verb.Propose (texts words.now) step → MatchOption result ⊥ (λ order. order_step order ≡ step) }
+    ensures some { IfSome result
+        (λ order. SaysBehind Verb.Propose (texts words.now) (order_step order)) }
+    ensures exact { (step : ScriptStep) → SaysBehind Verb.Propose (texts words.now) step →
+        MatchOption result ⊥ (λ order. order_step order ≡ step) }
 {
     let [m, q, b] = words else {
         return None;
@@ -74,8 +76,10 @@ fn propose(words: &[&[u8]]) -> Option<Order>
 
 /// Returns what the words behind `deliver` say.
 fn deliver(words: &[&[u8]]) -> Option<Order>
-    ensures some { IfSome result (λ order. SaysBehind Verb.Deliver (texts words.now) (order_step order)) }
-    ensures exact { (step : ScriptStep) → SaysBehind Verb.Deliver (texts words.now) step → MatchOption result ⊥ (λ order. order_step order ≡ step) }
+    ensures some { IfSome result
+        (λ order. SaysBehind Verb.Deliver (texts words.now) (order_step order)) }
+    ensures exact { (step : ScriptStep) → SaysBehind Verb.Deliver (texts words.now) step →
+        MatchOption result ⊥ (λ order. order_step order ≡ step) }
 {
     let [a, b, i] = words else {
         return None;
@@ -90,8 +94,10 @@ fn deliver(words: &[&[u8]]) -> Option<Order>
 
 /// Returns what the words behind `group` say.
 fn group(words: &[&[u8]]) -> Option<Order>
-    ensures some { IfSome result (λ order. SaysBehind Verb.Group (texts words.now) (order_step order)) }
-    ensures exact { (step : ScriptStep) → SaysBehind Verb.Group (texts words.now) step → MatchOption result ⊥ (λ order. order_step order ≡ step) }
+    ensures some { IfSome result
+        (λ order. SaysBehind Verb.Group (texts words.now) (order_step order)) }
+    ensures exact { (step : ScriptStep) → SaysBehind Verb.Group (texts words.now) step →
+        MatchOption result ⊥ (λ order. order_step order ≡ step) }
 {
     let [a, b, k] = words else {
         return None;
@@ -106,8 +112,10 @@ fn group(words: &[&[u8]]) -> Option<Order>
 
 /// Returns what the words behind `fuse` say.
 fn fuse_of(words: &[&[u8]]) -> Option<Order>
-    ensures some { IfSome result (λ order. SaysBehind Verb.Fuse (texts words.now) (order_step order)) }
-    ensures exact { (step : ScriptStep) → SaysBehind Verb.Fuse (texts words.now) step → MatchOption result ⊥ (λ order. order_step order ≡ step) }
+    ensures some { IfSome result
+        (λ order. SaysBehind Verb.Fuse (texts words.now) (order_step order)) }
+    ensures exact { (step : ScriptStep) → SaysBehind Verb.Fuse (texts words.now) step →
+        MatchOption result ⊥ (λ order. order_step order ≡ step) }
 {
     let [m, k] = words else {
         return None;
@@ -120,8 +128,10 @@ fn fuse_of(words: &[&[u8]]) -> Option<Order>
 
 /// Returns what the words behind `restart` say.
 fn restart(words: &[&[u8]]) -> Option<Order>
-    ensures some { IfSome result (λ order. SaysBehind Verb.Restart (texts words.now) (order_step order)) }
-    ensures exact { (step : ScriptStep) → SaysBehind Verb.Restart (texts words.now) step → MatchOption result ⊥ (λ order. order_step order ≡ step) }
+    ensures some { IfSome result
+        (λ order. SaysBehind Verb.Restart (texts words.now) (order_step order)) }
+    ensures exact { (step : ScriptStep) → SaysBehind Verb.Restart (texts words.now) step →
+        MatchOption result ⊥ (λ order. order_step order ≡ step) }
 {
     let [m] = words else {
         return None;
@@ -133,8 +143,11 @@ fn restart(words: &[&[u8]]) -> Option<Order>
 
 /// Returns what the words behind `lie` say.
 fn lie(alloc: Global, words: &[&[u8]]) -> Result<Option<Order>, Memory>
-    ensures some { IfOk result (λ found. IfSome found (λ order. SaysBehind Verb.Lie (texts words.now) (order_step order))) }
-    ensures exact { (step : ScriptStep) → SaysBehind Verb.Lie (texts words.now) step → IfOk result (λ found. MatchOption found ⊥ (λ order. order_step order ≡ step)) }
+    ensures some { IfOk result
+        (λ found. IfSome found (λ order. SaysBehind Verb.Lie (texts words.now)
+        (order_step order))) }
+    ensures exact { (step : ScriptStep) → SaysBehind Verb.Lie (texts words.now) step →
+        IfOk result (λ found. MatchOption found ⊥ (λ order. order_step order ≡ step)) }
 {
     let [l, m, hex] = words else {
         return Ok(None);
@@ -153,7 +166,8 @@ fn lie(alloc: Global, words: &[&[u8]]) -> Result<Option<Order>, Memory>
 /// Returns what the words behind the member of a crash say.
 fn pick(alloc: Global, words: &[&[u8]]) -> Result<Option<Pick>, Memory>
     ensures some { IfOk result (λ found. IfSome found (ArePick (texts words.now))) }
-    ensures exact { (pick : Pick) → ArePick (texts words.now) pick → IfOk result (λ found. MatchOption found ⊥ (λ found. found ≡ pick)) }
+    ensures exact { (pick : Pick) → ArePick (texts words.now) pick →
+        IfOk result (λ found. MatchOption found ⊥ (λ found. found ≡ pick)) }
 {
     match words {
         [word] if is(word, "kept") => Ok(Some(Pick::Kept)),
@@ -168,8 +182,11 @@ fn pick(alloc: Global, words: &[&[u8]]) -> Result<Option<Pick>, Memory>
 
 /// Returns what the words behind `crash` say.
 fn crash(alloc: Global, words: &[&[u8]]) -> Result<Option<Order>, Memory>
-    ensures some { IfOk result (λ found. IfSome found (λ order. SaysBehind Verb.Crash (texts words.now) (order_step order))) }
-    ensures exact { (step : ScriptStep) → SaysBehind Verb.Crash (texts words.now) step → IfOk result (λ found. MatchOption found ⊥ (λ order. order_step order ≡ step)) }
+    ensures some { IfOk result
+        (λ found. IfSome found (λ order. SaysBehind Verb.Crash (texts words.now)
+        (order_step order))) }
+    ensures exact { (step : ScriptStep) → SaysBehind Verb.Crash (texts words.now) step →
+        IfOk result (λ found. MatchOption found ⊥ (λ order. order_step order ≡ step)) }
 {
     let [m, behind @ ..] = words else {
         return Ok(None);
@@ -185,8 +202,10 @@ fn crash(alloc: Global, words: &[&[u8]]) -> Result<Option<Order>, Memory>
 
 /// Returns what the words behind `reset` say.
 fn reset(words: &[&[u8]]) -> Option<Order>
-    ensures some { IfSome result (λ order. SaysBehind Verb.Reset (texts words.now) (order_step order)) }
-    ensures exact { (step : ScriptStep) → SaysBehind Verb.Reset (texts words.now) step → MatchOption result ⊥ (λ order. order_step order ≡ step) }
+    ensures some { IfSome result
+        (λ order. SaysBehind Verb.Reset (texts words.now) (order_step order)) }
+    ensures exact { (step : ScriptStep) → SaysBehind Verb.Reset (texts words.now) step →
+        MatchOption result ⊥ (λ order. order_step order ≡ step) }
 {
     let [a, b] = words else {
         return None;
@@ -199,8 +218,10 @@ fn reset(words: &[&[u8]]) -> Option<Order>
 
 /// Reads the words behind `fair`.
 fn fair(alloc: Global, words: &[&[u8]]) -> Option<Order>
-    ensures some { IfSome result (λ order. SaysBehind Verb.Fair (texts words.now) (order_step order)) }
-    ensures exact { (step : ScriptStep) → SaysBehind Verb.Fair (texts words.now) step → MatchOption result ⊥ (λ order. order_step order ≡ step) }
+    ensures some { IfSome result
+        (λ order. SaysBehind Verb.Fair (texts words.now) (order_step order)) }
+    ensures exact { (step : ScriptStep) → SaysBehind Verb.Fair (texts words.now) step →
+        MatchOption result ⊥ (λ order. order_step order ≡ step) }
 {
     let [k] = words else {
         return None;
@@ -248,8 +269,11 @@ impl Verb {
 impl Order {
     /// Returns what the words behind the verb say.
     fn behind(alloc: Global, verb: Verb, words: &[&[u8]]) -> Result<Option<Order>, Memory>
-        ensures some { IfOk result (λ found. IfSome found (λ order. SaysBehind verb (texts words.now) (order_step order))) }
-        ensures exact { (step : ScriptStep) → SaysBehind verb (texts words.now) step → IfOk result (λ found. MatchOption found ⊥ (λ order. order_step order ≡ step)) }
+        ensures some { IfOk result
+            (λ found. IfSome found (λ order. SaysBehind verb (texts words.now)
+            (order_step order))) }
+        ensures exact { (step : ScriptStep) → SaysBehind verb (texts words.now) step →
+            IfOk result (λ found. MatchOption found ⊥ (λ order. order_step order ≡ step)) }
     {
         match verb {
             Verb::Propose => Ok(propose(words)),
@@ -274,8 +298,10 @@ impl Order {
 
     /// Returns what the words say, or none where they are no line of events.
     pub fn parse(alloc: Global, words: &[&[u8]]) -> Result<Option<Order>, Memory>
-        ensures some { IfOk result (λ found. IfSome found (λ order. SaysStep (texts words.now) (order_step order))) }
-        ensures exact { (step : ScriptStep) → SaysStep (texts words.now) step → IfOk result (λ found. MatchOption found ⊥ (λ order. order_step order ≡ step)) }
+        ensures some { IfOk result
+            (λ found. IfSome found (λ order. SaysStep (texts words.now) (order_step order))) }
+        ensures exact { (step : ScriptStep) → SaysStep (texts words.now) step →
+            IfOk result (λ found. MatchOption found ⊥ (λ order. order_step order ≡ step)) }
     {
         let [name, behind @ ..] = words else {
             return Ok(None);

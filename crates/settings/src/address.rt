@@ -19,8 +19,9 @@ pub struct Address {
 fn split(text: &str, mark: char) -> Option<(&str, &str)>
     requires { mark < 128 }
     ensures parts { IfSome result (λ parts. text.now ≡ parts.0.now ++ mark ∷ parts.1.now) }
-    ensures exact { (front behind : List ℕ) → text.now ≡ front ++ mark ∷ behind → LacksMark mark front →
-        MatchOption result ⊥ (λ parts. (parts.0.now ≡ front) × (parts.1.now ≡ behind)) }
+    ensures exact { (front behind : List ℕ) → text.now ≡ front ++ mark ∷ behind →
+        LacksMark mark front → MatchOption result ⊥
+        (λ parts. (parts.0.now ≡ front) × (parts.1.now ≡ behind)) }
 {
     text.split_once(mark)
 }
@@ -46,9 +47,12 @@ fn port(digits: &str) -> Option<u16>
 
 /// The octet before the first point, and the text behind that.
 fn octet_before(text: &str) -> Option<(u8, &str)>
-    ensures some { IfSome result (λ parts. (digits : List ℕ) × (text.now ≡ digits ++ 46 ∷ parts.1.now) × IsOctet digits parts.0) }
-    ensures exact { (octet : ℕ) (digits rest : List ℕ) → text.now ≡ digits ++ 46 ∷ rest → IsOctet digits octet →
-        MatchOption result ⊥ (λ parts. (parts.0 ≡ octet) × (parts.1.now ≡ rest)) }
+    ensures some { IfSome result
+        (λ parts. (digits : List ℕ) × (text.now ≡ digits ++ 46 ∷ parts.1.now)
+        × IsOctet digits parts.0) }
+    ensures exact { (octet : ℕ) (digits rest : List ℕ) → text.now ≡ digits ++ 46 ∷ rest →
+        IsOctet digits octet → MatchOption result ⊥
+        (λ parts. (parts.0 ≡ octet) × (parts.1.now ≡ rest)) }
 {
     let (digits, rest) = split(text, '.')?;
     Some((octet(digits)?, rest))
@@ -57,8 +61,10 @@ fn octet_before(text: &str) -> Option<(u8, &str)>
 /// The four octets, with points between them.
 fn dotted(text: &str) -> Option<[u8; 4]>
     ensures some { IfSome result (AreDotted text.now) }
-    ensures four { IfSome result (λ octets. (a : ℕ) × (b : ℕ) × (c : ℕ) × (d : ℕ) × (octets ≡ a ∷ b ∷ c ∷ d ∷ [])) }
-    ensures exact { (a b c d : ℕ) → AreDotted text.now (a ∷ b ∷ c ∷ d ∷ []) → result ≡ Some (a ∷ b ∷ c ∷ d ∷ []) }
+    ensures four { IfSome result
+        (λ octets. (a : ℕ) × (b : ℕ) × (c : ℕ) × (d : ℕ) × (octets ≡ a ∷ b ∷ c ∷ d ∷ [])) }
+    ensures exact { (a b c d : ℕ) → AreDotted text.now (a ∷ b ∷ c ∷ d ∷ []) →
+        result ≡ Some (a ∷ b ∷ c ∷ d ∷ []) }
 {
     let (first, rest) = octet_before(text)?;
     let (second, rest) = octet_before(rest)?;

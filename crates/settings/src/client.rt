@@ -43,7 +43,8 @@ impl ClientSettings {
     /// - [`SettingsFault::Memory`], at any time, if an allocation failed.
     pub fn parse(alloc: Global, text: &str) -> Result<ClientSettings, SettingsFault>
         ensures ok { IfOk result (IsClientSettings (parse_document text.now)) }
-        ensures fault { IfErr result (λ ends. IsClientFault (parse_document text.now) ends ⊎ (ends ≡ SettingsFault.Memory)) }
+        ensures fault { IfErr result
+            (λ ends. IsClientFault (parse_document text.now) ends ⊎ (ends ≡ SettingsFault.Memory)) }
         ensures exact { (ends : SettingsFault) → IsClientFault (parse_document text.now) ends →
             (result ≡ Err ends) ⊎ (result ≡ Err SettingsFault.Memory) }
     {
@@ -77,7 +78,8 @@ impl ClientSettings {
     /// - [`SettingsFault::Memory`] if an allocation failed.
     pub fn to_text(&self, alloc: Global) -> Result<String, SettingsFault>
         ensures text { IfOk result (λ text. string_bytes text ≡ client_text self.now) }
-        ensures read { IfOk result (λ text. IsClientSettings (parse_document (string_bytes text)) self.now) }
+        ensures read { IfOk result
+            (λ text. IsClientSettings (parse_document (string_bytes text)) self.now) }
     {
         let text = client_text(alloc, self)?;
         let read = ClientSettings::parse(alloc, text.as_str())?;

@@ -84,7 +84,8 @@ impl ClientEntries {
 
     /// The settings of the entries, or the first thing in which they don't fit one another.
     pub fn fit(self) -> Result<ClientSettings, SettingsFault>
-        ensures ok { IfOk result (λ settings. FitsClientEntries self settings × (unfit_client self ≡ None)) }
+        ensures ok { IfOk result
+            (λ settings. FitsClientEntries self settings × (unfit_client self ≡ None)) }
         ensures fault { IfErr result (λ fault. unfit_client self ≡ Some fault) }
     {
         let size = size_from(self.n, self.t, self.questions)?;

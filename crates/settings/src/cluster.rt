@@ -27,7 +27,8 @@ pub fn addresses_from(
     hosts: &[&str],
     first: u16,
 ) -> Result<Option<Vec<Address>>, AllocError>
-    ensures { IfOk result (λ found. IfSome found (λ addresses. AreInRow first (texts hosts.now) addresses.items)) }
+    ensures { IfOk result
+        (λ found. IfSome found (λ addresses. AreInRow first (texts hosts.now) addresses.items)) }
 {
     let mut addresses = Vec::new(alloc);
     for host in hosts {
@@ -41,7 +42,8 @@ pub fn addresses_from(
 
 /// The address of the member of that number, at this host.
 fn address_at(host: &str, first: u16, member: usize) -> Option<Address>
-    ensures { IfSome result (λ address. IsHost host.now address.octets × (address.port ≡ first + member)) }
+    ensures { IfSome result
+        (λ address. IsHost host.now address.octets × (address.port ≡ first + member)) }
 {
     let octets = octets(host)?;
     let port = first.checked_add(u16::try_from(member).ok()?)?;
@@ -59,8 +61,10 @@ fn desk_gap(n: u8) -> u16
 /// the ports from `first` on: `first` + 10, or `first` + 100 if `n` is above 10. `None` if `first`
 /// is 0 or the last desk's port would be above 65535.
 pub fn desk_base(first: u16, n: u8) -> Option<u16>
-    ensures some { IfSome result (λ port. (port ≡ first + desk_gap n) × (0 < first) × (port + n ≤ 65536)) }
-    ensures exact { 0 < first → 0 < n → first + desk_gap n + n ≤ 65536 → result ≡ Some (first + desk_gap n) }
+    ensures some { IfSome result
+        (λ port. (port ≡ first + desk_gap n) × (0 < first) × (port + n ≤ 65536)) }
+    ensures exact { 0 < first → 0 < n → first + desk_gap n + n ≤ 65536 →
+        result ≡ Some (first + desk_gap n) }
 {
     let Some(base) = first.checked_add(desk_gap(n)) else {
         return None;

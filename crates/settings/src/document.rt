@@ -42,7 +42,8 @@ impl Settings {
     /// other names are left alone: [`strays_of`](crate::strays_of) names them.
     pub fn parse(alloc: Global, text: &str) -> Result<Settings, SettingsFault>
         ensures ok { IfOk result (IsSettings (parse_document text.now)) }
-        ensures fault { IfErr result (λ ends. IsFault (parse_document text.now) ends ⊎ (ends ≡ SettingsFault.Memory)) }
+        ensures fault { IfErr result
+            (λ ends. IsFault (parse_document text.now) ends ⊎ (ends ≡ SettingsFault.Memory)) }
         ensures exact { (ends : SettingsFault) → IsFault (parse_document text.now) ends →
             (result ≡ Err ends) ⊎ (result ≡ Err SettingsFault.Memory) }
     {
@@ -54,7 +55,9 @@ impl Settings {
 /// The table that a TOML text is.
 pub(crate) fn table(alloc: Global, text: &str) -> Result<Table, SettingsFault>
     ensures ok { IfOk result (λ table. parse_document text.now ≡ Some (table_view table)) }
-    ensures fault { IfErr result (λ ends. ((ends ≡ SettingsFault.Text) × (parse_document text.now ≡ None)) ⊎ (ends ≡ SettingsFault.Memory)) }
+    ensures fault { IfErr result
+        (λ ends. ((ends ≡ SettingsFault.Text) × (parse_document text.now ≡ None))
+        ⊎ (ends ≡ SettingsFault.Memory)) }
 {
     match toml::table_from_str(alloc, text) {
         Ok(table) => Ok(table),

@@ -52,7 +52,8 @@ pub(crate) fn small(table: &Table, key: Key) -> Result<u16, SettingsFault>
 /// The address that a value is the text of.
 fn address_of(value: &Value) -> Option<Address>
     ensures some { IfSome result (IsAddressText (view value.now)) }
-    ensures exact { (address : Address) → IsAddressText (view value.now) address → result ≡ Some address }
+    ensures exact { (address : Address) → IsAddressText (view value.now) address →
+        result ≡ Some address }
 {
     Address::parse(value.as_str()?)
 }
@@ -100,7 +101,8 @@ pub(crate) fn addresses(
     table: &Table,
     key: Key,
 ) -> Result<Vec<Address>, SettingsFault>
-    ensures ok { IfOk result (λ addresses. HasAddresses (table_view table.now) key addresses.items) }
+    ensures ok { IfOk result
+        (λ addresses. HasAddresses (table_view table.now) key addresses.items) }
     ensures fault { IfErr result (IsLackOrMemory key (HasAddresses (table_view table.now) key)) }
 {
     let fault = SettingsFault::Key(key);
@@ -135,7 +137,8 @@ fn optional_address(table: &Table, key: Key) -> Result<Option<Address>, Settings
 
 /// The path at a key, if the table has the key.
 fn optional_path(alloc: Global, table: &Table, key: Key) -> Result<Option<String>, SettingsFault>
-    ensures ok { IfOk result (λ path. MayHavePath (table_view table.now) key (option_map string_bytes path)) }
+    ensures ok { IfOk result
+        (λ path. MayHavePath (table_view table.now) key (option_map string_bytes path)) }
     ensures fault { IfErr result (IsLackOrMemory key (MayHavePath (table_view table.now) key)) }
 {
     match value_at(table, key) {

@@ -42,7 +42,9 @@ fn is_known(name: &str) -> bool
 
 /// Puts a key that stands in no table behind the others, if it is none of a member's.
 fn push_alone(name: &String, strays: &mut Vec<Stray>) -> Result<(), AllocError>
-    ensures { IfOk result (λ _. map named strays.new.items ≡ map named strays.old.items ++ alone (string_bytes name.now)) }
+    ensures { IfOk result
+        (λ _. map named strays.new.items ≡ map named strays.old.items
+        ++ alone (string_bytes name.now)) }
 {
     if is_known(name.as_str()) {
         return Ok(());
@@ -57,7 +59,9 @@ fn push_alone(name: &String, strays: &mut Vec<Stray>) -> Result<(), AllocError>
 
 /// Puts the keys of a table behind the others.
 fn push_inside(table: &Table, strays: &mut Vec<Stray>) -> Result<(), AllocError>
-    ensures { IfOk result (λ _. map named strays.new.items ≡ map named strays.old.items ++ inside (table_view table.now)) }
+    ensures { IfOk result
+        (λ _. map named strays.new.items ≡ map named strays.old.items
+        ++ inside (table_view table.now)) }
 {
     for (name, _value) in table.iter() {
         let name = name.clone()?;
@@ -72,7 +76,9 @@ fn push_inside(table: &Table, strays: &mut Vec<Stray>) -> Result<(), AllocError>
 /// Puts what is ignored of a key and its value behind the others: the keys of a table, or the key
 /// itself.
 fn push_strays(name: &String, value: &Value, strays: &mut Vec<Stray>) -> Result<(), AllocError>
-    ensures { IfOk result (λ _. map named strays.new.items ≡ map named strays.old.items ++ strays_at (string_bytes name.now) (view value.now)) }
+    ensures { IfOk result
+        (λ _. map named strays.new.items ≡ map named strays.old.items
+        ++ strays_at (string_bytes name.now) (view value.now)) }
 {
     match value.as_table() {
         Some(table) => push_inside(table, strays),

@@ -80,7 +80,8 @@ fn head_text(alloc: Global, header: &Header) -> Result<String, AllocError>
 
 /// The line of the address that is listened at, if there is one.
 fn listen_line(alloc: Global, listen: &Option<Address>) -> Result<String, AllocError>
-    ensures { IfOk result (λ text. string_bytes text ≡ option_line Listen (option_map address_text listen.now)) }
+    ensures { IfOk result
+        (λ text. string_bytes text ≡ option_line Listen (option_map address_text listen.now)) }
 {
     match listen {
         Some(address) => text_line(alloc, Key::Listen, address_text(alloc, address)?.as_str()),
@@ -90,7 +91,8 @@ fn listen_line(alloc: Global, listen: &Option<Address>) -> Result<String, AllocE
 
 /// The line of the path at a key, if there is one.
 fn path_line(alloc: Global, key: Key, path: &Option<String>) -> Result<String, AllocError>
-    ensures { IfOk result (λ text. string_bytes text ≡ option_line key (option_map string_bytes path.now)) }
+    ensures { IfOk result
+        (λ text. string_bytes text ≡ option_line key (option_map string_bytes path.now)) }
 {
     match path {
         Some(path) => text_line(alloc, key, path.as_str()),
@@ -137,7 +139,8 @@ fn toml_text(alloc: Global, settings: &Settings) -> Result<String, AllocError>
 
 /// Returns `true` if the two have the same journal and the same peers.
 fn has_same_lists(read: &Settings, settings: &Settings) -> bool
-    ensures journal { IsTrue result → string_bytes read.now.journal ≡ string_bytes settings.now.journal }
+    ensures journal { IsTrue result →
+        string_bytes read.now.journal ≡ string_bytes settings.now.journal }
     ensures peers { IsTrue result → read.now.peers.items ≡ settings.now.peers.items }
 {
     read.journal.as_str() == settings.journal.as_str()
@@ -178,8 +181,11 @@ fn is_same_address(read: &Option<Address>, address: &Option<Address>) -> bool
 /// Returns `true` if the two have the same values of the keys that may be left out.
 fn has_same_options(read: &Settings, settings: &Settings) -> bool
     ensures listen { IsTrue result → read.now.listen ≡ settings.now.listen }
-    ensures desk_socket { IsTrue result → option_map string_bytes read.now.desk_socket ≡ option_map string_bytes settings.now.desk_socket }
-    ensures epochs { IsTrue result → option_map string_bytes read.now.epochs ≡ option_map string_bytes settings.now.epochs }
+    ensures desk_socket { IsTrue result →
+        option_map string_bytes read.now.desk_socket
+        ≡ option_map string_bytes settings.now.desk_socket }
+    ensures epochs { IsTrue result →
+        option_map string_bytes read.now.epochs ≡ option_map string_bytes settings.now.epochs }
 {
     is_same_address(&read.listen, &settings.listen)
         && is_same_path(&read.desk_socket, &settings.desk_socket)
@@ -204,7 +210,8 @@ impl Settings {
     /// refused.
     pub fn to_text(&self, alloc: Global) -> Result<String, SettingsFault>
         ensures text { IfOk result (λ text. string_bytes text ≡ toml_text self.now) }
-        ensures read { IfOk result (λ text. IsSettings (parse_document (string_bytes text)) self.now) }
+        ensures read { IfOk result
+            (λ text. IsSettings (parse_document (string_bytes text)) self.now) }
     {
         let text = toml_text(alloc, self)?;
         let read = Settings::parse(alloc, text.as_str())?;

@@ -80,9 +80,11 @@ impl Cluster {
         disks: Vec<MemDisk>,
     ) -> Result<Cluster, SimFault>
         ensures bad_liars { IsErrOf result faults.BadLiars ↔ (AreLiars size liars.now → ⊥) }
-        ensures bad_disks { IsErrOf result faults.BadDisks ↔ (AreLiars size liars.now × (AreDisks size disks.items → ⊥)) }
+        ensures bad_disks { IsErrOf result faults.BadDisks
+            ↔ (AreLiars size liars.now × (AreDisks size disks.items → ⊥)) }
         ensures device { IsErrOf result faults.Device → HasFuse liars.now disks.items }
-        ensures stands { IfOk result (ClusterStandsFor (unplayed size (among liars.now) (fused_in disks.items))) }
+        ensures stands { IfOk result
+            (ClusterStandsFor (unplayed size (among liars.now) (fused_in disks.items))) }
         ensures few_lie { IfOk result (λ _. count_below size.n (among liars.now) ≤ size.t) }
         ensures never_full { result ≡ Err faults.Full → ⊥ }
     {
@@ -111,10 +113,12 @@ impl Cluster {
     ///   a correct member may ever save has room in its journal.
     #[inline(always)]
     pub fn play(&mut self, alloc: Global, event: &Event) -> Result<Mark, SimFault>
-        ensures stands { (past : Played) (saved : Vec Record) → ClusterStandsFor past self.old → saved.items ≡ last_saved self.new →
+        ensures stands { (past : Played) (saved : Vec Record) → ClusterStandsFor past self.old →
+            saved.items ≡ last_saved self.new →
             IfOk result (λ mark. ClusterStandsFor (and_then past event.now mark saved) self.new) }
         ensures room { IfOk result (λ _. length (last_saved self.new) < 2 ^ 63) }
-        ensures memory { (past : Played) → ClusterStandsFor past self.old → IfErr result (λ fault. fault ≡ faults.Memory) }
+        ensures memory { (past : Played) → ClusterStandsFor past self.old →
+            IfErr result (λ fault. fault ≡ faults.Memory) }
     {
         let (mark, last) = step(alloc, self.size, self.posts.as_mut_slice(), event)?;
         self.last = last;
@@ -142,11 +146,13 @@ impl Cluster {
     ///
     /// `Memory` comes where there is no memory.
     pub fn verdicts(&self, alloc: Global) -> Result<Vec<(u8, u16, u8, bool)>, SimFault>
-        ensures run { (past : Played) → ClusterStandsFor past self.now → IfOk result (λ verdicts.
-            IsSimulation past.size past.liars past.fused past.script past.marks past.saved verdicts.items) }
-        ensures agree { (past : Played) → ClusterStandsFor past self.now → IfOk result (λ verdicts. HaveOneBit verdicts.items) }
-        ensures unanimous { (past : Played) → ClusterStandsFor past self.now → IfOk result (λ verdicts.
-            AreUnanimous past.script past.marks verdicts.items) }
+        ensures run { (past : Played) → ClusterStandsFor past self.now →
+            IfOk result (λ verdicts. IsSimulation past.size past.liars past.fused past.script
+            past.marks past.saved verdicts.items) }
+        ensures agree { (past : Played) → ClusterStandsFor past self.now →
+            IfOk result (λ verdicts. HaveOneBit verdicts.items) }
+        ensures unanimous { (past : Played) → ClusterStandsFor past self.now →
+            IfOk result (λ verdicts. AreUnanimous past.script past.marks verdicts.items) }
         ensures memory { IfErr result (λ fault. fault ≡ faults.Memory) }
     {
         // The theorem, which does nothing: `agree` and `unanimous` are its promises of this run.
@@ -192,13 +198,17 @@ pub fn run(
     script: &[Event],
 ) -> Result<Outcome, SimFault>
     ensures bad_liars { IsErrOf result faults.BadLiars ↔ (AreLiars size liars.now → ⊥) }
-    ensures bad_disks { IsErrOf result faults.BadDisks ↔ (AreLiars size liars.now × (AreDisks size disks.items → ⊥)) }
+    ensures bad_disks { IsErrOf result faults.BadDisks
+        ↔ (AreLiars size liars.now × (AreDisks size disks.items → ⊥)) }
     ensures device { IsErrOf result faults.Device → HasFuse liars.now disks.items }
-    ensures run { IfOk result (λ outcome. IsSimulation size (among liars.now) (fused_in disks.items) script.now
-        outcome.marks.items outcome.saved.items outcome.verdicts.items) }
+    ensures run { IfOk result
+        (λ outcome. IsSimulation size (among liars.now)
+        (fused_in disks.items) script.now outcome.marks.items outcome.saved.items
+        outcome.verdicts.items) }
     ensures few_lie { IfOk result (λ _. count_below size.n (among liars.now) ≤ size.t) }
     ensures agree { IfOk result (λ outcome. HaveOneBit outcome.verdicts.items) }
-    ensures unanimous { IfOk result (λ outcome. AreUnanimous script.now outcome.marks.items outcome.verdicts.items) }
+    ensures unanimous { IfOk result
+        (λ outcome. AreUnanimous script.now outcome.marks.items outcome.verdicts.items) }
     ensures never_full { result ≡ Err faults.Full → ⊥ }
 {
     let mut cluster = Cluster::open(alloc, size, liars, disks)?;
@@ -260,8 +270,10 @@ fn posts(
 ) -> Result<Vec<Post>, SimFault>
     requires count { length disks.items ≡ size.n }
     ensures count { IfOk result (λ posts. length posts.items ≡ length disks.items) }
-    ensures each { IfOk result (λ posts. (p : ℕ) (d : Post) → p < length posts.items → IsReady (get_or posts.items p d)
-        × IsCreated (mine size p) (among liars.now p) (fused_in disks.items p) (get_or posts.items p d)) }
+    ensures each { IfOk result
+        (λ posts. (p : ℕ) (d : Post) → p < length posts.items → IsReady (get_or posts.items p d)
+        × IsCreated (mine size p) (among liars.now p) (fused_in disks.items p)
+        (get_or posts.items p d)) }
     ensures device { IsErrOf result faults.Device → HasFuse liars.now disks.items }
     ensures only { IfErr result IsOfOpening }
 {
@@ -299,9 +311,12 @@ fn follow(
     cluster: &mut Cluster,
     script: &[Event],
 ) -> Result<(Vec<Mark>, Vec<Vec<Record>>), SimFault>
-    ensures stands { (size : Size) (liars fused : ℕ → Bool) → ClusterStandsFor (unplayed size liars fused) cluster.old →
-        IfOk result (λ done. ClusterStandsFor (played size liars fused script.now done.0.items done.1.items) cluster.new) }
-    ensures memory { (size : Size) (liars fused : ℕ → Bool) → ClusterStandsFor (unplayed size liars fused) cluster.old →
+    ensures stands { (size : Size) (liars fused : ℕ → Bool) →
+        ClusterStandsFor (unplayed size liars fused) cluster.old →
+        IfOk result (λ done. ClusterStandsFor
+        (played size liars fused script.now done.0.items done.1.items) cluster.new) }
+    ensures memory { (size : Size) (liars fused : ℕ → Bool) →
+        ClusterStandsFor (unplayed size liars fused) cluster.old →
         IfErr result (λ fault. fault ≡ faults.Memory) }
 {
     let mut marks = Vec::with_capacity(alloc, script.len())?;
@@ -327,11 +342,13 @@ fn step(
     requires ready { AreReady size posts.old }
     ensures ready { AreReady size posts.new }
     ensures only { IfErr result IsOfRun }
-    ensures turn { (liars : ℕ → Bool) (c : Scene) → IsSize size → IsSteady size liars c → IsCluster size liars c posts.old →
-        IfOk result (λ done. IsTurn size liars c event.now done.0 (saved_among posts.new done.1) posts.new) }
+    ensures turn { (liars : ℕ → Bool) (c : Scene) → IsSize size → IsSteady size liars c →
+        IsCluster size liars c posts.old →
+        IfOk result (λ done. IsTurn size liars c event.now done.0
+        (saved_among posts.new done.1) posts.new) }
     ensures room { IfOk result (λ done. length (saved_among posts.new done.1) < 2 ^ 63) }
-    ensures memory { (liars : ℕ → Bool) (c : Scene) → IsSize size → IsSteady size liars c → IsCluster size liars c posts.old →
-        IfErr result (λ fault. fault ≡ faults.Memory) }
+    ensures memory { (liars : ℕ → Bool) (c : Scene) → IsSize size → IsSteady size liars c →
+        IsCluster size liars c posts.old → IfErr result (λ fault. fault ≡ faults.Memory) }
 {
     match event {
         Event::Deliver {
@@ -363,12 +380,14 @@ fn carry_out(
     requires within { IfOk planned (λ to. (to.0 < size.n) × HasSender size.n to.1) }
     ensures ready { AreReady size posts.new }
     ensures only { IfErr result IsOfRun }
-    ensures turn { (liars : ℕ → Bool) (c : Scene) → IsSize size → IsSteady size liars c → IsCluster size liars c posts.old →
-        planned ≡ plan_of size liars c event.now →
-        IfOk result (λ done. IsTurn size liars c event.now done.0 (saved_among posts.new done.1) posts.new) }
+    ensures turn { (liars : ℕ → Bool) (c : Scene) → IsSize size → IsSteady size liars c →
+        IsCluster size liars c posts.old → planned ≡ plan_of size liars c event.now →
+        IfOk result (λ done. IsTurn size liars c event.now done.0
+        (saved_among posts.new done.1) posts.new) }
     ensures room { IfOk result (λ done. length (saved_among posts.new done.1) < 2 ^ 63) }
-    ensures memory { (liars : ℕ → Bool) (c : Scene) → IsSize size → IsSteady size liars c → IsCluster size liars c posts.old →
-        planned ≡ plan_of size liars c event.now → IfErr result (λ fault. fault ≡ faults.Memory) }
+    ensures memory { (liars : ℕ → Bool) (c : Scene) → IsSize size → IsSteady size liars c →
+        IsCluster size liars c posts.old → planned ≡ plan_of size liars c event.now →
+        IfErr result (λ fault. fault ≡ faults.Memory) }
 {
     match planned {
         Ok((to, task)) => {
@@ -422,7 +441,8 @@ fn verdicts(alloc: Global, size: Size, posts: &[Post]) -> Result<Vec<(u8, u16, u
 /// The decisions among the records, in order: so records are gone through once, and not once a
 /// question.
 fn decisions_among(alloc: Global, records: &[Record]) -> Result<Vec<Record>, SimFault>
-    ensures same { IfOk result (λ kept. (question : ℕ) → decided kept.items question ≡ decided records.now question) }
+    ensures same { IfOk result
+        (λ kept. (question : ℕ) → decided kept.items question ≡ decided records.now question) }
     ensures only { IfErr result (λ fault. fault ≡ faults.Memory) }
 {
     let mut decisions = Vec::new(alloc);
@@ -442,7 +462,8 @@ fn append_decisions(
     questions: u16,
     records: &[Record],
 ) -> Result<(), SimFault>
-    ensures appended { OnOk result (verdicts.new.items ≡ verdicts.old.items ++ verdicts_below questions me records.now) }
+    ensures appended { OnOk result
+        (verdicts.new.items ≡ verdicts.old.items ++ verdicts_below questions me records.now) }
     ensures only { IfErr result (λ fault. fault ≡ faults.Memory) }
 {
     for question in 0..questions {

@@ -112,10 +112,11 @@ impl Link {
     /// whole frames a statement's frame reads as this statement, and leaves the link as it is.
     #[inline(always)]
     pub(crate) fn carry(&mut self, statement: &mut Statement) -> Result<bool, Memory>
-        ensures arrives { IsSize self.old.size → IsWellFormed self.old.size statement.old → self.old.end ≡ Rest [] →
-            IfOk result (λ arrived. (arrived ≡ true) × (statement.new ≡ statement.old)) }
-        ensures end { IsSize self.old.size → IsWellFormed self.old.size statement.old → self.old.end ≡ Rest [] →
-            IfOk result (λ _. self.new.end ≡ Rest []) }
+        ensures arrives { IsSize self.old.size → IsWellFormed self.old.size statement.old →
+            self.old.end ≡ Rest [] → IfOk result
+            (λ arrived. (arrived ≡ true) × (statement.new ≡ statement.old)) }
+        ensures end { IsSize self.old.size → IsWellFormed self.old.size statement.old →
+            self.old.end ≡ Rest [] → IfOk result (λ _. self.new.end ≡ Rest []) }
         ensures place { self.new.place ≡ self.old.place }
         ensures size { self.new.size ≡ self.old.size }
     {
@@ -136,10 +137,10 @@ impl Link {
     /// stands by itself, since a function pays at entry for the size of its locals.
     #[inline(never)]
     fn carry_bytes(&mut self, statement: &Statement) -> Result<Option<Statement>, Memory>
-        ensures arrives { IsSize self.old.size → IsWellFormed self.old.size statement.now → self.old.end ≡ Rest [] →
-            IfOk result (λ arrived. arrived ≡ Some statement.now) }
-        ensures end { IsSize self.old.size → IsWellFormed self.old.size statement.now → self.old.end ≡ Rest [] →
-            IfOk result (λ _. self.new.end ≡ Rest []) }
+        ensures arrives { IsSize self.old.size → IsWellFormed self.old.size statement.now →
+            self.old.end ≡ Rest [] → IfOk result (λ arrived. arrived ≡ Some statement.now) }
+        ensures end { IsSize self.old.size → IsWellFormed self.old.size statement.now →
+            self.old.end ≡ Rest [] → IfOk result (λ _. self.new.end ≡ Rest []) }
         ensures place { self.new.place ≡ self.old.place }
         ensures size { self.new.size ≡ self.old.size }
     {
@@ -163,10 +164,11 @@ impl Link {
     ) -> Result<(), Memory>
         requires some { 1 ≤ length part.now }
         requires most { length part.now ≤ 99 }
-        ensures arrive { IsSize self.old.size → AllByRecursion (IsWellFormed self.old.size) part.now → self.old.end ≡ Rest [] →
+        ensures arrive { IsSize self.old.size →
+            AllByRecursion (IsWellFormed self.old.size) part.now → self.old.end ≡ Rest [] →
             OnOk result (all.new.items ≡ all.old.items ++ map (λ s. (from, s, toss)) part.now) }
-        ensures end { IsSize self.old.size → AllByRecursion (IsWellFormed self.old.size) part.now → self.old.end ≡ Rest [] →
-            OnOk result (self.new.end ≡ Rest []) }
+        ensures end { IsSize self.old.size → AllByRecursion (IsWellFormed self.old.size) part.now →
+            self.old.end ≡ Rest [] → OnOk result (self.new.end ≡ Rest []) }
         ensures few { OnOk result (length all.new.items ≤ length all.old.items + length part.now) }
         ensures place { self.new.place ≡ self.old.place }
         ensures size { self.new.size ≡ self.old.size }
@@ -193,9 +195,11 @@ impl Link {
         statements: &[Statement],
         toss: Toss,
     ) -> Result<Vec<(u8, Statement, Toss)>, Memory>
-        ensures arrive { IsSize self.old.size → AllByRecursion (IsWellFormed self.old.size) statements.now → self.old.end ≡ Rest [] →
+        ensures arrive { IsSize self.old.size →
+            AllByRecursion (IsWellFormed self.old.size) statements.now → self.old.end ≡ Rest [] →
             IfOk result (λ arrived. arrived.items ≡ map (λ s. (from, s, toss)) statements.now) }
-        ensures end { IsSize self.old.size → AllByRecursion (IsWellFormed self.old.size) statements.now → self.old.end ≡ Rest [] →
+        ensures end { IsSize self.old.size →
+            AllByRecursion (IsWellFormed self.old.size) statements.now → self.old.end ≡ Rest [] →
             IfOk result (λ _. self.new.end ≡ Rest []) }
         ensures few { IfOk result (λ arrived. length arrived.items ≤ length statements.now) }
         ensures place { self.new.place ≡ self.old.place }
@@ -243,7 +247,8 @@ fn add_tossed(
     statements: &[Statement],
     toss: Toss,
 ) -> Result<(), Memory>
-    ensures { OnOk result (all.new.items ≡ all.old.items ++ map (λ s. (from, s, toss)) statements.now) }
+    ensures { OnOk result
+        (all.new.items ≡ all.old.items ++ map (λ s. (from, s, toss)) statements.now) }
 {
     for statement in statements {
         all.push((from, *statement, toss))?;
@@ -267,7 +272,8 @@ fn read(feeder: &mut Feeder, bytes: &[u8], messages: &mut Vec<Message>) -> Resul
 
 /// The statement, where the messages are one alone.
 fn statement_alone(messages: &[Message]) -> Option<Statement>
-    ensures { (statement : Statement) → messages.now ≡ variants.Statement statement ∷ [] → result ≡ Some statement }
+    ensures { (statement : Statement) → messages.now ≡ variants.Statement statement ∷ [] →
+        result ≡ Some statement }
 {
     match messages {
         [Message::Statement(statement)] => Some(*statement),
@@ -278,7 +284,8 @@ fn statement_alone(messages: &[Message]) -> Option<Statement>
 /// The statements of the message, where it is one alone.
 fn statements_alone(messages: &[Message]) -> &[Statement]
     ensures one { (s : Statement) → messages.now ≡ variants.Statement s ∷ [] → result.now ≡ s ∷ [] }
-    ensures several { (many : List Statement) → messages.now ≡ variants.Statements many ∷ [] → result.now ≡ many }
+    ensures several { (many : List Statement) → messages.now ≡ variants.Statements many ∷ [] →
+        result.now ≡ many }
 {
     match messages {
         [Message::Statement(statement)] => from_ref(statement),
@@ -289,7 +296,8 @@ fn statements_alone(messages: &[Message]) -> &[Statement]
 
 /// Adds the statements of the message, in order.
 fn add_statements(message: &Message, statements: &mut Vec<Statement>) -> Result<(), Memory>
-    ensures { OnOk result (statements.new.items ≡ statements.old.items ++ statements_of message.now) }
+    ensures { OnOk result
+        (statements.new.items ≡ statements.old.items ++ statements_of message.now) }
 {
     match message {
         Message::Statement(statement) => {

@@ -52,8 +52,10 @@ impl Post {
         disk: MemDisk,
     ) -> Result<Post, SimFault>
         ensures ready { IfOk result (λ post. IsReady post) }
-        ensures created { IfOk result (λ post. IsCreated header liar (is_some (fuse_left disk)) post) }
-        ensures device { IsErrOf result faults.Device → (liar ≡ false) × (is_some (fuse_left disk) ≡ true) }
+        ensures created { IfOk result
+            (λ post. IsCreated header liar (is_some (fuse_left disk)) post) }
+        ensures device { IsErrOf result faults.Device → (liar ≡ false)
+            × (is_some (fuse_left disk) ≡ true) }
         ensures only { IfErr result IsOfOpening }
     {
         let incoming = links(alloc, header.size())?;
@@ -78,7 +80,8 @@ impl Post {
         ensures header { self.new.header ≡ self.old.header }
         ensures opened { (liar fused : Bool) → IsCreated self.old.header liar fused self.old →
             OnOk result (IsOpenedPost self.old.header liar fused self.new) }
-        ensures device { IsErrOf result faults.Device → (is_liar self.old.seat ≡ false) × (self.old.fused ≡ true) }
+        ensures device { IsErrOf result faults.Device → (is_liar self.old.seat ≡ false)
+            × (self.old.fused ≡ true) }
         ensures only { IfErr result IsOfOpening }
     {
         if self.seat.is_liar() {
@@ -133,7 +136,8 @@ impl Post {
         requires ready { IsReady self.now }
         ensures statements { IfOk result (λ group.
             group.statements.items ≡ group_from (saved_in self.now.seat) number count) }
-        ensures place { IfOk result (λ group. group.place ≡ number + length group.statements.items) }
+        ensures place { IfOk result
+            (λ group. group.place ≡ number + length group.statements.items) }
         ensures few { IfOk result (λ group. length group.statements.items ≤ 256) }
         ensures only { IfErr result (λ fault. fault ≡ faults.Memory) }
     {
@@ -173,12 +177,15 @@ impl Post {
         ensures ready { IsReady self.new }
         ensures header { self.new.header ≡ self.old.header }
         ensures only { IfErr result IsOfRun }
-        ensures disk { OnOk result (DoesToDisk task (disk_in self.old.seat) (disk_in self.new.seat)) }
-        ensures done { (size : Size) (liars : ℕ → Bool) (c : Scene) (p : ℕ) → IsSize size → p < size.n →
-            IsPost size liars c p self.old → CanBeDone size liars c p task → IsGroupFor c p task group.now →
-            IfOk result (λ mark. IsDone size liars c p task bytes.now mark self.new) }
-        ensures memory { (size : Size) (liars : ℕ → Bool) (c : Scene) (p : ℕ) → IsSize size → p < size.n →
-            IsPost size liars c p self.old → CanBeDone size liars c p task → IsGroupFor c p task group.now → MayCome size liars c.world →
+        ensures disk { OnOk result
+            (DoesToDisk task (disk_in self.old.seat) (disk_in self.new.seat)) }
+        ensures done { (size : Size) (liars : ℕ → Bool) (c : Scene) (p : ℕ) → IsSize size →
+            p < size.n → IsPost size liars c p self.old → CanBeDone size liars c p task →
+            IsGroupFor c p task group.now → IfOk result
+            (λ mark. IsDone size liars c p task bytes.now mark self.new) }
+        ensures memory { (size : Size) (liars : ℕ → Bool) (c : Scene) (p : ℕ) → IsSize size →
+            p < size.n → IsPost size liars c p self.old → CanBeDone size liars c p task →
+            IsGroupFor c p task group.now → MayCome size liars c.world →
             IfErr result (λ fault. fault ≡ faults.Memory) }
     {
         match task {
@@ -201,12 +208,15 @@ impl Post {
         ensures ready { IsReady self.new }
         ensures header { self.new.header ≡ self.old.header }
         ensures only { IfErr result IsOfRun }
-        ensures done { (size : Size) (liars : ℕ → Bool) (c : Scene) (p : ℕ) → IsSize size → p < size.n →
-            IsPost size liars c p self.old → CanBeDone size liars c p (tasks.Propose question bit toss) → (bytes : List ℕ) →
-            IfOk result (λ mark. IsDone size liars c p (tasks.Propose question bit toss) bytes mark self.new) }
-        ensures memory { (size : Size) (liars : ℕ → Bool) (c : Scene) (p : ℕ) → IsSize size → p < size.n →
-            IsPost size liars c p self.old → CanBeDone size liars c p (tasks.Propose question bit toss) → MayCome size liars c.world →
-            IfErr result (λ fault. fault ≡ faults.Memory) }
+        ensures done { (size : Size) (liars : ℕ → Bool) (c : Scene) (p : ℕ) → IsSize size →
+            p < size.n → IsPost size liars c p self.old →
+            CanBeDone size liars c p (tasks.Propose question bit toss) → (bytes : List ℕ) →
+            IfOk result (λ mark. IsDone size liars c p
+            (tasks.Propose question bit toss) bytes mark self.new) }
+        ensures memory { (size : Size) (liars : ℕ → Bool) (c : Scene) (p : ℕ) → IsSize size →
+            p < size.n → IsPost size liars c p self.old →
+            CanBeDone size liars c p (tasks.Propose question bit toss) →
+            MayCome size liars c.world → IfErr result (λ fault. fault ≡ faults.Memory) }
     {
         self.seat.propose(self.fused, question, bit, toss)
     }
@@ -225,12 +235,15 @@ impl Post {
         ensures ready { IsReady self.new }
         ensures header { self.new.header ≡ self.old.header }
         ensures only { IfErr result IsOfRun }
-        ensures done { (size : Size) (liars : ℕ → Bool) (c : Scene) (p : ℕ) → IsSize size → p < size.n →
-            IsPost size liars c p self.old → CanBeDone size liars c p (tasks.Deliver from statement place toss) → (bytes : List ℕ) →
-            IfOk result (λ mark. IsDone size liars c p (tasks.Deliver from statement place toss) bytes mark self.new) }
-        ensures memory { (size : Size) (liars : ℕ → Bool) (c : Scene) (p : ℕ) → IsSize size → p < size.n →
-            IsPost size liars c p self.old → CanBeDone size liars c p (tasks.Deliver from statement place toss) → MayCome size liars c.world →
-            IfErr result (λ fault. fault ≡ faults.Memory) }
+        ensures done { (size : Size) (liars : ℕ → Bool) (c : Scene) (p : ℕ) → IsSize size →
+            p < size.n → IsPost size liars c p self.old →
+            CanBeDone size liars c p (tasks.Deliver from statement place toss) → (bytes : List ℕ) →
+            IfOk result (λ mark. IsDone size liars c p
+            (tasks.Deliver from statement place toss) bytes mark self.new) }
+        ensures memory { (size : Size) (liars : ℕ → Bool) (c : Scene) (p : ℕ) → IsSize size →
+            p < size.n → IsPost size liars c p self.old →
+            CanBeDone size liars c p (tasks.Deliver from statement place toss) →
+            MayCome size liars c.world → IfErr result (λ fault. fault ≡ faults.Memory) }
     {
         let link = &mut self.incoming[usize::from(from)];
         link.go_to(place);
@@ -256,14 +269,17 @@ impl Post {
         ensures ready { IsReady self.new }
         ensures header { self.new.header ≡ self.old.header }
         ensures only { IfErr result IsOfRun }
-        ensures done { (size : Size) (liars : ℕ → Bool) (c : Scene) (p count : ℕ) → IsSize size → p < size.n →
-            IsPost size liars c p self.old → CanBeDone size liars c p (tasks.DeliverAll from count toss) →
+        ensures done { (size : Size) (liars : ℕ → Bool) (c : Scene) (p count : ℕ) → IsSize size →
+            p < size.n → IsPost size liars c p self.old →
+            CanBeDone size liars c p (tasks.DeliverAll from count toss) →
             IsGroupFor c p (tasks.DeliverAll from count toss) group.now → (bytes : List ℕ) →
-            IfOk result (λ mark. IsDone size liars c p (tasks.DeliverAll from count toss) bytes mark self.new) }
-        ensures memory { (size : Size) (liars : ℕ → Bool) (c : Scene) (p count : ℕ) → IsSize size → p < size.n →
-            IsPost size liars c p self.old → CanBeDone size liars c p (tasks.DeliverAll from count toss) →
-            IsGroupFor c p (tasks.DeliverAll from count toss) group.now → MayCome size liars c.world →
-            IfErr result (λ fault. fault ≡ faults.Memory) }
+            IfOk result (λ mark. IsDone size liars c p
+            (tasks.DeliverAll from count toss) bytes mark self.new) }
+        ensures memory { (size : Size) (liars : ℕ → Bool) (c : Scene) (p count : ℕ) → IsSize size →
+            p < size.n → IsPost size liars c p self.old →
+            CanBeDone size liars c p (tasks.DeliverAll from count toss) →
+            IsGroupFor c p (tasks.DeliverAll from count toss) group.now →
+            MayCome size liars c.world → IfErr result (λ fault. fault ≡ faults.Memory) }
     {
         let link = &mut self.incoming[usize::from(from)];
         link.go_to(group.place);
@@ -284,11 +300,14 @@ impl Post {
         ensures ready { IsReady self.new }
         ensures header { self.new.header ≡ self.old.header }
         ensures only { IfErr result IsOfRun }
-        ensures done { (size : Size) (liars : ℕ → Bool) (c : Scene) (p : ℕ) → IsSize size → p < size.n →
-            IsPost size liars c p self.old → CanBeDone size liars c p (tasks.Lie liar toss) →
-            IfOk result (λ mark. IsDone size liars c p (tasks.Lie liar toss) bytes.now mark self.new) }
-        ensures memory { (size : Size) (liars : ℕ → Bool) (c : Scene) (p : ℕ) → IsSize size → p < size.n →
-            IsPost size liars c p self.old → CanBeDone size liars c p (tasks.Lie liar toss) → MayCome size liars c.world →
+        ensures done { (size : Size) (liars : ℕ → Bool) (c : Scene) (p : ℕ) → IsSize size →
+            p < size.n → IsPost size liars c p self.old →
+            CanBeDone size liars c p (tasks.Lie liar toss) →
+            IfOk result (λ mark. IsDone size liars c p
+            (tasks.Lie liar toss) bytes.now mark self.new) }
+        ensures memory { (size : Size) (liars : ℕ → Bool) (c : Scene) (p : ℕ) → IsSize size →
+            p < size.n → IsPost size liars c p self.old →
+            CanBeDone size liars c p (tasks.Lie liar toss) → MayCome size liars c.world →
             IfErr result (λ fault. fault ≡ faults.Memory) }
     {
         let link = &mut self.incoming[usize::from(liar)];
@@ -306,8 +325,9 @@ impl Post {
         ensures disk { HasDiskFuse calls (disk_in self.old.seat) (disk_in self.new.seat) }
         ensures header { self.new.header ≡ self.old.header }
         ensures only { IfErr result (λ fault. fault ≡ faults.Memory) }
-        ensures done { (size : Size) (liars : ℕ → Bool) (c : Scene) (p : ℕ) → IsSize size → p < size.n →
-            IsPost size liars c p self.old → CanBeDone size liars c p (tasks.Fuse calls) → (bytes : List ℕ) →
+        ensures done { (size : Size) (liars : ℕ → Bool) (c : Scene) (p : ℕ) → IsSize size →
+            p < size.n → IsPost size liars c p self.old →
+            CanBeDone size liars c p (tasks.Fuse calls) → (bytes : List ℕ) →
             IfOk result (λ mark. IsDone size liars c p (tasks.Fuse calls) bytes mark self.new) }
     {
         self.seat.fuse(calls);
@@ -319,11 +339,13 @@ impl Post {
     fn crash(&mut self, pick: Pick) -> Result<Mark, SimFault>
         requires ready { IsReady self.old }
         ensures ready { IsReady self.new }
-        ensures disk { OnOk result (HasCrashed pick (disk_in self.old.seat) (disk_in self.new.seat)) }
+        ensures disk { OnOk result
+            (HasCrashed pick (disk_in self.old.seat) (disk_in self.new.seat)) }
         ensures header { self.new.header ≡ self.old.header }
         ensures only { IfErr result (λ fault. fault ≡ faults.Memory) }
-        ensures done { (size : Size) (liars : ℕ → Bool) (c : Scene) (p : ℕ) → IsSize size → p < size.n →
-            IsPost size liars c p self.old → CanBeDone size liars c p (tasks.Crash pick) → (bytes : List ℕ) →
+        ensures done { (size : Size) (liars : ℕ → Bool) (c : Scene) (p : ℕ) → IsSize size →
+            p < size.n → IsPost size liars c p self.old →
+            CanBeDone size liars c p (tasks.Crash pick) → (bytes : List ℕ) →
             IfOk result (λ mark. IsDone size liars c p (tasks.Crash pick) bytes mark self.new) }
     {
         self.seat.crash(pick)?;
@@ -337,9 +359,10 @@ impl Post {
         ensures ready { IsReady self.new }
         ensures header { self.new.header ≡ self.old.header }
         ensures only { IfErr result (λ fault. fault ≡ faults.Memory) }
-        ensures done { (size : Size) (liars : ℕ → Bool) (c : Scene) (p : ℕ) → IsSize size → p < size.n →
-            IsPost size liars c p self.old → CanBeDone size liars c p (tasks.Restart) → (bytes : List ℕ) →
-            IfOk result (λ mark. IsDone size liars c p (tasks.Restart) bytes mark self.new) }
+        ensures done { (size : Size) (liars : ℕ → Bool) (c : Scene) (p : ℕ) → IsSize size →
+            p < size.n → IsPost size liars c p self.old → CanBeDone size liars c p (tasks.Restart) →
+            (bytes : List ℕ) → IfOk result (λ mark. IsDone size liars c p
+            (tasks.Restart) bytes mark self.new) }
     {
         match self.seat.open(alloc, self.fused, &self.header)? {
             Mark::Done => {
@@ -372,8 +395,9 @@ impl Post {
         ensures ready { IsReady self.new }
         ensures header { self.new.header ≡ self.old.header }
         ensures only { IfErr result (λ fault. fault ≡ faults.Memory) }
-        ensures done { (size : Size) (liars : ℕ → Bool) (c : Scene) (p : ℕ) → IsSize size → p < size.n →
-            IsPost size liars c p self.old → CanBeDone size liars c p (tasks.Reset from) → (bytes : List ℕ) →
+        ensures done { (size : Size) (liars : ℕ → Bool) (c : Scene) (p : ℕ) → IsSize size →
+            p < size.n → IsPost size liars c p self.old →
+            CanBeDone size liars c p (tasks.Reset from) → (bytes : List ℕ) →
             IfOk result (λ mark. IsDone size liars c p (tasks.Reset from) bytes mark self.new) }
     {
         self.incoming[usize::from(from)].begin_anew(self.header.size());
@@ -384,7 +408,8 @@ impl Post {
 /// A link from each member, at its start.
 fn links(alloc: Global, size: Size) -> Result<Vec<Link>, SimFault>
     ensures count { IfOk result (λ links. length links.items ≡ size.n) }
-    ensures new { IfOk result (λ links. (a : ℕ) (d : Link) → a < size.n → IsNewLink size (get_or links.items a d)) }
+    ensures new { IfOk result
+        (λ links. (a : ℕ) (d : Link) → a < size.n → IsNewLink size (get_or links.items a d)) }
     ensures only { IfErr result (λ fault. fault ≡ faults.Memory) }
 {
     let mut links = Vec::with_capacity(alloc, usize::from(size.n()))?;

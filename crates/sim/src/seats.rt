@@ -93,11 +93,13 @@ impl Presence {
         ensures sound { IsOneSound self.new }
         ensures only { IfErr result IsOfRun }
         ensures side { is_liar self.new ≡ is_liar self.old }
-        ensures moved { (size : Size) (liars : ℕ → Bool) (p : ℕ) (w : World) → IsCorrect size liars p → w.doubt p ≡ None →
-            IsSeatAt (mine size p) w self.old → IfOk result (λ mark.
-            IsMove size liars p w (Answers size p w fused toss.0 (Proposal question bit) mark) self.new) }
-        ensures memory { (size : Size) (liars : ℕ → Bool) (p : ℕ) (w : World) → IsCorrect size liars p → w.doubt p ≡ None →
-            IsSeatAt (mine size p) w self.old → MayCome size liars w → IfErr result (λ fault. fault ≡ faults.Memory) }
+        ensures moved { (size : Size) (liars : ℕ → Bool) (p : ℕ) (w : World) →
+            IsCorrect size liars p → w.doubt p ≡ None → IsSeatAt (mine size p) w self.old →
+            IfOk result (λ mark. IsMove size liars p w
+            (Answers size p w fused toss.0 (Proposal question bit) mark) self.new) }
+        ensures memory { (size : Size) (liars : ℕ → Bool) (p : ℕ) (w : World) →
+            IsCorrect size liars p → w.doubt p ≡ None → IsSeatAt (mine size p) w self.old →
+            MayCome size liars w → IfErr result (λ fault. fault ≡ faults.Memory) }
     {
         let Presence::Here(member) = self else {
             return Ok(Mark::Skipped(Reason::NotUp));
@@ -119,11 +121,14 @@ impl Presence {
         ensures sound { IsOneSound self.new }
         ensures only { IfErr result IsOfRun }
         ensures side { is_liar self.new ≡ is_liar self.old }
-        ensures moved { (size : Size) (liars : ℕ → Bool) (p : ℕ) (w : World) → IsCorrect size liars p → w.doubt p ≡ None →
-            IsSeatAt (mine size p) w self.old → has_sent w.sent from statement.now ≡ true → IfOk result (λ mark.
-            IsMove size liars p w (Answers size p w fused toss.0 (Hearing from statement.now) mark) self.new) }
-        ensures memory { (size : Size) (liars : ℕ → Bool) (p : ℕ) (w : World) → IsCorrect size liars p → w.doubt p ≡ None →
-            IsSeatAt (mine size p) w self.old → has_sent w.sent from statement.now ≡ true → MayCome size liars w →
+        ensures moved { (size : Size) (liars : ℕ → Bool) (p : ℕ) (w : World) →
+            IsCorrect size liars p → w.doubt p ≡ None → IsSeatAt (mine size p) w self.old →
+            has_sent w.sent from statement.now ≡ true →
+            IfOk result (λ mark. IsMove size liars p w
+            (Answers size p w fused toss.0 (Hearing from statement.now) mark) self.new) }
+        ensures memory { (size : Size) (liars : ℕ → Bool) (p : ℕ) (w : World) →
+            IsCorrect size liars p → w.doubt p ≡ None → IsSeatAt (mine size p) w self.old →
+            has_sent w.sent from statement.now ≡ true → MayCome size liars w →
             IfErr result (λ fault. fault ≡ faults.Memory) }
     {
         let Presence::Here(member) = self else {
@@ -144,11 +149,14 @@ impl Presence {
         ensures sound { IsOneSound self.new }
         ensures only { IfErr result IsOfRun }
         ensures side { is_liar self.new ≡ is_liar self.old }
-        ensures moved { (size : Size) (liars : ℕ → Bool) (p : ℕ) (w : World) → IsCorrect size liars p → w.doubt p ≡ None →
-            IsSeatAt (mine size p) w self.old → AllCome w (hearings events.now) → IfOk result (λ mark.
-            IsMove size liars p w (AnswersGroup size p w fused (hearings events.now) mark) self.new) }
-        ensures memory { (size : Size) (liars : ℕ → Bool) (p : ℕ) (w : World) → IsCorrect size liars p → w.doubt p ≡ None →
-            IsSeatAt (mine size p) w self.old → AllCome w (hearings events.now) → MayCome size liars w →
+        ensures moved { (size : Size) (liars : ℕ → Bool) (p : ℕ) (w : World) →
+            IsCorrect size liars p → w.doubt p ≡ None → IsSeatAt (mine size p) w self.old →
+            AllCome w (hearings events.now) →
+            IfOk result (λ mark. IsMove size liars p w
+            (AnswersGroup size p w fused (hearings events.now) mark) self.new) }
+        ensures memory { (size : Size) (liars : ℕ → Bool) (p : ℕ) (w : World) →
+            IsCorrect size liars p → w.doubt p ≡ None → IsSeatAt (mine size p) w self.old →
+            AllCome w (hearings events.now) → MayCome size liars w →
             IfErr result (λ fault. fault ≡ faults.Memory) }
     {
         let Presence::Here(member) = self else {
@@ -170,11 +178,14 @@ impl Presence {
         ensures sound { IsOneSound self.new }
         ensures only { IfErr result IsOfRun }
         ensures side { is_liar self.new ≡ is_liar self.old }
-        ensures moved { (size : Size) (liars : ℕ → Bool) (p : ℕ) (w : World) → IsCorrect size liars p → w.doubt p ≡ None →
-            IsSeatAt (mine size p) w self.old → from < size.n → liars from ≡ true → AllByRecursion (IsWellFormed size) statements.now →
-            IfOk result (λ mark. IsMove size liars p w (AreLies size p w fused from toss.0 statements.now mark) self.new) }
-        ensures memory { (size : Size) (liars : ℕ → Bool) (p : ℕ) (w : World) → IsCorrect size liars p → w.doubt p ≡ None →
-            IsSeatAt (mine size p) w self.old → from < size.n → liars from ≡ true → AllByRecursion (IsWellFormed size) statements.now →
+        ensures moved { (size : Size) (liars : ℕ → Bool) (p : ℕ) (w : World) →
+            IsCorrect size liars p → w.doubt p ≡ None → IsSeatAt (mine size p) w self.old →
+            from < size.n → liars from ≡ true → AllByRecursion (IsWellFormed size) statements.now →
+            IfOk result (λ mark. IsMove size liars p w
+            (AreLies size p w fused from toss.0 statements.now mark) self.new) }
+        ensures memory { (size : Size) (liars : ℕ → Bool) (p : ℕ) (w : World) →
+            IsCorrect size liars p → w.doubt p ≡ None → IsSeatAt (mine size p) w self.old →
+            from < size.n → liars from ≡ true → AllByRecursion (IsWellFormed size) statements.now →
             MayCome size liars w → IfErr result (λ fault. fault ≡ faults.Memory) }
     {
         for statement in statements {
@@ -193,7 +204,8 @@ impl Presence {
         ensures sound { IsOneSound self.new }
         ensures fuse { HasDiskFuse calls (disk_in self.old) (disk_in self.new) }
         ensures side { is_liar self.new ≡ is_liar self.old }
-        ensures at { (header : Header) (w : World) → IsSeatAt header w self.old → IsSeatAt header w self.new }
+        ensures at { (header : Header) (w : World) → IsSeatAt header w self.old →
+            IsSeatAt header w self.new }
     {
         match self {
             Presence::Here(member) => member.fuse(calls),
@@ -233,10 +245,12 @@ impl Presence {
         ensures only { IfErr result (λ fault. fault ≡ faults.Memory) }
         ensures failed { IfOk result (λ mark. mark ≡ marks.Failed → fused ≡ true) }
         ensures side { OnOk result (is_liar self.new ≡ is_liar self.old) }
-        ensures moved { (size : Size) (liars : ℕ → Bool) (p : ℕ) (w : World) (batch : List Record) → IsCorrect size liars p →
-            header.now ≡ mine size p → w.doubt p ≡ Some batch → IsSeatAt (mine size p) w self.old →
+        ensures moved { (size : Size) (liars : ℕ → Bool) (p : ℕ) (w : World) (batch : List Record) →
+            IsCorrect size liars p → header.now ≡ mine size p → w.doubt p ≡ Some batch →
+            IsSeatAt (mine size p) w self.old →
             IfOk result (λ mark. IsMove size liars p w (Reopens p fused mark) self.new) }
-        ensures begun { IsFreshSeat header.now self.old → IfOk result (λ mark. IsBegun header.now fused mark self.new) }
+        ensures begun { IsFreshSeat header.now self.old →
+            IfOk result (λ mark. IsBegun header.now fused mark self.new) }
     {
         let (disk, records) = match mem::replace(self, Presence::Liar).into_parts() {
             Some(parts) => parts,
@@ -258,8 +272,10 @@ impl Presence {
     /// Its disk, and what its member has saved.
     fn into_parts(self) -> Option<(MemDisk, Vec<Record>)>
         requires sound { IsOneSound self }
-        ensures parts { (header : Header) (w : World) → IsSeatAt header w self → AreParts header w result }
-        ensures fresh { (header : Header) → IsFreshSeat header self → AreFreshRecords header result }
+        ensures parts { (header : Header) (w : World) → IsSeatAt header w self →
+            AreParts header w result }
+        ensures fresh { (header : Header) → IsFreshSeat header self →
+            AreFreshRecords header result }
         ensures disk { disk_among result ≡ disk_in self }
         ensures side { MatchOption result (is_liar self ≡ true) (λ _. is_liar self ≡ false) }
     {
@@ -293,7 +309,8 @@ fn statement_at(records: &[Record], number: u64) -> Option<Statement>
 fn mark_of<T: Drop>(answer: Result<T, MemberFault>, fused: bool) -> Result<Mark, SimFault>
     ensures mark { IfOk result (λ mark. IsMarkOf fused answer mark) }
     ensures only { IfErr result IsOfRun }
-    ensures memory { (IsErrOf answer refusals.JournalFull → ⊥) → IfErr result (λ fault. fault ≡ faults.Memory) }
+    ensures memory { (IsErrOf answer refusals.JournalFull → ⊥) →
+        IfErr result (λ fault. fault ≡ faults.Memory) }
 {
     match answer {
         Ok(_) => Ok(Mark::Done),

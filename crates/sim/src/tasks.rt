@@ -40,7 +40,8 @@ pub(crate) enum Instruction {
 #[inline(always)]
 pub(crate) fn plan(size: Size, posts: &[Post], event: &Event) -> Result<(u8, Instruction), Reason>
     requires ready { AreReady size posts.now }
-    ensures plan { (liars : ℕ → Bool) (c : Scene) → IsCluster size liars c posts.now → result ≡ plan_of size liars c event.now }
+    ensures plan { (liars : ℕ → Bool) (c : Scene) → IsCluster size liars c posts.now →
+        result ≡ plan_of size liars c event.now }
     ensures within { IfOk result (λ to. (to.0 < size.n) × HasSender size.n to.1) }
 {
     match event {
@@ -109,7 +110,8 @@ fn for_correct(
 ) -> Result<(u8, Instruction), Reason>
     requires sender { HasSender size.n task }
     requires ready { AreReady size posts.now }
-    ensures plan { (liars : ℕ → Bool) (c : Scene) → IsCluster size liars c posts.now → result ≡ for_correct size liars member (Ok (member, task)) }
+    ensures plan { (liars : ℕ → Bool) (c : Scene) → IsCluster size liars c posts.now →
+        result ≡ for_correct size liars member (Ok (member, task)) }
     ensures within { IfOk result (λ to. (to.0 < size.n) × HasSender size.n to.1) }
 {
     if member >= size.n() {
@@ -130,7 +132,8 @@ fn for_running(
 ) -> Result<(u8, Instruction), Reason>
     requires sender { HasSender size.n task }
     requires ready { AreReady size posts.now }
-    ensures plan { (liars : ℕ → Bool) (c : Scene) → IsCluster size liars c posts.now → result ≡ for_running size liars c.world member (Ok (member, task)) }
+    ensures plan { (liars : ℕ → Bool) (c : Scene) → IsCluster size liars c posts.now →
+        result ≡ for_running size liars c.world member (Ok (member, task)) }
     ensures within { IfOk result (λ to. (to.0 < size.n) × HasSender size.n to.1) }
 {
     if member >= size.n() {
@@ -179,7 +182,8 @@ pub(crate) fn delivery(
     toss: Toss,
 ) -> Result<(u8, Instruction), Reason>
     requires ready { AreReady size posts.now }
-    ensures plan { (liars : ℕ → Bool) (c : Scene) → IsCluster size liars c posts.now → result ≡ plan_of size liars c (events.Deliver from to which toss) }
+    ensures plan { (liars : ℕ → Bool) (c : Scene) → IsCluster size liars c posts.now →
+        result ≡ plan_of size liars c (events.Deliver from to which toss) }
     ensures within { IfOk result (λ to. (to.0 < size.n) × HasSender size.n to.1) }
 {
     match link_place(size, posts, from, to) {
@@ -198,7 +202,8 @@ fn group(
     toss: Toss,
 ) -> Result<(u8, Instruction), Reason>
     requires ready { AreReady size posts.now }
-    ensures plan { (liars : ℕ → Bool) (c : Scene) → IsCluster size liars c posts.now → result ≡ plan_of size liars c (events.DeliverAll from to count toss) }
+    ensures plan { (liars : ℕ → Bool) (c : Scene) → IsCluster size liars c posts.now →
+        result ≡ plan_of size liars c (events.DeliverAll from to count toss) }
     ensures within { IfOk result (λ to. (to.0 < size.n) × HasSender size.n to.1) }
 {
     match link_place(size, posts, from, to) {
@@ -217,7 +222,8 @@ fn outgoing_group(
     toss: Toss,
 ) -> Result<(u8, Instruction), Reason>
     requires ready { IsReady sender.now }
-    ensures plan { result ≡ to_group from to count toss (group_from (saved_in sender.now.seat) place count) }
+    ensures plan { result
+        ≡ to_group from to count toss (group_from (saved_in sender.now.seat) place count) }
     ensures to { IfOk result (λ planned. planned.0 ≡ to) }
     ensures sender { (n : ℕ) → from < n → IfOk result (λ planned. HasSender n planned.1) }
 {
@@ -286,7 +292,8 @@ fn lie(
 /// An opening of a correct member that doesn't run.
 fn restart(size: Size, posts: &[Post], member: u8) -> Result<(u8, Instruction), Reason>
     requires ready { AreReady size posts.now }
-    ensures plan { (liars : ℕ → Bool) (c : Scene) → IsCluster size liars c posts.now → result ≡ plan_of size liars c (events.Restart member) }
+    ensures plan { (liars : ℕ → Bool) (c : Scene) → IsCluster size liars c posts.now →
+        result ≡ plan_of size liars c (events.Restart member) }
     ensures within { IfOk result (λ to. (to.0 < size.n) × HasSender size.n to.1) }
 {
     if member >= size.n() {
@@ -313,8 +320,8 @@ pub(crate) fn brought(
 ) -> Result<Delivery, SimFault>
     requires ready { AreReady size posts.now }
     requires within { (to < size.n) × HasSender size.n task.now }
-    ensures brings { (liars : ℕ → Bool) (c : Scene) → IsCluster size liars c posts.now → CanBeDone size liars c to task.now →
-        IfOk result (IsGroupFor c to task.now) }
+    ensures brings { (liars : ℕ → Bool) (c : Scene) → IsCluster size liars c posts.now →
+        CanBeDone size liars c to task.now → IfOk result (IsGroupFor c to task.now) }
     ensures few { IfOk result (λ group. length group.statements.items ≤ 256) }
     ensures only { IfErr result (λ fault. fault ≡ faults.Memory) }
 {

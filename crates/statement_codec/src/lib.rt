@@ -34,7 +34,8 @@ pub fn byte_of_value(value: Value) -> u8
 
 /// The kind of a byte, or none where the byte is no kind's.
 pub fn kind_of(byte: u8) -> Option<Kind>
-    ensures { MatchOption result ((kind : Kind) → kind_byte kind ≢ byte) (λ kind. kind_byte kind ≡ byte) }
+    ensures { MatchOption result ((kind : Kind) → kind_byte kind ≢ byte)
+        (λ kind. kind_byte kind ≡ byte) }
 {
     match byte {
         1 => Some(Kind::Initial),
@@ -46,7 +47,8 @@ pub fn kind_of(byte: u8) -> Option<Kind>
 
 /// The value of a byte, or none where the byte is no value's.
 pub fn value_of(byte: u8) -> Option<Value>
-    ensures { MatchOption result ((value : Value) → value_code value ≢ byte) (λ value. value_code value ≡ byte) }
+    ensures { MatchOption result ((value : Value) → value_code value ≢ byte)
+        (λ value. value_code value ≡ byte) }
 {
     match byte {
         0 => Some(Value::Zero),

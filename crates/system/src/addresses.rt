@@ -56,7 +56,9 @@ fn own_address(listen: &Address) -> Address
 
 /// These addresses, with another at that place.
 fn with_own(alloc: Global, peers: &[Address], me: u8, own: Address) -> Result<Vec<Address>, Memory>
-    ensures { IfOk result (λ it. it.items ≡ (if nat_lt me (length peers.now) then slice_set peers.now me own else peers.now)) }
+    ensures { IfOk result
+        (λ it. it.items ≡ (if nat_lt me (length peers.now) then slice_set peers.now me own else
+        peers.now)) }
 {
     let mut all = Vec::new(alloc);
     all.extend_from_slice(peers)?;
@@ -71,7 +73,9 @@ fn with_own(alloc: Global, peers: &[Address], me: u8, own: Address) -> Result<Ve
 /// Returns the addresses at which the members are dialled: their entries of the peers; and for the
 /// own one the address of
 fn dialled(alloc: Global, settings: &Settings) -> Result<Vec<Address>, Memory>
-    ensures { IfOk result (λ it. it.items ≡ dialled settings.now.peers.items settings.now.listen settings.now.header.me) }
+    ensures { IfOk result
+        (λ it. it.items ≡ dialled settings.now.peers.items settings.now.listen
+        settings.now.header.me) }
 {
     match &settings.listen {
         Some(listen) => {
@@ -89,7 +93,8 @@ fn dialled(alloc: Global, settings: &Settings) -> Result<Vec<Address>, Memory>
 /// The address as sockets have it, if there is one.
 fn maybe_socket(address: &Option<Address>) -> Option<SocketAddr>
     ensures none { address.now ≡ None → result ≡ None }
-    ensures some { (one : AddressOf) → address.now ≡ Some one → IfSome result (λ socket. IsSocketOf one socket) }
+    ensures some { (one : AddressOf) → address.now ≡ Some one →
+        IfSome result (λ socket. IsSocketOf one socket) }
 {
     match address {
         Some(address) => Some(socket_address(address)),
@@ -107,7 +112,9 @@ pub(crate) fn addresses_of(
     clients: u8,
     followers: u16,
 ) -> Result<Addresses, Memory>
-    ensures peers { IfOk result (λ it. AreSocketsOf (dialled settings.now.peers.items settings.now.listen settings.now.header.me) it.peers.items) }
+    ensures peers { IfOk result
+        (λ it. AreSocketsOf (dialled settings.now.peers.items settings.now.listen
+        settings.now.header.me) it.peers.items) }
     ensures own_entry { settings.now.listen ≡ None → IfOk result (λ it. it.listen ≡ None) }
     ensures listen { (one : AddressOf) → settings.now.listen ≡ Some one →
         IfOk result (λ it. IfSome it.listen (λ socket. IsSocketOf one socket)) }

@@ -136,7 +136,8 @@ impl Chained<'_> {
         addresses: Addresses,
     ) -> Result<(), RunFault>
         requires sound { IsSound D.Disk member }
-        requires fresh { member_is_stopped member ≡ false → MemberStandsFor member (member_saved member) [] }
+        requires fresh { member_is_stopped member ≡ false →
+            MemberStandsFor member (member_saved member) [] }
         requires begun { HasItsFile D.Disk member }
     {
         let alloc = self.host.alloc();

@@ -83,8 +83,10 @@ fn rest_of(whole: Duration, passed: Duration) -> Option<Duration>
 /// Returns how much is left of a time in all when so much has passed, or of a step of so many
 /// seconds where the time isn't limited. None: nothing.
 fn left_of(total: Option<Duration>, passed: Duration, step: u64) -> Option<Duration>
-    ensures over { (whole : Duration) → total ≡ Some whole → as_nanos whole ≤ as_nanos passed → result ≡ None }
-    ensures left { (whole : Duration) → total ≡ Some whole → IfSome result (λ left. as_nanos left ≡ as_nanos whole - as_nanos passed) }
+    ensures over { (whole : Duration) → total ≡ Some whole → as_nanos whole ≤ as_nanos passed →
+        result ≡ None }
+    ensures left { (whole : Duration) → total ≡ Some whole →
+        IfSome result (λ left. as_nanos left ≡ as_nanos whole - as_nanos passed) }
 {
     match total {
         Some(whole) => rest_of(whole, passed),

@@ -17,7 +17,9 @@ use terms::{Header, Memory};
 
 /// Returns the path of an epoch's journal.
 pub(crate) fn epoch_path(alloc: Global, folder: &str, epoch: u64) -> Result<String, AllocError>
-    ensures { IfOk result (λ path. string_bytes path ≡ folder.now ++ (codes "/" ++ (decimal epoch ++ codes ".journal"))) }
+    ensures { IfOk result
+        (λ path. string_bytes path ≡ folder.now
+        ++ (codes "/" ++ (decimal epoch ++ codes ".journal"))) }
 {
     format!(in alloc; "{folder}/{epoch}.journal")
 }

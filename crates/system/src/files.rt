@@ -171,7 +171,8 @@ pub fn open_disk<'a, P: Premise>(
     path: &'a str,
     purpose: Purpose,
 ) -> Result<(MarkedDisk<P>, Source<'a>), Failure>
-    ensures as_it_began { IfOk result (λ opened. file_state P.file (marked_file opened.0) ≡ at_rest P.file.start) }
+    ensures as_it_began { IfOk result
+        (λ opened. file_state P.file (marked_file opened.0) ≡ at_rest P.file.start) }
     ensures source { IfOk result (λ opened. opened.1.path.now ≡ path.now) }
     ensures fault { IfErr result (λ failure. IsMeant ends.File failure.fault) }
     ensures named { IfErr result (IsNamed path.now) }
@@ -191,7 +192,8 @@ pub fn open_good_disk<'a, P: Premise>(
     path: &'a str,
     purpose: Purpose,
 ) -> Result<(MarkedDisk<P>, Source<'a>), Failure>
-    ensures as_it_began { IfOk result (λ opened. file_state P.file (marked_file opened.0) ≡ at_rest P.file.start) }
+    ensures as_it_began { IfOk result
+        (λ opened. file_state P.file (marked_file opened.0) ≡ at_rest P.file.start) }
     ensures source { IfOk result (λ opened. opened.1.path.now ≡ path.now) }
 {
     refuse_unsynced(rt, path)?;

@@ -26,7 +26,8 @@ fn first_path(alloc: Global, journal: &str) -> Result<String, AllocError>
 /// The path of a journal that was put aside beside others, of which it is the one of that number,
 /// counted from 1.
 fn other_path(alloc: Global, journal: &str, number: u32) -> Result<String, AllocError>
-    ensures { IfOk result (λ path. string_bytes path ≡ journal.now ++ (codes ".forgotten-" ++ decimal number)) }
+    ensures { IfOk result
+        (λ path. string_bytes path ≡ journal.now ++ (codes ".forgotten-" ++ decimal number)) }
 {
     format!(in alloc; "{journal}.forgotten-{number}")
 }

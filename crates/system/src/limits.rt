@@ -25,7 +25,8 @@ fn first_number(text: &[u8]) -> Option<u64>
 /// have any number, or none is said.
 pub fn open_limit(alloc: Global, limits: &[u8]) -> Result<Option<u64>, AllocError>
     ensures some { IfOk result (λ found. IfSome found (HasLimit limits.now)) }
-    ensures exact { (limit : ℕ) → HasLimit limits.now limit → IfOk result (λ found. found ≡ Some limit) }
+    ensures exact { (limit : ℕ) → HasLimit limits.now limit →
+        IfOk result (λ found. found ≡ Some limit) }
 {
     match line_with(alloc, limits, "Max open files            ")? {
         Some(rest) => Ok(first_number(rest)),
@@ -122,7 +123,8 @@ pub fn is_starved(limit: Option<u64>, needed: u8) -> bool
 /// Returns what is told of so many open files, which are too few for a member that needs links with
 /// so many.
 pub fn starved_words(alloc: Global, limit: Option<u64>, needed: u8) -> Result<String, AllocError>
-    ensures { IfOk result (λ text. IfSome limit (λ limit. string_bytes text ≡ starved_text limit needed)) }
+    ensures { IfOk result
+        (λ text. IfSome limit (λ limit. string_bytes text ≡ starved_text limit needed)) }
 {
     match limit {
         Some(limit) => {
@@ -140,11 +142,16 @@ pub fn starved_words(alloc: Global, limit: Option<u64>, needed: u8) -> Result<St
 /// said.
 pub fn descriptors_lack(alloc: Global, limit: u64, n: u8) -> Result<Option<String>, AllocError>
     ensures few { limit < wanted n 1 →
-        IfOk result (λ said. MatchOption said ⊥ (λ text. string_bytes text ≡ lack_text limit (wanted n 0))) }
+        IfOk result (λ said. MatchOption said ⊥
+        (λ text. string_bytes text ≡ lack_text limit (wanted n 0))) }
     ensures fewer { wanted n 1 ≤ limit → limit < wanted n 32 →
-        IfOk result (λ said. MatchOption said ⊥ (λ text. string_bytes text ≡ fewer_text limit (wanted n 0) (clients_within (Some limit) n))) }
+        IfOk result (λ said. MatchOption said ⊥
+        (λ text. string_bytes text ≡ fewer_text limit (wanted n 0)
+        (clients_within (Some limit) n))) }
     ensures followers { wanted n 32 ≤ limit → limit < wanted n 32 + 512 →
-        IfOk result (λ said. MatchOption said ⊥ (λ text. string_bytes text ≡ followers_text limit (wanted n 0) (followers_within (Some limit) n))) }
+        IfOk result (λ said. MatchOption said ⊥
+        (λ text. string_bytes text ≡ followers_text limit (wanted n 0)
+        (followers_within (Some limit) n))) }
     ensures enough { wanted n 32 + 512 ≤ limit → IfOk result (λ said. said ≡ None) }
 {
     let links = wanted_by_links(n);

@@ -204,7 +204,8 @@ pub(crate) fn told_of_stop(
     told: Option<Trouble>,
 ) -> Option<Trouble>
     ensures told { IsSome told → result ≡ told }
-    ensures stopped { told ≡ None → IfSome result (λ trouble. string_bytes trouble.thing ≡ source.now.path.now) }
+    ensures stopped { told ≡ None →
+        IfSome result (λ trouble. string_bytes trouble.thing ≡ source.now.path.now) }
 {
     match told {
         Some(told) => Some(told),
@@ -222,9 +223,11 @@ fn told_at_end(
     member: u8,
     told: Option<Trouble>,
 ) -> Option<Trouble>
-    ensures stopped { run.now ≡ Err ends_of_run.Stopped → told ≡ None → IfSome result (λ trouble. string_bytes trouble.thing ≡ source.now.path.now) }
+    ensures stopped { run.now ≡ Err ends_of_run.Stopped → told ≡ None →
+        IfSome result (λ trouble. string_bytes trouble.thing ≡ source.now.path.now) }
     ensures gone { run.now ≡ Err ends_of_run.Stopped → IsSome told → result ≡ told }
-    ensures other { run.now ≢ Err ends_of_run.Stopped → run.now ≢ Err ends_of_run.Forgotten → result ≡ told }
+    ensures other { run.now ≢ Err ends_of_run.Stopped → run.now ≢ Err ends_of_run.Forgotten →
+        result ≡ told }
 {
     match run {
         Err(RunFault::Stopped) => told_of_stop(host.alloc(), source, told),
@@ -236,7 +239,8 @@ fn told_at_end(
 /// Returns how a run ended: with status 0, or a fault and what can be told of it.
 fn ended(run: Result<(), RunFault>, trouble: Option<Trouble>) -> Result<u8, Failure>
     ensures ok { IfOk run (λ _. result ≡ Ok 0) }
-    ensures fault { IfErr run (λ fault. result ≡ Err (record { fault = ends.Run fault; trouble = trouble })) }
+    ensures fault { IfErr run
+        (λ fault. result ≡ Err (record { fault = ends.Run fault; trouble = trouble })) }
 {
     match run {
         Ok(()) => Ok(0),
@@ -316,7 +320,8 @@ pub(crate) fn open_member<D: Disk>(
 ) -> Result<Member<D>, (Failure, D)>
     ensures opened { IfOk result (λ member. IsOpened D.Disk disk header.now member) }
     ensures restart { IfOk result (λ member. IsARestart D.Disk disk header.now member) }
-    ensures handed_back { IfErr result (λ refused. (why : JournalFault) × (refused.0.fault ≡ of_journal why)
+    ensures handed_back { IfErr result
+        (λ refused. (why : JournalFault) × (refused.0.fault ≡ of_journal why)
         × IsNotOpened D.Disk disk header.now why refused.1) }
 {
     match Member::adopt(host.alloc(), disk, header) {

@@ -88,9 +88,11 @@ pub(crate) fn with_socket(
     addresses: Addresses,
     settings: &Settings,
 ) -> Result<Addresses, Failure>
-    ensures peers { IfOk result (λ it. (it.peers ≡ addresses.peers) × (it.listen ≡ addresses.listen)) }
+    ensures peers { IfOk result
+        (λ it. (it.peers ≡ addresses.peers) × (it.listen ≡ addresses.listen)) }
     ensures hosts { IfOk result (λ it. it.hosts ≡ addresses.hosts) }
-    ensures desk { IfOk result (λ it. (it.desk ≡ addresses.desk) × (it.clients ≡ addresses.clients)) }
+    ensures desk { IfOk result
+        (λ it. (it.desk ≡ addresses.desk) × (it.clients ≡ addresses.clients)) }
     ensures followers { IfOk result (λ it. it.followers ≡ addresses.followers) }
     ensures patience { IfOk result (λ it. it.patience ≡ addresses.patience) }
     ensures fault { IfErr result (λ failure. failure.fault ≡ ends.Run ends_of_run.Listen) }

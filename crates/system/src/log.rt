@@ -47,7 +47,8 @@ pub fn log_form(log: bool, log_json: bool) -> LogForm
 /// Returns what stands behind an event in its line: what the system said of the journal's file if
 /// that is known.
 fn device_words(alloc: Global, device: Option<&str>) -> Result<String, AllocError>
-    ensures { IfOk result (λ words. string_bytes words ≡ device_text (option_map (λ text. text.now) device.entry)) }
+    ensures { IfOk result
+        (λ words. string_bytes words ≡ device_text (option_map (λ text. text.now) device.entry)) }
 {
     match device {
         Some(text) => format!(in alloc; " device: {text}"),
@@ -61,7 +62,9 @@ pub fn bare_line(
     event: &LogEvent,
     device: Option<&str>,
 ) -> Result<String, AllocError>
-    ensures { IfOk result (λ line. string_bytes line ≡ bare_line event.now (option_map (λ text. text.now) device.entry)) }
+    ensures { IfOk result
+        (λ line. string_bytes line ≡ bare_line event.now
+        (option_map (λ text. text.now) device.entry)) }
 {
     let words = device_words(alloc, device)?;
     format!(in alloc; "{event}{words}\n")
@@ -74,7 +77,9 @@ pub fn timed_line(
     event: &LogEvent,
     device: Option<&str>,
 ) -> Result<String, AllocError>
-    ensures { IfOk result (λ line. string_bytes line ≡ timed_line time.now event.now (option_map (λ text. text.now) device.entry)) }
+    ensures { IfOk result
+        (λ line. string_bytes line ≡ timed_line time.now event.now
+        (option_map (λ text. text.now) device.entry)) }
 {
     let line = bare_line(alloc, event, device)?;
     format!(in alloc; "{time} {line}")
@@ -83,7 +88,8 @@ pub fn timed_line(
 /// Returns the text of a moment that the clock gives, in UTC. `None` if it gives none, or one past
 /// the year 9999.
 fn now_text<R: Clock>(clock: &R, alloc: Global) -> Option<String>
-    ensures { IfSome result (λ text. (milliseconds : ℕ) × IsMoment milliseconds (string_bytes text)) }
+    ensures { IfSome result
+        (λ text. (milliseconds : ℕ) × IsMoment milliseconds (string_bytes text)) }
 {
     let Ok(now) = SystemTime::now(clock) else {
         return None;
@@ -103,7 +109,9 @@ fn now_text<R: Clock>(clock: &R, alloc: Global) -> Option<String>
 /// Returns the time, and behind it the epoch of a member of a chain.
 fn with_epoch(alloc: Global, time: &str, epoch: Option<u64>) -> Result<String, AllocError>
     ensures none { epoch ≡ None → IfOk result (λ text. string_bytes text ≡ time.now) }
-    ensures some { IfSome epoch (λ epoch. IfOk result (λ text. string_bytes text ≡ time.now ++ (codes " epoch " ++ decimal epoch))) }
+    ensures some { IfSome epoch
+        (λ epoch. IfOk result (λ text. string_bytes text ≡ time.now
+        ++ (codes " epoch " ++ decimal epoch))) }
 {
     match epoch {
         Some(epoch) => format!(in alloc; "{time} epoch {epoch}"),

@@ -248,7 +248,9 @@ fn misfit_words(
     part: Option<Part>,
     word: Option<&[u8]>,
 ) -> Result<String, AllocError>
-    ensures { IfOk result (λ text. string_bytes text ≡ misfit_text number part (option_map (λ word. word.now) word.entry)) }
+    ensures { IfOk result
+        (λ text. string_bytes text ≡ misfit_text number part
+        (option_map (λ word. word.now) word.entry)) }
 {
     match word {
         Some([]) => empty_words(alloc, number),

@@ -80,7 +80,8 @@ fn time_text(alloc: Global, milliseconds: u64) -> Result<String, AllocError>
 /// Returns the text of the moment so many milliseconds after 1970 began in UTC, as
 /// `2026-11-26T22:31:04.217Z`. `None` from the year 10000 on.
 pub fn moment_text(alloc: Global, milliseconds: u64) -> Result<Option<String>, AllocError>
-    ensures text { IfOk result (λ found. IfSome found (λ text. IsMoment milliseconds (string_bytes text))) }
+    ensures text { IfOk result
+        (λ found. IfSome found (λ text. IsMoment milliseconds (string_bytes text))) }
     ensures none { IfOk result (λ found. IsNone found → 253402300800000 ≤ milliseconds) }
 {
     let day = milliseconds / DAY;

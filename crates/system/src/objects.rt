@@ -32,7 +32,8 @@ fn put_text(object: &mut Writer, name: &str, text: &str) -> Result<(), AllocErro
 
 /// Appends the time, or null if the clock tells none.
 fn put_time(object: &mut Writer, time: Option<&str>) -> Result<(), AllocError>
-    ensures { Adds result object.old object.new (time_field (option_map (λ text. text.now) time.entry)) }
+    ensures { Adds result object.old object.new
+        (time_field (option_map (λ text. text.now) time.entry)) }
 {
     match time {
         Some(text) => put_text(object, "time", text),
@@ -45,7 +46,8 @@ fn put_time(object: &mut Writer, time: Option<&str>) -> Result<(), AllocError>
 
 /// Appends what the system said of the journal's file, if it is known.
 fn put_device(object: &mut Writer, device: Option<&str>) -> Result<(), AllocError>
-    ensures { Adds result object.old object.new (device_field (option_map (λ text. text.now) device.entry)) }
+    ensures { Adds result object.old object.new
+        (device_field (option_map (λ text. text.now) device.entry)) }
 {
     match device {
         Some(text) => put_text(object, "device", text),
@@ -127,7 +129,8 @@ fn put_size(object: &mut Writer, n: u8, t: u8, questions: u16) -> Result<(), All
 
 /// Appends in what a Hello differs, and a number that says how.
 fn put_difference_number(object: &mut Writer, name: &str, number: u64) -> Result<(), AllocError>
-    ensures { Adds result object.old object.new (text_field (codes "differs") name.now ++ number_field name.now number) }
+    ensures { Adds result object.old object.new
+        (text_field (codes "differs") name.now ++ number_field name.now number) }
 {
     put_text(object, "differs", name)?;
     put_number(object, name, number)
@@ -251,7 +254,8 @@ fn put_closed(
 
 /// Appends what is said of a refusal.
 fn put_refusal(object: &mut Writer, alloc: Global, refused: &RefusalCount) -> Result<(), AllocError>
-    ensures { Adds result object.old object.new (refusal_fields refused.now.refusal refused.now.caller) }
+    ensures { Adds result object.old object.new
+        (refusal_fields refused.now.refusal refused.now.caller) }
 {
     match refused.refusal {
         Refusal::From(host, end) => put_host(object, alloc, host, end, refused.caller),
@@ -275,7 +279,8 @@ fn put_refused(object: &mut Writer, alloc: Global, refused: &RefusalCount) -> Re
 /// Appends what is said of a link that came up to a peer that has heard more than the journal
 /// holds.
 fn put_ahead(object: &mut Writer, peer: u8, count: u64, version: Version) -> Result<(), AllocError>
-    ensures { Adds result object.old object.new (up_fields (codes "to") peer version ++ number_field (codes "ahead") count) }
+    ensures { Adds result object.old object.new
+        (up_fields (codes "to") peer version ++ number_field (codes "ahead") count) }
 {
     put_number(object, "to", u64::from(peer))?;
     put_version(object, version)?;
@@ -357,7 +362,8 @@ fn put_event(
     device: Option<&str>,
 ) -> Result<(), AllocError>
     ensures { Adds result object.old object.new
-        (event_tokens (option_map (λ text. text.now) time.entry) event.now (option_map (λ text. text.now) device.entry)) }
+        (event_tokens (option_map (λ text. text.now) time.entry) event.now
+        (option_map (λ text. text.now) device.entry)) }
 {
     object.begin_object()?;
     put_time(object, time)?;
@@ -375,8 +381,9 @@ pub fn event_object(
     event: &LogEvent,
     device: Option<&str>,
 ) -> Result<Vec<u8>, AllocError>
-    ensures { IfOk result (λ bytes. bytes.items ≡
-        event_object (option_map (λ text. text.now) time.entry) event.now (option_map (λ text. text.now) device.entry)) }
+    ensures { IfOk result
+        (λ bytes. bytes.items ≡ event_object (option_map (λ text. text.now) time.entry) event.now
+        (option_map (λ text. text.now) device.entry)) }
 {
     let mut object = Writer::new(Vec::new(alloc));
     put_event(&mut object, alloc, time, event, device)?;

@@ -64,7 +64,8 @@ pub fn write_page(
 /// The fault of a page that can't be written: that of its file, or of the standard output where the
 /// path is `-`.
 pub fn fault_at(path: Option<&str>, of_file: Fault) -> Fault
-    ensures output { option_map (λ path. path.now) path.entry ≡ Some (codes "-") → result ≡ ends.Stream }
+    ensures output { option_map (λ path. path.now) path.entry ≡ Some (codes "-") →
+        result ≡ ends.Stream }
     ensures file { option_map (λ path. path.now) path.entry ≢ Some (codes "-") → result ≡ of_file }
 {
     if takes_output(path, None) {
@@ -208,7 +209,9 @@ fn keep_off(rt: &HostRuntime, page: Option<&str>, file: &str) -> Result<(), Faul
 /// Refuses two pages that would be written over one another. [`Fault::SameFile`]: their paths name
 /// one file.
 fn keep_pages_apart(rt: &HostRuntime, one: Option<&str>, other: Option<&str>) -> Result<(), Fault>
-    ensures { IsOk result → ArePagesApart (option_map (λ path. path.now) one.entry) (option_map (λ path. path.now) other.entry) }
+    ensures { IsOk result →
+        ArePagesApart (option_map (λ path. path.now) one.entry)
+        (option_map (λ path. path.now) other.entry) }
 {
     match one {
         Some(path) => keep_off(rt, other, path),
@@ -219,7 +222,9 @@ fn keep_pages_apart(rt: &HostRuntime, one: Option<&str>, other: Option<&str>) ->
 /// Refuses pages that would be written over the script or over one another, before anything is
 /// written. [`Fault::SameFile`]: two of the paths name one file.
 pub fn keep_apart(rt: &HostRuntime, script: &str, paths: &PagePaths<'_>) -> Result<(), Fault>
-    ensures { IsOk result → AreApart script.now (path_text paths.now.trace) (path_text paths.now.chart) (path_text paths.now.play) }
+    ensures { IsOk result →
+        AreApart script.now (path_text paths.now.trace) (path_text paths.now.chart)
+        (path_text paths.now.play) }
 {
     keep_off(rt, paths.trace, script)?;
     keep_off(rt, paths.chart, script)?;

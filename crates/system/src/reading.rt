@@ -39,7 +39,9 @@ impl Text {
 
 /// Returns what is told of a file that is longer than what is read.
 fn long_words(alloc: Global, most: u64) -> Result<String, AllocError>
-    ensures { IfOk result (λ text. string_bytes text ≡ codes "longer than " ++ (decimal most ++ codes " bytes, the most that is read")) }
+    ensures { IfOk result
+        (λ text. string_bytes text ≡ codes "longer than "
+        ++ (decimal most ++ codes " bytes, the most that is read")) }
 {
     format!(in alloc; "longer than {most} bytes, the most that is read")
 }

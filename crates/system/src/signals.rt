@@ -41,7 +41,9 @@ pub fn is_blocked(alloc: Global, status: &[u8]) -> Result<bool, Memory>
 
 /// Returns `true` if SIGTERM or SIGINT waits for that process, or for its first thread.
 pub fn is_called(alloc: Global, status: &[u8]) -> Result<bool, Memory>
-    ensures { IfOk result (λ called. IsTrue called ↔ (SaysStop (codes "ShdPnd:\t") status.now ⊎ SaysStop (codes "SigPnd:\t") status.now)) }
+    ensures { IfOk result
+        (λ called. IsTrue called ↔ (SaysStop (codes "ShdPnd:\t") status.now
+        ⊎ SaysStop (codes "SigPnd:\t") status.now)) }
 {
     let shared = says_stop(alloc, status, "ShdPnd:\t")?;
     let own = says_stop(alloc, status, "SigPnd:\t")?;

@@ -33,7 +33,8 @@ pub fn line_with<'a>(
     text: &'a [u8],
     head: &str,
 ) -> Result<Option<&'a [u8]>, AllocError>
-    ensures { IfOk result (λ rest. option_map (λ rest. rest.now) rest ≡ first_with head.now (lines_in text.now)) }
+    ensures { IfOk result
+        (λ rest. option_map (λ rest. rest.now) rest ≡ first_with head.now (lines_in text.now)) }
 {
     let lines = lines_in(alloc, text)?;
     Ok(first_with(&lines, head))

@@ -35,7 +35,8 @@ use transcripts::AuditFault;
 /// The failure of a file of settings whose byte at this place begins no UTF-8.
 pub fn not_text(alloc: Global, path: &str, place: usize) -> Failure
     ensures fault { result.fault ≡ ends.Settings unset.Text }
-    ensures told { IfSome result.trouble (IsTold path.now (λ at. at ≡ whereabouts.Byte place) (λ text. text ≡ codes "not UTF-8")) }
+    ensures told { IfSome result.trouble
+        (IsTold path.now (λ at. at ≡ whereabouts.Byte place) (λ text. text ≡ codes "not UTF-8")) }
 {
     let fault = Fault::Settings(SettingsFault::Text);
     Failure::at(alloc, fault, path, Whereabouts::Byte(place), &"not UTF-8")
@@ -84,7 +85,8 @@ fn text_failure(alloc: Global, path: &str, text: &str) -> Failure
 /// The failure of a key of settings whose value is wrong: its line, and what the value has to be.
 fn key_failure(alloc: Global, path: &str, text: &str, key: Key) -> Failure
     ensures fault { result.fault ≡ ends.Settings (unset.Key key) }
-    ensures told { IfSome result.trouble (IsTold path.now (IsPlaceOfKey key text.now) (IsSaidOfKey key text.now)) }
+    ensures told { IfSome result.trouble
+        (IsTold path.now (IsPlaceOfKey key text.now) (IsSaidOfKey key text.now)) }
 {
     let fault = Fault::Settings(SettingsFault::Key(key));
     let place = place_of(alloc, text, key);
@@ -98,7 +100,9 @@ fn key_failure(alloc: Global, path: &str, text: &str, key: Key) -> Failure
 /// value has to be.
 fn size_failure(alloc: Global, path: &str, text: &str, size: SizeFault) -> Failure
     ensures fault { result.fault ≡ ends.Settings (unset.Size size) }
-    ensures told { IfSome result.trouble (IsTold path.now (IsPlaceOfKey (size_key size) text.now) (λ words. words ≡ asked_words (size_key size))) }
+    ensures told { IfSome result.trouble
+        (IsTold path.now (IsPlaceOfKey (size_key size) text.now)
+        (λ words. words ≡ asked_words (size_key size))) }
 {
     let fault = Fault::Settings(SettingsFault::Size(size));
     let key = key_of(size);
@@ -113,7 +117,8 @@ fn size_failure(alloc: Global, path: &str, text: &str, size: SizeFault) -> Failu
 /// be. No value is told, since one is a secret.
 pub fn settings_failure(alloc: Global, path: &str, text: &str, fault: SettingsFault) -> Failure
     ensures fault { result.fault ≡ of_settings fault }
-    ensures told { IfSome result.trouble (IsTold path.now (IsSettingsPlace fault text.now) (IsSettingsWords fault text.now)) }
+    ensures told { IfSome result.trouble
+        (IsTold path.now (IsSettingsPlace fault text.now) (IsSettingsWords fault text.now)) }
 {
     match fault {
         SettingsFault::Text => text_failure(alloc, path, text),
@@ -152,7 +157,8 @@ const IN_TABLE: &str = "stands in a table, ignored";
 
 /// Returns what is told of a key that is ignored.
 fn stray_words(alloc: Global, stray: &Stray) -> Result<String, AllocError>
-    ensures { IfOk result (λ text. string_bytes text ≡ stray_words (string_bytes stray.now.name) stray.now.in_table) }
+    ensures { IfOk result
+        (λ text. string_bytes text ≡ stray_words (string_bytes stray.now.name) stray.now.in_table) }
 {
     if stray.in_table {
         return format!(in alloc; "{}: {IN_TABLE}", stray.name);
@@ -163,7 +169,8 @@ fn stray_words(alloc: Global, stray: &Stray) -> Result<String, AllocError>
 /// Returns what can be told of a key of a text of settings that is ignored: its line, its name, and
 /// why. The value isn't told.
 pub fn stray_trouble(alloc: Global, path: &str, text: &str, stray: &Stray) -> Option<Trouble>
-    ensures { IfSome result (IsTold path.now (IsStrayPlace (string_bytes stray.now.name) stray.now.in_table text.now)
+    ensures { IfSome result
+        (IsTold path.now (IsStrayPlace (string_bytes stray.now.name) stray.now.in_table text.now)
         (λ words. words ≡ stray_words (string_bytes stray.now.name) stray.now.in_table)) }
 {
     let place = stray_place(alloc, text, stray);
@@ -199,7 +206,8 @@ fn bytes_failure(
     file: &[u8],
 ) -> Failure
     ensures fault { result.fault ≡ fault }
-    ensures told { IfSome result.trouble (IsTold path.now (IsJournalPlace found file.now) (λ _. ⊤)) }
+    ensures told { IfSome result.trouble
+        (IsTold path.now (IsJournalPlace found file.now) (λ _. ⊤)) }
 {
     match journal_words(alloc, &fault, found, file) {
         Some((place, words)) => Failure::at(alloc, fault, path, Whereabouts::Byte(place), &words),
@@ -246,7 +254,9 @@ pub fn old_failure(
 /// what they differ.
 fn other_failure(alloc: Global, path: &str, fault: Fault, asked: &Header, file: &[u8]) -> Failure
     ensures fault { result.fault ≡ fault }
-    ensures told { IfSome result.trouble (IsTold path.now (IsJournalPlace OtherHeader file.now) (λ words. IsOtherOwner file.now asked.now words ⊎ IsHeadless file.now)) }
+    ensures told { IfSome result.trouble
+        (IsTold path.now (IsJournalPlace OtherHeader file.now)
+        (λ words. IsOtherOwner file.now asked.now words ⊎ IsHeadless file.now)) }
 {
     match other_owner(alloc, file, asked) {
         Ok(Some(words)) => Failure::at(alloc, fault, path, Whereabouts::Whole, &words),
@@ -259,7 +269,8 @@ fn other_failure(alloc: Global, path: &str, fault: Fault, asked: &Header, file: 
 /// it begins as, or that it is no journal of bracha.
 fn owner_failure(alloc: Global, path: &str, fault: Fault, file: &[u8]) -> Failure
     ensures fault { result.fault ≡ fault }
-    ensures told { IfSome result.trouble (IsTold path.now (IsJournalPlace NotEmpty file.now) (IsOwnerWords file.now)) }
+    ensures told { IfSome result.trouble
+        (IsTold path.now (IsJournalPlace NotEmpty file.now) (IsOwnerWords file.now)) }
 {
     match owner(alloc, file) {
         Ok(Some(words)) => Failure::at(alloc, fault, path, Whereabouts::Whole, &words),
@@ -273,7 +284,8 @@ fn owner_failure(alloc: Global, path: &str, fault: Fault, file: &[u8]) -> Failur
 /// begins as none.
 pub fn long_failure(alloc: Global, path: &str, fault: Fault, front: &[u8], length: u64) -> Failure
     ensures fault { result.fault ≡ fault }
-    ensures told { IfSome result.trouble (IsTold path.now (λ at. at ≡ whereabouts.Whole) (IsLongWords front.now length)) }
+    ensures told { IfSome result.trouble
+        (IsTold path.now (λ at. at ≡ whereabouts.Whole) (IsLongWords front.now length)) }
 {
     match long_owner(alloc, front, length) {
         Ok(Some(words)) => Failure::at(alloc, fault, path, Whereabouts::Whole, &words),
@@ -301,7 +313,8 @@ fn headless_words(alloc: Global, file: &[u8]) -> Result<String, AllocError>
 /// The failure of a file that begins with no header: that it is empty, or its first bytes.
 fn headless_failure(alloc: Global, path: &str, fault: Fault, file: &[u8]) -> Failure
     ensures fault { result.fault ≡ fault }
-    ensures told { IfSome result.trouble (IsTold path.now (λ at. at ≡ whereabouts.Whole) (λ text. text ≡ headless_words file.now)) }
+    ensures told { IfSome result.trouble
+        (IsTold path.now (λ at. at ≡ whereabouts.Whole) (λ text. text ≡ headless_words file.now)) }
 {
     match headless_words(alloc, file) {
         Ok(words) => Failure::at(alloc, fault, path, Whereabouts::Whole, &words),
@@ -318,7 +331,8 @@ const NOT_OLD: &str = "no journal of version 1";
 /// The failure of a file that should have been a journal of version 1, and begins with these bytes.
 pub fn not_old_failure(alloc: Global, path: &str, fault: Fault, front: &[u8]) -> Failure
     ensures fault { result.fault ≡ fault }
-    ensures told { IfSome result.trouble (IsTold path.now (λ at. at ≡ whereabouts.Whole) (IsNotOldWords front.now)) }
+    ensures told { IfSome result.trouble
+        (IsTold path.now (λ at. at ≡ whereabouts.Whole) (IsNotOldWords front.now)) }
 {
     match long_owner(alloc, front, 0) {
         Ok(Some(_)) => Failure::at(alloc, fault, path, Whereabouts::Whole, &NEW),
@@ -403,7 +417,9 @@ const ENDS: &str = "the text ends before this line";
 /// The words for a line, or for none. An empty line behind all others is none; others follow it or
 /// not.
 fn words_by(alloc: Global, line: Option<&[u8]>, followed: bool) -> Result<String, AllocError>
-    ensures { IfOk result (λ text. AreLineWords (option_map (λ line. line.now) line.entry) followed (string_bytes text)) }
+    ensures { IfOk result
+        (λ text. AreLineWords (option_map (λ line. line.now) line.entry) followed
+        (string_bytes text)) }
 {
     let Some(line) = line else {
         return String::from_str(alloc, ENDS);
@@ -426,7 +442,9 @@ fn count_lines(alloc: Global, text: &[u8]) -> Result<usize, AllocError>
 
 /// The words for the line of that number of a text.
 fn words_at(alloc: Global, text: &[u8], number: usize) -> Result<String, AllocError>
-    ensures { IfOk result (λ words. AreLineWords (slice_get (lines_in text.now) (number - 1)) (nat_lt number (length (lines_in text.now))) (string_bytes words)) }
+    ensures { IfOk result
+        (λ words. AreLineWords (slice_get (lines_in text.now) (number - 1))
+        (nat_lt number (length (lines_in text.now))) (string_bytes words)) }
 {
     let count = count_lines(alloc, text)?;
     words_by(alloc, line_at(alloc, text, number)?, number < count)
@@ -463,7 +481,8 @@ fn order_at(alloc: Global, text: &[u8], number: usize) -> Result<Order, AllocErr
 /// Returns what is told of the word of the line of that number that is wrong, and a colon; nothing
 /// where none is found.
 fn why_at(alloc: Global, text: &[u8], number: usize, order: Order) -> Result<String, AllocError>
-    ensures { IfOk result (λ why. IsWhyAt order (slice_get (lines_in text.now) (number - 1)) (string_bytes why)) }
+    ensures { IfOk result
+        (λ why. IsWhyAt order (slice_get (lines_in text.now) (number - 1)) (string_bytes why)) }
 {
     match line_at(alloc, text, number)? {
         Some([]) | None => Ok(String::new(alloc)),
@@ -474,7 +493,9 @@ fn why_at(alloc: Global, text: &[u8], number: usize, order: Order) -> Result<Str
 /// The words for the line of that number of a script, which of its words is wrong, and how it is to
 /// be written.
 fn script_words(alloc: Global, text: &[u8], number: usize) -> Result<String, AllocError>
-    ensures { IfOk result (λ words. AreScriptWords (slice_get (lines_in text.now) (number - 1)) (nat_lt number (length (lines_in text.now))) (string_bytes words)) }
+    ensures { IfOk result
+        (λ words. AreScriptWords (slice_get (lines_in text.now) (number - 1))
+        (nat_lt number (length (lines_in text.now))) (string_bytes words)) }
 {
     let line = words_at(alloc, text, number)?;
     let order = order_at(alloc, text, number)?;
@@ -486,8 +507,10 @@ fn script_words(alloc: Global, text: &[u8], number: usize) -> Result<String, All
 /// The failure of a line of a script.
 fn script_line_failure(alloc: Global, path: &str, text: &[u8], number: u64) -> Failure
     ensures fault { result.fault ≡ ends.Simulate (unplayed.Line number) }
-    ensures told { IfSome result.trouble (IsTold path.now (λ at. at ≡ whereabouts.Line number)
-        (AreScriptWords (slice_get (lines_in text.now) (number - 1)) (nat_lt number (length (lines_in text.now))))) }
+    ensures told { IfSome result.trouble
+        (IsTold path.now (λ at. at ≡ whereabouts.Line number)
+        (AreScriptWords (slice_get (lines_in text.now) (number - 1))
+        (nat_lt number (length (lines_in text.now))))) }
 {
     let fault = Fault::Simulate(SimulateFault::Line(number));
     let place = number as usize;
@@ -501,7 +524,9 @@ fn script_line_failure(alloc: Global, path: &str, text: &[u8], number: u64) -> F
 /// and what it has to be.
 fn script_size_failure(alloc: Global, path: &str, size: SizeFault) -> Failure
     ensures fault { result.fault ≡ ends.Simulate (unplayed.Size size) }
-    ensures told { IfSome result.trouble (IsTold path.now (λ at. at ≡ whereabouts.Whole) (λ words. words ≡ asked_words (size_key size))) }
+    ensures told { IfSome result.trouble
+        (IsTold path.now (λ at. at ≡ whereabouts.Whole)
+        (λ words. words ≡ asked_words (size_key size))) }
 {
     let fault = Fault::Simulate(SimulateFault::Size(size));
     match asked_words(alloc, key_of(size)) {
@@ -520,7 +545,8 @@ const LIARS: &str = "the liars have to ascend, each below n, and to be t at most
 /// its size, its events and its liars have to be, where they are at fault.
 pub fn script_failure(alloc: Global, path: &str, text: &[u8], fault: SimulateFault) -> Failure
     ensures fault { result.fault ≡ ends.Simulate fault }
-    ensures told { IfSome result.trouble (IsTold path.now (IsScriptPlace fault) (IsScriptWords fault text.now)) }
+    ensures told { IfSome result.trouble
+        (IsTold path.now (IsScriptPlace fault) (IsScriptWords fault text.now)) }
 {
     match fault {
         SimulateFault::Line(number) => script_line_failure(alloc, path, text, number),
@@ -540,7 +566,8 @@ pub fn script_failure(alloc: Global, path: &str, text: &[u8], fault: SimulateFau
 /// The failure of a transcript: its text where it is about a line.
 pub fn transcript_failure(alloc: Global, path: &str, text: &[u8], fault: AuditFault) -> Failure
     ensures fault { result.fault ≡ ends.Audit fault }
-    ensures told { IfSome result.trouble (IsTold path.now (IsTranscriptPlace fault) (IsTranscriptWords fault text.now)) }
+    ensures told { IfSome result.trouble
+        (IsTold path.now (IsTranscriptPlace fault) (IsTranscriptWords fault text.now)) }
 {
     let AuditFault::Line(number) = fault else {
         return Failure::about(alloc, Fault::Audit(fault), path);

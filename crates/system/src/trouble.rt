@@ -102,7 +102,8 @@ impl Failure {
         words: &T,
     ) -> Failure
         ensures fault { result.fault ≡ fault }
-        ensures told { IfSome result.trouble (IsTold thing.now (λ at. at ≡ place) (IsPrinted (T.output words.now))) }
+        ensures told { IfSome result.trouble
+            (IsTold thing.now (λ at. at ≡ place) (IsPrinted (T.output words.now))) }
     {
         Failure {
             fault,
@@ -113,7 +114,8 @@ impl Failure {
     /// The fault of a thing, in the fault's own words.
     pub fn about(alloc: Global, fault: Fault, thing: &str) -> Failure
         ensures fault { result.fault ≡ fault }
-        ensures told { IfSome result.trouble (IsTold thing.now (λ at. at ≡ whereabouts.Whole) (λ _. ⊤)) }
+        ensures told { IfSome result.trouble
+            (IsTold thing.now (λ at. at ≡ whereabouts.Whole) (λ _. ⊤)) }
     {
         let trouble = trouble_of(alloc, thing, Whereabouts::Whole, &fault);
         Failure { fault, trouble }

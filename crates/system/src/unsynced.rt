@@ -31,7 +31,9 @@ const CAUSE: &str =
 
 /// The first line of a text; none where that is no UTF-8.
 fn first_text(alloc: Global, text: &[u8]) -> Result<Option<String>, AllocError>
-    ensures { IfOk result (λ found. IfSome found (λ line. slice_get (lines_in text.now) 0 ≡ Some (string_bytes line))) }
+    ensures { IfOk result
+        (λ found. IfSome found (λ line. slice_get (lines_in text.now) 0
+        ≡ Some (string_bytes line))) }
 {
     let Some(line) = line_at(alloc, text, 1)? else {
         return Ok(None);
@@ -66,7 +68,9 @@ struct Mark {
 impl Mark {
     /// The mark of a journal; none where the system tells no id of the boot.
     fn of(host: &HostRuntime, journal: &str) -> Result<Option<Mark>, AllocError>
-        ensures { IfOk result (λ mark. IfSome mark (λ mark. string_bytes mark.path ≡ journal.now ++ codes ".unsynced")) }
+        ensures { IfOk result
+            (λ mark. IfSome mark (λ mark. string_bytes mark.path ≡ journal.now
+            ++ codes ".unsynced")) }
     {
         let text = match fs::read(host, BOOT) {
             Ok(text) => text,
@@ -175,7 +179,8 @@ impl<P: Premise> Disk for MarkedDisk<P> {
 
     ghost failures = { λ marked. file_failures (marked_file marked) };
 
-    ghost counts_now = { λ d t file keeps le may. counts_now (file_past P.file (marked_file d)).start
+    ghost counts_now = { λ d t file keeps le may. counts_now
+        (file_past P.file (marked_file d)).start
         (file_past P.file (marked_file d)).calls t file le may };
 
     ghost only_now = { λ d file keeps left. only_now (file_past P.file (marked_file d)).start

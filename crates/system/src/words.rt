@@ -45,7 +45,9 @@ fn size_failure(alloc: Global, n: u16, t: u16, questions: u16, fault: SizeFault)
 /// Returns the size of these numbers. [`Fault::Size`]: they make none.
 pub fn size_of(alloc: Global, n: u16, t: u16, questions: u16) -> Result<Size, Failure>
     ensures ok { IfOk result (λ size. size ≡ new_size n t questions) }
-    ensures fault { IfErr result (λ failure. (fault : SizeFault) × (size_fault n t questions ≡ Some fault) × (failure.fault ≡ ends.Size fault)) }
+    ensures fault { IfErr result
+        (λ failure. (fault : SizeFault) × (size_fault n t questions ≡ Some fault)
+        × (failure.fault ≡ ends.Size fault)) }
 {
     match size_from(n, t, questions) {
         Ok(size) => Ok(size),
@@ -103,7 +105,8 @@ fn hear_failure(alloc: Global, n: u8, me: u8, fault: HearFault) -> Failure
 /// a line that is none.
 pub fn hear_end(alloc: Global, n: u8, me: u8, ended: Result<u8, Fault>) -> Result<u8, Failure>
     ensures done { (status : ℕ) → ended ≡ Ok status → result ≡ Ok status }
-    ensures fault { (fault : Fault) → ended ≡ Err fault → IsErrAnd result (λ failure. failure.fault ≡ fault) }
+    ensures fault { (fault : Fault) → ended ≡ Err fault →
+        IsErrAnd result (λ failure. failure.fault ≡ fault) }
 {
     match ended {
         Ok(status) => Ok(status),

@@ -28,7 +28,8 @@ fn read_pairs(
     ensures lines { IfOk result (λ pairs. lines_of text.now ≡ map pair_line pairs.items) }
     ensures fits { IfOk result (λ pairs. All (FitsPair size) pairs.items) }
     ensures counted { IfOk result (λ pairs. length pairs.items ≡ count) }
-    ensures line { (number : ℕ) → result ≡ Err (AuditFault.Line number) → EndsAt size count text.now number }
+    ensures line { (number : ℕ) → result ≡ Err (AuditFault.Line number) →
+        EndsAt size count text.now number }
 {
     let mut pairs = Vec::new(alloc);
     let mut rest = text;
@@ -57,7 +58,8 @@ fn read_pairs(
 fn is_proof(alloc: Global, size: Size, text: &[u8]) -> Result<bool, AuditFault>
     ensures ok { IfOk result (λ yes. (shown : Shown) × Reads size text.now shown
         × (IsTrue yes ↔ IsProof size shown.question shown.bit shown.pairs)) }
-    ensures line { (number : ℕ) → result ≡ Err (AuditFault.Line number) → IsBadAt size text.now number }
+    ensures line { (number : ℕ) → result ≡ Err (AuditFault.Line number) →
+        IsBadAt size text.now number }
 {
     size.recall();
     if text.is_empty() {
@@ -87,9 +89,12 @@ pub fn audit_text<W: Write>(
     size: Size,
     output: &mut W,
 ) -> Result<u8, AuditFault>
-    ensures all { IfOk result (λ status. IsAudited size text.now status (W.contents output.old) (W.contents output.new)) }
-    ensures line { (number : ℕ) → result ≡ Err (AuditFault.Line number) → IsBadAt size text.now number }
-    ensures none { (number : ℕ) → result ≡ Err (AuditFault.Line number) → Keeps (W.contents output.old) (W.contents output.new) }
+    ensures all { IfOk result
+        (λ status. IsAudited size text.now status (W.contents output.old) (W.contents output.new)) }
+    ensures line { (number : ℕ) → result ≡ Err (AuditFault.Line number) →
+        IsBadAt size text.now number }
+    ensures none { (number : ℕ) → result ≡ Err (AuditFault.Line number) →
+        Keeps (W.contents output.old) (W.contents output.new) }
 {
     let yes = is_proof(alloc, size, text)?;
     output.write_all(if yes { b"yes\n" } else { b"no\n" })?;

@@ -64,7 +64,8 @@ fn bit_of(words: &[u8]) -> Option<(bool, &[u8])>
 
 /// Returns what the words of a first line say.
 fn head_of(line: &[u8]) -> Option<Head>
-    ensures { (question : ℕ) (bit : Bool) (count : ℕ) → question < 2 ^ 16 → count < 2 ^ 64 → line.now ≡ head_line question bit count →
+    ensures { (question : ℕ) (bit : Bool) (count : ℕ) → question < 2 ^ 16 → count < 2 ^ 64 →
+        line.now ≡ head_line question bit count →
         result ≡ Some (record { question = question; bit = bit; count = count }) }
 {
     let (question, rest) = split_at_space(behind(line, "transcript ")?)?;
@@ -87,9 +88,10 @@ fn is_spelled(line: &[u8], head: Head) -> bool
 
 /// Returns how many lines follow a first line, of whatever cluster; none where the line is none.
 pub fn count_in(line: &[u8]) -> Option<u64>
-    ensures some { IfSome result (λ count. (question : ℕ) × (bit : Bool) × (line.now ≡ head_line question bit count)) }
-    ensures exact { (question : ℕ) (bit : Bool) (count : ℕ) → question < 2 ^ 16 → count < 2 ^ 64 → line.now ≡ head_line question bit count →
-        result ≡ Some count }
+    ensures some { IfSome result
+        (λ count. (question : ℕ) × (bit : Bool) × (line.now ≡ head_line question bit count)) }
+    ensures exact { (question : ℕ) (bit : Bool) (count : ℕ) → question < 2 ^ 16 → count < 2 ^ 64 →
+        line.now ≡ head_line question bit count → result ≡ Some count }
 {
     match head_of(line) {
         Some(head) if is_spelled(line, head) => Some(head.count),
@@ -99,9 +101,12 @@ pub fn count_in(line: &[u8]) -> Option<u64>
 
 /// Returns what a first line says, for a cluster of that size; none where it is no such line.
 pub(crate) fn head_from(size: Size, line: &[u8]) -> Option<Head>
-    ensures some { IfSome result (λ head. (head.question < size.questions) × (line.now ≡ head_line head.question head.bit head.count)) }
+    ensures some { IfSome result
+        (λ head. (head.question < size.questions)
+        × (line.now ≡ head_line head.question head.bit head.count)) }
     ensures counted { IfSome result (λ head. head.count < 2 ^ 64) }
-    ensures exact { (question : ℕ) (bit : Bool) (count : ℕ) → question < size.questions → count < 2 ^ 64 → line.now ≡ head_line question bit count →
+    ensures exact { (question : ℕ) (bit : Bool) (count : ℕ) → question < size.questions →
+        count < 2 ^ 64 → line.now ≡ head_line question bit count →
         result ≡ Some (record { question = question; bit = bit; count = count }) }
 {
     let questions = size.questions();
@@ -113,7 +118,8 @@ pub(crate) fn head_from(size: Size, line: &[u8]) -> Option<Head>
 
 /// The ten bytes that twenty digits write.
 fn bytes_of(digits: &[u8]) -> Option<[u8; 10]>
-    ensures { (bytes : List ℕ) → length bytes ≡ 10 → IsBytes bytes → digits.now ≡ encode_lower bytes → result ≡ Some bytes }
+    ensures { (bytes : List ℕ) → length bytes ≡ 10 → IsBytes bytes →
+        digits.now ≡ encode_lower bytes → result ≡ Some bytes }
 {
     let mut bytes = [0; 10];
     match decode_to_slice(digits, &mut bytes) {
@@ -125,7 +131,8 @@ fn bytes_of(digits: &[u8]) -> Option<[u8; 10]>
 /// The statement of a frame. The frame's first three bytes aren't looked at.
 fn statement_of(size: Size, frame: [u8; 10]) -> Option<Statement>
     ensures fits { IfSome result (λ s. IsWellFormed size s) }
-    ensures exact { (s : Statement) → IsWellFormed size s → frame ≡ frame_bytes (message.Statement s) → result ≡ Some s }
+    ensures exact { (s : Statement) → IsWellFormed size s →
+        frame ≡ frame_bytes (message.Statement s) → result ≡ Some s }
 {
     let [_, _, _, kind, high, low, origin, round, step, value] = frame;
     let question = u16::from_be_bytes([high, low]);
@@ -139,7 +146,8 @@ fn statement_of(size: Size, frame: [u8; 10]) -> Option<Statement>
 /// The sender and the statement that a line's words name.
 fn pair_of(size: Size, line: &[u8]) -> Option<(u8, Statement)>
     ensures fits { IfSome result (λ pair. IsWellFormed size pair.1) }
-    ensures exact { (pair : ℕ × Statement) → FitsPair size pair → line.now ≡ pair_line pair → result ≡ Some pair }
+    ensures exact { (pair : ℕ × Statement) → FitsPair size pair → line.now ≡ pair_line pair →
+        result ≡ Some pair }
 {
     size.recall();
     let (from, digits) = split_at_space(line)?;
@@ -161,7 +169,8 @@ fn is_pair_spelled(line: &[u8], pair: &(u8, Statement)) -> bool
 /// line.
 pub(crate) fn pair_from(size: Size, line: &[u8]) -> Option<(u8, Statement)>
     ensures some { IfSome result (λ pair. FitsPair size pair × (line.now ≡ pair_line pair)) }
-    ensures exact { (pair : ℕ × Statement) → FitsPair size pair → line.now ≡ pair_line pair → result ≡ Some pair }
+    ensures exact { (pair : ℕ × Statement) → FitsPair size pair → line.now ≡ pair_line pair →
+        result ≡ Some pair }
 {
     match pair_of(size, line) {
         Some(pair) if pair.0 < size.n() && is_pair_spelled(line, &pair) => Some(pair),

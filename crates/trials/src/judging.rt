@@ -157,8 +157,10 @@ fn finding_in(notes: &[Note<'_>], least: usize) -> Option<Finding>
 /// Judges the trace of a run, which has so many decisions at least: one for each correct member and
 /// question where the run settles them, else 0.
 pub fn judge(alloc: Global, trace: &[u8], least: usize) -> Result<Judgement, AllocError>
-    ensures decisions { IfOk result (λ judgement. judgement.decisions ≡ spec.decisions (notes_of trace.now)) }
-    ensures finding { IfOk result (λ judgement. judgement.finding ≡ spec.finding_in (notes_of trace.now) least) }
+    ensures decisions { IfOk result
+        (λ judgement. judgement.decisions ≡ spec.decisions (notes_of trace.now)) }
+    ensures finding { IfOk result
+        (λ judgement. judgement.finding ≡ spec.finding_in (notes_of trace.now) least) }
 {
     let notes = notes(alloc, trace)?;
     Ok(Judgement {

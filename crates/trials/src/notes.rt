@@ -25,7 +25,13 @@ impl<'a> Model for Note<'a> {
 
     ghost Value = { NoteFields };
 
-    ghost view = { λ n. record { is_decision = n.is_decision; member = n.member.now; question = n.question.now; bit = n.bit.now } };
+    ghost view = { λ n.
+        record {
+          is_decision = n.is_decision;
+          member = n.member.now;
+          question = n.question.now;
+          bit = n.bit.now;
+        } };
 }
 
 impl<'a> Note<'a> {
@@ -198,7 +204,8 @@ fn add_notes_in<'a>(
     member: &'a [u8],
     words: &[&'a [u8]],
 ) -> Result<(), AllocError>
-    ensures { OnOk result (notes.new.items ≡ notes.old.items ++ spec.notes_in member.now (texts words.now)) }
+    ensures { OnOk result
+        (notes.new.items ≡ notes.old.items ++ spec.notes_in member.now (texts words.now)) }
 {
     for place in 0..words.len() {
         add_note(notes, note_at(member, behind(words, place)))?;

@@ -75,8 +75,10 @@ impl Votes {
     pub fn with(self, member: u8, value: Value) -> Votes
         requires { member < 64 }
         ensures votes { result ≡ with_vote self member value }
-        ensures first { (third : Bool) → fits third value ≡ true → value_of third self member ≡ None → (other : ℕ) →
-            value_of third result other ≡ keep_or (value_of third self other) (given (member == other) value) }
+        ensures first { (third : Bool) → fits third value ≡ true →
+            value_of third self member ≡ None → (other : ℕ) →
+            value_of third result other ≡ keep_or (value_of third self other)
+            (given (member == other) value) }
     {
         let bit = 1u64 << u32::from(member);
         match value {
@@ -97,14 +99,16 @@ impl Votes {
 
     /// Returns how many members sent the value.
     pub fn count(self, size: Size, third: bool, value: Value) -> u8
-        ensures { result ≡ count_below size.n (λ member. value_is (value_of third self member) value) }
+        ensures { result
+            ≡ count_below size.n (λ member. value_is (value_of third self member) value) }
     {
         (self.senders(third, value) & everyone(size)).count_ones() as u8
     }
 
     /// Returns who sent the value, as a mask.
     fn senders(self, third: bool, value: Value) -> u64
-        ensures { (member : ℕ) → has_bit result member ≡ value_is (value_of third self member) value }
+        ensures { (member : ℕ) →
+            has_bit result member ≡ value_is (value_of third self member) value }
     {
         let senders = self.senders_in_its_step(value);
         if fits(third, value) { senders } else { 0 }

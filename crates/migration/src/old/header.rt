@@ -20,8 +20,10 @@ const OLD_QUESTIONS: u16 = 256;
 /// The header of these bytes, if they are one: but for the byte that tells the version it is a
 /// header of version 2, and its size is within the bounds of version 1.
 pub(crate) fn header_of(bytes: &[u8; 24]) -> Option<Header>
-    ensures some { IfSome result (λ header. IsOldHeader header × (bytes.now ≡ old_header_text header)) }
-    ensures none { IsNone result → (header : Header) → IsOldHeader header → bytes.now ≡ old_header_text header → ⊥ }
+    ensures some { IfSome result
+        (λ header. IsOldHeader header × (bytes.now ≡ old_header_text header)) }
+    ensures none { IsNone result → (header : Header) → IsOldHeader header →
+        bytes.now ≡ old_header_text header → ⊥ }
 {
     if bytes[VERSION] != b'1' {
         return None;

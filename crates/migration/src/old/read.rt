@@ -16,7 +16,8 @@ pub(crate) fn read(
     header: &Header,
     bytes: &[u8],
 ) -> Result<Vec<Record>, MigrateFault>
-    ensures held { IfOk result (λ records. (gate : ℕ) × ReadsIn version_1 header.now bytes.now gate records.items) }
+    ensures held { IfOk result
+        (λ records. (gate : ℕ) × ReadsIn version_1 header.now bytes.now gate records.items) }
     ensures refused { IfErr result (λ fault. BreaksOld header.now fault bytes.now) }
 {
     let mut records = Vec::new(alloc);
@@ -49,7 +50,8 @@ fn read_records(
     records: &mut Vec<Record>,
 ) -> Result<(), MigrateFault>
     requires { length bytes.now ≡ 7 * count }
-    ensures added { OnOk result ((added : List Record) × AreTextIn version_1 header.now bytes.now added
+    ensures added { OnOk result
+        ((added : List Record) × AreTextIn version_1 header.now bytes.now added
         × (records.new.items ≡ records.old.items ++ added)) }
     ensures refused { IfErr result (λ fault. fault ≡ Memory
         ⊎ ((fault ≡ BadRecord) × HasOddIn version_1 header.now count bytes.now)) }

@@ -80,7 +80,8 @@ fn brought(columns: &[Column], from: u8, to: u8, which: Which) -> Option<Stateme
 
 /// Returns `true` if a delivery brings a statement on the question.
 fn brings(question: u16, columns: &[Column], from: u8, to: u8, which: Which) -> bool
-    ensures { IsTrue result ↔ IsSomeAnd (brought columns.now from to which) (λ s. s.place.question ≡ question) }
+    ensures { IsTrue result
+        ↔ IsSomeAnd (brought columns.now from to which) (λ s. s.place.question ≡ question) }
 {
     match brought(columns, from, to, which) {
         Some(statement) => statement.place().question() == question,
@@ -102,7 +103,9 @@ fn brings_together(question: u16, columns: &[Column], from: u8, to: u8, count: u
 
 /// Returns `true` if a lie is a statement on the question, or none at all.
 fn may_be_about(alloc: Global, question: u16, size: Size, bytes: &[u8]) -> Result<bool, AllocError>
-    ensures { IfOk result (λ is. IsTrue is ↔ ((s : Statement) → IsFrameOf size bytes.now s → s.place.question ≡ question)) }
+    ensures { IfOk result
+        (λ is. IsTrue is ↔ ((s : Statement) → IsFrameOf size bytes.now s →
+        s.place.question ≡ question)) }
 {
     size.recall();
     match statement_in(alloc, size, bytes)? {
@@ -133,7 +136,8 @@ fn is_up_to(to: Option<u32>, number: usize) -> bool
 
 /// Returns `true` if the event is for the member, or comes from it.
 fn is_of(member: u8, event: &Event) -> bool
-    ensures { IsTrue result ↔ ((member_of event.now ≡ member) ⊎ (sender_of event.now ≡ Some member)) }
+    ensures { IsTrue result
+        ↔ ((member_of event.now ≡ member) ⊎ (sender_of event.now ≡ Some member)) }
 {
     member_of(event) == member || sender_of(event) == Some(member)
 }
@@ -194,7 +198,8 @@ impl Chooser {
 
     /// Returns `true` if the event is about the question.
     fn is_about(&self, question: u16, event: &Event) -> Result<bool, AllocError>
-        ensures { IfOk result (λ is. IsTrue is ↔ IsAbout self.now.size self.now.columns.items question event.now) }
+        ensures { IfOk result
+            (λ is. IsTrue is ↔ IsAbout self.now.size self.now.columns.items question event.now) }
     {
         match event {
             Event::Propose { question: own, .. } => Ok(*own == question),
@@ -222,8 +227,9 @@ impl Chooser {
 
     /// Returns `true` if the event is about the question, or something on it was saved.
     fn is_on(&self, question: u16, event: &Event, saved: &[Record]) -> Result<bool, AllocError>
-        ensures { IfOk result (λ is. IsTrue is ↔
-            (IsAbout self.now.size self.now.columns.items question event.now ⊎ IsTrue (saves_on question saved.now))) }
+        ensures { IfOk result
+            (λ is. IsTrue is ↔ (IsAbout self.now.size self.now.columns.items question event.now
+            ⊎ IsTrue (saves_on question saved.now))) }
     {
         Ok(self.is_about(question, event)? || saves_on(question, saved))
     }
@@ -241,8 +247,9 @@ impl Chooser {
 
     /// Returns `true` if the event of that number is chosen.
     fn has(&self, number: usize, event: &Event, saved: &[Record]) -> Result<bool, AllocError>
-        ensures { IfOk result (λ is. IsTrue is ↔
-            IsChosen self.now.choice self.now.size self.now.columns.items number event.now saved.now) }
+        ensures { IfOk result
+            (λ is. IsTrue is ↔ IsChosen self.now.choice self.now.size self.now.columns.items number
+            event.now saved.now) }
     {
         if !self.choice.may_have(number, event) {
             return Ok(false);
@@ -260,7 +267,8 @@ impl Chooser {
         saved: &[Record],
     ) -> Result<bool, AllocError>
         ensures stays { (self.new.choice ≡ self.old.choice) × (self.new.size ≡ self.old.size) }
-        ensures judges { IfOk result (IsJudged self.old.choice self.old.size number event.now mark saved.now
+        ensures judges { IfOk result
+            (IsJudged self.old.choice self.old.size number event.now mark saved.now
             self.old.columns.items self.new.columns.items) }
     {
         if is_skipped(&mark) {

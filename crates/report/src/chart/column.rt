@@ -133,7 +133,8 @@ impl Column {
 
     /// Returns which statement of a sender's column is delivered here.
     pub(crate) fn takes(&self, from: u8, sender: &Column, which: Which) -> Option<Statement>
-        ensures { result ≡ brought_over sender.now.said.items (slice_get self.now.places.items from) which }
+        ensures { result
+            ≡ brought_over sender.now.said.items (slice_get self.now.places.items from) which }
     {
         match self.place_from(from) {
             None => None,
@@ -143,7 +144,8 @@ impl Column {
 
     /// The statements of a sender's column that come here as one group of at most so many.
     pub(crate) fn group_from<'a>(&self, from: u8, sender: &'a Column, count: u16) -> &'a [Statement]
-        ensures { result.now ≡ group_over sender.now.said.items (slice_get self.now.places.items from) count }
+        ensures { result.now
+            ≡ group_over sender.now.said.items (slice_get self.now.places.items from) count }
     {
         match self.place_from(from) {
             None => &sender.said[..0],

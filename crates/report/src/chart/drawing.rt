@@ -206,7 +206,8 @@ impl Drawing {
 
     /// Adds the text of an element.
     fn add(&mut self, element: &str) -> Result<(), AllocError>
-        ensures { OnOk result (string_bytes self.new.text ≡ string_bytes self.old.text ++ element.now) }
+        ensures { OnOk result
+            (string_bytes self.new.text ≡ string_bytes self.old.text ++ element.now) }
     {
         self.text.push_str(element)
     }

@@ -16,7 +16,8 @@ const STATEMENT_FRAME: usize = 10;
 /// The first message, where it is a statement.
 fn first_statement(messages: &[Message]) -> Option<Statement>
     ensures some { IfSome result (λ s. slice_get messages.now 0 ≡ Some (message.Statement s)) }
-    ensures none { result ≡ None → (s : Statement) → slice_get messages.now 0 ≡ Some (message.Statement s) → ⊥ }
+    ensures none { result ≡ None → (s : Statement) →
+        slice_get messages.now 0 ≡ Some (message.Statement s) → ⊥ }
 {
     match messages.get(0) {
         Some(Message::Statement(statement)) => Some(*statement),
@@ -31,7 +32,8 @@ pub(crate) fn statement_in(
     bytes: &[u8],
 ) -> Result<Option<Statement>, AllocError>
     ensures some { IfOk result (λ found. IfSome found (IsFrameOf size bytes.now)) }
-    ensures none { IfOk result (λ found. found ≡ None → (s : Statement) → IsFrameOf size bytes.now s → ⊥) }
+    ensures none { IfOk result
+        (λ found. found ≡ None → (s : Statement) → IsFrameOf size bytes.now s → ⊥) }
 {
     size.recall();
     if bytes.len() != STATEMENT_FRAME {

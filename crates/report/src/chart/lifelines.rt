@@ -117,7 +117,8 @@ fn draw_piece(
     mark: Mark,
     y: u64,
 ) -> Result<(), AllocError>
-    ensures { OnOk result (Grows drawing.old drawing.new (piece_elements (Some life) event.now mark y)) }
+    ensures { OnOk result
+        (Grows drawing.old drawing.new (piece_elements (Some life) event.now mark y)) }
 {
     if !life.turns(event, mark) {
         return Ok(());
@@ -132,7 +133,8 @@ fn draw_last_piece(
     member: u8,
     bottom: u64,
 ) -> Result<(), AllocError>
-    ensures { OnOk result (Grows drawing.old drawing.new (last_piece (slice_get lives.now member) member bottom)) }
+    ensures { OnOk result
+        (Grows drawing.old drawing.new (last_piece (slice_get lives.now member) member bottom)) }
 {
     match lives.get(usize::from(member)) {
         None => Ok(()),
@@ -197,10 +199,13 @@ impl Lifelines {
 
     /// Draws the lifeline of the event's member down to it, where it looks different from there on.
     fn turn(&mut self, event: &Event, mark: Mark, y: u64) -> Result<(), AllocError>
-        ensures lives { OnOk result (self.new.lives.items ≡ lives_after event.now mark y self.old.lives.items) }
+        ensures lives { OnOk result
+            (self.new.lives.items ≡ lives_after event.now mark y self.old.lives.items) }
         ensures rows { OnOk result (self.new.rows ≡ self.old.rows) }
-        ensures piece { OnOk result (Grows self.old.drawing self.new.drawing
-            (piece_elements (slice_get self.old.lives.items (member_of event.now)) event.now mark y)) }
+        ensures piece { OnOk result
+            (Grows self.old.drawing self.new.drawing
+            (piece_elements (slice_get self.old.lives.items (member_of event.now)) event.now mark
+            y)) }
     {
         let member = usize::from(member_of(event));
         if member >= self.lives.len() {
@@ -216,7 +221,8 @@ impl Lifelines {
     /// turns at that row, or where the next one stands.
     fn follow(&mut self, event: &Event, mark: Mark, is_chosen: bool) -> Result<(), AllocError>
         ensures { self.old.rows < MOST_EVENTS →
-            OnOk result (drawn_lines self.new ≡ lines_behind event.now mark is_chosen (drawn_lines self.old)) }
+            OnOk result (drawn_lines self.new
+            ≡ lines_behind event.now mark is_chosen (drawn_lines self.old)) }
     {
         if is_skipped(&mark) {
             return Ok(());
@@ -229,8 +235,9 @@ impl Lifelines {
 
     /// Draws the last pieces, down to the bottom.
     pub(crate) fn end(&mut self, n: u8, bottom: u64) -> Result<(), AllocError>
-        ensures { OnOk result (string_bytes self.new.drawing.text
-            ≡ string_bytes self.old.drawing.text ++ picture_text (last_pieces n self.old.lives.items bottom)) }
+        ensures { OnOk result
+            (string_bytes self.new.drawing.text ≡ string_bytes self.old.drawing.text
+            ++ picture_text (last_pieces n self.old.lives.items bottom)) }
     {
         draw_last_pieces(&mut self.drawing, n, self.lives.as_slice(), bottom)
     }
@@ -242,9 +249,12 @@ pub(crate) fn lifelines_of(
     run: &Run<'_>,
     chosen: &[bool],
 ) -> Result<Lifelines, AllocError>
-    ensures drawn { length run.now.events.now ≤ MOST_EVENTS → IfOk result (λ lines. drawn_lines lines
-        ≡ lines_of_run run.now.size.n run.now.liars.now run.now.events.now run.now.marks.now run.now.saved.now chosen.now) }
-    ensures few { length run.now.events.now ≤ MOST_EVENTS → IfOk result (λ lines. lines.rows ≤ length run.now.events.now) }
+    ensures drawn { length run.now.events.now ≤ MOST_EVENTS →
+        IfOk result (λ lines. drawn_lines lines
+        ≡ lines_of_run run.now.size.n run.now.liars.now run.now.events.now run.now.marks.now
+        run.now.saved.now chosen.now) }
+    ensures few { length run.now.events.now ≤ MOST_EVENTS →
+        IfOk result (λ lines. lines.rows ≤ length run.now.events.now) }
 {
     let count = shortest(run).min(chosen.len());
     let mut lines = Lifelines::new(alloc, run.size.n(), run.liars)?;
