@@ -38,29 +38,44 @@ fn show_frame(alloc: Global, message: &Message, text: &mut Vec<u8>) -> Result<()
     Ok(())
 }
 
-/// Says what is due of that kind, if anything is, and adds its frame.
+/// A sender's stream to the member of a session, in a cluster of this size.
+#[derive(Clone, Copy)]
+struct Stream {
+    alloc: Global,
+    size: Size,
+    from: u8,
+}
+
+/// The value that is due of a kind at a place, if one is.
+#[derive(Clone, Copy)]
+struct Due {
+    kind: Kind,
+    place: Place,
+    value: Option<Value>,
+}
+
+/// Says what is due, and adds its frame.
 fn say(
     alloc: Global,
     broadcasts: &mut Broadcasts,
-    kind: Kind,
-    place: Place,
-    due: Option<Value>,
+    due: Due,
     text: &mut Vec<u8>,
 ) -> Result<(), Memory>
-    requires { place.origin < (broadcasts_size broadcasts.old).n }
+    requires { due.place.origin < (broadcasts_size broadcasts.old).n }
     ensures text { OnOk result
-        (FitsIf place due → text.new.items ≡ text.old.items
-        ++ flat_map frame_line (said_if kind place due)) }
+        (FitsIf due.place due.value → text.new.items ≡ text.old.items
+        ++ flat_map frame_line (said_if due.kind due.place due.value)) }
     ensures stands { OnOk result
-        (FitsIf place due → (past : Past) → BroadcastsStandFor broadcasts.old past →
-        place.question ≡ past.question →
-        BroadcastsStandFor broadcasts.new (after_records past (said_if kind place due))) }
+        (FitsIf due.place due.value → (past : Past) → BroadcastsStandFor broadcasts.old past →
+        due.place.question ≡ past.question →
+        BroadcastsStandFor broadcasts.new
+        (after_records past (said_if due.kind due.place due.value))) }
     ensures size { broadcasts_size broadcasts.new ≡ broadcasts_size broadcasts.old }
 {
-    let Some(value) = due else {
+    let Some(value) = due.value else {
         return Ok(());
     };
-    match Statement::new(kind, place, value) {
+    match Statement::new(due.kind, due.place, value) {
         None => Ok(()),
         Some(statement) => {
             show_frame(alloc, &Message::Statement(statement), text)?;
@@ -95,8 +110,18 @@ fn hear(
             text.extend_from_slice(b"news\n")?;
             let place = statement.place();
             let due = broadcasts.due(place);
-            say(alloc, broadcasts, Kind::Echo, place, due.echo, text)?;
-            say(alloc, broadcasts, Kind::Ready, place, due.ready, text)?;
+            let echo = Due {
+                kind: Kind::Echo,
+                place,
+                value: due.echo,
+            };
+            say(alloc, broadcasts, echo, text)?;
+            let ready = Due {
+                kind: Kind::Ready,
+                place,
+                value: due.ready,
+            };
+            say(alloc, broadcasts, ready, text)?;
         }
     }
     Ok(())
@@ -104,79 +129,79 @@ fn hear(
 
 /// Hears the sender's statement, and adds the answer.
 fn hear_one(
-    alloc: Global,
-    size: Size,
+    stream: &Stream,
     broadcasts: &mut Vec<Broadcasts>,
-    from: u8,
     statement: &Statement,
     text: &mut Vec<u8>,
 ) -> Result<(), Memory>
-    requires has { HasBroadcasts size broadcasts.old.items }
-    requires from { from < size.n }
-    requires well { IsWellFormed size statement.now }
+    requires has { HasBroadcasts stream.now.size broadcasts.old.items }
+    requires from { stream.now.from < stream.now.size.n }
+    requires well { IsWellFormed stream.now.size statement.now }
     ensures answers { OnOk result
-        ((h : Hearing) → EachStandsFor size broadcasts.old.items h → (after : Hearing)
-        × (others : List ℕ) × AnswersOne from h statement.now after others
-        × EachStandsFor size broadcasts.new.items after
+        ((h : Hearing) → EachStandsFor stream.now.size broadcasts.old.items h → (after : Hearing)
+        × (others : List ℕ) × AnswersOne stream.now.from h statement.now after others
+        × EachStandsFor stream.now.size broadcasts.new.items after
         × (text.new.items ≡ text.old.items ++ others)) }
-    ensures has { OnOk result (HasBroadcasts size broadcasts.new.items) }
+    ensures has { OnOk result (HasBroadcasts stream.now.size broadcasts.new.items) }
 {
     let question = usize::from(statement.place().question());
-    hear(alloc, &mut broadcasts[question], from, statement, text)?;
+    hear(
+        stream.alloc,
+        &mut broadcasts[question],
+        stream.from,
+        statement,
+        text,
+    )?;
     Ok(())
 }
 
 /// Hears the sender's statements in turn, and adds the answers.
 fn hear_each(
-    alloc: Global,
-    size: Size,
+    stream: &Stream,
     broadcasts: &mut Vec<Broadcasts>,
-    from: u8,
     statements: &[Statement],
     text: &mut Vec<u8>,
 ) -> Result<(), Memory>
-    requires has { HasBroadcasts size broadcasts.old.items }
-    requires from { from < size.n }
-    requires well { AllByRecursion (IsWellFormed size) statements.now }
+    requires has { HasBroadcasts stream.now.size broadcasts.old.items }
+    requires from { stream.now.from < stream.now.size.n }
+    requires well { AllByRecursion (IsWellFormed stream.now.size) statements.now }
     ensures answers { OnOk result
-        ((h : Hearing) → EachStandsFor size broadcasts.old.items h → (after : Hearing)
-        × (others : List ℕ) × InTurn (AnswersOne from) h statements.now after others
-        × EachStandsFor size broadcasts.new.items after
+        ((h : Hearing) → EachStandsFor stream.now.size broadcasts.old.items h → (after : Hearing)
+        × (others : List ℕ) × InTurn (AnswersOne stream.now.from) h statements.now after others
+        × EachStandsFor stream.now.size broadcasts.new.items after
         × (text.new.items ≡ text.old.items ++ others)) }
-    ensures has { OnOk result (HasBroadcasts size broadcasts.new.items) }
+    ensures has { OnOk result (HasBroadcasts stream.now.size broadcasts.new.items) }
 {
     for statement in statements {
-        hear_one(alloc, size, broadcasts, from, statement, text)?;
+        hear_one(stream, broadcasts, statement, text)?;
     }
     Ok(())
 }
 
 /// Hears the sender's message, and adds the answer. One without a statement has none.
 fn hear_message(
-    alloc: Global,
-    size: Size,
+    stream: &Stream,
     broadcasts: &mut Vec<Broadcasts>,
-    from: u8,
     message: &Message,
     text: &mut Vec<u8>,
 ) -> Result<(), Memory>
-    requires has { HasBroadcasts size broadcasts.old.items }
-    requires from { from < size.n }
-    requires fits { Fits size message.now }
+    requires has { HasBroadcasts stream.now.size broadcasts.old.items }
+    requires from { stream.now.from < stream.now.size.n }
+    requires fits { Fits stream.now.size message.now }
     ensures answers { OnOk result
-        ((h : Hearing) → EachStandsFor size broadcasts.old.items h → (after : Hearing)
-        × (others : List ℕ) × AnswersMessage from h message.now after others
-        × EachStandsFor size broadcasts.new.items after
+        ((h : Hearing) → EachStandsFor stream.now.size broadcasts.old.items h → (after : Hearing)
+        × (others : List ℕ) × AnswersMessage stream.now.from h message.now after others
+        × EachStandsFor stream.now.size broadcasts.new.items after
         × (text.new.items ≡ text.old.items ++ others)) }
-    ensures has { OnOk result (HasBroadcasts size broadcasts.new.items) }
+    ensures has { OnOk result (HasBroadcasts stream.now.size broadcasts.new.items) }
 {
     match message {
         Message::Statement(statement) => {
-            hear_one(alloc, size, broadcasts, from, statement, text)?;
+            hear_one(stream, broadcasts, statement, text)?;
             Ok(())
         }
         Message::Statements(many) => {
-            hear_each(alloc, size, broadcasts, from, many.as_slice(), text)?;
+            hear_each(stream, broadcasts, many.as_slice(), text)?;
             Ok(())
         }
         Message::Idle | Message::Hello { .. } | Message::Welcome { .. } => Ok(()),
@@ -185,25 +210,23 @@ fn hear_message(
 
 /// Hears the sender's messages in turn, and adds the answers.
 fn hear_all(
-    alloc: Global,
-    size: Size,
+    stream: &Stream,
     broadcasts: &mut Vec<Broadcasts>,
-    from: u8,
     messages: &[Message],
     text: &mut Vec<u8>,
 ) -> Result<(), Memory>
-    requires has { HasBroadcasts size broadcasts.old.items }
-    requires from { from < size.n }
-    requires fits { AllByRecursion (Fits size) messages.now }
+    requires has { HasBroadcasts stream.now.size broadcasts.old.items }
+    requires from { stream.now.from < stream.now.size.n }
+    requires fits { AllByRecursion (Fits stream.now.size) messages.now }
     ensures answers { OnOk result
-        ((h : Hearing) → EachStandsFor size broadcasts.old.items h → (after : Hearing)
-        × (others : List ℕ) × InTurn (AnswersMessage from) h messages.now after others
-        × EachStandsFor size broadcasts.new.items after
+        ((h : Hearing) → EachStandsFor stream.now.size broadcasts.old.items h → (after : Hearing)
+        × (others : List ℕ) × InTurn (AnswersMessage stream.now.from) h messages.now after others
+        × EachStandsFor stream.now.size broadcasts.new.items after
         × (text.new.items ≡ text.old.items ++ others)) }
-    ensures has { OnOk result (HasBroadcasts size broadcasts.new.items) }
+    ensures has { OnOk result (HasBroadcasts stream.now.size broadcasts.new.items) }
 {
     for message in messages {
-        hear_message(alloc, size, broadcasts, from, message, text)?;
+        hear_message(stream, broadcasts, message, text)?;
     }
     Ok(())
 }
@@ -273,14 +296,12 @@ impl Session {
     {
         let mut messages = Vec::new(self.alloc);
         let fed = self.feeders[usize::from(sender)].feed(piece, &mut messages)?;
-        hear_all(
-            self.alloc,
-            self.size,
-            &mut self.broadcasts,
-            sender,
-            &messages,
-            text,
-        )?;
+        let stream = Stream {
+            alloc: self.alloc,
+            size: self.size,
+            from: sender,
+        };
+        hear_all(&stream, &mut self.broadcasts, &messages, text)?;
         match fed {
             Fed::More => Ok(()),
             Fed::Broken(fault) => {

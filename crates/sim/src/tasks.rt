@@ -36,6 +36,14 @@ pub(crate) enum Instruction {
     Reset(u8),
 }
 
+/// The way of a statement: its sender, the member that it comes to, and the toss there.
+#[derive(Clone, Copy)]
+pub(crate) struct Way {
+    pub(crate) from: u8,
+    pub(crate) to: u8,
+    pub(crate) toss: Toss,
+}
+
 /// The member that an event is for and its task, or the first reason to skip the event.
 #[inline(always)]
 pub(crate) fn plan(size: Size, posts: &[Post], event: &Event) -> Result<(u8, Instruction), Reason>
@@ -66,13 +74,13 @@ pub(crate) fn plan(size: Size, posts: &[Post], event: &Event) -> Result<(u8, Ins
             to,
             which,
             toss,
-        } => delivery(size, posts, *from, *to, *which, *toss),
+        } => delivery(size, posts, way(*from, *to, *toss), *which),
         Event::DeliverAll {
             from,
             to,
             count,
             toss,
-        } => group(size, posts, *from, *to, *count, *toss),
+        } => group(size, posts, way(*from, *to, *toss), *count),
         Event::LieBytes {
             liar,
             to,
@@ -99,6 +107,14 @@ pub(crate) fn plan(size: Size, posts: &[Post], event: &Event) -> Result<(u8, Ins
             Ok((*to, Instruction::Reset(*from)))
         }
     }
+}
+
+/// The way of a statement from that member to that one.
+#[inline(always)]
+pub(crate) fn way(from: u8, to: u8, toss: Toss) -> Way
+    ensures { result ≡ record { from = from; to = to; toss = toss } }
+{
+    Way { from, to, toss }
 }
 
 /// A task for a correct member.
@@ -176,38 +192,29 @@ fn link_place(size: Size, posts: &[Post], from: u8, to: u8) -> Result<u64, Reaso
 pub(crate) fn delivery(
     size: Size,
     posts: &[Post],
-    from: u8,
-    to: u8,
+    way: Way,
     which: Which,
-    toss: Toss,
 ) -> Result<(u8, Instruction), Reason>
     requires ready { AreReady size posts.now }
     ensures plan { (liars : ℕ → Bool) (c : Scene) → IsCluster size liars c posts.now →
-        result ≡ plan_of size liars c (events.Deliver from to which toss) }
+        result ≡ plan_of size liars c (events.Deliver way.from way.to which way.toss) }
     ensures within { IfOk result (λ to. (to.0 < size.n) × HasSender size.n to.1) }
 {
-    match link_place(size, posts, from, to) {
-        Ok(place) => outgoing(&posts[usize::from(from)], place, from, to, which, toss),
+    match link_place(size, posts, way.from, way.to) {
+        Ok(place) => outgoing(&posts[usize::from(way.from)], place, way, which),
         Err(reason) => Err(reason),
     }
 }
 
 /// A group of a correct member's statements for a correct member.
-fn group(
-    size: Size,
-    posts: &[Post],
-    from: u8,
-    to: u8,
-    count: u16,
-    toss: Toss,
-) -> Result<(u8, Instruction), Reason>
+fn group(size: Size, posts: &[Post], way: Way, count: u16) -> Result<(u8, Instruction), Reason>
     requires ready { AreReady size posts.now }
     ensures plan { (liars : ℕ → Bool) (c : Scene) → IsCluster size liars c posts.now →
-        result ≡ plan_of size liars c (events.DeliverAll from to count toss) }
+        result ≡ plan_of size liars c (events.DeliverAll way.from way.to count way.toss) }
     ensures within { IfOk result (λ to. (to.0 < size.n) × HasSender size.n to.1) }
 {
-    match link_place(size, posts, from, to) {
-        Ok(place) => outgoing_group(&posts[usize::from(from)], place, from, to, count, toss),
+    match link_place(size, posts, way.from, way.to) {
+        Ok(place) => outgoing_group(&posts[usize::from(way.from)], place, way, count),
         Err(reason) => Err(reason),
     }
 }
@@ -216,48 +223,47 @@ fn group(
 fn outgoing_group(
     sender: &Post,
     place: u64,
-    from: u8,
-    to: u8,
+    way: Way,
     count: u16,
-    toss: Toss,
 ) -> Result<(u8, Instruction), Reason>
     requires ready { IsReady sender.now }
     ensures plan { result
-        ≡ to_group from to count toss (group_from (saved_in sender.now.seat) place count) }
-    ensures to { IfOk result (λ planned. planned.0 ≡ to) }
-    ensures sender { (n : ℕ) → from < n → IfOk result (λ planned. HasSender n planned.1) }
+        ≡ to_group way.from way.to count way.toss
+        (group_from (saved_in sender.now.seat) place count) }
+    ensures to { IfOk result (λ planned. planned.0 ≡ way.to) }
+    ensures sender { (n : ℕ) → way.from < n → IfOk result (λ planned. HasSender n planned.1) }
 {
     if count == 0 {
         return Err(Reason::Nothing);
     }
     match sender.statement(place) {
-        Some(_) => Ok((to, Instruction::DeliverAll(from, count, toss))),
+        Some(_) => Ok((way.to, Instruction::DeliverAll(way.from, count, way.toss))),
         None => Err(Reason::Nothing),
     }
 }
 
 /// One of a sender's statements, over a link that is at that place.
 #[inline(always)]
-fn outgoing(
-    sender: &Post,
-    place: u64,
-    from: u8,
-    to: u8,
-    which: Which,
-    toss: Toss,
-) -> Result<(u8, Instruction), Reason>
+fn outgoing(sender: &Post, place: u64, way: Way, which: Which) -> Result<(u8, Instruction), Reason>
     requires ready { IsReady sender.now }
-    ensures plan { result ≡ delivery_of (saved_in sender.now.seat) place from to which toss }
-    ensures to { IfOk result (λ planned. planned.0 ≡ to) }
-    ensures sender { (n : ℕ) → from < n → IfOk result (λ planned. HasSender n planned.1) }
+    ensures plan { result
+        ≡ delivery_of (saved_in sender.now.seat) place way.from way.to which way.toss }
+    ensures to { IfOk result (λ planned. planned.0 ≡ way.to) }
+    ensures sender { (n : ℕ) → way.from < n → IfOk result (λ planned. HasSender n planned.1) }
 {
     match which {
         Which::Next => match sender.statement(place) {
-            Some(statement) => Ok((to, Instruction::Deliver(from, statement, place + 1, toss))),
+            Some(statement) => Ok((
+                way.to,
+                Instruction::Deliver(way.from, statement, place + 1, way.toss),
+            )),
             None => Err(Reason::Nothing),
         },
         Which::At(number) => match sender.statement(number) {
-            Some(statement) => Ok((to, Instruction::Deliver(from, statement, place, toss))),
+            Some(statement) => Ok((
+                way.to,
+                Instruction::Deliver(way.from, statement, place, way.toss),
+            )),
             None => Err(Reason::Nothing),
         },
     }

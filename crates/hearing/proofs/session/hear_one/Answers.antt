@@ -5,7 +5,7 @@ use Rattle.hearing.proofs.session.hear_one.Goals as goal
 
 pub returns-clause-answers : goal.returns-clause-answers
 returns-clause-answers c =
-    statement_heard c.args.size c.args.from c.args.broadcasts.now.items c.args.statement.now
+    statement_heard c.args.stream.now.size c.args.stream.now.from c.args.broadcasts.now.items c.args.statement.now
     c.index_mut.result.now c.hear.new.broadcasts c.args.text.now.items c.hear.new.text.items
     c.from-question.result c.requires.well
     (c.from-question.ensures ∙ (c.question.ensures ∙ ap (λ (p : Place). p.question) c.place.ensures))
@@ -13,7 +13,7 @@ returns-clause-answers c =
 
 pub returns-clause-has : goal.returns-clause-has
 returns-clause-has c =
-    statement_has c.args.size c.args.from c.args.broadcasts.now.items c.args.statement.now
+    statement_has c.args.stream.now.size c.args.stream.now.from c.args.broadcasts.now.items c.args.statement.now
     c.index_mut.result.now c.hear.new.broadcasts c.args.text.now.items c.hear.new.text.items
     c.from-question.result c.requires.well
     (c.from-question.ensures ∙ (c.question.ensures ∙ ap (λ (p : Place). p.question) c.place.ensures))

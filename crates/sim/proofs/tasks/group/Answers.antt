@@ -6,13 +6,13 @@ use Rattle.sim.proofs.tasks.group.Goals as goal
 
 pub returns-in-Ok-clause-plan : goal.returns-in-Ok-clause-plan
 returns-in-Ok-clause-plan c liars s cluster =
-    let t = told_of c.args.size liars s c.args.posts.now c.from.result c.args.from c.args.to c.in-Ok.place c.index-posts-from.result c.from.ensures c.index-posts-from.is cluster
+    let t = told_of c.args.size liars s c.args.posts.now c.from.result c.args.way.from c.args.way.to c.in-Ok.place c.index-posts-from.result c.from.ensures c.index-posts-from.is cluster
     (sym (c.link_place.ensures.place liars s cluster) ∙ c.in-Ok.is) in
     c.outgoing_group.ensures.plan
-    ∙ ap (λ (r : List Record). to_group c.args.from c.args.to c.args.count c.args.toss (group_from r c.in-Ok.place c.args.count)) t.saved
-    ∙ ap (λ (k : ℕ). to_group c.args.from c.args.to c.args.count c.args.toss (group_from (s.world.journal c.args.from) k c.args.count)) t.place_is
-    ∙ sym (open_plan c.args.size liars s.world c.args.from c.args.to _ t.may_come)
+    ∙ ap (λ (r : List Record). to_group c.args.way.from c.args.way.to c.args.count c.args.way.toss (group_from r c.in-Ok.place c.args.count)) t.saved
+    ∙ ap (λ (k : ℕ). to_group c.args.way.from c.args.way.to c.args.count c.args.way.toss (group_from (s.world.journal c.args.way.from) k c.args.count)) t.place_is
+    ∙ sym (open_plan c.args.size liars s.world c.args.way.from c.args.way.to _ t.may_come)
 
 pub returns-in-Err-clause-plan : goal.returns-in-Err-clause-plan
 returns-in-Err-clause-plan c liars s cluster =
-    sym (closed_plan c.args.size liars s.world c.args.from c.args.to (s.place c.args.from c.args.to) c.in-Err.reason _ (sym (c.link_place.ensures.place liars s cluster) ∙ c.in-Err.is))
+    sym (closed_plan c.args.size liars s.world c.args.way.from c.args.way.to (s.place c.args.way.from c.args.way.to) c.in-Err.reason _ (sym (c.link_place.ensures.place liars s cluster) ∙ c.in-Err.is))
