@@ -14,12 +14,12 @@ use std::net::{TcpListener, TcpStream};
 use std::process::ExitCode;
 use system::{
     AuditWords, Audited, Caller, Choice, Cluster, Failure, Fault, Gate, HeldStreams, Measuring,
-    Motion, NewCluster, Query, SimulateWords, StateForm, ask_all, ask_at, audit_all, audit_file,
-    audited_of, await_at, check_file, decide, dump_file, epochs_of_all, hear_end, hear_input,
-    hold_streams, init_file, links_at, log_form, measure_rounds, migrate_file, new_cluster,
-    number_words, own_words, patience_of, propose_at, propose_to_all, run_file, run_gateway,
-    simulate, size_of, state_at, status_at, status_of_all, transcript_at, transcript_of_all,
-    wants_quiet,
+    Motion, NewCluster, Query, RunOptions, SimulateWords, StateForm, ask_all, ask_at, audit_all,
+    audit_file, audited_of, await_at, check_file, decide, dump_file, epochs_of_all, hear_end,
+    hear_input, hold_streams, init_file, links_at, log_form, measure_rounds, migrate_file,
+    new_cluster, number_words, own_words, patience_of, propose_at, propose_to_all, run_file,
+    run_gateway, simulate, size_of, state_at, status_at, status_of_all, transcript_at,
+    transcript_of_all, wants_quiet,
 };
 
 /// The member or the cluster that a client speaks to, and for how long.
@@ -187,7 +187,15 @@ fn work<R: Caller>(rt: &R, host: &HostRuntime, task: Task, quiet: bool) -> Resul
             log,
             log_json,
             any_host,
-        } => run_file::<R, Brand>(rt, host, settings, stay, log_form(log, log_json), any_host),
+        } => {
+            let log = log_form(log, log_json);
+            let options = RunOptions {
+                stay,
+                log,
+                any_host,
+            };
+            run_file::<R, Brand>(rt, host, settings, options)
+        }
         Task::Propose {
             address,
             question,

@@ -128,9 +128,8 @@ fn serve_slots<D: Disk, J: Life, R: Machine>(
     if limit_client(&copy, 1).is_err() {
         return None;
     }
-    let slot = chair.slot.slot();
-    let mut client = SlotStream::new(rt, it, chain, slot, copy, chair.said);
-    let _end = serve_over(rt, it, slot, &mut client);
+    let mut client = SlotStream::new(rt, it, chain, chair, copy);
+    let _end = serve_over(rt, it, chair.slot.slot(), &mut client);
     client.leaves()
 }
 
@@ -142,10 +141,10 @@ fn answer_slots<D: Disk, J: Life, R: Machine>(
     chair: Chair,
 ) {
     match serve_slots(rt, it, chain, &chair) {
-        Some((Away::To(epoch), said)) => hand_over(rt, it, chain, chair, Some(epoch), said),
-        Some((Away::ToNewest, said)) => hand_over(rt, it, chain, chair, None, said),
+        Some((Away::To(epoch), said)) => hand_over(rt, it, chain, chair, (Some(epoch), said)),
+        Some((Away::ToNewest, said)) => hand_over(rt, it, chain, chair, (None, said)),
         Some((Away::Follows(number), _)) => match follow_in(rt, it, chain, &chair, number) {
-            Some((epoch, said)) => hand_over(rt, it, chain, chair, epoch, said),
+            Some(onward) => hand_over(rt, it, chain, chair, onward),
             None => it.leave_chair(rt, chair),
         },
         None => it.leave_chair(rt, chair),
@@ -165,15 +164,15 @@ fn follow_in<D: Disk, J: Life, R: Machine>(
     follow(rt, it, chain, &mut socket, number)
 }
 
-/// Hands the client in a chair to another epoch, or to the newest.
+/// Hands the client in a chair to another epoch, or to the newest, with what was read of it.
 fn hand_over<D: Disk, J: Life, R: Machine>(
     rt: &R,
     it: &Shared<D, J>,
     chain: &InChain,
     chair: Chair,
-    epoch: Option<u64>,
-    said: Said,
+    onward: (Option<u64>, Said),
 ) {
+    let (epoch, said) = onward;
     let taken = it.sockets.lock(rt).take(chair.socket);
     it.leave_slot(rt, chair.slot.slot());
     if let Some(socket) = taken {

@@ -52,7 +52,7 @@ pub use machine::Machine;
 pub use outgoing::Standing;
 pub use quota::Quota;
 pub use refusals::{KeptRefusal, Refusal, RefusalCount, Refusals};
-pub use run::{Addresses, Operator, run_member};
+pub use run::{Addresses, Operator, Start, run_member};
 pub use slots::{GivenSlot, Slots};
 pub use sockets::client_stream;
 pub use tossers::{Tossers, tosser_for, tossers_of};

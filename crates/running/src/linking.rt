@@ -110,25 +110,34 @@ fn write_at<D: Disk, J: Life, R: Machine>(
     Some(write_told(rt, it, peer, stream, version))
 }
 
-/// One session of that version of the link to a peer, which is dialled at that tick, and what came
-/// of it; none where nobody listens there.
-fn dial_once<D: Disk, J: Life, R: Machine>(
+/// Returns a new connection to a peer's address; none where nobody listens there, which is told.
+fn dialled<D: Disk, J: Life, R: Machine>(
     rt: &R,
     it: &Shared<D, J>,
     peer: u8,
     address: SocketAddr,
-    version: Version,
-    tick: u64,
-) -> Option<Reception> {
-    let dialled = match TcpStream::connect_timeout(rt, &address, Duration::from_secs(1)) {
-        Ok(dialled) => dialled,
+) -> Option<TcpStream> {
+    match TcpStream::connect_timeout(rt, &address, Duration::from_secs(1)) {
+        Ok(dialled) => Some(dialled),
         Err(error) => {
             let refusal = Refusal::Unreachable(peer, DialFault::of(error.kind()));
             it.log_refusal(rt, refusal, None);
-            return None;
+            None
         }
-    };
-    let socket = it.sockets.lock(rt).enter_to(dialled, peer, tick)?;
+    }
+}
+
+/// One session of that version of the link to a peer, which is dialled in this second of the run,
+/// and what came of it; none where nobody listens there.
+fn dial_once<D: Disk, J: Life, R: Machine>(
+    rt: &R,
+    it: &Shared<D, J>,
+    (peer, address): (u8, SocketAddr),
+    version: Version,
+    second: u64,
+) -> Option<Reception> {
+    let dialled = dialled(rt, it, peer, address)?;
+    let socket = it.sockets.lock(rt).enter_to(dialled, peer, second)?;
     let reception = write_at(rt, it, peer, socket, version);
     it.sockets.lock(rt).leave(socket);
     reception
@@ -149,7 +158,7 @@ pub(crate) fn dial_on<D: Disk, J: Life, R: Machine>(
         }
         let second = it.second(rt);
         if it.is_to_dial(peer) {
-            if let Some(reception) = dial_once(rt, it, peer, address, choice.version, second) {
+            if let Some(reception) = dial_once(rt, it, (peer, address), choice.version, second) {
                 choice = choice.after(reception);
             }
         }
@@ -235,11 +244,11 @@ fn seated<D: Disk, J: Life, R: Machine>(
 fn read_seated<D: Disk, J: Life, R: Machine>(
     rt: &R,
     it: &Shared<D, J>,
-    seated: Seated<J>,
-    version: Version,
+    visit: (Seated<J>, Version),
     stream: &mut Incoming,
     tosser: &mut LifeTosser<J>,
 ) {
+    let (seated, version) = visit;
     let peer = seated.peer();
     it.note_link(rt, peer, true);
     it.log_of_peer(rt, peer, LogEvent::LinkUp(peer, version));
@@ -271,7 +280,7 @@ fn read_from<D: Disk, J: Life, R: Machine>(
         return Err(LinkEnd::Busy);
     };
     let mut tosser = tosser.lock(rt);
-    read_seated(rt, it, seated, version, stream, &mut tosser);
+    read_seated(rt, it, (seated, version), stream, &mut tosser);
     Ok(())
 }
 

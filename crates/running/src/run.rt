@@ -415,6 +415,17 @@ fn epoch_doors(chain: &InChain) -> Result<Doors, RunFault> {
     })
 }
 
+/// A member that was just opened, and what its run takes.
+#[derive(Drop)]
+pub struct Start<D: Disk + Drop> {
+    /// The member.
+    pub member: Member<D>,
+    /// The addresses at which it listens, and those of its peers.
+    pub addresses: Addresses,
+    /// The seed of all that its links and its desk toss.
+    pub seed: [u8; 32],
+}
+
 /// Runs a member that was just opened, over any disk, until its operator ends it.
 ///
 /// It listens at its own two addresses, tries whether the system gives it its threads, tells the
@@ -441,26 +452,29 @@ fn epoch_doors(chain: &InChain) -> Result<Doors, RunFault> {
 /// heard more of it than its journal holds. Whatever comes, the member is gone with its threads;
 /// what it saved is on its disk.
 ///
-/// All that its links and its desk toss comes from a seed that the operator takes. Its records are
-/// those of the file with which its disk began, so nobody wrote that file since the disk was
+/// All that its links and its desk toss comes from the seed, which the operator takes. Its records
+/// are those of the file with which its disk began, so nobody wrote that file since the disk was
 /// opened.
 ///
 /// It may wait: for its operator, for locks and for its threads.
 pub fn run_member<D: Disk + Drop + Send, O: Operator, L: Log + Send, R: Machine>(
     rt: &R,
     alloc: Global,
-    member: Member<D>,
-    addresses: Addresses,
-    seed: [u8; 32],
+    start: Start<D>,
     operator: &mut O,
     log: Option<&Mutex<L>>,
 ) -> Result<(), RunFault>
-    requires seed { O.may_toss_from operator.old seed }
-    requires sound { IsSound D.Disk member }
-    requires fresh { member_is_stopped member ≡ false →
-        MemberStandsFor member (member_saved member) [] }
-    requires begun { HasItsFile D.Disk member }
+    requires seed { O.may_toss_from operator.old start.seed }
+    requires sound { IsSound D.Disk start.member }
+    requires fresh { member_is_stopped start.member ≡ false →
+        MemberStandsFor start.member (member_saved start.member) [] }
+    requires begun { HasItsFile D.Disk start.member }
 {
+    let Start {
+        member,
+        addresses,
+        seed,
+    } = start;
     let Addresses {
         peers,
         listen: elsewhere,

@@ -5,7 +5,7 @@ ghost use Rattle.std.specs.Prelude.{◌≡◌, ◌≤◌, length};
 use crate::epoch::InChain;
 use crate::followers::is_passing;
 use crate::life::Life;
-use crate::shared::Shared;
+use crate::shared::{Chair, Shared};
 use crate::sockets::shut;
 use disk::Disk;
 use epochs::{Said, SlotLine, Stored, Verb, asks_epochs, epochs_reply, follow_line, slot_line};
@@ -136,24 +136,22 @@ fn take_out(out: &mut Said, buf: &mut [u8]) -> usize
 }
 
 impl<'a, D: Disk, J: Life, R: Wait> SlotStream<'a, D, J, R> {
-    /// The stream of the client in that slot at this socket, of which this was read already. Its
-    /// reads wait for a second at most. None if the system refuses that.
+    /// Returns the stream of the client in this chair, over a copy of its socket.
     pub(crate) fn new(
         rt: &'a R,
         it: &'a Shared<D, J>,
         chain: &'a InChain,
-        slot: u8,
+        chair: &Chair,
         socket: TcpStream,
-        said: Said,
     ) -> SlotStream<'a, D, J, R> {
         SlotStream {
             lines: SlotLines {
                 rt,
                 it,
                 chain,
-                slot,
+                slot: chair.slot.slot(),
                 socket,
-                said,
+                said: chair.said,
                 out: Said::nothing(),
                 away: None,
                 silent: 0,

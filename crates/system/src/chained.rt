@@ -18,7 +18,9 @@ use chain::{Chain, seed_of};
 use disk::{Disk, Premise};
 use epochs::{Doors, Switchboard, Verdicts};
 use member::Member;
-use running::{Addresses, Fronts, InChain, Machine, Operator, RunFault, run_fronts, run_member};
+use running::{
+    Addresses, Fronts, InChain, Machine, Operator, RunFault, Start, run_fronts, run_member,
+};
 use settings::Settings;
 use std::alloc::{AllocError, Global};
 use std::marker::Brand;
@@ -158,16 +160,12 @@ impl Chained<'_> {
             seed: &self.settings.seed,
             stopped: &stopped,
         };
-        let seed = seed_of(&self.settings.seed, epoch);
-        run_member(
-            rt,
-            alloc,
+        let start = Start {
             member,
             addresses,
-            seed,
-            &mut operator,
-            Some(&lines),
-        )
+            seed: seed_of(&self.settings.seed, epoch),
+        };
+        run_member(rt, alloc, start, &mut operator, Some(&lines))
     }
 
     /// Returns the failure of an epoch whose run ended so.

@@ -21,8 +21,8 @@ use crate::page_files::{
 use crate::reading::{Text, read_file};
 use crate::rows::{check_rows, check_size};
 use crate::telling::{
-    journal_failure, long_failure, not_old_failure, not_text, old_failure, script_failure,
-    settings_failure, stray_trouble, transcript_failure,
+    ReadFile, journal_failure, long_failure, not_old_failure, not_text, old_failure,
+    script_failure, settings_failure, stray_trouble, transcript_failure,
 };
 use crate::trouble::{Failure, Whereabouts};
 use crate::unsynced::{MarkedDisk, refuse_unsynced};
@@ -325,7 +325,13 @@ fn failure_by_bytes(
         Ok(Some((bytes, length))) if found == JournalFault::NotEmpty && length > MOST => {
             long_failure(rt.alloc(), path, fault, &bytes, length)
         }
-        Ok(Some((bytes, _))) => journal_failure(rt.alloc(), path, fault, found, asked, &bytes),
+        Ok(Some((bytes, _))) => {
+            let file = ReadFile {
+                path,
+                bytes: bytes.as_slice(),
+            };
+            journal_failure(rt.alloc(), file, fault, found, asked)
+        }
         _ => Failure::about(rt.alloc(), fault, path),
     }
 }

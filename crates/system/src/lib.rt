@@ -61,7 +61,7 @@ pub use files::{
 pub use gate::{Gate, run_gateway};
 pub use hearsay::{audit_all, transcript_of_all};
 pub use limits::{clients_within, descriptors_lack, followers_within, open_limit};
-pub use live::run_file;
+pub use live::{RunOptions, run_file};
 pub use log::{LogForm, log_form};
 pub use page_files::{Page, write_page};
 pub use patience::patience_of;

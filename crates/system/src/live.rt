@@ -2,10 +2,12 @@
 
 ghost use Rattle.journal.specs.declared.fault.JournalFault.{JournalFault};
 ghost use Rattle.member.specs.Outcomes.{IsARestart, IsNotOpened, IsOpened};
+ghost use Rattle.member.specs.Readers.{MemberStandsFor, member_is_stopped, member_saved};
+ghost use Rattle.member.specs.Sound.{HasItsFile, IsSound};
 ghost use Rattle.system.specs.Faults.{IsMeant, of_journal};
 ghost use Rattle.system.specs.declared.fault.Fault.TheVariants as ends;
 ghost use Rattle.running.specs.declared.fault.RunFault.TheVariants as ends_of_run;
-ghost use Rattle.std.specs.Prelude.{◌≡◌, ◌≢◌, IfErr, IfOk, IfSome, IsSome, None, Err, Ok, string_bytes};
+ghost use Rattle.std.specs.Prelude.{◌≡◌, ◌≢◌, [], false, IfErr, IfOk, IfSome, IsSome, None, Err, Ok, string_bytes};
 
 use crate::addresses::{addresses_of, socket_address};
 use crate::chained::{ChainOrder, run_chain};
@@ -23,7 +25,7 @@ use crate::trouble::{Failure, Trouble, Whereabouts, trouble_of};
 use crate::unsynced::remove_old_mark;
 use disk::{Disk, Premise};
 use member::Member;
-use running::{Machine, Operator, RunFault, run_member};
+use running::{Addresses, Machine, Operator, RunFault, Start, run_member};
 use settings::Settings;
 use std::alloc::{AllocError, Global};
 use std::io::{self, Read, Write};
@@ -269,6 +271,25 @@ fn input_of<R: Machine>(rt: &R, host: &HostRuntime, stay: bool) -> Option<Arc<In
     }
 }
 
+/// The options of the command `run`.
+#[derive(Clone, Copy, Debug, PartialEq, Eq)]
+pub struct RunOptions {
+    /// The member ends once it is stopped, or by a signal, and not with its input.
+    pub stay: bool,
+    /// The form of its log.
+    pub log: LogForm,
+    /// Any host may speak for any member.
+    pub any_host: bool,
+}
+
+/// The number of files that a process may open, and how many of them may be clients and followers.
+#[derive(Clone, Copy)]
+struct FileLimits {
+    files: Option<u64>,
+    clients: u8,
+    followers: u16,
+}
+
 /// Runs the member of the settings in the file until the standard input ends; where it stays, until
 /// it is stopped; where the process was started with SIGTERM or SIGINT blocked, until one comes;
 /// and no longer than the journal's path names its file. The status is 0. Its events are told on
@@ -287,12 +308,10 @@ pub fn run_file<R: Machine, P: Premise + Send>(
     rt: &R,
     host: &HostRuntime,
     path: &str,
-    stay: bool,
-    log: LogForm,
-    any_host: bool,
+    options: RunOptions,
 ) -> Result<u8, Failure> {
     let settings = read_settings(host, path)?;
-    run_settings::<R, P>(rt, host, &settings, stay, log, any_host)
+    run_settings::<R, P>(rt, host, &settings, options)
 }
 
 /// Refuses to run with too few open files for a member that needs links with so many.
@@ -364,55 +383,41 @@ fn run_epochs<R: Machine>(
     ended
 }
 
-/// Runs the member of these settings, as `run_file` says.
-fn run_settings<'a, R: Machine, P: Premise + Send>(
+/// A member that was opened, the file of its journal, and where it is to listen.
+#[derive(Drop)]
+struct Opened<'a, D: Disk + Drop> {
+    member: Member<D>,
+    source: Source<'a>,
+    addresses: Addresses,
+}
+
+/// Runs a member that was just opened over its disk, to its end.
+fn run_opened<'a, D: Disk + Drop + Send, R: Machine>(
     rt: &R,
     host: &'a HostRuntime,
     settings: &'a Settings,
-    stay: bool,
-    log: LogForm,
-    any_host: bool,
-) -> Result<u8, Failure> {
-    let size = settings.header.size();
-    let (limit, n) = (most_files(host), size.n());
-    keep_from_starving(host, limit, size.wait())?;
-    let (clients, followers) = (clients_within(limit, n), followers_within(limit, n));
-    if let Some(folder) = &settings.epochs {
-        let order = ChainOrder {
-            settings,
-            folder: folder.as_str(),
-            form: log,
-            any_host,
-            clients,
-            followers,
-        };
-        return run_epochs(rt, host, order, stay);
-    }
-    let addresses = addresses_of(host.alloc(), settings, any_host, clients, followers).map_err(
-        |_| Fault::Memory,
-    )?;
-    refuse_forgotten(host, settings.journal.as_str(), settings.header.me())?;
-    let (disk, source) = open_good_disk::<P>(host, settings.journal.as_str(), Purpose::Run)?;
-    remove_old_mark(host, source.path);
-    let journal = Watched::new(host, source.path);
-    let member = match open_member(host, &source, disk, &settings.header) {
-        Ok(member) => member,
-        Err((failure, _)) => return Err(failure),
-    };
-    if any_host {
-        warn_of_strangers(host);
-    }
-    warn_of_files(host, limit, n);
-    let addresses = with_socket(host, addresses, settings)?;
+    options: RunOptions,
+    opened: Opened<'a, D>,
+) -> Result<u8, Failure>
+    requires sound { IsSound D.Disk opened.member }
+    requires fresh { member_is_stopped opened.member ≡ false →
+        MemberStandsFor opened.member (member_saved opened.member) [] }
+    requires begun { HasItsFile D.Disk opened.member }
+{
+    let Opened {
+        member,
+        source,
+        addresses,
+    } = opened;
     let stopped = AtomicBool::new(false);
     let blocked = blocks_signals(host);
     let mut console = Console {
         host,
         settings,
-        stay,
+        stay: options.stay,
         blocked,
-        input: input_of(rt, host, stay),
-        journal,
+        input: input_of(rt, host, options.stay),
+        journal: Watched::new(host, source.path),
         stopped: &stopped,
         trouble: None,
     };
@@ -420,22 +425,86 @@ fn run_settings<'a, R: Machine, P: Premise + Send>(
         clock: rt,
         alloc: host.alloc(),
         errors: host.stderr(),
-        form: log,
+        form: options.log,
         stopped: &stopped,
         first_error: source.shared_error(),
         epoch: None,
     });
-    let run = run_member(
-        rt,
-        host.alloc(),
+    let start = Start {
         member,
         addresses,
-        settings.seed,
-        &mut console,
-        Some(&lines),
-    );
+        seed: settings.seed,
+    };
+    let run = run_member(rt, host.alloc(), start, &mut console, Some(&lines));
     leave_socket(host, settings);
     let told = console.trouble;
     let trouble = told_at_end(host, &run, &source, settings.header.me(), told);
     ended(run, trouble)
+}
+
+/// Runs the member of these settings, which is of no chain, as `run_file` says.
+fn run_alone<'a, R: Machine, P: Premise + Send>(
+    rt: &R,
+    host: &'a HostRuntime,
+    settings: &'a Settings,
+    options: RunOptions,
+    limits: FileLimits,
+) -> Result<u8, Failure> {
+    let addresses = addresses_of(
+        host.alloc(),
+        settings,
+        options.any_host,
+        limits.clients,
+        limits.followers,
+    )
+    .map_err(|_| Fault::Memory)?;
+    refuse_forgotten(host, settings.journal.as_str(), settings.header.me())?;
+    let (disk, source) = open_good_disk::<P>(host, settings.journal.as_str(), Purpose::Run)?;
+    remove_old_mark(host, source.path);
+    let member = match open_member(host, &source, disk, &settings.header) {
+        Ok(member) => member,
+        Err((failure, _)) => return Err(failure),
+    };
+    if options.any_host {
+        warn_of_strangers(host);
+    }
+    warn_of_files(host, limits.files, settings.header.size().n());
+    let addresses = with_socket(host, addresses, settings)?;
+    let opened = Opened {
+        member,
+        source,
+        addresses,
+    };
+    run_opened(rt, host, settings, options, opened)
+}
+
+/// Runs the member of these settings, as `run_file` says.
+fn run_settings<'a, R: Machine, P: Premise + Send>(
+    rt: &R,
+    host: &'a HostRuntime,
+    settings: &'a Settings,
+    options: RunOptions,
+) -> Result<u8, Failure> {
+    let size = settings.header.size();
+    let files = most_files(host);
+    keep_from_starving(host, files, size.wait())?;
+    let limits = FileLimits {
+        files,
+        clients: clients_within(files, size.n()),
+        followers: followers_within(files, size.n()),
+    };
+    match &settings.epochs {
+        Some(folder) => {
+            let order = ChainOrder {
+                settings,
+                folder: folder.as_str(),
+                form: options.log,
+                any_host: options.any_host,
+                clients: limits.clients,
+                followers: limits.followers,
+            };
+            run_epochs(rt, host, order, options.stay)
+        }
+        None => run_alone::<R, P>(rt, host, settings, options, limits),
+    }
 }

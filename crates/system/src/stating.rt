@@ -49,20 +49,14 @@ impl Replies {
         Ok(Replies { replies, open: n })
     }
 
-    /// Gathers the replies to a line, until all are known or the time is over.
+    /// Gathers the replies to these lines, until all are known or the time is over.
     fn gather<R: Caller>(
         rt: &R,
         host: &HostRuntime,
         cluster: &Cluster<'_>,
         client: &ClientSettings,
-        manner: Manner,
-        first: String,
+        lines: Lines,
     ) -> Result<Replies, Failure> {
-        let lines = Lines {
-            manner,
-            first,
-            wait: String::new(host.alloc()),
-        };
         let deadline = cluster.deadline(host)?;
         let mut all = Replies::new(host.alloc(), client.size.n())?;
         let calls = Calls::start(rt, host.alloc(), client, lines, deadline)?;
@@ -86,6 +80,15 @@ impl Replies {
         if let Some(place) = self.replies.get_mut(usize::from(news.member)) {
             *place = news.reply;
         }
+    }
+}
+
+/// Returns the lines of one that is said once, in this manner.
+fn lines_of(alloc: Global, manner: Manner, first: String) -> Lines {
+    Lines {
+        manner,
+        first,
+        wait: String::new(alloc),
     }
 }
 
@@ -133,7 +136,8 @@ pub fn propose_to_all<R: Caller>(
 ) -> Result<u8, Failure> {
     let client = read_client(host, cluster.file)?;
     let line = propose_line(host.alloc(), question, bit).map_err(|_| Fault::Memory)?;
-    let all = Replies::gather(rt, host, cluster, &client, Manner::Once, line)?;
+    let lines = lines_of(host.alloc(), Manner::Once, line);
+    let all = Replies::gather(rt, host, cluster, &client, lines)?;
     let form = StateForm {
         links: false,
         ready: false,
@@ -165,7 +169,8 @@ pub fn status_of_all<R: Caller>(
 ) -> Result<u8, Failure> {
     let client = read_client(host, cluster.file)?;
     let line = line_for(host.alloc(), form).map_err(|_| Fault::Memory)?;
-    let all = Replies::gather(rt, host, cluster, &client, Manner::Once, line)?;
+    let lines = lines_of(host.alloc(), Manner::Once, line);
+    let all = Replies::gather(rt, host, cluster, &client, lines)?;
     tell_all(host, &all, form)
 }
 
@@ -191,7 +196,8 @@ pub fn epochs_of_all<R: Caller>(
 ) -> Result<u8, Failure> {
     let client = read_client(host, cluster.file)?;
     let line = String::from_str(host.alloc(), epochs_line()).map_err(|_| Fault::Memory)?;
-    let all = Replies::gather(rt, host, cluster, &client, Manner::Epochs, line)?;
+    let lines = lines_of(host.alloc(), Manner::Epochs, line);
+    let all = Replies::gather(rt, host, cluster, &client, lines)?;
     let words = words_of(host.alloc(), all)?;
     match tell_epochs(host.alloc(), &words, json, &mut io::writer(host)) {
         Ok(status) => Ok(status),

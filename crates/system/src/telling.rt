@@ -341,36 +341,45 @@ pub fn not_old_failure(alloc: Global, path: &str, fault: Fault, front: &[u8]) ->
     }
 }
 
+/// A file, and the bytes that were read of it.
+#[derive(Clone, Copy)]
+pub struct ReadFile<'a> {
+    /// The path of the file.
+    pub path: &'a str,
+    /// The bytes, from the first on.
+    pub bytes: &'a [u8],
+}
+
 /// The failure of a journal in which that was found, where the one of this header was asked for, if
 /// one was: whose it is, where it is another's or should have been empty; how it is brought over,
 /// where it is of version 1; that the file is none, where it begins with no header; else the place
 /// at which its file goes wrong, and the bytes there.
 pub fn journal_failure(
     alloc: Global,
-    path: &str,
+    file: ReadFile<'_>,
     fault: Fault,
     found: JournalFault,
     asked: Option<&Header>,
-    file: &[u8],
 ) -> Failure
     ensures fault { result.fault ≡ fault }
-    ensures told { IfSome result.trouble (IsTold path.now (IsJournalPlace found file.now)
-        (IsJournalWords found (option_map (λ header. header.now) asked.entry) file.now)) }
+    ensures told { IfSome result.trouble (IsTold file.path.now (IsJournalPlace found file.bytes.now)
+        (IsJournalWords found (option_map (λ header. header.now) asked.entry) file.bytes.now)) }
 {
+    let ReadFile { path, bytes } = file;
     match found {
-        JournalFault::NotEmpty => owner_failure(alloc, path, fault, file),
+        JournalFault::NotEmpty => owner_failure(alloc, path, fault, bytes),
         JournalFault::OtherHeader => match asked {
-            Some(asked) => other_failure(alloc, path, fault, asked, file),
-            None => bytes_failure(alloc, path, fault, found, file),
+            Some(asked) => other_failure(alloc, path, fault, asked, bytes),
+            None => bytes_failure(alloc, path, fault, found, bytes),
         },
-        JournalFault::BadHeader => headless_failure(alloc, path, fault, file),
+        JournalFault::BadHeader => headless_failure(alloc, path, fault, bytes),
         JournalFault::OldVersion => Failure::at(alloc, fault, path, Whereabouts::Whole, &OLD),
         JournalFault::BadRecord
         | JournalFault::CutShort
         | JournalFault::Device
         | JournalFault::Memory
         | JournalFault::Stopped
-        | JournalFault::Full => bytes_failure(alloc, path, fault, found, file),
+        | JournalFault::Full => bytes_failure(alloc, path, fault, found, bytes),
     }
 }
 
