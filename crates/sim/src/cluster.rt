@@ -13,7 +13,7 @@ ghost use Rattle.sim.specs.Runs.{IsTurn, IsSteady};
 ghost use Rattle.sim.specs.Plays.{Played, ClusterStandsFor, played, unplayed, and_then, last_saved, saved_among, saved_behind};
 
 use crate::posts::Post;
-use crate::tasks::{Instruction, brought, bytes_in, delivery, plan, way};
+use crate::tasks::{Instruction, brought, bytes_in, delivery, plan, way_of};
 use crate::{Event, Mark, Reason, SimFault};
 use disk::MemDisk;
 use std::alloc::Global;
@@ -357,7 +357,7 @@ fn step(
             which,
             toss,
         } => {
-            let planned = delivery(size, posts, way(*from, *to, *toss), *which);
+            let planned = delivery(size, posts, way_of(*from, *to, *toss), *which);
             carry_out(alloc, size, posts, event, planned)
         }
         _ => {

@@ -74,13 +74,13 @@ pub(crate) fn plan(size: Size, posts: &[Post], event: &Event) -> Result<(u8, Ins
             to,
             which,
             toss,
-        } => delivery(size, posts, way(*from, *to, *toss), *which),
+        } => delivery(size, posts, way_of(*from, *to, *toss), *which),
         Event::DeliverAll {
             from,
             to,
             count,
             toss,
-        } => group(size, posts, way(*from, *to, *toss), *count),
+        } => group(size, posts, way_of(*from, *to, *toss), *count),
         Event::LieBytes {
             liar,
             to,
@@ -111,7 +111,7 @@ pub(crate) fn plan(size: Size, posts: &[Post], event: &Event) -> Result<(u8, Ins
 
 /// The way of a statement from that member to that one.
 #[inline(always)]
-pub(crate) fn way(from: u8, to: u8, toss: Toss) -> Way
+pub(crate) fn way_of(from: u8, to: u8, toss: Toss) -> Way
     ensures { result ≡ record { from = from; to = to; toss = toss } }
 {
     Way { from, to, toss }
