@@ -158,6 +158,10 @@ pub member_drawn : (old between new : Drawing) (n : ℕ) (elements : ℕ → Lis
 member_drawn old between new n elements a b =
     subst (λ (l : List Element). Grows old new l) (members_more n elements) (grows_more old between new (of_members n elements) (elements n) a b)
 
+-- what holds at one place holds at an equal one, where these are equal
+pub at_place : (r : Result (Unit {0}) AllocError) (P : ℕ → Type 0) (Few : Type 0) (y z : ℕ) → (Few → y ≡ z) → OnOk r (P y) → OnOk r (Few → P z)
+at_place r P Few y z same held = IfOk-weaker r (λ _. P y) (λ _. Few → P z) (λ _ it few. subst P (same few) it) held
+
 -- the row of an event, drawn from its parts
 pub row_drawn : (r : Result (Unit {0}) AllocError) (a b d e f g : Drawing) (size : Size) (columns : List Column) (row y number : ℕ) (event : Event) (outcome : Mark) (saved : List Record)
     (shown : List Element) → Grows a b (heads_again size.n columns row y) → Grows b d (words_at words.Number 40 y (decimal number))

@@ -350,6 +350,7 @@ impl Canvas {
     ghost use Rattle.report.specs.Charts.{delivered, group_count, group_text, text_if, IsLieLabel};
     ghost use Rattle.report.specs.Columns.{FollowAll};
     ghost use Rattle.report.specs.Drawings.{Element, Grows};
+    ghost use Rattle.report.specs.Places.{row_y};
     ghost use Rattle.report.specs.Pictures.{Carries, CarriesGroup, IsShown, IsRow, heads, heads_again, proposal_elements, arrow_elements, far_words, lie_elements, fuse_elements, crash_elements, restart_elements, reset_elements, failure_elements, saved_elements};
     ghost use Rattle.report.specs.declared.chart.column.Column.{Column};
 
@@ -409,9 +410,8 @@ impl Canvas {
             self.new) }
     {
         let row = self.rows;
-        let y = y_of(row);
         self.rows = row.saturating_add(1);
-        self.show_row(row, y, number, event, mark, saved)?;
+        self.show_row(row, number, event, mark, saved)?;
         self.follow(event, mark, saved)?;
         Ok(())
     }
@@ -444,7 +444,6 @@ impl Canvas {
     fn show_row(
         &mut self,
         row: u64,
-        y: u64,
         number: usize,
         event: &Event,
         mark: Mark,
@@ -452,9 +451,11 @@ impl Canvas {
     ) -> Result<(), AllocError>
         ensures only { DrawsOnly self.old self.new }
         ensures drawn { OnOk result
-            ((elements : List Element) × IsRow self.old.size self.old.columns.items row y number
-            event.now mark saved.now elements × Grows self.old.events self.new.events elements) }
+            (row ≤ MOST_EVENTS → (elements : List Element)
+            × IsRow self.old.size self.old.columns.items row (row_y row) number event.now mark
+            saved.now elements × Grows self.old.events self.new.events elements) }
     {
+        let y = y_of(row);
         self.show_heads_again(row, y)?;
         let number = format!(in self.alloc; "{number}")?;
         self.events

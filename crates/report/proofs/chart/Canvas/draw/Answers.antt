@@ -4,8 +4,6 @@ use Rattle.report.specs.declared.chart.column.Column.{Column}
 use Rattle.report.specs.declared.chart.drawing.Drawing.{Drawing}
 use Rattle.report.specs.Columns.{FollowAll}
 use Rattle.report.specs.Drawings.{Grows}
-use Rattle.report.specs.Pictures.{IsRow}
-use Rattle.report.specs.Places.{row_y}
 use Rattle.report.proofs.chart.Canvas.draw.Goals as goal
 
 -- what is drawn changes no column
@@ -20,12 +18,11 @@ pub returns-clause-draws : goal.returns-clause-draws
 returns-clause-draws c few =
     let event = c.args.event.now in
     let before = c.args.self.now in
-    let y : c.y_of-y.result ≡ row_y before.rows = c.y_of-y.ensures (omega (arith, few)) in
     let columns : c.show_row.new.self.columns.items ≡ before.columns.items = ap (λ (s : Canvas). s.columns.items) c.show_row.ensures.only in
     let size : c.show_row.new.self.size ≡ before.size = ap (λ (s : Canvas). s.size) c.show_row.ensures.only in
     let next : c.saturating_add-self.result ≡ before.rows + 1 = search (rules, few, c.saturating_add-self.ensures) in
     let rows : c.show_row.new.self.rows ≡ before.rows + 1 = ap (λ (s : Canvas). s.rows) c.show_row.ensures.only ∙ next in
-    let shown = c.in_ok-show_row.ensures.drawn in
+    let shown = c.in_ok-show_row.ensures.drawn (omega (arith, few)) in
     let done = c.in_ok-follow.ensures in
     record {
       row = shown.0;
@@ -34,7 +31,7 @@ returns-clause-draws c few =
         follow = subst (λ (l : List Column). FollowAll event c.args.mark c.args.saved.now l c.follow.new.self.columns.items) columns done.follow;
         count = done.count ∙ ap length columns;
         below = ap (λ (s : Canvas). s.rows) done.rest ∙ rows;
-        drawn = subst (λ at. IsRow before.size before.columns.items before.rows at c.args.number event c.args.mark c.args.saved.now shown.0) y shown.1;
+        drawn = shown.1;
       };
       events = subst (λ (d : Drawing). Grows before.events d shown.0) (sym (ap (λ (s : Canvas). s.events) done.rest)) shown.2;
     }
