@@ -61,7 +61,13 @@ pub fn record_of(header: &Header, bytes: &[u8; 6]) -> Option<Record>
     let [kind, high, low, origin, round, last] = *bytes;
     let question = u16::from_be_bytes([high, low]);
     if kind != DECIDED {
-        return said_of(header, kind, question, origin, round, last / 16, last % 16);
+        let numbers = Numbers {
+            question,
+            origin,
+            round,
+            step: last / 16,
+        };
+        return said_of(header, kind, numbers, last % 16);
     }
     if origin != 0 {
         return None;
@@ -69,20 +75,21 @@ pub fn record_of(header: &Header, bytes: &[u8; 6]) -> Option<Record>
     decided_of(header, question, round, last)
 }
 
-/// The statement of these numbers.
-fn said_of(
-    header: &Header,
-    kind: u8,
+/// The numbers of a place.
+#[derive(Clone, Copy)]
+struct Numbers {
     question: u16,
     origin: u8,
     round: u8,
     step: u8,
-    value: u8,
-) -> Option<Record>
+}
+
+/// The statement of these numbers.
+fn said_of(header: &Header, kind: u8, numbers: Numbers, value: u8) -> Option<Record>
     ensures some { IfSome result (λ r. (s : Statement) × (r ≡ Said s) × IsStatementFor header.now s
-        × HasBytes s kind question origin round step value) }
+        × HasBytes s kind numbers.question numbers.origin numbers.round numbers.step value) }
     ensures none { IsNone result → (s : Statement) → IsStatementFor header.now s →
-        HasBytes s kind question origin round step value → ⊥ }
+        HasBytes s kind numbers.question numbers.origin numbers.round numbers.step value → ⊥ }
 {
     let Some(kind) = kind_of(kind) else {
         return None;
@@ -90,6 +97,12 @@ fn said_of(
     let Some(value) = value_of(value) else {
         return None;
     };
+    let Numbers {
+        question,
+        origin,
+        round,
+        step,
+    } = numbers;
     let Some(place) = Place::new(question, origin, round, step) else {
         return None;
     };
