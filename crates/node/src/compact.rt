@@ -57,16 +57,14 @@ impl Noted {
         statement.recall();
         let place = statement.place();
         let tag = byte_of_value(statement.value()) * 4 + byte_of_kind(statement.kind());
+        let numbers = Numbers {
+            question: place.question(),
+            origin: place.origin(),
+            round: place.round(),
+            step: place.step(),
+        };
         Noted {
-            bytes: packed(
-                tag,
-                from,
-                place.question(),
-                place.origin(),
-                place.round(),
-                place.step(),
-                toss,
-            ),
+            bytes: packed(tag, from, numbers, toss),
         }
     }
 
@@ -75,8 +73,14 @@ impl Noted {
         ensures { result ≡ Proposed question bit toss.0 }
     {
         let tag = if bit { 4 } else { 0 };
+        let numbers = Numbers {
+            question,
+            origin: 0,
+            round: 0,
+            step: 0,
+        };
         Noted {
-            bytes: packed(tag, 0, question, 0, 0, 0, toss),
+            bytes: packed(tag, 0, numbers, toss),
         }
     }
 
@@ -156,10 +160,26 @@ fn value_in(tag: u8) -> Value
     }
 }
 
-/// The bytes of an entry: its tag, the sender, the four numbers of the place, and the toss.
-fn packed(tag: u8, from: u8, question: u16, origin: u8, round: u8, step: u8, toss: Toss) -> [u8; 15]
-    ensures { result ≡ packed tag from (new_place question origin round step) toss.0 }
+/// The numbers of a place, or of a proposal, which has a question alone.
+#[derive(Clone, Copy)]
+struct Numbers {
+    question: u16,
+    origin: u8,
+    round: u8,
+    step: u8,
+}
+
+/// The bytes of an entry: its tag, the sender, the numbers of the place, and the toss.
+fn packed(tag: u8, from: u8, numbers: Numbers, toss: Toss) -> [u8; 15]
+    ensures { result ≡ packed tag from (new_place numbers.question numbers.origin numbers.round
+        numbers.step) toss.0 }
 {
+    let Numbers {
+        question,
+        origin,
+        round,
+        step,
+    } = numbers;
     let [high, low] = question.to_be_bytes();
     let [a, b, c, d, e, f, g, h] = toss.0.to_be_bytes();
     [
