@@ -21,8 +21,8 @@ use Rattle.clap.specs.declared.error.kind.ErrorKind.TheVariants.{DisplayHelp, In
 use Rattle.clap.specs.declared.builder.value_parser.ValueParser.TheVariants as parser
 use Rattle.command_line.specs.Usage.{program_app, new_cluster_app, init_app, check_app, run_app, propose_app, ask_app, decide_app, status_app, transcript_app, audit_app, gateway_app, epochs_app, dump_app, migrate_app, simulate_app, rounds_app, hear_app}
 use Rattle.command_line.specs.Tasks.{AreFaultless, AskFor, HasFlag, HasNumberOption, IsAskedFor, MayHaveNumber, MayHaveText, Names as NamesTask, WritesNumber}
-use Rattle.command_line.specs.declared.tasks.Task.{Task}
-use Rattle.command_line.specs.declared.tasks.Task.TheVariants.{Hear, NewCluster, Init, Check, Run, Propose, Ask, Decide, Status, Transcript, Audit, Gateway, Epochs, Simulate, Rounds, Dump, Migrate}
+use Rattle.command_line.specs.declared.words.Task.{Task}
+use Rattle.command_line.specs.declared.words.Task.TheVariants as tasks
 use Rattle.command_line.proofs.Walking.{StopOk, left_of, not_some, right_of, same_under, walk_ok}
 use Rattle.command_line.proofs.Given.{IsSolid, given_in, perhaps_in, second_none}
 
@@ -130,22 +130,22 @@ new_cluster_demands words e =
     let port = may_have 16 65535 (codes "port") rows (omega arith) (perhaps_in (built_at new_cluster_app) words solid e _ (inr (inr (inr (inr (inr (inr (inl refl)))))))) in
     let desk = text_in (codes "desk") rows in
     let epochs = flag_in (codes "epochs") rows in (
-      NewCluster n.0 t.0 questions.0 cluster.0 (at_some_place folder.0) hosts.0 port.0 desk.0 epochs.0,
-      (refl, n.1, t.1, questions.1, cluster.1, folder.1, hosts.1, port.1, desk.1, epochs.1),
+      tasks.NewCluster (record { n = n.0; t = t.0; questions = questions.0; cluster = cluster.0; folder = at_some_place folder.0; hosts = hosts.0; port = port.0; desk = desk.0; epochs = epochs.0 }),
+      (refl, (n.1, t.1, questions.1, cluster.1, folder.1, hosts.1, port.1, desk.1, epochs.1)),
     )
 
 init_demands : Demanding init_app
 init_demands words e =
     let solid : IsSolid (built_at init_app) = record { each = refl; apart = refl; demands = refl } in
     let settings = given_in (built_at init_app) words solid e _ (inl refl) refl in
-    (Init (at_some_place settings.0), (refl, settings.1))
+    (tasks.Init (record { settings = at_some_place settings.0 }), (refl, settings.1))
 
 check_demands : Demanding check_app
 check_demands words e =
     let solid : IsSolid (built_at check_app) = record { each = refl; apart = refl; demands = refl } in
     let settings = given_in (built_at check_app) words solid e _ (inl refl) refl in
     let json = flag_in (codes "json") (rows_after (built_at check_app).rules [] words) in
-    (Check (at_some_place settings.0) json.0, (refl, settings.1, json.1))
+    (tasks.Check (record { settings = at_some_place settings.0; json = json.0 }), (refl, (settings.1, json.1)))
 
 run_demands : Demanding run_app
 run_demands words e =
@@ -155,7 +155,7 @@ run_demands words e =
     let log = flag_in (codes "log") (rows_after (built_at run_app).rules [] words) in
     let log_json = flag_in (codes "log-json") (rows_after (built_at run_app).rules [] words) in
     let any_host = flag_in (codes "any-host") (rows_after (built_at run_app).rules [] words) in
-    (Run (at_some_place settings.0) stay.0 log.0 log_json.0 any_host.0, (refl, settings.1, stay.1, log.1, log_json.1, any_host.1))
+    (tasks.Run (record { settings = at_some_place settings.0; stay = stay.0; log = log.0; log_json = log_json.0; any_host = any_host.0 }), (refl, (settings.1, stay.1, log.1, log_json.1, any_host.1)))
 
 dump_demands : Demanding dump_app
 dump_demands words e =
@@ -163,14 +163,14 @@ dump_demands words e =
     let journal = given_in (built_at dump_app) words solid e _ (inl refl) refl in
     let count = flag_in (codes "count") (rows_after (built_at dump_app).rules [] words) in
     let json = flag_in (codes "json") (rows_after (built_at dump_app).rules [] words) in
-    (Dump (at_some_place journal.0) count.0 json.0, (refl, journal.1, count.1, json.1))
+    (tasks.Dump (record { journal = at_some_place journal.0; count = count.0; json = json.0 }), (refl, (journal.1, count.1, json.1)))
 
 migrate_demands : Demanding migrate_app
 migrate_demands words e =
     let solid : IsSolid (built_at migrate_app) = record { each = refl; apart = refl; demands = refl } in
     let old = given_in (built_at migrate_app) words solid e _ (inl refl) refl in
     let new = given_in (built_at migrate_app) words solid e _ (inr (inl refl)) refl in
-    (Migrate (at_some_place old.0) (at_some_place new.0), (refl, old.1, new.1))
+    (tasks.Migrate (record { old = at_some_place old.0; new = at_some_place new.0 }), (refl, (old.1, new.1)))
 
 status_demands : Demanding status_app
 status_demands words e =
@@ -184,8 +184,8 @@ status_demands words e =
     let timeout = text_in (codes "timeout") rows in
     let question = may_have 16 65535 (codes "question") rows (omega arith)
     (perhaps_in (built_at status_app) words solid e _ (inr (inr (inl refl)))) in (
-      Status (at_some_place address.0) all.0 links.0 ready.0 json.0 timeout.0 question.0,
-      (refl, address.1, all.1, links.1, ready.1, json.1, timeout.1, question.1),
+      tasks.Status (record { address = at_some_place address.0; all = all.0; links = links.0; ready = ready.0; json = json.0; timeout = timeout.0; question = question.0 }),
+      (refl, (address.1, all.1, links.1, ready.1, json.1, timeout.1, question.1)),
     )
 
 ask_demands : Demanding ask_app
@@ -198,7 +198,7 @@ ask_demands words e =
     let wait = flag_in (codes "wait") rows in
     let json = flag_in (codes "json") rows in
     let timeout = text_in (codes "timeout") rows in
-    (Ask (at_some_place address.0) question.0 all.0 wait.0 json.0 timeout.0, (refl, address.1, question.1, all.1, wait.1, json.1, timeout.1))
+    (tasks.Ask (record { address = at_some_place address.0; question = question.0; all = all.0; wait = wait.0; json = json.0; timeout = timeout.0 }), (refl, (address.1, question.1, all.1, wait.1, json.1, timeout.1)))
 
 decide_demands : Demanding decide_app
 decide_demands words e =
@@ -211,8 +211,8 @@ decide_demands words e =
     (given_in (built_at decide_app) words solid e _ (inr (inr (inl refl))) refl) in
     let json = flag_in (codes "json") rows in
     let timeout = text_in (codes "timeout") rows in (
-      Decide (at_some_place file.0) question.0 bit.0 json.0 timeout.0,
-      (refl, file.1, question.1, bit.1, json.1, timeout.1),
+      tasks.Decide (record { file = at_some_place file.0; question = question.0; bit = bit.0; json = json.0; timeout = timeout.0 }),
+      (refl, (file.1, question.1, bit.1, json.1, timeout.1)),
     )
 
 transcript_demands : Demanding transcript_app
@@ -224,8 +224,8 @@ transcript_demands words e =
     (given_in (built_at transcript_app) words solid e _ (inr (inl refl)) refl) in
     let all = flag_in (codes "all") rows in
     let timeout = text_in (codes "timeout") rows in (
-      Transcript (at_some_place address.0) question.0 all.0 timeout.0,
-      (refl, address.1, question.1, all.1, timeout.1),
+      tasks.Transcript (record { address = at_some_place address.0; question = question.0; all = all.0; timeout = timeout.0 }),
+      (refl, (address.1, question.1, all.1, timeout.1)),
     )
 
 audit_demands : Demanding audit_app
@@ -243,8 +243,8 @@ audit_demands words e =
     let questions = may_have 16 65535 (codes "questions") rows (omega arith)
     (perhaps_in (built_at audit_app) words solid e _ (inr (inr (inr (inr (inr (inl refl))))))) in
     let timeout = text_in (codes "timeout") rows in (
-      Audit (at_some_place file.0) question.0 all.0 n.0 t.0 questions.0 timeout.0,
-      (refl, file.1, question.1, all.1, n.1, t.1, questions.1, timeout.1),
+      tasks.Audit (record { file = at_some_place file.0; question = question.0; all = all.0; n = n.0; t = t.0; questions = questions.0; timeout = timeout.0 }),
+      (refl, (file.1, question.1, all.1, n.1, t.1, questions.1, timeout.1)),
     )
 
 propose_demands : Demanding propose_app
@@ -256,7 +256,7 @@ propose_demands words e =
     let bit = has_number 8 255 (codes "bit") rows (omega arith) (given_in (built_at propose_app) words solid e _ (inr (inr (inl refl))) refl) in
     let all = flag_in (codes "all") rows in
     let timeout = text_in (codes "timeout") rows in
-    (Propose (at_some_place address.0) question.0 bit.0 all.0 timeout.0, (refl, address.1, question.1, bit.1, all.1, timeout.1))
+    (tasks.Propose (record { address = at_some_place address.0; question = question.0; bit = bit.0; all = all.0; timeout = timeout.0 }), (refl, (address.1, question.1, bit.1, all.1, timeout.1)))
 
 gateway_demands : Demanding gateway_app
 gateway_demands words e =
@@ -265,7 +265,7 @@ gateway_demands words e =
     let file = given_in (built_at gateway_app) words solid e _ (inl refl) refl in
     let listen = text_in (codes "listen") rows in
     let token = text_in (codes "token") rows in
-    (Gateway (at_some_place file.0) listen.0 token.0, (refl, file.1, listen.1, token.1))
+    (tasks.Gateway (record { file = at_some_place file.0; listen = listen.0; token = token.0 }), (refl, (file.1, listen.1, token.1)))
 
 epochs_demands : Demanding epochs_app
 epochs_demands words e =
@@ -274,7 +274,7 @@ epochs_demands words e =
     let file = given_in (built_at epochs_app) words solid e _ (inl refl) refl in
     let json = flag_in (codes "json") rows in
     let timeout = text_in (codes "timeout") rows in
-    (Epochs (at_some_place file.0) json.0 timeout.0, (refl, file.1, json.1, timeout.1))
+    (tasks.Epochs (record { file = at_some_place file.0; json = json.0; timeout = timeout.0 }), (refl, (file.1, json.1, timeout.1)))
 
 simulate_demands : Demanding simulate_app
 simulate_demands words e =
@@ -297,8 +297,8 @@ simulate_demands words e =
     (perhaps_in (built_at simulate_app) words solid e _ (inr (inr (inr (inr (inr (inr (inr (inr (inr (inl refl))))))))))) in
     let seconds = may_have 32 4294967295 (codes "seconds") rows (omega arith)
     (perhaps_in (built_at simulate_app) words solid e _ (inr (inr (inr (inr (inr (inr (inr (inr (inr (inr (inl refl)))))))))))) in (
-      Simulate script.0 trace.0 chart.0 page.0 question.0 member.0 from.0 to.0 forever.0 seed.0 seconds.0,
-      (refl, script.1, trace.1, chart.1, page.1, question.1, member.1, from.1, to.1, forever.1, seed.1, seconds.1),
+      tasks.Simulate (record { script = script.0; trace = trace.0; chart = chart.0; page = page.0; question = question.0; member = member.0; from = from.0; to = to.0; forever = forever.0; seed = seed.0; seconds = seconds.0 }),
+      (refl, (script.1, trace.1, chart.1, page.1, question.1, member.1, from.1, to.1, forever.1, seed.1, seconds.1)),
     )
 
 rounds_demands : Demanding rounds_app
@@ -315,8 +315,8 @@ rounds_demands words e =
     let seeds = may_have 32 4294967295 (codes "seeds") rows (omega arith)
     (perhaps_in (built_at rounds_app) words solid e _ (inr (inr (inr (inr (inl refl)))))) in
     let chart = text_in (codes "chart") rows in (
-      Rounds n.0 t.0 liars.0 order.0 seeds.0 chart.0,
-      (refl, n.1, t.1, liars.1, order.1, seeds.1, chart.1),
+      tasks.Rounds (record { n = n.0; t = t.0; liars = liars.0; order = order.0; seeds = seeds.0; chart = chart.0 }),
+      (refl, (n.1, t.1, liars.1, order.1, seeds.1, chart.1)),
     )
 
 hear_demands : Demanding hear_app
@@ -327,7 +327,7 @@ hear_demands words e =
     let t = has_number 16 65535 (codes "t") rows (omega arith) (given_in (built_at hear_app) words solid e _ (inr (inl refl)) refl) in
     let questions = has_number 16 65535 (codes "questions") rows (omega arith) (given_in (built_at hear_app) words solid e _ (inr (inr (inl refl))) refl) in
     let me = has_number 8 255 (codes "me") rows (omega arith) (given_in (built_at hear_app) words solid e _ (inr (inr (inr (inl refl)))) refl) in
-    (Hear n.0 t.0 questions.0 me.0, (refl, n.1, t.1, questions.1, me.1))
+    (tasks.Hear (record { n = n.0; t = t.0; questions = questions.0; me = me.0 }), (refl, (n.1, t.1, questions.1, me.1)))
 
 -- ---- the program
 

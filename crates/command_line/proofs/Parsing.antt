@@ -7,7 +7,7 @@ use Rattle.clap.specs.declared.parser.matches.ArgMatches.{ArgMatches}
 use Rattle.command_line.specs.Tasks.{AreQuiet, AskFor, IsAskedFor, IsQuiet, rows_in}
 use Rattle.command_line.proofs.Demanded.{faultless_asks}
 use Rattle.command_line.specs.Usage.{program_app}
-use Rattle.command_line.specs.declared.tasks.Task.{Task}
+use Rattle.command_line.specs.declared.words.Task.{Task}
 
 program_is_simple : is_simple program_app ≡ true
 program_is_simple = refl

@@ -7,8 +7,27 @@ use Rattle.clap.specs.declared.parser.matches.ArgMatches.{ArgMatches}
 use Rattle.clap.specs.Simple.{matches_of, subcommand_of}
 use Rattle.clap.specs.Faults.{fault_of}
 use Rattle.command_line.specs.Usage.{program_app}
-use Rattle.command_line.specs.declared.tasks.Task.{Task}
-use Rattle.command_line.specs.declared.tasks.Task.TheVariants.{Hear, NewCluster, Init, Check, Run, Propose, Ask, Decide, Status, Transcript, Audit, Gateway, Epochs, Simulate, Rounds, Dump, Migrate}
+use Rattle.command_line.specs.declared.words.Command.{Command}
+use Rattle.command_line.specs.declared.words.Command.TheVariants as commands
+use Rattle.command_line.specs.declared.words.Task.{Task}
+use Rattle.command_line.specs.declared.words.Task.TheVariants as tasks
+use Rattle.command_line.specs.declared.words.NewClusterWords.{NewClusterWords}
+use Rattle.command_line.specs.declared.words.InitWords.{InitWords}
+use Rattle.command_line.specs.declared.words.CheckWords.{CheckWords}
+use Rattle.command_line.specs.declared.words.RunWords.{RunWords}
+use Rattle.command_line.specs.declared.words.ProposeWords.{ProposeWords}
+use Rattle.command_line.specs.declared.words.AskWords.{AskWords}
+use Rattle.command_line.specs.declared.words.DecideWords.{DecideWords}
+use Rattle.command_line.specs.declared.words.StatusWords.{StatusWords}
+use Rattle.command_line.specs.declared.words.TranscriptWords.{TranscriptWords}
+use Rattle.command_line.specs.declared.words.AuditWords.{AuditWords}
+use Rattle.command_line.specs.declared.words.GatewayWords.{GatewayWords}
+use Rattle.command_line.specs.declared.words.EpochsWords.{EpochsWords}
+use Rattle.command_line.specs.declared.words.DumpWords.{DumpWords}
+use Rattle.command_line.specs.declared.words.MigrateWords.{MigrateWords}
+use Rattle.command_line.specs.declared.words.SimulateWords.{SimulateWords}
+use Rattle.command_line.specs.declared.words.RoundsWords.{RoundsWords}
+use Rattle.command_line.specs.declared.words.HearWords.{HearWords}
 
 -- the text writes the number in decimal digits, behind a plus or none, and it has at most that many bits
 abbrev pub WritesNumber : ℕ → Text → ℕ → Type 0
@@ -34,72 +53,148 @@ MayHaveNumber bits id rows number = (n : ℕ) → (number ≡ Some n) ↔ HasNum
 abbrev pub HasFlag : Text → List Row → Bool → Type 0
 HasFlag id rows given = IsTrue given ↔ (one_of id rows ≡ Some (codes "true"))
 
--- the values of the command's words are those of the task
+-- the name of a command
+abbrev pub name_of : Command → Text
+name_of commands.NewCluster = codes "new-cluster"
+name_of commands.Init = codes "init"
+name_of commands.Check = codes "check"
+name_of commands.Run = codes "run"
+name_of commands.Propose = codes "propose"
+name_of commands.Ask = codes "ask"
+name_of commands.Decide = codes "decide"
+name_of commands.Status = codes "status"
+name_of commands.Transcript = codes "transcript"
+name_of commands.Audit = codes "audit"
+name_of commands.Gateway = codes "gateway"
+name_of commands.Epochs = codes "epochs"
+name_of commands.Dump = codes "dump"
+name_of commands.Migrate = codes "migrate"
+name_of commands.Simulate = codes "simulate"
+name_of commands.Rounds = codes "rounds"
+name_of commands.Hear = codes "hear"
+
+-- the values of a command's words
+abbrev pub Words : Command → Type 0
+Words commands.NewCluster = NewClusterWords
+Words commands.Init = InitWords
+Words commands.Check = CheckWords
+Words commands.Run = RunWords
+Words commands.Propose = ProposeWords
+Words commands.Ask = AskWords
+Words commands.Decide = DecideWords
+Words commands.Status = StatusWords
+Words commands.Transcript = TranscriptWords
+Words commands.Audit = AuditWords
+Words commands.Gateway = GatewayWords
+Words commands.Epochs = EpochsWords
+Words commands.Dump = DumpWords
+Words commands.Migrate = MigrateWords
+Words commands.Simulate = SimulateWords
+Words commands.Rounds = RoundsWords
+Words commands.Hear = HearWords
+
+-- these are the values of the command's words
+abbrev pub Hold : (command : Command) → List Row → Words command → Type 0
+Hold commands.NewCluster rows words = HasNumberOption 16 (codes "n") rows words.n × HasNumberOption 16 (codes "t") rows words.t
+    × HasNumberOption 16 (codes "questions") rows words.questions × HasNumberOption 32 (codes "cluster") rows words.cluster
+    × HasText (codes "folder") rows words.folder.now × MayHaveText (codes "hosts") rows (option_map (λ text. text.now) words.hosts)
+    × MayHaveNumber 16 (codes "port") rows words.port × MayHaveText (codes "desk") rows (option_map (λ text. text.now) words.desk)
+    × HasFlag (codes "epochs") rows words.epochs
+Hold commands.Init rows words = HasText (codes "settings") rows words.settings.now
+Hold commands.Check rows words = HasText (codes "settings") rows words.settings.now
+    × HasFlag (codes "json") rows words.json
+Hold commands.Run rows words = HasText (codes "settings") rows words.settings.now
+    × HasFlag (codes "stay") rows words.stay × HasFlag (codes "log") rows words.log × HasFlag (codes "log-json") rows words.log_json
+    × HasFlag (codes "any-host") rows words.any_host
+Hold commands.Propose rows words = HasText (codes "address") rows words.address.now × HasNumberOption 16 (codes "question") rows words.question
+    × HasNumberOption 8 (codes "bit") rows words.bit × HasFlag (codes "all") rows words.all × MayHaveText (codes "timeout") rows (option_map (λ text. text.now) words.timeout)
+Hold commands.Ask rows words = HasText (codes "address") rows words.address.now
+    × HasNumberOption 16 (codes "question") rows words.question × HasFlag (codes "all") rows words.all × HasFlag (codes "wait") rows words.wait
+    × HasFlag (codes "json") rows words.json × MayHaveText (codes "timeout") rows (option_map (λ text. text.now) words.timeout)
+Hold commands.Decide rows words = HasText (codes "file") rows words.file.now × HasNumberOption 16 (codes "question") rows words.question
+    × HasNumberOption 8 (codes "bit") rows words.bit × HasFlag (codes "json") rows words.json
+    × MayHaveText (codes "timeout") rows (option_map (λ text. text.now) words.timeout)
+Hold commands.Status rows words = HasText (codes "address") rows words.address.now × HasFlag (codes "all") rows words.all
+    × HasFlag (codes "links") rows words.links × HasFlag (codes "ready") rows words.ready
+    × HasFlag (codes "json") rows words.json
+    × MayHaveText (codes "timeout") rows (option_map (λ text. text.now) words.timeout)
+    × MayHaveNumber 16 (codes "question") rows words.question
+Hold commands.Transcript rows words = HasText (codes "address") rows words.address.now
+    × HasNumberOption 16 (codes "question") rows words.question × HasFlag (codes "all") rows words.all
+    × MayHaveText (codes "timeout") rows (option_map (λ text. text.now) words.timeout)
+Hold commands.Audit rows words = HasText (codes "file") rows words.file.now × MayHaveNumber 16 (codes "question") rows words.question
+    × HasFlag (codes "all") rows words.all × MayHaveNumber 16 (codes "n") rows words.n
+    × MayHaveNumber 16 (codes "t") rows words.t × MayHaveNumber 16 (codes "questions") rows words.questions
+    × MayHaveText (codes "timeout") rows (option_map (λ text. text.now) words.timeout)
+Hold commands.Gateway rows words = HasText (codes "file") rows words.file.now
+    × MayHaveText (codes "listen") rows (option_map (λ text. text.now) words.listen)
+    × MayHaveText (codes "token") rows (option_map (λ text. text.now) words.token)
+Hold commands.Epochs rows words = HasText (codes "file") rows words.file.now
+    × HasFlag (codes "json") rows words.json × MayHaveText (codes "timeout") rows (option_map (λ text. text.now) words.timeout)
+Hold commands.Dump rows words = HasText (codes "journal") rows words.journal.now
+    × HasFlag (codes "count") rows words.count × HasFlag (codes "json") rows words.json
+Hold commands.Migrate rows words = HasText (codes "old") rows words.old.now
+    × HasText (codes "new") rows words.new.now
+Hold commands.Simulate rows words = MayHaveText (codes "script") rows (option_map (λ path. path.now) words.script)
+    × MayHaveText (codes "trace") rows (option_map (λ path. path.now) words.trace)
+    × MayHaveText (codes "chart") rows (option_map (λ path. path.now) words.chart)
+    × MayHaveText (codes "page") rows (option_map (λ path. path.now) words.page)
+    × MayHaveNumber 16 (codes "question") rows words.question × MayHaveNumber 8 (codes "member") rows words.member
+    × MayHaveNumber 32 (codes "from") rows words.from × MayHaveNumber 32 (codes "to") rows words.to
+    × HasFlag (codes "forever") rows words.forever × MayHaveNumber 32 (codes "seed") rows words.seed
+    × MayHaveNumber 32 (codes "seconds") rows words.seconds
+Hold commands.Rounds rows words = HasNumberOption 16 (codes "n") rows words.n × HasNumberOption 16 (codes "t") rows words.t
+    × MayHaveNumber 16 (codes "liars") rows words.liars
+    × MayHaveText (codes "order") rows (option_map (λ text. text.now) words.order)
+    × MayHaveNumber 32 (codes "seeds") rows words.seeds
+    × MayHaveText (codes "chart") rows (option_map (λ path. path.now) words.chart)
+Hold commands.Hear rows words = HasNumberOption 16 (codes "n") rows words.n
+    × HasNumberOption 16 (codes "t") rows words.t × HasNumberOption 16 (codes "questions") rows words.questions
+    × HasNumberOption 8 (codes "me") rows words.me
+
+-- the command of a task
+abbrev pub command_of : Task → Command
+command_of (tasks.NewCluster words) = commands.NewCluster
+command_of (tasks.Init words) = commands.Init
+command_of (tasks.Check words) = commands.Check
+command_of (tasks.Run words) = commands.Run
+command_of (tasks.Propose words) = commands.Propose
+command_of (tasks.Ask words) = commands.Ask
+command_of (tasks.Decide words) = commands.Decide
+command_of (tasks.Status words) = commands.Status
+command_of (tasks.Transcript words) = commands.Transcript
+command_of (tasks.Audit words) = commands.Audit
+command_of (tasks.Gateway words) = commands.Gateway
+command_of (tasks.Epochs words) = commands.Epochs
+command_of (tasks.Dump words) = commands.Dump
+command_of (tasks.Migrate words) = commands.Migrate
+command_of (tasks.Simulate words) = commands.Simulate
+command_of (tasks.Rounds words) = commands.Rounds
+command_of (tasks.Hear words) = commands.Hear
+
+-- and the values of its words
+abbrev pub words_of : (task : Task) → Words (command_of task)
+words_of (tasks.NewCluster words) = words
+words_of (tasks.Init words) = words
+words_of (tasks.Check words) = words
+words_of (tasks.Run words) = words
+words_of (tasks.Propose words) = words
+words_of (tasks.Ask words) = words
+words_of (tasks.Decide words) = words
+words_of (tasks.Status words) = words
+words_of (tasks.Transcript words) = words
+words_of (tasks.Audit words) = words
+words_of (tasks.Gateway words) = words
+words_of (tasks.Epochs words) = words
+words_of (tasks.Dump words) = words
+words_of (tasks.Migrate words) = words
+words_of (tasks.Simulate words) = words
+words_of (tasks.Rounds words) = words
+words_of (tasks.Hear words) = words
+
+-- the command of this name is the task's, and the values of its words are the task's
 abbrev pub Names : Text → List Row → Task → Type 0
-Names name rows (Hear n t questions me) = (name ≡ codes "hear") × HasNumberOption 16 (codes "n") rows n
-    × HasNumberOption 16 (codes "t") rows t × HasNumberOption 16 (codes "questions") rows questions
-    × HasNumberOption 8 (codes "me") rows me
-Names name rows (NewCluster n t questions cluster folder hosts port desk epochs) = (name ≡ codes "new-cluster")
-    × HasNumberOption 16 (codes "n") rows n × HasNumberOption 16 (codes "t") rows t
-    × HasNumberOption 16 (codes "questions") rows questions × HasNumberOption 32 (codes "cluster") rows cluster
-    × HasText (codes "folder") rows folder.now × MayHaveText (codes "hosts") rows (option_map (λ text. text.now) hosts)
-    × MayHaveNumber 16 (codes "port") rows port × MayHaveText (codes "desk") rows (option_map (λ text. text.now) desk)
-    × HasFlag (codes "epochs") rows epochs
-Names name rows (Init settings) = (name ≡ codes "init") × HasText (codes "settings") rows settings.now
-Names name rows (Check settings json) = (name ≡ codes "check") × HasText (codes "settings") rows settings.now
-    × HasFlag (codes "json") rows json
-Names name rows (Run settings stay log log_json any_host) = (name ≡ codes "run") × HasText (codes "settings") rows settings.now
-    × HasFlag (codes "stay") rows stay × HasFlag (codes "log") rows log × HasFlag (codes "log-json") rows log_json
-    × HasFlag (codes "any-host") rows any_host
-Names name rows (Propose address question bit all timeout) = (name ≡ codes "propose")
-    × HasText (codes "address") rows address.now × HasNumberOption 16 (codes "question") rows question
-    × HasNumberOption 8 (codes "bit") rows bit × HasFlag (codes "all") rows all × MayHaveText (codes "timeout") rows (option_map (λ text. text.now) timeout)
-Names name rows (Ask address question all wait json timeout) = (name ≡ codes "ask") × HasText (codes "address") rows address.now
-    × HasNumberOption 16 (codes "question") rows question × HasFlag (codes "all") rows all × HasFlag (codes "wait") rows wait
-    × HasFlag (codes "json") rows json × MayHaveText (codes "timeout") rows (option_map (λ text. text.now) timeout)
-Names name rows (Decide file question bit json timeout) = (name ≡ codes "decide")
-    × HasText (codes "file") rows file.now × HasNumberOption 16 (codes "question") rows question
-    × HasNumberOption 8 (codes "bit") rows bit × HasFlag (codes "json") rows json
-    × MayHaveText (codes "timeout") rows (option_map (λ text. text.now) timeout)
-Names name rows (Status address all links ready json timeout question) = (name ≡ codes "status")
-    × HasText (codes "address") rows address.now × HasFlag (codes "all") rows all
-    × HasFlag (codes "links") rows links × HasFlag (codes "ready") rows ready
-    × HasFlag (codes "json") rows json
-    × MayHaveText (codes "timeout") rows (option_map (λ text. text.now) timeout)
-    × MayHaveNumber 16 (codes "question") rows question
-Names name rows (Transcript address question all timeout) = (name ≡ codes "transcript")
-    × HasText (codes "address") rows address.now
-    × HasNumberOption 16 (codes "question") rows question × HasFlag (codes "all") rows all
-    × MayHaveText (codes "timeout") rows (option_map (λ text. text.now) timeout)
-Names name rows (Audit file question all n t questions timeout) = (name ≡ codes "audit")
-    × HasText (codes "file") rows file.now × MayHaveNumber 16 (codes "question") rows question
-    × HasFlag (codes "all") rows all × MayHaveNumber 16 (codes "n") rows n
-    × MayHaveNumber 16 (codes "t") rows t × MayHaveNumber 16 (codes "questions") rows questions
-    × MayHaveText (codes "timeout") rows (option_map (λ text. text.now) timeout)
-Names name rows (Gateway file listen token) = (name ≡ codes "gateway") × HasText (codes "file") rows file.now
-    × MayHaveText (codes "listen") rows (option_map (λ text. text.now) listen)
-    × MayHaveText (codes "token") rows (option_map (λ text. text.now) token)
-Names name rows (Epochs file json timeout) = (name ≡ codes "epochs") × HasText (codes "file") rows file.now
-    × HasFlag (codes "json") rows json × MayHaveText (codes "timeout") rows (option_map (λ text. text.now) timeout)
-Names name rows (Simulate script trace chart page question member from to forever seed seconds) =
-    (name ≡ codes "simulate") × MayHaveText (codes "script") rows (option_map (λ path. path.now) script)
-    × MayHaveText (codes "trace") rows (option_map (λ path. path.now) trace)
-    × MayHaveText (codes "chart") rows (option_map (λ path. path.now) chart)
-    × MayHaveText (codes "page") rows (option_map (λ path. path.now) page)
-    × MayHaveNumber 16 (codes "question") rows question × MayHaveNumber 8 (codes "member") rows member
-    × MayHaveNumber 32 (codes "from") rows from × MayHaveNumber 32 (codes "to") rows to
-    × HasFlag (codes "forever") rows forever × MayHaveNumber 32 (codes "seed") rows seed
-    × MayHaveNumber 32 (codes "seconds") rows seconds
-Names name rows (Rounds n t liars order seeds chart) = (name ≡ codes "rounds")
-    × HasNumberOption 16 (codes "n") rows n × HasNumberOption 16 (codes "t") rows t
-    × MayHaveNumber 16 (codes "liars") rows liars
-    × MayHaveText (codes "order") rows (option_map (λ text. text.now) order)
-    × MayHaveNumber 32 (codes "seeds") rows seeds
-    × MayHaveText (codes "chart") rows (option_map (λ path. path.now) chart)
-Names name rows (Dump journal count json) = (name ≡ codes "dump") × HasText (codes "journal") rows journal.now
-    × HasFlag (codes "count") rows count × HasFlag (codes "json") rows json
-Names name rows (Migrate old new) = (name ≡ codes "migrate") × HasText (codes "old") rows old.now
-    × HasText (codes "new") rows new.now
+Names name rows task = (name ≡ name_of (command_of task)) × Hold (command_of task) rows (words_of task)
 
 -- the command that was met, with what was given for its words, asks for the task
 pub record IsAskedFor (met : Option (Text × List Row)) (task : Task) : Type 0 where

@@ -2,5 +2,11 @@
 #![tactic(auto)]
 
 mod tasks;
+mod words;
 
-pub use tasks::{Request, Task, command};
+pub use tasks::command;
+pub use words::{
+    AskWords, AuditWords, CheckWords, Command, DecideWords, DumpWords, EpochsWords, GatewayWords,
+    HearWords, InitWords, MigrateWords, NewClusterWords, ProposeWords, Request, RoundsWords,
+    RunWords, SimulateWords, StatusWords, Task, TranscriptWords,
+};

@@ -1,190 +1,39 @@
 //! The words of the command line.
 
-ghost use Rattle.command_line.specs.Tasks.{AreQuiet, AskFor, HasFlag, HasNumberOption, IsAskedFor, IsQuiet, Names, SaysQuiet, rows_in};
+ghost use Rattle.command_line.specs.Tasks.{AreQuiet, AskFor, HasFlag, HasNumberOption, Hold, IsAskedFor, IsQuiet, Names, SaysQuiet, Words, command_of, name_of, rows_in, words_of};
 ghost use Rattle.command_line.specs.Usage.{Builds, address_rule, all_rule, needed_all_rule, as_u16, as_u32, as_u8, ask_app, json_rule, audit_app, audited_rules, decide_app, bare_app, check_app, choice_rules, dump_app, epochs_app, gateway_app, option_rule, flag_rule, last_rule, timeout_rule, hear_app, init_app, migrate_app, new_cluster_app, number_rule, program_app};
 ghost use Rattle.command_line.specs.Usage.{forever_rules, propose_app, rounds_app, run_app, simulate_app, size_rules, status_app, transcript_app, desk_rules, quiet_rule, verbose_rule, word_rule, with_rules, with_telling};
 ghost use Rattle.clap.specs.Words.{App, FailsBy, Rule, app_of, fault_of, first_of, new_app, rule_of, subcommand_rows_of, with_rule, with_subcommand};
-ghost use Rattle.std.specs.Prelude.{◌≡◌, ◌↔◌, IfOk, IfSome, IsNone, IsTrue, Some, codes, map, option_map, ℕ};
-ghost use Rattle.command_line.specs.declared.tasks.Task.{Task};
+ghost use Rattle.std.specs.Prelude.{◌≡◌, ◌≢◌, ◌↔◌, IfOk, IfSome, IsNone, IsTrue, Some, codes, map, option_map, ℕ};
+ghost use Rattle.command_line.specs.declared.words.Command.{Command};
+ghost use Rattle.command_line.specs.declared.words.Command.TheVariants as commands;
+ghost use Rattle.command_line.specs.declared.words.Task.{Task};
+ghost use Rattle.command_line.specs.declared.words.NewClusterWords.{NewClusterWords};
+ghost use Rattle.command_line.specs.declared.words.InitWords.{InitWords};
+ghost use Rattle.command_line.specs.declared.words.CheckWords.{CheckWords};
+ghost use Rattle.command_line.specs.declared.words.RunWords.{RunWords};
+ghost use Rattle.command_line.specs.declared.words.ProposeWords.{ProposeWords};
+ghost use Rattle.command_line.specs.declared.words.AskWords.{AskWords};
+ghost use Rattle.command_line.specs.declared.words.DecideWords.{DecideWords};
+ghost use Rattle.command_line.specs.declared.words.StatusWords.{StatusWords};
+ghost use Rattle.command_line.specs.declared.words.TranscriptWords.{TranscriptWords};
+ghost use Rattle.command_line.specs.declared.words.AuditWords.{AuditWords};
+ghost use Rattle.command_line.specs.declared.words.GatewayWords.{GatewayWords};
+ghost use Rattle.command_line.specs.declared.words.EpochsWords.{EpochsWords};
+ghost use Rattle.command_line.specs.declared.words.DumpWords.{DumpWords};
+ghost use Rattle.command_line.specs.declared.words.MigrateWords.{MigrateWords};
+ghost use Rattle.command_line.specs.declared.words.SimulateWords.{SimulateWords};
+ghost use Rattle.command_line.specs.declared.words.RoundsWords.{RoundsWords};
+ghost use Rattle.command_line.specs.declared.words.HearWords.{HearWords};
 
+use crate::words::{
+    AskWords, AuditWords, CheckWords, Command, DecideWords, DumpWords, EpochsWords, GatewayWords,
+    HearWords, InitWords, MigrateWords, NewClusterWords, ProposeWords, Request, RoundsWords,
+    RunWords, SimulateWords, StatusWords, Task, TranscriptWords,
+};
 use clap::{Arg, ArgAction, ArgMatches, Error, value_parser};
 use std::alloc::{AllocError, Global};
 use std::convert::AsStr;
-
-/// A task of the program. With `json` what is printed are objects of JSON, one a line.
-#[derive(Clone, Copy, Debug, PartialEq, Eq)]
-pub enum Task<'a> {
-    /// Reads pieces of streams and prints the broadcasts' answers, as member `me` of a cluster of
-    /// that size.
-    Hear {
-        n: u16,
-        t: u16,
-        questions: u16,
-        me: u8,
-    },
-    /// Makes the journal that the settings in this file name.
-    Init {
-        settings: &'a str,
-    },
-    /// Says what the settings in this file say, and whether a member would start on them and on its
-    /// journal.
-    Check {
-        settings: &'a str,
-        json: bool,
-    },
-    /// Runs the member of the settings in this file, until the standard input ends, or for good if
-    /// it is to stay. Its events are told on the standard error if a log is wanted, as lines or,
-    /// with `log_json`, as objects of JSON. Links are taken from their members' own hosts alone,
-    /// unless any host may speak for any member.
-    Run {
-        settings: &'a str,
-        stay: bool,
-        log: bool,
-        log_json: bool,
-        any_host: bool,
-    },
-    /// Writes the settings of each member of a new cluster, and a client's, into files of this
-    /// folder. Its members listen to one another at these hosts, with commas between them, at the
-    /// ports from this one on; and to their clients at that host. With `epochs` they run a
-    /// chain.
-    NewCluster {
-        n: u16,
-        t: u16,
-        questions: u16,
-        cluster: u32,
-        folder: &'a str,
-        hosts: Option<&'a str>,
-        port: Option<u16>,
-        desk: Option<&'a str>,
-        epochs: bool,
-    },
-    /// Proposes a bit on a question to the member whose desk is at this address; or to all members
-    /// of the cluster of the client's settings in this file. Each is waited for as long as this
-    /// text says.
-    Propose {
-        address: &'a str,
-        question: u16,
-        bit: u8,
-        all: bool,
-        timeout: Option<&'a str>,
-    },
-    /// Asks the member whose desk is at this address for its decision of a question, once or until
-    /// there is one; or all members of the cluster of the client's settings in this file. Each is
-    /// waited for as long as this text says.
-    Ask {
-        address: &'a str,
-        question: u16,
-        all: bool,
-        wait: bool,
-        json: bool,
-        timeout: Option<&'a str>,
-    },
-    /// Proposes a bit on a question to all members of the cluster of the client's settings in this
-    /// file, and waits for the decision as long as this text says.
-    Decide {
-        file: &'a str,
-        question: u16,
-        bit: u8,
-        json: bool,
-        timeout: Option<&'a str>,
-    },
-    /// Asks the member whose desk is at this address whether it is up; or how many links come and
-    /// go, or also whether these are as many as are needed, or how this question stands there; or
-    /// all members of the cluster of the client's settings in this file. Waits as long as this text
-    /// says.
-    Status {
-        address: &'a str,
-        all: bool,
-        links: bool,
-        ready: bool,
-        json: bool,
-        timeout: Option<&'a str>,
-        question: Option<u16>,
-    },
-    /// Asks the member whose desk is at this address for what it heard of a question that is
-    /// decided; or the members of the cluster of the client's settings in this file, until one
-    /// tells it. Waits as long as this text says.
-    Transcript {
-        address: &'a str,
-        question: u16,
-        all: bool,
-        timeout: Option<&'a str>,
-    },
-    /// Says whether the transcript in this file is proof of its decision, for a cluster of that
-    /// size; or, of all members of the cluster of the client's settings in this file, whether the
-    /// transcripts of this question that they tell are. Each form wants values that the other one
-    /// doesn't take: any of them may be missing here.
-    Audit {
-        file: &'a str,
-        question: Option<u16>,
-        all: bool,
-        n: Option<u16>,
-        t: Option<u16>,
-        questions: Option<u16>,
-        timeout: Option<&'a str>,
-    },
-    /// Serves the cluster of the client's settings in this file to browsers and other clients of
-    /// HTTP, at this address. Proposals must show the token in that file.
-    Gateway {
-        file: &'a str,
-        listen: Option<&'a str>,
-        token: Option<&'a str>,
-    },
-    /// Asks all members of the cluster of the client's settings in this file which epochs of their
-    /// chain they have closed. Waits as long as this text says.
-    Epochs {
-        file: &'a str,
-        json: bool,
-        timeout: Option<&'a str>,
-    },
-    /// Runs the script in this file, and writes a trace, a chart and a page of the run into those
-    /// files. The chart has the events of this question and this member alone, from that number to
-    /// that one. Or runs random scripts from this seed on, for so many seconds or for good. Each
-    /// form wants values that the other one doesn't take: any of them may be missing here.
-    Simulate {
-        script: Option<&'a str>,
-        trace: Option<&'a str>,
-        chart: Option<&'a str>,
-        page: Option<&'a str>,
-        question: Option<u16>,
-        member: Option<u8>,
-        from: Option<u32>,
-        to: Option<u32>,
-        forever: bool,
-        seed: Option<u32>,
-        seconds: Option<u32>,
-    },
-    /// Measures how many rounds a decision takes in a cluster of `n` members that tolerates `t`
-    /// liars, while so many lie: once for each of so many seeds, with messages delivered in this
-    /// order. Draws a chart of it into that file.
-    Rounds {
-        n: u16,
-        t: u16,
-        liars: Option<u16>,
-        order: Option<&'a str>,
-        seeds: Option<u32>,
-        chart: Option<&'a str>,
-    },
-    /// Prints the journal in this file, or only how many records it has.
-    Dump {
-        journal: &'a str,
-        count: bool,
-        json: bool,
-    },
-    /// Brings the journal of version 1 in one file over into a new one in another.
-    Migrate {
-        old: &'a str,
-        new: &'a str,
-    },
-}
-
-/// A request: the words of the command line, read.
-#[derive(Clone, Copy, Debug, PartialEq, Eq)]
-pub struct Request<'a> {
-    pub task: Task<'a>,
-    /// The line of a fault is wanted alone, without the second one, which names the thing.
-    pub quiet: bool,
-}
 
 /// A required word, such as `SETTINGS`.
 fn word<'a>(alloc: Global, id: &'a str, value: &'a str, help: &'a str) -> Arg<'a>
@@ -811,12 +660,12 @@ fn flag_of(options: &ArgMatches<'_>, id: &str) -> bool
 }
 
 /// The values of `hear`'s options, each of which the parser has demanded.
-fn hear_of<'a>(options: &ArgMatches<'a>) -> Option<Task<'a>>
-    ensures some { IfSome result (Names (codes "hear") (rows_in options.now)) }
-    ensures none { IsNone result → (task : Task) → Names (codes "hear") (rows_in options.now) task →
-        ⊥ }
+fn hear_of(options: &ArgMatches<'_>) -> Option<HearWords>
+    ensures some { IfSome result (Hold commands.Hear (rows_in options.now)) }
+    ensures none { IsNone result → (words : HearWords) →
+        Hold commands.Hear (rows_in options.now) words → ⊥ }
 {
-    Some(Task::Hear {
+    Some(HearWords {
         n: u16_of(options, "n")?,
         t: u16_of(options, "t")?,
         questions: u16_of(options, "questions")?,
@@ -825,10 +674,10 @@ fn hear_of<'a>(options: &ArgMatches<'a>) -> Option<Task<'a>>
 }
 
 /// The values of `new-cluster`'s words.
-fn new_cluster_of<'a>(options: &ArgMatches<'a>) -> Option<Task<'a>>
-    ensures some { IfSome result (Names (codes "new-cluster") (rows_in options.now)) }
-    ensures none { IsNone result → (task : Task) →
-        Names (codes "new-cluster") (rows_in options.now) task → ⊥ }
+fn new_cluster_of<'a>(options: &ArgMatches<'a>) -> Option<NewClusterWords<'a>>
+    ensures some { IfSome result (Hold commands.NewCluster (rows_in options.now)) }
+    ensures none { IsNone result → (words : NewClusterWords) →
+        Hold commands.NewCluster (rows_in options.now) words → ⊥ }
 {
     let n = u16_of(options, "n")?;
     let t = u16_of(options, "t")?;
@@ -839,7 +688,7 @@ fn new_cluster_of<'a>(options: &ArgMatches<'a>) -> Option<Task<'a>>
     let port = u16_of(options, "port");
     let desk = text_of(options, "desk");
     let epochs = flag_of(options, "epochs");
-    Some(Task::NewCluster {
+    Some(NewClusterWords {
         n,
         t,
         questions,
@@ -853,35 +702,35 @@ fn new_cluster_of<'a>(options: &ArgMatches<'a>) -> Option<Task<'a>>
 }
 
 /// The value of `init`'s word.
-fn init_of<'a>(options: &ArgMatches<'a>) -> Option<Task<'a>>
-    ensures some { IfSome result (Names (codes "init") (rows_in options.now)) }
-    ensures none { IsNone result → (task : Task) → Names (codes "init") (rows_in options.now) task →
-        ⊥ }
+fn init_of<'a>(options: &ArgMatches<'a>) -> Option<InitWords<'a>>
+    ensures some { IfSome result (Hold commands.Init (rows_in options.now)) }
+    ensures none { IsNone result → (words : InitWords) →
+        Hold commands.Init (rows_in options.now) words → ⊥ }
 {
-    Some(Task::Init {
+    Some(InitWords {
         settings: text_of(options, "settings")?,
     })
 }
 
 /// The values of `check`'s words.
-fn check_of<'a>(options: &ArgMatches<'a>) -> Option<Task<'a>>
-    ensures some { IfSome result (Names (codes "check") (rows_in options.now)) }
-    ensures none { IsNone result → (task : Task) →
-        Names (codes "check") (rows_in options.now) task → ⊥ }
+fn check_of<'a>(options: &ArgMatches<'a>) -> Option<CheckWords<'a>>
+    ensures some { IfSome result (Hold commands.Check (rows_in options.now)) }
+    ensures none { IsNone result → (words : CheckWords) →
+        Hold commands.Check (rows_in options.now) words → ⊥ }
 {
-    Some(Task::Check {
+    Some(CheckWords {
         settings: text_of(options, "settings")?,
         json: flag_of(options, "json"),
     })
 }
 
 /// The values of `run`'s words.
-fn run_of<'a>(options: &ArgMatches<'a>) -> Option<Task<'a>>
-    ensures some { IfSome result (Names (codes "run") (rows_in options.now)) }
-    ensures none { IsNone result → (task : Task) → Names (codes "run") (rows_in options.now) task →
-        ⊥ }
+fn run_of<'a>(options: &ArgMatches<'a>) -> Option<RunWords<'a>>
+    ensures some { IfSome result (Hold commands.Run (rows_in options.now)) }
+    ensures none { IsNone result → (words : RunWords) →
+        Hold commands.Run (rows_in options.now) words → ⊥ }
 {
-    Some(Task::Run {
+    Some(RunWords {
         settings: text_of(options, "settings")?,
         stay: flag_of(options, "stay"),
         log: flag_of(options, "log"),
@@ -891,13 +740,13 @@ fn run_of<'a>(options: &ArgMatches<'a>) -> Option<Task<'a>>
 }
 
 /// The values of `propose`'s words.
-fn propose_of<'a>(options: &ArgMatches<'a>) -> Option<Task<'a>>
-    ensures some { IfSome result (Names (codes "propose") (rows_in options.now)) }
-    ensures none { IsNone result → (task : Task) →
-        Names (codes "propose") (rows_in options.now) task → ⊥ }
+fn propose_of<'a>(options: &ArgMatches<'a>) -> Option<ProposeWords<'a>>
+    ensures some { IfSome result (Hold commands.Propose (rows_in options.now)) }
+    ensures none { IsNone result → (words : ProposeWords) →
+        Hold commands.Propose (rows_in options.now) words → ⊥ }
 {
     let to_all = flag_of(options, "all");
-    Some(Task::Propose {
+    Some(ProposeWords {
         address: text_of(options, "address")?,
         question: u16_of(options, "question")?,
         bit: u8_of(options, "bit")?,
@@ -907,13 +756,13 @@ fn propose_of<'a>(options: &ArgMatches<'a>) -> Option<Task<'a>>
 }
 
 /// The values of `ask`'s words.
-fn ask_of<'a>(options: &ArgMatches<'a>) -> Option<Task<'a>>
-    ensures some { IfSome result (Names (codes "ask") (rows_in options.now)) }
-    ensures none { IsNone result → (task : Task) → Names (codes "ask") (rows_in options.now) task →
-        ⊥ }
+fn ask_of<'a>(options: &ArgMatches<'a>) -> Option<AskWords<'a>>
+    ensures some { IfSome result (Hold commands.Ask (rows_in options.now)) }
+    ensures none { IsNone result → (words : AskWords) →
+        Hold commands.Ask (rows_in options.now) words → ⊥ }
 {
     let all = flag_of(options, "all");
-    Some(Task::Ask {
+    Some(AskWords {
         address: text_of(options, "address")?,
         question: u16_of(options, "question")?,
         all,
@@ -924,12 +773,12 @@ fn ask_of<'a>(options: &ArgMatches<'a>) -> Option<Task<'a>>
 }
 
 /// The values of `decide`'s words.
-fn decide_of<'a>(options: &ArgMatches<'a>) -> Option<Task<'a>>
-    ensures some { IfSome result (Names (codes "decide") (rows_in options.now)) }
-    ensures none { IsNone result → (task : Task) →
-        Names (codes "decide") (rows_in options.now) task → ⊥ }
+fn decide_of<'a>(options: &ArgMatches<'a>) -> Option<DecideWords<'a>>
+    ensures some { IfSome result (Hold commands.Decide (rows_in options.now)) }
+    ensures none { IsNone result → (words : DecideWords) →
+        Hold commands.Decide (rows_in options.now) words → ⊥ }
 {
-    Some(Task::Decide {
+    Some(DecideWords {
         file: text_of(options, "file")?,
         question: u16_of(options, "question")?,
         bit: u8_of(options, "bit")?,
@@ -939,12 +788,12 @@ fn decide_of<'a>(options: &ArgMatches<'a>) -> Option<Task<'a>>
 }
 
 /// The values of `status`'s words.
-fn status_of<'a>(options: &ArgMatches<'a>) -> Option<Task<'a>>
-    ensures some { IfSome result (Names (codes "status") (rows_in options.now)) }
-    ensures none { IsNone result → (task : Task) →
-        Names (codes "status") (rows_in options.now) task → ⊥ }
+fn status_of<'a>(options: &ArgMatches<'a>) -> Option<StatusWords<'a>>
+    ensures some { IfSome result (Hold commands.Status (rows_in options.now)) }
+    ensures none { IsNone result → (words : StatusWords) →
+        Hold commands.Status (rows_in options.now) words → ⊥ }
 {
-    Some(Task::Status {
+    Some(StatusWords {
         address: text_of(options, "address")?,
         all: flag_of(options, "all"),
         links: flag_of(options, "links"),
@@ -956,12 +805,12 @@ fn status_of<'a>(options: &ArgMatches<'a>) -> Option<Task<'a>>
 }
 
 /// The values of `transcript`'s words.
-fn transcript_of<'a>(options: &ArgMatches<'a>) -> Option<Task<'a>>
-    ensures some { IfSome result (Names (codes "transcript") (rows_in options.now)) }
-    ensures none { IsNone result → (task : Task) →
-        Names (codes "transcript") (rows_in options.now) task → ⊥ }
+fn transcript_of<'a>(options: &ArgMatches<'a>) -> Option<TranscriptWords<'a>>
+    ensures some { IfSome result (Hold commands.Transcript (rows_in options.now)) }
+    ensures none { IsNone result → (words : TranscriptWords) →
+        Hold commands.Transcript (rows_in options.now) words → ⊥ }
 {
-    Some(Task::Transcript {
+    Some(TranscriptWords {
         address: text_of(options, "address")?,
         question: u16_of(options, "question")?,
         all: flag_of(options, "all"),
@@ -970,12 +819,12 @@ fn transcript_of<'a>(options: &ArgMatches<'a>) -> Option<Task<'a>>
 }
 
 /// The values of `audit`'s words.
-fn audit_of<'a>(options: &ArgMatches<'a>) -> Option<Task<'a>>
-    ensures some { IfSome result (Names (codes "audit") (rows_in options.now)) }
-    ensures none { IsNone result → (task : Task) →
-        Names (codes "audit") (rows_in options.now) task → ⊥ }
+fn audit_of<'a>(options: &ArgMatches<'a>) -> Option<AuditWords<'a>>
+    ensures some { IfSome result (Hold commands.Audit (rows_in options.now)) }
+    ensures none { IsNone result → (words : AuditWords) →
+        Hold commands.Audit (rows_in options.now) words → ⊥ }
 {
-    Some(Task::Audit {
+    Some(AuditWords {
         file: text_of(options, "file")?,
         question: u16_of(options, "question"),
         all: flag_of(options, "all"),
@@ -987,12 +836,12 @@ fn audit_of<'a>(options: &ArgMatches<'a>) -> Option<Task<'a>>
 }
 
 /// The values of `gateway`'s words.
-fn gateway_of<'a>(options: &ArgMatches<'a>) -> Option<Task<'a>>
-    ensures some { IfSome result (Names (codes "gateway") (rows_in options.now)) }
-    ensures none { IsNone result → (task : Task) →
-        Names (codes "gateway") (rows_in options.now) task → ⊥ }
+fn gateway_of<'a>(options: &ArgMatches<'a>) -> Option<GatewayWords<'a>>
+    ensures some { IfSome result (Hold commands.Gateway (rows_in options.now)) }
+    ensures none { IsNone result → (words : GatewayWords) →
+        Hold commands.Gateway (rows_in options.now) words → ⊥ }
 {
-    Some(Task::Gateway {
+    Some(GatewayWords {
         file: text_of(options, "file")?,
         listen: text_of(options, "listen"),
         token: text_of(options, "token"),
@@ -1000,12 +849,12 @@ fn gateway_of<'a>(options: &ArgMatches<'a>) -> Option<Task<'a>>
 }
 
 /// The values of `epochs`'s words.
-fn epochs_of<'a>(options: &ArgMatches<'a>) -> Option<Task<'a>>
-    ensures some { IfSome result (Names (codes "epochs") (rows_in options.now)) }
-    ensures none { IsNone result → (task : Task) →
-        Names (codes "epochs") (rows_in options.now) task → ⊥ }
+fn epochs_of<'a>(options: &ArgMatches<'a>) -> Option<EpochsWords<'a>>
+    ensures some { IfSome result (Hold commands.Epochs (rows_in options.now)) }
+    ensures none { IsNone result → (words : EpochsWords) →
+        Hold commands.Epochs (rows_in options.now) words → ⊥ }
 {
-    Some(Task::Epochs {
+    Some(EpochsWords {
         file: text_of(options, "file")?,
         json: flag_of(options, "json"),
         timeout: text_of(options, "timeout"),
@@ -1013,12 +862,12 @@ fn epochs_of<'a>(options: &ArgMatches<'a>) -> Option<Task<'a>>
 }
 
 /// The values of `dump`'s words.
-fn dump_of<'a>(options: &ArgMatches<'a>) -> Option<Task<'a>>
-    ensures some { IfSome result (Names (codes "dump") (rows_in options.now)) }
-    ensures none { IsNone result → (task : Task) → Names (codes "dump") (rows_in options.now) task →
-        ⊥ }
+fn dump_of<'a>(options: &ArgMatches<'a>) -> Option<DumpWords<'a>>
+    ensures some { IfSome result (Hold commands.Dump (rows_in options.now)) }
+    ensures none { IsNone result → (words : DumpWords) →
+        Hold commands.Dump (rows_in options.now) words → ⊥ }
 {
-    Some(Task::Dump {
+    Some(DumpWords {
         journal: text_of(options, "journal")?,
         count: flag_of(options, "count"),
         json: flag_of(options, "json"),
@@ -1026,24 +875,24 @@ fn dump_of<'a>(options: &ArgMatches<'a>) -> Option<Task<'a>>
 }
 
 /// The values of `migrate`'s words.
-fn migrate_of<'a>(options: &ArgMatches<'a>) -> Option<Task<'a>>
-    ensures some { IfSome result (Names (codes "migrate") (rows_in options.now)) }
-    ensures none { IsNone result → (task : Task) →
-        Names (codes "migrate") (rows_in options.now) task → ⊥ }
+fn migrate_of<'a>(options: &ArgMatches<'a>) -> Option<MigrateWords<'a>>
+    ensures some { IfSome result (Hold commands.Migrate (rows_in options.now)) }
+    ensures none { IsNone result → (words : MigrateWords) →
+        Hold commands.Migrate (rows_in options.now) words → ⊥ }
 {
-    Some(Task::Migrate {
+    Some(MigrateWords {
         old: text_of(options, "old")?,
         new: text_of(options, "new")?,
     })
 }
 
 /// The values of `simulate`'s words.
-fn simulate_of<'a>(options: &ArgMatches<'a>) -> Option<Task<'a>>
-    ensures some { IfSome result (Names (codes "simulate") (rows_in options.now)) }
-    ensures none { IsNone result → (task : Task) →
-        Names (codes "simulate") (rows_in options.now) task → ⊥ }
+fn simulate_of<'a>(options: &ArgMatches<'a>) -> Option<SimulateWords<'a>>
+    ensures some { IfSome result (Hold commands.Simulate (rows_in options.now)) }
+    ensures none { IsNone result → (words : SimulateWords) →
+        Hold commands.Simulate (rows_in options.now) words → ⊥ }
 {
-    Some(Task::Simulate {
+    Some(SimulateWords {
         script: text_of(options, "script"),
         trace: text_of(options, "trace"),
         chart: text_of(options, "chart"),
@@ -1059,12 +908,12 @@ fn simulate_of<'a>(options: &ArgMatches<'a>) -> Option<Task<'a>>
 }
 
 /// The values of `rounds`'s options.
-fn rounds_of<'a>(options: &ArgMatches<'a>) -> Option<Task<'a>>
-    ensures some { IfSome result (Names (codes "rounds") (rows_in options.now)) }
-    ensures none { IsNone result → (task : Task) →
-        Names (codes "rounds") (rows_in options.now) task → ⊥ }
+fn rounds_of<'a>(options: &ArgMatches<'a>) -> Option<RoundsWords<'a>>
+    ensures some { IfSome result (Hold commands.Rounds (rows_in options.now)) }
+    ensures none { IsNone result → (words : RoundsWords) →
+        Hold commands.Rounds (rows_in options.now) words → ⊥ }
 {
-    Some(Task::Rounds {
+    Some(RoundsWords {
         n: u16_of(options, "n")?,
         t: u16_of(options, "t")?,
         liars: u16_of(options, "liars"),
@@ -1074,31 +923,68 @@ fn rounds_of<'a>(options: &ArgMatches<'a>) -> Option<Task<'a>>
     })
 }
 
-/// The task of the command of that name, each of whose values the parser has demanded.
+/// Returns the command of that name, if there is one.
+fn command_named(name: &str) -> Option<Command>
+    ensures some { IfSome result (λ command. name.now ≡ name_of command) }
+    ensures none { IsNone result → (command : Command) → name.now ≢ name_of command }
+{
+    match name {
+        "new-cluster" => Some(Command::NewCluster),
+        "init" => Some(Command::Init),
+        "check" => Some(Command::Check),
+        "run" => Some(Command::Run),
+        "propose" => Some(Command::Propose),
+        "ask" => Some(Command::Ask),
+        "decide" => Some(Command::Decide),
+        "status" => Some(Command::Status),
+        "transcript" => Some(Command::Transcript),
+        "audit" => Some(Command::Audit),
+        "gateway" => Some(Command::Gateway),
+        "epochs" => Some(Command::Epochs),
+        "dump" => Some(Command::Dump),
+        "migrate" => Some(Command::Migrate),
+        "simulate" => Some(Command::Simulate),
+        "rounds" => Some(Command::Rounds),
+        "hear" => Some(Command::Hear),
+        _ => None,
+    }
+}
+
+/// Returns the task of the command, each of whose values the parser has demanded.
+fn task_for<'a>(command: Command, options: &ArgMatches<'a>) -> Option<Task<'a>>
+    ensures command { IfSome result (λ task. command_of task ≡ command) }
+    ensures some { IfSome result
+        (λ task. Hold (command_of task) (rows_in options.now) (words_of task)) }
+    ensures none { IsNone result → (words : Words command) →
+        Hold command (rows_in options.now) words → ⊥ }
+{
+    match command {
+        Command::NewCluster => Some(Task::NewCluster(new_cluster_of(options)?)),
+        Command::Init => Some(Task::Init(init_of(options)?)),
+        Command::Check => Some(Task::Check(check_of(options)?)),
+        Command::Run => Some(Task::Run(run_of(options)?)),
+        Command::Propose => Some(Task::Propose(propose_of(options)?)),
+        Command::Ask => Some(Task::Ask(ask_of(options)?)),
+        Command::Decide => Some(Task::Decide(decide_of(options)?)),
+        Command::Status => Some(Task::Status(status_of(options)?)),
+        Command::Transcript => Some(Task::Transcript(transcript_of(options)?)),
+        Command::Audit => Some(Task::Audit(audit_of(options)?)),
+        Command::Gateway => Some(Task::Gateway(gateway_of(options)?)),
+        Command::Epochs => Some(Task::Epochs(epochs_of(options)?)),
+        Command::Dump => Some(Task::Dump(dump_of(options)?)),
+        Command::Migrate => Some(Task::Migrate(migrate_of(options)?)),
+        Command::Simulate => Some(Task::Simulate(simulate_of(options)?)),
+        Command::Rounds => Some(Task::Rounds(rounds_of(options)?)),
+        Command::Hear => Some(Task::Hear(hear_of(options)?)),
+    }
+}
+
+/// Returns the task of the command of that name.
 fn named_task<'a>(name: &str, options: &ArgMatches<'a>) -> Option<Task<'a>>
     ensures some { IfSome result (Names name.now (rows_in options.now)) }
     ensures none { IsNone result → (task : Task) → Names name.now (rows_in options.now) task → ⊥ }
 {
-    match name {
-        "hear" => hear_of(options),
-        "new-cluster" => new_cluster_of(options),
-        "init" => init_of(options),
-        "check" => check_of(options),
-        "run" => run_of(options),
-        "propose" => propose_of(options),
-        "ask" => ask_of(options),
-        "decide" => decide_of(options),
-        "status" => status_of(options),
-        "transcript" => transcript_of(options),
-        "audit" => audit_of(options),
-        "gateway" => gateway_of(options),
-        "epochs" => epochs_of(options),
-        "dump" => dump_of(options),
-        "migrate" => migrate_of(options),
-        "simulate" => simulate_of(options),
-        "rounds" => rounds_of(options),
-        _ => None,
-    }
+    task_for(command_named(name)?, options)
 }
 
 /// The task of the command that was given.

@@ -1,14 +1,12 @@
 use Rattle.std.proofs.Common.{rules, sym, ◌∙◌, ◌≡◌, true, false}
-use Rattle.command_line.specs.Tasks.{rows_in}
-use Rattle.command_line.proofs.Naming.{only_check}
 use Rattle.command_line.proofs.Reading.{not_none}
 use Rattle.command_line.proofs.tasks.check_of.Goals as goal
 
 pub returns : goal.returns
 returns c = record {
-  some = (search rules, search (rules, sym c.in_ok-text_of.ensures), search (rules, c.flag_of.ensures));
+  some = (search (rules, sym c.in_ok-text_of.ensures), search (rules, c.flag_of.ensures));
   none = λ never. let bad : true ≡ false = never in cc;
 }
 
 pub returns-in_err-text_of-clause-none : goal.returns-in_err-text_of-clause-none
-returns-in_err-text_of-clause-none c = λ _ task named. only_check (rows_in c.args.options.now) (λ settings json named. not_none _ (c.in_err-text_of.ensures ∙ named.1)) task named
+returns-in_err-text_of-clause-none c = λ _ words held. not_none _ (c.in_err-text_of.ensures ∙ held.0)

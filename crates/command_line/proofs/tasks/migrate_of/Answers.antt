@@ -1,17 +1,15 @@
 use Rattle.std.proofs.Common.{rules, sym, ◌∙◌, ◌≡◌, true, false}
-use Rattle.command_line.specs.Tasks.{rows_in}
-use Rattle.command_line.proofs.Naming.{only_migrate}
 use Rattle.command_line.proofs.Reading.{not_none}
 use Rattle.command_line.proofs.tasks.migrate_of.Goals as goal
 
 pub returns : goal.returns
 returns c = record {
-  some = (search rules, search (rules, sym c.in_ok-text_of.ensures), search (rules, sym c.in_ok-text_of-2.ensures));
+  some = (search (rules, sym c.in_ok-text_of.ensures), search (rules, sym c.in_ok-text_of-2.ensures));
   none = λ never. let bad : true ≡ false = never in cc;
 }
 
 pub returns-in_err-text_of-clause-none : goal.returns-in_err-text_of-clause-none
-returns-in_err-text_of-clause-none c = λ _ task named. only_migrate (rows_in c.args.options.now) (λ old new named. not_none _ (c.in_err-text_of.ensures ∙ named.1)) task named
+returns-in_err-text_of-clause-none c = λ _ words held. not_none _ (c.in_err-text_of.ensures ∙ held.0)
 
 pub returns-in_err-text_of-2-clause-none : goal.returns-in_err-text_of-2-clause-none
-returns-in_err-text_of-2-clause-none c = λ _ task named. only_migrate (rows_in c.args.options.now) (λ old new named. not_none _ (c.in_err-text_of-2.ensures ∙ named.2)) task named
+returns-in_err-text_of-2-clause-none c = λ _ words held. not_none _ (c.in_err-text_of-2.ensures ∙ held.1)

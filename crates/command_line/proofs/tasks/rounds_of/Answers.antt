@@ -1,13 +1,10 @@
 use Rattle.std.proofs.Common.{rules, refl, sym, ◌≡◌, true, false}
-use Rattle.command_line.specs.Tasks.{rows_in}
-use Rattle.command_line.proofs.Naming.{only_rounds}
 use Rattle.command_line.proofs.Reading.{not_none}
 use Rattle.command_line.proofs.tasks.rounds_of.Goals as goal
 
 pub returns : goal.returns
 returns c = record {
   some = (
-    search rules,
     search (rules, (c.in_ok-u16_of.ensures c.in_ok-u16_of.field-0).0 refl),
     search (rules, (c.in_ok-u16_of-2.ensures c.in_ok-u16_of-2.field-0).0 refl),
     search (rules, c.u16_of-3.ensures),
@@ -19,9 +16,7 @@ returns c = record {
 }
 
 pub returns-in_err-u16_of-clause-none : goal.returns-in_err-u16_of-clause-none
-returns-in_err-u16_of-clause-none c = λ _ task named.
-    only_rounds (rows_in c.args.options.now) (λ n t liars order seeds chart named. not_none n ((c.in_err-u16_of.ensures n).1 named.1)) task named
+returns-in_err-u16_of-clause-none c = λ _ words held. not_none words.n ((c.in_err-u16_of.ensures words.n).1 held.0)
 
 pub returns-in_err-u16_of-2-clause-none : goal.returns-in_err-u16_of-2-clause-none
-returns-in_err-u16_of-2-clause-none c = λ _ task named.
-    only_rounds (rows_in c.args.options.now) (λ n t liars order seeds chart named. not_none t ((c.in_err-u16_of-2.ensures t).1 named.2)) task named
+returns-in_err-u16_of-2-clause-none c = λ _ words held. not_none words.t ((c.in_err-u16_of-2.ensures words.t).1 held.1)

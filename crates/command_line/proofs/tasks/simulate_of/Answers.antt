@@ -4,7 +4,6 @@ use Rattle.command_line.proofs.tasks.simulate_of.Goals as goal
 pub returns : goal.returns
 returns c = record {
   some = (
-    search rules,
     search (rules, sym c.text_of.ensures),
     search (rules, sym c.text_of-2.ensures),
     search (rules, sym c.text_of-3.ensures),
