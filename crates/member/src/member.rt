@@ -232,8 +232,7 @@ impl<D: Disk> Member<D> {
         ensures fault { result ≡ fault }
     {
         self.records.truncate(before);
-        self.stopped = true;
-        fault
+        self.stopped_by(fault)
     }
 
     /// Saves what the core answered, whose records are behind the first so many, or stops.

@@ -30,9 +30,9 @@ returns g c =
     let batch : List Record = drop c.args.before c.args.records.now in
     let all : c.args.records.now ≡ front ++ batch = sym (take-append-drop c.args.before c.args.records.now) in
     let outbox_was : c.reserve.new.self.items ≡ c.args.outbox.now.items = search rules in
-    let behind_is : c.behind-batch.result.now ≡ batch = c.behind-batch.ensures in
+    let behind_is : c.behind-last.result.now ≡ batch = c.behind-last.ensures in
     let outbox_is : c.seal.new.outbox.items ≡ c.args.outbox.now.items ++ sealed_from (length c.args.outbox.now.items) batch =
-    c.seal.ensures ∙ ap (λ (xs : List Sealed). xs ++ sealed_from (length xs) c.behind-batch.result.now) outbox_was
+    c.seal.ensures ∙ ap (λ (xs : List Sealed). xs ++ sealed_from (length xs) c.behind-last.result.now) outbox_was
     ∙ ap (λ (l : List Record). c.args.outbox.now.items ++ sealed_from (length c.args.outbox.now.items) l) behind_is in
     let sealed : c.seal.new.outbox.items ≡ sealed_from 0 c.args.records.now =
     goes_on front batch c.args.outbox.now.items _ _ _ c.requires.sealed refl all outbox_is in
