@@ -1,27 +1,28 @@
 //! A member over its journal: begin at `Member::hear`.
-ghost use Rattle.std.specs.Prelude.{◌≡◌, ◌⊎◌, ◌↔◌, ◌+◌, ◌^◌, ◌<◌, ◌≤◌, ℕ, Bool, true, false, Option, None, List, [], ◌++◌, length, Ok, IsErrOf, IfOk, IfErr, OnOk, OnErr};
+ghost use Rattle.std.specs.Prelude.{◌≡◌, ◌⊎◌, ◌↔◌, ◌+◌, ◌^◌, ◌<◌, ◌≤◌, ℕ, Bool, true, false, Option, None, List, [], ◌++◌, length, take, drop, Ok, IsErrOf, IfOk, IfErr, OnOk, OnErr};
 ghost use Rattle.terms_prelude.specs.Terms.{Record, Statement, got, is_foreign, said, records_of, Hearing, Proposal, new_place, Initial, IsSize};
 ghost use Rattle.disk.specs.Model.{LeavesOnly};
 ghost use Rattle.journal.specs.File.{Holds};
+ghost use Rattle.journal.specs.Readers.{journal_is_stopped, IsAtRest};
 ghost use Rattle.journal.specs.WellFormed.{AreWellFormedFor};
 ghost use Rattle.questions.specs.Readers.{CoreStandsFor, core_size, core_me};
 ghost use Rattle.questions.specs.Faults.{records_fault};
-ghost use Rattle.questions.specs.Replies.{reply_of};
+ghost use Rattle.questions.specs.Replies.{reply_of, reply_with};
 ghost use Rattle.questions.specs.declared.answer.Answer.{Answer};
 ghost use Rattle.member.specs.Answers.{IsFull, gate_after};
 ghost use Rattle.member.specs.Faults.{refusal};
-ghost use Rattle.member.specs.Keeping.{Kept};
+ghost use Rattle.member.specs.Keeping.{Kept, KeptBehind};
 ghost use Rattle.member.specs.Sealed.{sealed_from};
-ghost use Rattle.member.specs.Outcomes.{AnswersTo, HasSaved, HasFailed, StaysOn, IsOneEvent, IsOpened, IsARestart, IsNotOpened};
+ghost use Rattle.member.specs.Outcomes.{AnswersTo, HasSaved, HasFailed, StaysOn, IsOneEvent, IsEventBy, reply_saved, IsOpened, IsARestart, IsNotOpened};
 ghost use Rattle.member.specs.Sound.{IsSound, IsFiled};
 ghost use Rattle.member.specs.Readers.{member_disk, member_header, member_gate, member_saved, member_outbox, member_is_stopped, MemberStandsFor};
 
 use crate::fault::MemberFault;
-use crate::save::save;
+use crate::save::{save, save_last};
 use crate::sealed::{Sealed, seal};
 use disk::Disk;
 use journal::{Journal, JournalFault, Release};
-use questions::{Answer, Core, CoreFault};
+use questions::{Answer, Core, CoreFault, Heard};
 use rounds::Toss;
 use std::alloc::Global;
 use terms::{Header, Record, Statement};
@@ -133,6 +134,48 @@ impl<D: Disk> Member<D> {
         self.keep(answer)
     }
 
+    /// Answers to a statement as [`hear`](Member::hear) does, without a list of its own: the
+    /// records of the answer are the last of [`records`](Member::records), those behind the ones
+    /// that were there before the call.
+    ///
+    /// # Errors
+    ///
+    /// Those of [`hear`](Member::hear), in the same order.
+    #[inline(always)]
+    pub fn hear_saved(&mut self, from: u8, s: &Statement, toss: Toss) -> Result<Heard, MemberFault>
+        requires sound { IsSound D.Disk self.old }
+        ensures sound { IsSound D.Disk self.new }
+
+        // It answers what the definitions say, and saves the records of its answer.
+        ensures answer { IfOk result
+            (λ heard. AnswersTo self.old toss.0 (Hearing from s.now)
+            (reply_saved self.old self.new heard) self.new) }
+        ensures saved { IfOk result
+            (λ heard. HasSaved D.Disk self.old (records_of (reply_saved self.old self.new heard))
+            self.new) }
+        ensures event { IsEventBy (reply_saved self.old self.new) D.Disk toss.0
+            (Hearing from s.now) self.old result self.new }
+
+        // Each refusal has its cause, and leaves what was saved and handed out.
+        ensures ok { OnOk result (refusal self.old (Hearing from s.now) ≡ None) }
+        ensures fault { IfErr result
+            (λ fault. HasFailed D.Disk self.old (refusal self.old (Hearing from s.now))
+            (IsFull self.old toss.0 (Hearing from s.now)) fault self.new) }
+        ensures memory_only_at_news { IsErrOf result MemberFault.Memory →
+            (records : List Record) (heard : List (ℕ × Statement)) →
+            MemberStandsFor self.old records heard → (is_foreign from s.now ≡ false)
+            × (got heard from s.now.kind s.now.place ≡ None) }
+        ensures stays { StaysOn D.Disk self.old self.new }
+    {
+        if self.stopped {
+            return Err(MemberFault::Stopped);
+        }
+        s.recall();
+        let before = self.records.len();
+        let heard = self.core.hear_into(from, s, toss, &mut self.records);
+        self.keep_last(before, heard)
+    }
+
     /// Answers to a bit that is proposed for the question, with this toss. The bit that was
     /// proposed first stands, in this life or in an earlier one. The records of the answer are
     /// saved, and then their statements are in the outbox.
@@ -180,6 +223,62 @@ impl<D: Disk> Member<D> {
         fault
     }
 
+    /// Stops, takes the records back that are behind the first so many, and gives the fault.
+    #[cold]
+    fn undone_by(&mut self, before: usize, fault: MemberFault) -> MemberFault
+        ensures records { self.new.records.items ≡ take before self.old.records.items }
+        ensures stopped { self.new
+            ≡ record self.old { records = self.new.records; stopped = true } }
+        ensures fault { result ≡ fault }
+    {
+        self.records.truncate(before);
+        self.stopped_by(fault)
+    }
+
+    /// Saves what the core answered, whose records are behind the first so many, or stops.
+    #[inline(always)]
+    fn keep_last(
+        &mut self,
+        before: usize,
+        heard: Result<Heard, CoreFault>,
+    ) -> Result<Heard, MemberFault>
+        requires takes { IfOk heard (λ h.
+            records_of (reply_with h (drop before self.old.records.items))
+            ≡ drop before self.old.records.items) }
+        requires none { OnErr heard (take before self.old.records.items ≡ self.old.records.items) }
+        requires few { OnOk heard (length (drop before self.old.records.items) ≤ 99) }
+        requires well_formed { OnOk heard
+            (AreWellFormedFor (member_header self.old) (drop before self.old.records.items)) }
+        requires going { member_is_stopped self.old ≡ false }
+        requires sealed { member_outbox self.old
+            ≡ sealed_from 0 (take before self.old.records.items) }
+        requires asked { records_fault (member_header self.old).size
+            (take before self.old.records.items) ≡ None }
+        requires running { journal_is_stopped self.old.journal ≡ false }
+        requires settled { D.keeps (member_disk self.old) →
+            IsAtRest D.state (member_header self.old) (take before self.old.records.items)
+            self.old.journal }
+        ensures { KeptBehind D.Disk (take before self.old.records.items) self.old self.old.core
+            (λ h. reply_with h (drop before self.old.records.items)) heard result self.new }
+    {
+        match heard {
+            Ok(heard) => match save_last(
+                &mut self.journal,
+                &mut self.outbox,
+                &self.records,
+                before,
+            ) {
+                Ok(()) => Ok(heard),
+                Err(JournalFault::Device) => Err(self.undone_by(before, MemberFault::Device)),
+                Err(JournalFault::Full) => Err(self.undone_by(before, MemberFault::JournalFull)),
+                Err(_) => Err(self.undone_by(before, MemberFault::Memory)),
+            },
+            Err(CoreFault::NoSuchQuestion) => Err(MemberFault::NoSuchQuestion),
+            Err(CoreFault::NoSuchMember) => Err(MemberFault::NoSuchMember),
+            Err(_) => Err(self.stopped_by(MemberFault::Memory)),
+        }
+    }
+
     /// Saves what the core answered, or stops.
     #[inline(always)]
     fn keep(&mut self, answer: Result<Answer, CoreFault>) -> Result<Answer, MemberFault>
@@ -188,7 +287,7 @@ impl<D: Disk> Member<D> {
             (λ a. AreWellFormedFor (member_header self.old) (records_of (reply_of a))) }
         requires going { member_is_stopped self.old ≡ false }
         requires filed { IsFiled D.Disk self.old }
-        ensures { Kept D.Disk self.old self.old.core answer result self.new }
+        ensures { Kept D.Disk self.old self.old.core reply_of answer result self.new }
     {
         match answer {
             Ok(answer) => match save(

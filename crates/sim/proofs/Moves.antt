@@ -1,6 +1,6 @@
 -- What a member does, as steps of the world.
 use Rattle.std.proofs.Common.{◌≡◌, ℕ, ◌⊎◌, inl, inr, Bool, true, false, Option, Some, Result, Ok, Err, IfOk, List, [], ◌∷◌, ◌++◌, refl, sym, ap, subst, ◌∙◌, append_assoc}
-use Rattle.terms_prelude.specs.Terms.{Size, Record, Statement, Header, records_of, records_of_all, without_tosses}
+use Rattle.terms_prelude.specs.Terms.{Size, Record, Statement, Header, Reply, records_of, records_of_all, without_tosses}
 use Rattle.std.specs.Global.{Vec}
 use Rattle.terms.specs.Reply.{Event as Happening}
 use Rattle.disk.specs.declared.memory.MemDisk.{MemDisk}
@@ -10,45 +10,44 @@ use Rattle.journal.specs.Words.{header_text, batches_bytes, IsFrontOf, Holds}
 use Rattle.journal.proofs.Crash.{begins_kept}
 use Rattle.journal.proofs.Held.{left_holds}
 use Rattle.questions.specs.declared.answer.Answer.{Answer}
-use Rattle.questions.specs.Replies.{reply_of}
 use Rattle.world.specs.Words.{World, in_doubt, after, Hears, Crash, Restart}
 use Rattle.world.proofs.Runs.{put-here}
 use Rattle.member.specs.declared.fault.MemberFault.{MemberFault}
 use Rattle.member.specs.declared.fault.MemberFault.TheVariants.{Stopped, Device, Memory, JournalFull, NoSuchQuestion, NoSuchMember}
 use Rattle.member.specs.declared.member.Member.{Member}
-use Rattle.member.specs.Words.{member_disk, member_saved, member_header, member_is_stopped, IsSound, memory_disk, IsLeft, MemberIsAt, DoesStep, Lives, world_step, LivesAll, replies_of}
+use Rattle.member.specs.Words.{member_disk, member_saved, member_header, member_is_stopped, IsSound, memory_disk, IsLeft, MemberIsAt, DoesStep, LivesBy, world_step, LivesAll, replies_of}
 use Rattle.sim.specs.Words.{Mark, Done, Here, IsMarkOf, IsMove, IsDown, Answers, AnswersGroup, Reopens, mine}
 
 -- an event that a member answered
-pub told : (size : Size) (liars : ℕ → Bool) (p : ℕ) (w : World) (toss : ℕ) (fused : Bool) (event : Happening) (old new : Member MemDisk)
-    (answer : Result Answer MemberFault) (mark : Mark) → IsMarkOf fused answer mark → Lives memory_disk (mine size p) liars w toss event answer old new
+pub told : {A : Type 0} (reply_in : A → Reply) (size : Size) (liars : ℕ → Bool) (p : ℕ) (w : World) (toss : ℕ) (fused : Bool) (event : Happening) (old new : Member MemDisk)
+    (answer : Result A MemberFault) (mark : Mark) → IsMarkOf fused answer mark → LivesBy reply_in memory_disk (mine size p) liars w toss event answer old new
     → IsMove size liars p w (Answers size p w fused toss event mark) (Here new)
-told size liars p w toss fused event old new (Ok a) mark is lives = record {
-  steps = world_step p event (records_of (reply_of a)) true ∷ [];
-  is = subst (λ (m : Mark). Answers size p w fused toss event m (world_step p event (records_of (reply_of a)) true ∷ [])) (sym is)
-      (record { reply = reply_of a; replies = lives.0; is = refl });
+told reply_in size liars p w toss fused event old new (Ok a) mark is lives = record {
+  steps = world_step p event (records_of (reply_in a)) true ∷ [];
+  is = subst (λ (m : Mark). Answers size p w fused toss event m (world_step p event (records_of (reply_in a)) true ∷ [])) (sym is)
+      (record { reply = reply_in a; replies = lives.0; is = refl });
   is_run = (lives.1.0, tt);
   at = lives.1.1 tt;
 }
-told size liars p w toss fused event old new (Err Device) mark is lives = record {
+told reply_in size liars p w toss fused event old new (Err Device) mark is lives = record {
   steps = world_step p event (records_of lives.0) false ∷ [];
   is = subst (λ (m : Mark). Answers size p w fused toss event m (world_step p event (records_of lives.0) false ∷ [])) (sym is.1)
       (is.0, record { reply = lives.0; replies = lives.1; is = refl });
   is_run = (lives.2.0, tt);
   at = lives.2.1 tt;
 }
-told size liars p w toss fused event old new (Err Stopped) mark is lives = absurd is
-told size liars p w toss fused event old new (Err Memory) mark is lives = absurd is
-told size liars p w toss fused event old new (Err JournalFull) mark is lives = absurd is
-told size liars p w toss fused event old new (Err NoSuchQuestion) mark is lives = absurd is
-told size liars p w toss fused event old new (Err NoSuchMember) mark is lives = absurd is
+told reply_in size liars p w toss fused event old new (Err Stopped) mark is lives = absurd is
+told reply_in size liars p w toss fused event old new (Err Memory) mark is lives = absurd is
+told reply_in size liars p w toss fused event old new (Err JournalFull) mark is lives = absurd is
+told reply_in size liars p w toss fused event old new (Err NoSuchQuestion) mark is lives = absurd is
+told reply_in size liars p w toss fused event old new (Err NoSuchMember) mark is lives = absurd is
 
-pub told_ok : (size : Size) (liars : ℕ → Bool) (p : ℕ) (w : World) (toss : ℕ) (fused : Bool) (event : Happening) (old new : Member MemDisk)
-    (answer : Result Answer MemberFault) {E : Type 0} (result : Result Mark E) → IfOk result (λ mark. IsMarkOf fused answer mark)
-    → Lives memory_disk (mine size p) liars w toss event answer old new
+pub told_ok : {A : Type 0} (reply_in : A → Reply) (size : Size) (liars : ℕ → Bool) (p : ℕ) (w : World) (toss : ℕ) (fused : Bool) (event : Happening) (old new : Member MemDisk)
+    (answer : Result A MemberFault) {E : Type 0} (result : Result Mark E) → IfOk result (λ mark. IsMarkOf fused answer mark)
+    → LivesBy reply_in memory_disk (mine size p) liars w toss event answer old new
     → IfOk result (λ mark. IsMove size liars p w (Answers size p w fused toss event mark) (Here new))
-told_ok size liars p w toss fused event old new answer (Ok mark) is lives = told size liars p w toss fused event old new answer mark is lives
-told_ok size liars p w toss fused event old new answer (Err e) is lives = tt
+told_ok reply_in size liars p w toss fused event old new answer (Ok mark) is lives = told reply_in size liars p w toss fused event old new answer mark is lives
+told_ok reply_in size liars p w toss fused event old new answer (Err e) is lives = tt
 
 -- a group that a member answered
 told_all : (size : Size) (liars : ℕ → Bool) (p : ℕ) (w : World) (fused : Bool) (es : List (ℕ × Statement × ℕ)) (old new : Member MemDisk)

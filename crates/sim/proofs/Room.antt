@@ -1,12 +1,11 @@
 -- A member's journal always has room.
 use Rattle.std.proofs.Common.{◌≡◌, ◌+◌, ◌*◌, ◌^◌, ◌<◌, ◌≤◌, ◌⊎◌, inl, inr, ℕ, Bool, true, false, None, Result, Ok, Err, IsErrOf, List, [], ◌∷◌, ◌++◌, length, length-append, sym, ap, subst, ◌∙◌, arith}
-use Rattle.terms_prelude.specs.Terms.{Size, Statement, Header, Record, past_of, IsReply, AreReplies, records_of, records_of_all, without_tosses, Hearing, Proposal}
+use Rattle.terms_prelude.specs.Terms.{Size, Statement, Header, Record, Reply, past_of, IsReply, AreReplies, records_of, records_of_all, without_tosses, Hearing, Proposal}
 use Rattle.terms.specs.Reply.{Event as Happening}
 use Rattle.disk.specs.declared.memory.MemDisk.{MemDisk}
 use Rattle.journal.specs.Texts.{batch_records as records_in}
 use Rattle.journal.specs.Words.{Batch, batch_body, header_text, batches_bytes, AreBatches}
 use Rattle.journal.proofs.Texts.{length-header_text, length-body}
-use Rattle.questions.specs.declared.answer.Answer.{Answer}
 use Rattle.world.specs.Words.{World, Step, IsCorrect, IsAllowed, IsRun, start, in_doubt, after, after_all, Hears, AreWellFormedRecords}
 use Rattle.world.proofs.Runs.{IsRun-append, after_all-append, hears_allowed, put-here}
 use Rattle.world.proofs.Single.{decides_once, says_once}
@@ -15,7 +14,7 @@ use Rattle.world.proofs.Formed.{AreWellFormed-front}
 use Rattle.member.specs.declared.fault.MemberFault.{MemberFault}
 use Rattle.member.specs.declared.fault.MemberFault.TheVariants.{Stopped, Device, Memory, JournalFull, NoSuchQuestion, NoSuchMember}
 use Rattle.member.specs.declared.member.Member.{Member}
-use Rattle.member.specs.Words.{event_question, gate_after, IsFull, AllReply, AllCome, IsFullOfAll, MemberIsAt, Lives, Comes, Replies, world_step, memory_disk, IsSound, member_header, member_gate, member_saved, member_is_stopped}
+use Rattle.member.specs.Words.{event_question, gate_after, IsFull, AllReply, AllCome, IsFullOfAll, MemberIsAt, LivesBy, Comes, Replies, world_step, memory_disk, IsSound, member_header, member_gate, member_saved, member_is_stopped}
 use Rattle.member.proofs.Lives.{kept_step}
 use Rattle.sim.specs.Seats.{MayCome, mine}
 use Rattle.sim.proofs.Few.{few_records}
@@ -108,12 +107,12 @@ module _ (size : Size) (liars : ℕ → Bool) (p : ℕ) (w : World) (toss : ℕ)
       saved_fits size liars p w old correct free may sound at (world_step p event (records_of reply) true) (records_of reply) (one.allowed true) one.journal full.2
 
   -- no event finds the journal full
-  pub never_full : (new : Member MemDisk) (answer : Result Answer MemberFault) → (IsErrOf answer JournalFull → IsFull old toss event)
-      → Lives memory_disk (mine size p) liars w toss event answer old new → IsErrOf answer JournalFull → ⊥
-  never_full new (Ok a) full lives e = cc
-  never_full new (Err Stopped) full lives e = let f : ◌≡◌ {A = MemberFault} Stopped JournalFull = cc in cc
-  never_full new (Err Device) full lives e = let f : ◌≡◌ {A = MemberFault} Device JournalFull = cc in cc
-  never_full new (Err Memory) full lives e = let f : ◌≡◌ {A = MemberFault} Memory JournalFull = cc in cc
-  never_full new (Err JournalFull) full lives e = has_room lives.0 (full e)
-  never_full new (Err NoSuchQuestion) full lives e = let f : ◌≡◌ {A = MemberFault} NoSuchQuestion JournalFull = cc in cc
-  never_full new (Err NoSuchMember) full lives e = let f : ◌≡◌ {A = MemberFault} NoSuchMember JournalFull = cc in cc
+  pub never_full : {A : Type 0} (reply_in : A → Reply) (new : Member MemDisk) (answer : Result A MemberFault) → (IsErrOf answer JournalFull → IsFull old toss event)
+      → LivesBy reply_in memory_disk (mine size p) liars w toss event answer old new → IsErrOf answer JournalFull → ⊥
+  never_full reply_in new (Ok a) full lives e = cc
+  never_full reply_in new (Err Stopped) full lives e = let f : ◌≡◌ {A = MemberFault} Stopped JournalFull = cc in cc
+  never_full reply_in new (Err Device) full lives e = let f : ◌≡◌ {A = MemberFault} Device JournalFull = cc in cc
+  never_full reply_in new (Err Memory) full lives e = let f : ◌≡◌ {A = MemberFault} Memory JournalFull = cc in cc
+  never_full reply_in new (Err JournalFull) full lives e = has_room lives.0 (full e)
+  never_full reply_in new (Err NoSuchQuestion) full lives e = let f : ◌≡◌ {A = MemberFault} NoSuchQuestion JournalFull = cc in cc
+  never_full reply_in new (Err NoSuchMember) full lives e = let f : ◌≡◌ {A = MemberFault} NoSuchMember JournalFull = cc in cc

@@ -134,7 +134,7 @@ impl Presence {
         let Presence::Here(member) = self else {
             return Ok(Mark::Skipped(Reason::NotUp));
         };
-        let answer = member.hear(from, statement, toss);
+        let answer = member.hear_saved(from, statement, toss);
         mark_of(answer, fused)
     }
 

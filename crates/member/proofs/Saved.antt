@@ -1,0 +1,126 @@
+-- What a call comes to that answers without a list: the records are those that were saved since.
+use Rattle.std.proofs.Common.{◌≡◌, ◌≢◌, ℕ, Result, Ok, Err, IfOk, IfErr, OnOk, OnErr, IsErrOf, Bool, true, List, ◌++◌, length, take, drop, refl, sym, ap, subst, ◌∙◌}
+use Rattle.std.proofs.Math.Seq.{take-append_seam, take-length}
+use Rattle.std.specs.Global.{Vec}
+use Rattle.terms_prelude.specs.Terms.{Header, Record, Event, Reply, records_of}
+use Rattle.disk.specs.declared.device.Disk.{Ghosts as DiskGhosts}
+use Rattle.journal.specs.Words.{AreWellFormedFor}
+use Rattle.world.specs.Words.{World, IsCorrect}
+use Rattle.questions.specs.declared.Core.{Core}
+use Rattle.questions.specs.declared.answer.Heard.{Heard}
+use Rattle.questions.specs.declared.answer.CoreFault.{CoreFault}
+use Rattle.questions.specs.declared.answer.CoreFault.TheVariants as cores
+use Rattle.questions.specs.Replies.{reply_with, added}
+use Rattle.questions.proofs.Adding.{added_is}
+use Rattle.member.specs.Words.{MemberFault, Stopped, Device, Memory, JournalFull, NoSuchQuestion, NoSuchMember, Member, member_fault, Stops, Kept, KeptBehind, HasSaved, IsEventBy, LivesBy, MemberIsAt, Comes, Replies, DoesStep, world_step, member_disk, member_header, member_gate, member_saved, member_is_stopped}
+
+-- the reply of that outcome, whose records were appended to the first list
+abbrev pub heard_in : List Record → List Record → Heard → Reply
+heard_in before after heard = reply_with heard (added before after)
+
+-- what was appended is what is behind the first so many
+pub behind_is : (first all : List Record) (before : ℕ) (heard : Heard) → before ≡ length first → all ≡ first ++ records_of (heard_in first all heard)
+    → drop before all ≡ records_of (heard_in first all heard)
+behind_is first all before heard count appends = ap (λ (n : ℕ). drop n all) count ∙ added_is first (records_of (heard_in first all heard)) all appends
+
+pub front_is : (first all : List Record) (before : ℕ) (heard : Result Heard CoreFault) → before ≡ length first
+    → IfOk heard (λ h. all ≡ first ++ records_of (heard_in first all h)) → OnErr heard (all ≡ first) → take before all ≡ first
+front_is first all before (Ok h) count appends same =
+    ap (λ (n : ℕ). take n all) count ∙ ap (λ (l : List Record). take (length first) l) appends ∙ take-append_seam first (records_of (heard_in first all h))
+front_is first all before (Err e) count appends same = ap (λ (n : ℕ). take n all) count ∙ ap (λ (l : List Record). take (length first) l) same ∙ take-length first
+
+-- its records are well formed
+pub formed_behind : (header : Header) (first all : List Record) (before : ℕ) (heard : Result Heard CoreFault) → before ≡ length first
+    → IfOk heard (λ h. all ≡ first ++ records_of (heard_in first all h)) → IfOk heard (λ h. AreWellFormedFor header (records_of (heard_in first all h)))
+    → OnOk heard (AreWellFormedFor header (drop before all))
+formed_behind header first all before (Err e) count appends formed = tt
+formed_behind header first all before (Ok h) count appends formed =
+    subst (λ (l : List Record). AreWellFormedFor header l) (sym (behind_is first all before h count appends)) formed
+
+-- a fault that doesn't stop the member leaves its list
+untouched_by : {D : Type 0} (old : Member D) (all : Vec Record) (heard : Result Heard CoreFault) (result : Result Heard MemberFault)
+    → IfErr heard (λ e. e ≢ cores.Memory → all ≡ old.records) → IfErr heard (λ e. IsErrOf result (member_fault e)) → IfOk heard (λ _. IfErr result Stops)
+    → IfErr result (λ f. (Stops f → ⊥) → all ≡ old.records)
+untouched_by old all heard (Ok h) left told stopping = tt
+untouched_by old all (Ok h) (Err f) left told stopping = λ goes_on. absurd (goes_on stopping)
+untouched_by old all (Err cores.NoSuchQuestion) (Err f) left told stopping = λ goes_on. left (λ e. cc)
+untouched_by old all (Err cores.NoSuchMember) (Err f) left told stopping = λ goes_on. left (λ e. cc)
+untouched_by old all (Err cores.Memory) (Err f) left told stopping = λ goes_on. let one : f ≡ Memory = cc in absurd (goes_on (subst Stops (sym one) tt))
+untouched_by old all (Err cores.Failed) (Err f) left told stopping = λ goes_on. let one : f ≡ Memory = cc in absurd (goes_on (subst Stops (sym one) tt))
+
+unchanged_by : {D : Type 0} (old : Member D) (core : Core) (all : Vec Record) (new : Member D) (result : Result Heard MemberFault)
+    → IfErr result (λ f. (Stops f → ⊥) → all ≡ old.records) → IfErr result (λ f. (Stops f → ⊥) → new ≡ record old { core = core; records = all })
+    → IfErr result (λ f. (Stops f → ⊥) → new ≡ record old { core = core })
+unchanged_by old core all new (Ok h) left changed = tt
+unchanged_by old core all new (Err f) left changed = λ goes_on. changed goes_on ∙ (λ i. record old { core = core; records = left goes_on i })
+
+-- what was kept of what a core answered into the member's list
+pub kept_into : {D : Type 0} (disk : DiskGhosts D) (old : Member D) (core : Core) (all : Vec Record) (before : ℕ) (heard : Result Heard CoreFault) (result : Result Heard MemberFault) (new : Member D)
+    → before ≡ length old.records.items → IfOk heard (λ h. all.items ≡ old.records.items ++ records_of (heard_in old.records.items all.items h))
+    → OnErr heard (all.items ≡ old.records.items) → IfErr heard (λ e. e ≢ cores.Memory → all ≡ old.records)
+    → KeptBehind disk (take before all.items) (record old { core = core; records = all }) core (λ h. reply_with h (drop before all.items)) heard result new
+    → Kept disk old core (heard_in old.records.items all.items) heard result new
+unfolding member_disk member_header member_gate member_saved member_is_stopped
+kept_into disk old core all before heard result new count appends same left kept =
+    let counted : KeptBehind disk (take before all.items) (record old { core = core; records = all }) core (heard_in old.records.items all.items) heard result new =
+    subst (λ (n : ℕ). KeptBehind disk (take before all.items) (record old { core = core; records = all }) core (λ h. reply_with h (drop n all.items)) heard result new) count kept in
+    let k : KeptBehind disk old.records.items (record old { core = core; records = all }) core (heard_in old.records.items all.items) heard result new =
+    subst (λ (l : List Record). KeptBehind disk l (record old { core = core; records = all }) core (heard_in old.records.items all.items) heard result new)
+    (front_is old.records.items all.items before heard count appends same) counted in
+    record {
+      filed = k.filed;
+      answer_is = k.answer_is;
+      saved = k.saved;
+      same = k.same;
+      core_is = k.core_is;
+      header = k.header;
+      going = k.going;
+      any_moment = k.any_moment;
+      refused = k.refused;
+      told_is = k.told_is;
+      stopping = k.stopping;
+      unchanged = unchanged_by old core all new result (untouched_by old all heard result left k.told_is k.stopping) k.unchanged;
+      stops = k.stops;
+      same_disk = k.same_disk;
+      memory = k.memory;
+      full = k.full;
+      no_call = k.no_call;
+      room = k.room;
+      within = k.within;
+      device = k.device;
+      failures = k.failures;
+      kept = k.kept;
+    }
+
+-- the list is the member's own in the end
+pub same_reply : (first all now : List Record) (heard : Result Heard CoreFault) (result : Result Heard MemberFault)
+    → IfOk heard (λ h. all ≡ first ++ records_of (heard_in first all h)) → IfOk result (λ h. heard ≡ Ok h)
+    → IfOk result (λ h. now ≡ first ++ records_of (heard_in first all h)) → IfOk result (λ h. heard_in first all h ≡ heard_in first now h)
+same_reply first all now heard (Err f) appends is saved = tt
+same_reply first all now heard (Ok h) appends is saved =
+    let here : all ≡ first ++ records_of (heard_in first all h) =
+    subst (λ (o : Result Heard CoreFault). IfOk o (λ h. all ≡ first ++ records_of (heard_in first all h))) is appends in
+    ap (λ (l : List Record). heard_in first l h) (here ∙ sym saved)
+
+-- a reply by another name
+pub reply_as : {A : Type 0} (result : Result A MemberFault) (P : Reply → Type 0) (f g : A → Reply) → IfOk result (λ a. f a ≡ g a) → IfOk result (λ a. P (f a)) → IfOk result (λ a. P (g a))
+reply_as (Err e) P f g same holds = tt
+reply_as (Ok a) P f g same holds = subst P same holds
+
+lives_as : {A D : Type 0} (disk : DiskGhosts D) (header : Header) (liars : ℕ → Bool) (w : World) (toss : ℕ) (event : Event) (result : Result A MemberFault) (old new : Member D) (f g : A → Reply)
+    → IfOk result (λ a. f a ≡ g a) → LivesBy f disk header liars w toss event result old new → LivesBy g disk header liars w toss event result old new
+lives_as disk header liars w toss event (Ok a) old new f g same lives =
+    subst (λ (r : Reply). Replies header w toss event r × DoesStep disk header liars w (world_step header.me event (records_of r) true) new) same lives
+lives_as disk header liars w toss event (Err Device) old new f g same lives = lives
+lives_as disk header liars w toss event (Err Memory) old new f g same lives = lives
+lives_as disk header liars w toss event (Err JournalFull) old new f g same lives = lives
+lives_as disk header liars w toss event (Err Stopped) old new f g same lives = lives
+lives_as disk header liars w toss event (Err NoSuchQuestion) old new f g same lives = lives
+lives_as disk header liars w toss event (Err NoSuchMember) old new f g same lives = lives
+
+pub event_as : {A D : Type 0} (disk : DiskGhosts D) (toss : ℕ) (event : Event) (result : Result A MemberFault) (old new : Member D) (f g : A → Reply)
+    → IfOk result (λ a. f a ≡ g a) → IsEventBy f disk toss event old result new → IsEventBy g disk toss event old result new
+event_as disk toss event result old new f g same e = record {
+  life = λ header liars w correct at comes. lives_as disk header liars w toss event result old new f g same (e.life header liars w correct at comes);
+  cut = e.cut;
+}
