@@ -3,7 +3,7 @@
 
 Looks at the edges of the built program for what a user would suffer from and no contract says: how long a client waits, which
 statuses commands end with, whose links a member takes, what it opens and says more often than it should, what a command leaves
-behind. PROGRAM is crates/bracha/out/bracha unless another is named. It takes the ports 28400 to 29259, a C
+behind. PROGRAM is crates/bracha/out/bracha unless another is named. It takes the ports 28400 to 29459, a C
 compiler and a minute, with all checks side by side. Prints what is wrong, and in its last line `N passed, M failed`; the status is 1 where M isn't 0.
 """
 import concurrent.futures
@@ -612,6 +612,8 @@ def who_follows_misses_nothing(folder, port):
         before = len(lines)
         found += differs("a member that is started with all its records", told(desks[1], "AWAIT 38")[0], "DECIDED 0")
         soon(lambda: "" in lines[before:], 9)
+        time.sleep(1)
+        found += differs("empty lines in a second", lines[before:].count("") <= 2, True)
         members[1].send_signal(signal.SIGKILL)
         stop.set()
         members[1].wait()
@@ -1517,6 +1519,257 @@ def followers_that_leave_give_their_places(folder, port):
                 link.setsockopt(socket.SOL_SOCKET, socket.SO_LINGER, struct.pack("ii", 1, 0))
                 link.sendall(b"FOLLOW 0\n")
         return found + differs("the next one", soon(lambda: told(port + 1, "FOLLOW 0")[0] == "DECIDED 0 1"), True)
+
+
+def of_a_chain(folder, me, peers, desk, n, t, questions=4, more=""):
+    return settings(folder, me, peers, desk, n, t, questions, more=f'epochs = "{folder}/{me}.epochs"\n{more}')
+
+
+def is_refused(port):
+    """Whether nobody listens at the port."""
+    with socket.socket() as link:
+        return link.connect_ex(("127.0.0.1", port)) != 0
+
+
+@check
+def clients_of_a_chain_keep_their_places(folder, port):
+    """A client that goes from epoch to epoch takes no place with it; where 32 clients have the places of an epoch, who speaks keeps its
+    own, and a new one gets that of one that was silent for ten seconds."""
+    path = of_a_chain(folder, 0, [f"127.0.0.1:{port}"], f"127.0.0.1:{port + 1}", 1, 0)
+    with running(path), contextlib.ExitStack() as stack:
+        goes = dial(port + 1, timeout=20.0)
+        lines = goes.makefile("rb")
+        begun, replies = time.monotonic(), set()
+        for number in range(80):
+            # The newest epoch, and the one in front of it: both run.
+            goes.sendall(b"ASK %d\n" % (number % 2 * 4))
+            replies.add(lines.readline())
+        took = time.monotonic() - begun
+        found = differs(f"a client that goes to and fro ({took:.1f} s)", (replies, took < 8), ({b"UNDECIDED\n"}, True))
+        goes.close()
+        first = stack.enter_context(dial(port + 1, timeout=20.0))
+        is_open(first)
+        places = [first, *(stack.enter_context(dial(port + 1, timeout=20.0)) for _ in range(31))]
+        begun = time.monotonic()
+        found += differs("32 clients", [is_open(it) for it in places], [True] * 32)
+        waits = stack.enter_context(dial(port + 1, timeout=20.0))
+        waits.sendall(b"STATUS\n")
+        time.sleep(5)
+        found += differs("one that speaks", is_open(first), True)
+        found += differs("one more", waits.recv(64)[:3], b"UP ")
+        took = time.monotonic() - begun
+        found += differs(f"after ten seconds ({took:.1f} s)", 9 < took < 15, True)
+        return found + differs("who spoke", is_open(first), True)
+
+
+@check
+def who_is_told_something_keeps_its_place(folder, port):
+    """A client that says nothing while it waits for decisions, and is told that there are none, isn't one that was silent for long."""
+    path = settings(folder, 0, [f"127.0.0.1:{port}"], f"127.0.0.1:{port + 1}", 1, 0)
+    with running(path), contextlib.ExitStack() as stack:
+        waits = stack.enter_context(dial(port + 1, timeout=30.0))
+        lines, begun = waits.makefile("rb"), time.monotonic()
+        waits.sendall(b"AWAIT 8\nAWAIT 9\n")
+        others = [stack.enter_context(dial(port + 1, timeout=20.0)) for _ in range(31)]
+        found = differs("the others", [is_open(it) for it in others], [True] * 31)
+        found += differs("the first reply", lines.readline(), b"UNDECIDED\n")
+        found += differs("the others", [is_open(it) for it in others], [True] * 31)
+        stack.enter_context(dial(port + 1)).sendall(b"STATUS\n")
+        found += differs("the second one", lines.readline(), b"UNDECIDED\n")
+        return found + differs("its time", 18 < time.monotonic() - begun < 25, True)
+
+
+@check
+def far_slots_are_awaited_for_ten_seconds(folder, port):
+    """AWAIT of a slot of an epoch that doesn't run is answered after ten seconds, each time."""
+    path = of_a_chain(folder, 0, [f"127.0.0.1:{port}"], f"127.0.0.1:{port + 1}", 1, 0)
+    with running(path), dial(port + 1, timeout=20.0) as link:
+        lines, took = link.makefile("rb"), []
+        for _ in range(2):
+            begun = time.monotonic()
+            link.sendall(b"AWAIT 400\n")
+            found = differs("the reply", lines.readline(), b"UNDECIDED\n")
+            took.append(time.monotonic() - begun)
+        return found + differs(f"its time ({took})", [8 < it < 14 for it in took], [True, True])
+
+
+@check
+def late_decisions_of_a_chain_are_told_once(folder, port):
+    """A follower that passed an epoch is told what is decided in it later, once, and an empty line while there is nothing to tell."""
+    path = of_a_chain(folder, 0, [f"127.0.0.1:{port}"], f"127.0.0.1:{port + 1}", 1, 0)
+    heard = []
+
+    def follow():
+        with contextlib.suppress(OSError), dial(port + 1, timeout=60.0) as link:
+            link.sendall(b"FOLLOW 0\n")
+            for line in link.makefile("r"):
+                heard.append(line.strip())
+
+    with running(path, "--log"):
+        found = differs("a slot of the epoch in front", [told(port + 1, it)[0] for it in ("PROPOSE 4 1", "AWAIT 4")], ["OK", "DECIDED 1"])
+        found += differs("the epoch before ends", soon(lambda: "epoch 0 end" in lines_of(path), 30), True)
+        threading.Thread(target=follow, daemon=True).start()
+        found += differs("it is passed", soon(lambda: heard[:1] == ["DECIDED 4 1"], 5), True)
+        found += differs("a slot of it", told(port + 1, "PROPOSE 2 0")[0], "OK")
+        found += differs("it is told late", soon(lambda: "DECIDED 2 0" in heard, 30), True)
+        time.sleep(2)
+        found += differs("each once", [it for it in heard if it], ["DECIDED 4 1", "DECIDED 2 0"])
+        return found + differs(f"an empty line now and then ({heard.count('')})", 0 < heard.count("") < 12, True)
+
+
+@check
+def links_of_a_chain_have_their_places(folder, port):
+    """The places of those that greet a chain are given back, whatever they say; who says nothing is closed after ten seconds, and a
+    stranger at once."""
+    peers = [f"127.0.0.1:{port}", f"127.0.0.2:{port + 2}"]
+    path = of_a_chain(folder, 0, peers, f"127.0.0.1:{port + 1}", 2, 0)
+    good = lambda: is_welcomed(port, 1, 0, "127.0.0.2", n=2, t=0, questions=4)
+    with running(path), contextlib.ExitStack() as stack:
+        found = []
+        for _ in range(40):
+            link = dial(port, "127.0.0.2")
+            link.sendall(hello(1, 0, n=2, t=0, questions=4, cluster=6))
+            found += differs("a link of another chain is closed", is_closed(link, 3), True)
+            link.close()
+        first = soon(good)
+        found += differs("a link behind them", first is not None, True)
+        strangers = [dial(port, "127.0.0.9") for _ in range(40)]
+        found += differs("strangers are closed", [is_closed(it, 3) for it in strangers], [True] * 40)
+        begun = time.monotonic()
+        silent = [stack.enter_context(dial(port, "127.0.0.2")) for _ in range(32)]
+        time.sleep(0.5)
+        found += differs("one more than its host has places", is_closed(dial(port, "127.0.0.2"), 3), True)
+        found += differs("who says nothing is closed", [is_closed(it, max(0.1, begun + 14 - time.monotonic())) for it in silent], [True] * 32)
+        if first:
+            first.close()
+        second = soon(good, 8)
+        found += differs("a link behind those", second is not None, True)
+        for it in (second, *strangers):
+            if it:
+                it.close()
+        return found
+
+
+@check
+def chains_that_cannot_go_on(folder, port):
+    """A chain doesn't run with a journal that was put aside, and ends with the cause if an epoch can't begin or its disk is full; what a
+    run that was killed left of a new journal doesn't hold it up."""
+    def no_room():
+        signal.signal(signal.SIGXFSZ, signal.SIG_IGN)
+        resource.setrlimit(resource.RLIMIT_FSIZE, (25, 25))
+
+    def chain(name, at):
+        os.mkdir(f"{folder}/{name}")
+        path = of_a_chain(f"{folder}/{name}", 0, [f"127.0.0.1:{port + at}"], f"127.0.0.1:{port + at + 1}", 1, 0)
+        subprocess.run([PROGRAM, "init", path], check=True)
+        return path, f"{folder}/{name}/0.epochs"
+
+    path, journals = chain("aside", 0)
+    with open(f"{journals}/0.journal.forgotten", "wb"):
+        pass
+    said, status = say(["run", "--stay", path], folder)
+    found = differs("a journal that was put aside", (status, "bracha: forgotten" in said), (1, True))
+    path, journals = chain("left", 2)
+    with open(f"{journals}/1.journal.new", "wb") as file:
+        file.write(b"half")
+    with running(path, new=False):
+        found += differs("a slot of the epoch whose journal was left", [told(port + 3, it)[0] for it in ("PROPOSE 4 1", "AWAIT 4")], ["OK", "DECIDED 1"])
+    path, journals = chain("blocked", 4)
+    os.makedirs(f"{journals}/1.journal.new/file")
+    said, status = say(["run", "--stay", path], folder)
+    found += differs("a journal that can't be made", (status, "bracha: file\n" in said, f"{journals}/1.journal.new" in said), (1, True, True))
+    path, journals = chain("full", 6)
+    with concurrent.futures.ThreadPoolExecutor(1) as pool:
+        full = pool.submit(say, ["run", "--stay", "--log", path], folder, preexec_fn=no_room)
+        soon(lambda: not is_refused(port + 7))
+        with contextlib.suppress(OSError):
+            told(port + 7, "PROPOSE 0 1")
+        said, status = full.result()
+    words = (" epoch 0 stopped device: File too large (os error 27)\n", f"\nbracha: stopped\n{journals}/0.journal: File too large (os error 27)\n")
+    return found + differs(f"a disk that is full ({said!r})", (status, *(it in said for it in words)), (1, True, True))
+
+
+@check
+def an_open_slot_keeps_its_epoch_open(folder, port):
+    """An epoch in which a slot was proposed and isn't decided isn't closed, however long nothing happens: its journal may not be put away."""
+    path = of_a_chain(folder, 0, [f"127.0.0.1:{port}", f"127.0.0.1:{port + 2}"], f"127.0.0.1:{port + 1}", 2, 0)
+    with running(path):
+        found = differs("proposals to one of two", [told(port + 1, f"PROPOSE {slot} 1")[0] for slot in (0, 4, 8)], ["OK"] * 3)
+        time.sleep(16)
+        return found + differs("the epochs", told(port + 1, "EPOCHS")[0], "EPOCHS 0 2")
+
+
+@check
+def epochs_that_were_left_out_run(folder, port):
+    """The epochs before that of a slot which is proposed far ahead run too, to make up for what others decided in them."""
+    path = of_a_chain(folder, 0, [f"127.0.0.1:{port}", f"127.0.0.1:{port + 2}"], f"127.0.0.1:{port + 1}", 2, 0)
+    with running(path, "--log"):
+        found = differs("a proposal far ahead", told(port + 1, "PROPOSE 20 1")[0], "OK")
+        lines = {f"epoch {epoch} ready member 0" for epoch in range(7)}
+        return found + differs("epochs that don't run", soon(lambda: not lines - set(lines_of(path)), 30) or sorted(lines - set(lines_of(path))), True)
+
+
+@check
+def early_words_are_paced(folder, port):
+    """A peer that says what nobody needs yet is heard 8,192 times at once and then 512 times a second; a member whose peer waits so
+    ends at once."""
+    peers = [f"127.0.0.1:{port + it}" for it in range(4)]
+    path = settings(folder, 0, peers, f"127.0.0.1:{port + 9}", 4, 1, questions=512)
+    # Initials of its own, from round 2 on.
+    said = [struct.pack(">BHBBBB", 1, question, 1, place // 2 + 2, place % 2 + 1, 1) for question in range(512) for place in range(60)]
+    frames = b"".join(struct.pack(">HBB", 2 + 7 * len(part), 4, len(part)) + b"".join(part)
+                      for part in (said[at:at + 90] for at in range(0, len(said), 90)))
+    count = lambda: int(told(port + 9, "STATUS")[0].split()[1])
+    with serving(port + 1, welcomes), serving(port + 2, welcomes), running(path, stays=False) as process:
+        started = time.monotonic()
+        link = soon(lambda: is_welcomed(port, 1, 0, questions=512))
+        if not link:
+            return ["no link"]
+
+        def floods():
+            with contextlib.suppress(OSError):
+                link.settimeout(60)
+                link.sendall(frames)
+
+        threading.Thread(target=floods, daemon=True).start()
+        found = differs("it is heard", soon(lambda: count() > 8000, 25), True)
+        time.sleep(3)
+        before = count()
+        found += differs(f"no more than its pace allows ({before} of {len(said)})", before < 8192 + 512 * 30, True)
+        found += differs("it is heard on", soon(lambda: count() > before + 400, 6), True)
+        # In the middle of a second of the member's clock, which would let the peer go by itself.
+        time.sleep((started + 0.3 - time.monotonic()) % 1)
+        process.stdin.close()
+        begun = time.monotonic()
+        try:
+            found += differs("its status", process.wait(8), 0)
+        except subprocess.TimeoutExpired:
+            found.append("its end waits for a peer that is held up")
+        found += differs("its end", time.monotonic() - begun < 4, True)
+        link.close()
+        return found
+
+
+@check
+def too_few_threads_are_told_of(folder, port):
+    """A member that the system gives too few threads doesn't start, and says why. It wants root."""
+    if os.geteuid() != 0:
+        return []
+
+    def as_nobody():
+        resource.setrlimit(resource.RLIMIT_NPROC, (6, 6))
+        os.setgroups([])
+        os.setgid(65533)
+        os.setuid(65533)
+
+    program = shutil.copy(PROGRAM, f"{folder}/bracha")
+    path = settings(folder, 0, [f"127.0.0.1:{port + it}" for it in range(4)], f"127.0.0.1:{port + 9}", 4, 1)
+    subprocess.run([PROGRAM, "init", path], check=True)
+    os.chmod(os.path.dirname(folder), 0o755)
+    os.chown(f"{folder}/member-0.journal", 65533, 65533)
+    said, status = say(["run", "--stay", path], folder, executable=program, preexec_fn=as_nobody)
+    words = "bracha: memory\nthreads: the system refused one: see `ulimit -u`\n"
+    return differs("what it says", (said, status), (words, 1))
 
 
 def main():

@@ -83,8 +83,9 @@ class Desk:
 class Chain:
     """A cluster of members of a chain."""
 
-    def __init__(self, port, questions=16, n=4, t=1):
+    def __init__(self, port, questions=16, n=4, t=1, hosts=None):
         self.port, self.questions, self.n, self.t = port, questions, n, t
+        self.hosts = hosts or ["127.0.0.1"] * n
         self.folder = tempfile.mkdtemp(prefix="epochs-")
         self.runs = {}
         self.seeds = [os.urandom(32) for _ in range(n)]
@@ -106,7 +107,7 @@ class Chain:
         return path
 
     def write_settings(self, me):
-        peers = ", ".join(f'"127.0.0.1:{self.port + peer}"' for peer in range(self.n))
+        peers = ", ".join(f'"{host}:{self.port + peer}"' for peer, host in enumerate(self.hosts))
         with open(self.settings(me), "w", encoding="ascii") as file:
             file.write(
                 f'cluster = {CLUSTER}\nn = {self.n}\nt = {self.t}\nquestions = {self.questions}\nme = {me}\n'
@@ -476,6 +477,64 @@ def closed_epochs():
         expect(replies == ["ERR 5 gone", f"DECIDED {bits[16 * closed]}" if 16 * closed < 96 else "UNDECIDED"], f"{replies}")
 
 
+def asks_for_closed_epochs():
+    """A peer has two epochs at most run again that are closed, as long as it asks, and nobody has one run in the name of another host's
+    member."""
+    with chain(27600, starts=3, hosts=["127.0.0.1", "127.0.0.1", "127.0.0.1", "127.0.0.9"]) as it:
+        bits = drawn(96)
+        decide([it.desk(me) for me in range(3)], bits, range(96))
+        desk = it.desk(0)
+
+        def await_first(least):
+            end = time.monotonic() + 40
+            while int(desk.ask("EPOCHS")[0].split()[1]) < least:
+                expect(time.monotonic() < end, f"{desk.ask('EPOCHS')} after 40 s")
+                time.sleep(0.25)
+
+        def ready():
+            return [int(epoch) for epoch in re.findall(r"epoch (\d+) ready", it.log(0))]
+
+        def asks(epochs, me):
+            links = []
+            for epoch in epochs:
+                links.append(socket.create_connection(("127.0.0.1", it.port), timeout=5, source_address=("127.0.0.9", 0)))
+                links[-1].sendall(hello(it, epoch, me, 0))
+            time.sleep(2)
+            for link in links:
+                link.close()
+
+        await_first(4)
+        before = ready()
+        asks([0], 2)
+        expect(ready() == before, f"in another's name: {ready()[len(before):]} run again")
+        asks([0, 1, 2, 3], 3)
+        again = ready()[len(before):]
+        expect(1 <= len(set(again) & set(range(4))) <= 2, f"for one peer {again} run again")
+        await_first(4)
+        # Epochs that never run, for which it asks no more after five seconds.
+        asks([10**6, 10**6 + 1], 3)
+        time.sleep(6)
+        before = ready()
+        asks([3], 3)
+        expect(3 in ready()[len(before):], "a peer that asked for others has no epoch run again")
+
+
+def half_decided_epochs_end():
+    """Epochs in which slots were never proposed end and stay so, once newer ones are there: nobody keeps another one awake."""
+    with chain(27700) as it:
+        bits = drawn(64)
+        slots = [slot for slot in range(64) if slot % 16 < 4]
+        decide([it.desk(me) for me in range(4)], bits, slots)
+        time.sleep(4)
+        it.kill(2)
+        it.start(2)
+        closed, _ = await_closed(it.client(), 2)
+        before = [len(re.findall(r"epoch [01] ready", it.log(me))) for me in range(4)]
+        time.sleep(8)
+        after = [len(re.findall(r"epoch [01] ready", it.log(me))) for me in range(4)]
+        expect(after == before, f"epochs run again that {closed} say are closed: {before}, {after}")
+
+
 def new_cluster():
     """`new-cluster --epochs` writes settings of chains, `init` makes the first journal of each, and `check` names the folder."""
     folder = tempfile.mkdtemp(prefix="epochs-")
@@ -572,7 +631,7 @@ def thousand_epochs():
 
 def main():
     checks = [slots_over_many_epochs, dumps_name_their_clusters, restarts, comeback, followers, quiet, ends, put_away,
-              put_away_while_it_runs, epochs_of_made_up_desks, closed_epochs, new_cluster, liar_and_kills]
+              put_away_while_it_runs, epochs_of_made_up_desks, closed_epochs, asks_for_closed_epochs, half_decided_epochs_end, new_cluster, liar_and_kills]
     if LONG:
         checks = [lambda: liar_and_kills(100_000, 200, questions=1024, width=256), thousand_epochs]
     failed = 0

@@ -4,7 +4,7 @@
 Runs clusters of four with a gateway in front of them, one desk of which lies, and looks at each answer over HTTP: questions, proposals,
 events, transcripts, members, metrics, health, the page in headless Chromium; at what is refused, at members that are killed, and at
 clients that send garbage, stall or stay idle. PROGRAM is crates/bracha/out/bracha unless another is named. It takes the ports 28310 to
-28409 and a minute. What Chromium or promtool would look at is left out, which is said, where they are missing. Prints what is wrong, and
+28417 and a minute. What Chromium or promtool would look at is left out, which is said, where they are missing. Prints what is wrong, and
 in its last line `N passed, M failed`; the status is 1 where M isn't 0.
 """
 import concurrent.futures
@@ -636,6 +636,34 @@ def what_it_lacks_is_said(folder, port):
         status, took = gateway.end(signal.SIGINT)
         found += differs("the end by SIGINT", (status, took < 3), (0, True))
         return found + differs("what it left to say", os.path.getsize(f"{folder}/gateway.log"), 0)
+
+
+@check
+def places_are_given_back(folder, port):
+    """Followers and proposals that came to their end count for none, and a request that comes byte by byte is closed after ten seconds."""
+    def slow():
+        """How long a head that comes byte by byte is read."""
+        begun = time.monotonic()
+        with contextlib.suppress(OSError), socket.create_connection(("127.0.0.1", gateway.port), timeout=5) as link:
+            while time.monotonic() < begun + 20:
+                link.sendall(b"G")
+                time.sleep(0.2)
+        return time.monotonic() - begun
+
+    def follows():
+        """The status of the answer to a follower, who leaves at once."""
+        follower = Events(gateway)
+        follower.close()
+        return follower.answer.status
+
+    with clusters(folder, port) as cluster, gateways(cluster) as gateway, concurrent.futures.ThreadPoolExecutor(16) as pool:
+        soon(lambda: gateway.json("/ready") == {"ready": True})
+        took = pool.submit(slow)
+        found = differs("70 proposals", {it[0] for it in pool.map(lambda it: gateway.propose(it, it % 2), range(70))} <= {200, 202}, True)
+        came = {it for it in pool.map(lambda _: follows(), range(140)) if it != 503}
+        # Who has left is missed with the next event or beat.
+        found += differs("140 followers, and one more once they are missed", (came, soon(lambda: follows() == 200, 12)), ({200}, True))
+        return found + differs(f"a slow head ({took.result():.1f} s)", 8 < took.result() < 16, True)
 
 
 STATE = "window.brachaLive.state()"
