@@ -504,20 +504,21 @@ def asks_for_closed_epochs():
             for link in links:
                 link.close()
 
+        # The others may still have those run that ended last.
         await_first(4)
-        before = ready()
+        before = len(ready())
         asks([0], 2)
-        expect(ready() == before, f"in another's name: {ready()[len(before):]} run again")
-        asks([0, 1, 2, 3], 3)
-        again = ready()[len(before):]
-        expect(1 <= len(set(again) & set(range(4))) <= 2, f"for one peer {again} run again")
+        expect(0 not in ready()[before:], "in another's name epoch 0 runs again")
+        asks([0, 1, 2], 3)
+        again = set(ready()[before:]) & {0, 1, 2}
+        expect(1 <= len(again) <= 2, f"for one peer {again} run again")
         await_first(4)
         # Epochs that never run, for which it asks no more after five seconds.
         asks([10**6, 10**6 + 1], 3)
         time.sleep(6)
-        before = ready()
-        asks([3], 3)
-        expect(3 in ready()[len(before):], "a peer that asked for others has no epoch run again")
+        before = len(ready())
+        asks([0], 3)
+        expect(0 in ready()[before:], "a peer that asked for others has no epoch run again")
 
 
 def half_decided_epochs_end():
