@@ -5,7 +5,7 @@ ghost use Rattle.gateway.specs.Replies.{AreLinks, AreQuestionAndBit, AreTwo, Say
 ghost use Rattle.gateway.specs.declared.replies.Reply.TheVariants.{Have};
 
 use crate::motions::bit_in;
-use numerals::{behind, is, number, number16, split_at_space};
+use numerals::{behind, is, number, split_at_space};
 
 /// A line of a desk.
 #[derive(Clone, Copy, Debug, PartialEq, Eq)]
@@ -13,7 +13,7 @@ pub enum Reply {
     /// The member decided the question so: a line to a follower.
     Decided {
         /// The question.
-        question: u16,
+        question: u64,
         /// The bit.
         bit: bool,
     },
@@ -30,6 +30,13 @@ pub enum Reply {
         coming: u64,
         /// The number of links that go out.
         going: u64,
+    },
+    /// The epochs of a member of a chain: the reply to `EPOCHS`.
+    Epochs {
+        /// The first epoch that isn't closed.
+        closed: u64,
+        /// The newest epoch.
+        newest: u64,
     },
     /// The member took a proposal.
     Taken,
@@ -53,11 +60,11 @@ fn two_numbers(words: &[u8]) -> Option<(u64, u64)>
 }
 
 /// Returns the question and the bit that the words write.
-fn question_and_bit(words: &[u8]) -> Option<(u16, bool)>
+fn question_and_bit(words: &[u8]) -> Option<(u64, bool)>
     ensures { IfSome result (λ found. AreQuestionAndBit words.now found.0 found.1) }
 {
     let (digits, bit) = split_at_space(words)?;
-    let question = number16(digits)?;
+    let question = number(digits)?;
     Some((question, bit_in(bit)?))
 }
 
@@ -113,6 +120,19 @@ fn links_reply(line: &[u8]) -> Option<Reply>
     }
 }
 
+/// Returns the epochs that the line tells.
+fn epochs_reply(line: &[u8]) -> Option<Reply>
+    ensures { IfSome result (Says line.now) }
+{
+    match behind(line, "EPOCHS ") {
+        Some(words) => match two_numbers(words) {
+            Some((closed, newest)) => Some(Reply::Epochs { closed, newest }),
+            None => None,
+        },
+        None => None,
+    }
+}
+
 /// Returns `true` if the line is that of a member that had a proposal, or decided the question.
 fn is_had(line: &[u8]) -> bool
     ensures { IsTrue result → Says line.now Have }
@@ -139,16 +159,26 @@ fn plain_reply(line: &[u8]) -> Reply
     Reply::Other
 }
 
+/// Returns what a line of a desk says that tells no decision and no counts.
+fn counted_reply(line: &[u8]) -> Reply
+    ensures { Says line.now result }
+{
+    match links_reply(line) {
+        Some(reply) => reply,
+        None => match epochs_reply(line) {
+            Some(reply) => reply,
+            None => plain_reply(line),
+        },
+    }
+}
+
 /// Returns what a line of a desk says that tells no decision.
 fn other_reply(line: &[u8]) -> Reply
     ensures { Says line.now result }
 {
     match up_reply(line) {
         Some(reply) => reply,
-        None => match links_reply(line) {
-            Some(reply) => reply,
-            None => plain_reply(line),
-        },
+        None => counted_reply(line),
     }
 }
 
