@@ -40,8 +40,10 @@ pub enum Reply {
     },
     /// The member took a proposal.
     Taken,
-    /// The member had a proposal, or decided the question.
+    /// The member had a proposal.
     Have,
+    /// The member decided the question so: a reply to `PROPOSE` or `STATE`.
+    Told(bool),
     /// The member came to the last step of the question's last round: a reply to `STATE`.
     Spent,
     /// The member is stopped.
@@ -133,14 +135,27 @@ fn epochs_reply(line: &[u8]) -> Option<Reply>
     }
 }
 
-/// Returns `true` if the line is that of a member that had a proposal, or decided the question.
+/// Returns `true` if the line is that of a member that had a proposal.
 fn is_had(line: &[u8]) -> bool
     ensures { IsTrue result → Says line.now Have }
 {
-    is(line, "HAVE 0") || is(line, "HAVE 1") || is(line, "DECIDED 0") || is(line, "DECIDED 1")
+    is(line, "HAVE 0") || is(line, "HAVE 1")
 }
 
-/// Returns what a line that has no number of questions, statements or links says.
+/// Returns the decision that the line tells to one who asked for the question.
+fn told_reply(line: &[u8]) -> Option<Reply>
+    ensures { IfSome result (Says line.now) }
+{
+    match behind(line, "DECIDED ") {
+        Some(word) => match bit_in(word) {
+            Some(bit) => Some(Reply::Told(bit)),
+            None => None,
+        },
+        None => None,
+    }
+}
+
+/// Returns what a line says that has no number and no bit.
 fn plain_reply(line: &[u8]) -> Reply
     ensures { Says line.now result }
 {
@@ -159,6 +174,16 @@ fn plain_reply(line: &[u8]) -> Reply
     Reply::Other
 }
 
+/// Returns what a line says that has no number of questions, statements, links or epochs.
+fn short_reply(line: &[u8]) -> Reply
+    ensures { Says line.now result }
+{
+    match told_reply(line) {
+        Some(reply) => reply,
+        None => plain_reply(line),
+    }
+}
+
 /// Returns what a line of a desk says that tells no decision and no counts.
 fn counted_reply(line: &[u8]) -> Reply
     ensures { Says line.now result }
@@ -167,7 +192,7 @@ fn counted_reply(line: &[u8]) -> Reply
         Some(reply) => reply,
         None => match epochs_reply(line) {
             Some(reply) => reply,
-            None => plain_reply(line),
+            None => short_reply(line),
         },
     }
 }
