@@ -74,7 +74,11 @@ fn first_number<R: Runner>(
 /// Returns the number from which a member is followed, once it told a decision of this question.
 fn number_after(it: &Shared, number: u64, question: u64) -> u64 {
     let next = it.scope.next_number(number, question);
-    if it.scope.chain { next } else { next.min(LAST_NUMBER) }
+    if it.scope.chain {
+        next
+    } else {
+        next.min(LAST_NUMBER)
+    }
 }
 
 /// Takes a decision that a member told. Returns `false` if it comes after the window: it is to be
