@@ -82,8 +82,8 @@ pub(crate) fn joined(
 }
 
 /// Returns the object of JSON of a question that isn't before the watch's window: its state, and
-/// what each member told. A decision in it is one that more than t members told; before there is one
-/// the state is that of the stage.
+/// what each member told. A decision in it is one that more than t members told; before there is
+/// one the state is that of the stage.
 ///
 /// # Errors
 ///

@@ -203,7 +203,8 @@ fn question_task(
     request: &Request<'_>,
 ) -> Result<Task, Refusal>
     ensures ok { IfOk result (IsRead scope (route.Question question) request.now) }
-    ensures err { IfErr result (IsRefusedAt policy.now scope (route.Question question) request.now) }
+    ensures err { IfErr result
+        (IsRefusedAt policy.now scope (route.Question question) request.now) }
 {
     if question >= scope.questions() {
         return Err(Refusal::Question);
@@ -278,7 +279,8 @@ fn refuse_stranger(policy: &Policy<'_>, request: &Request<'_>) -> Option<Refusal
 /// Returns the bit that the body proposes.
 fn bit_task(alloc: Global, request: &Request<'_>) -> Result<bool, Refusal>
     ensures ok { IfOk result (IsMotion request.now.body.now) }
-    ensures err { request.now.method ≡ method.Post → (policy : Policy) (scope : Scope) (at : Route) →
+    ensures err { request.now.method ≡ method.Post →
+        (policy : Policy) (scope : Scope) (at : Route) →
         IfErr result (IsRefusedAt policy scope at request.now) }
 {
     match motion_of(alloc, request.body) {

@@ -18,8 +18,8 @@ pub struct Scope {
 }
 
 impl Scope {
-    /// Returns the number below which a request may name any question: that of the questions, and in
-    /// a chain 2^64 - 1.
+    /// Returns the number below which a request may name any question: that of the questions, and
+    /// in a chain 2^64 - 1.
     #[tactic(auto, unfolding(crate::specs::Scopes::question_count))]
     pub fn questions(&self) -> u64
         ensures { result ≡ question_count self.now }

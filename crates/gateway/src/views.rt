@@ -223,7 +223,8 @@ pub fn members_text(
     proposing: Proposing,
     views: &[MemberView],
 ) -> Result<Vec<u8>, AllocError>
-    ensures { IfOk result (λ bytes. bytes.items ≡ members_object cluster scope proposing views.now) }
+    ensures { IfOk result
+        (λ bytes. bytes.items ≡ members_object cluster scope proposing views.now) }
 {
     let head = members_head(alloc, cluster, scope, proposing)?;
     let items = member_items(alloc, views)?;

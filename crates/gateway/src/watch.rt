@@ -96,8 +96,8 @@ impl Watch {
         })
     }
 
-    /// Returns a watch over a cluster of this size, before anybody told anything. Its window has all
-    /// questions, and never moves.
+    /// Returns a watch over a cluster of this size, before anybody told anything. Its window has
+    /// all questions, and never moves.
     ///
     /// # Errors
     ///
@@ -213,8 +213,8 @@ impl Watch {
     }
 
     /// Takes a decision that a member told. Of each member the first word on a question counts.
-    /// Returns `false` if there is no such member, or the question isn't one of the window, and then
-    /// nothing changed.
+    /// Returns `false` if there is no such member, or the question isn't one of the window, and
+    /// then nothing changed.
     #[tactic(auto, unfolding(crate::specs::Watches::Watches, crate::specs::Watches::watch_first, crate::specs::Watches::watch_scope, crate::specs::Watches::watch_size))]
     pub fn take(&mut self, told: Told) -> bool
         ensures words { IsTrue result → (heard : List Told) → Watches self.old heard →
@@ -261,9 +261,10 @@ impl Watch {
     }
 
     /// Notes that a member of a chain has come to a slot, and moves the window ahead: once the
-    /// greatest slot to which more than t members have come is past the third quarter of the window,
-    /// it is the first of the third. Words on the questions that stay, stay; those before are
-    /// forgotten. Whatever t members say, the window moves no further than another one has come.
+    /// greatest slot to which more than t members have come is past the third quarter of the
+    /// window, it is the first of the third. Words on the questions that stay, stay; those before
+    /// are forgotten. Whatever t members say, the window moves no further than another one has
+    /// come.
     ///
     /// # Errors
     ///

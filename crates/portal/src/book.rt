@@ -239,8 +239,8 @@ impl Book {
         self.hearing.reach(self.alloc, member, slot)
     }
 
-    /// Takes a decision that a member told. Returns `false` if it comes after the window of a chain:
-    /// it is to be told again.
+    /// Takes a decision that a member told. Returns `false` if it comes after the window of a
+    /// chain: it is to be told again.
     pub(crate) fn hear(&mut self, told: Told, time: u64) -> bool {
         let _moved = self.reach(told.member, told.question).is_ok();
         match self.watch().refusal(told.question) {
@@ -381,8 +381,8 @@ impl Book {
         spent >> (member & 63) & 1 == 0 && self.standing(question) == Standing::Proposed
     }
 
-    /// Returns the first question of the window from this one on that is under way, and at whose end
-    /// the member wasn't seen.
+    /// Returns the first question of the window from this one on that is under way, and at whose
+    /// end the member wasn't seen.
     pub(crate) fn open_from(&self, question: u64, member: u8) -> Option<u64> {
         let (first, end) = self.window();
         for question in question.max(first)..end {

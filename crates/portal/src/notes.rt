@@ -1,9 +1,9 @@
-//! What is known of questions beside what members told of them.
+//! Notes on questions: stages, proposals and ends, beside what members told.
 
 use gateway::Stage;
 use std::alloc::{AllocError, Global};
 
-/// What is known of a question beside what members told of it.
+/// A note on a question: its stage, its proposal and its end.
 #[derive(Clone, Copy, Debug, PartialEq, Eq)]
 pub(crate) struct Note {
     pub(crate) question: u64,
