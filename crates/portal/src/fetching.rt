@@ -82,6 +82,12 @@ fn is_of(alloc: Global, text: &[u8], question: u64, bit: bool) -> Result<bool, A
     Ok(text.starts_with(head.as_bytes()))
 }
 
+/// Returns the question that a transcript names: that of its epoch in a chain.
+fn question_in(size: Size, question: u64) -> u64 {
+    size.recall();
+    question % u64::from(size.questions())
+}
+
 /// Returns what an audit says of the text: `None` if it isn't a transcript.
 fn audited(alloc: Global, size: Size, text: &[u8]) -> Option<bool> {
     let mut verdict: Vec<u8> = Vec::new(alloc);
@@ -103,7 +109,8 @@ fn sent_by<R: Speaker>(
     let Some(text) = transcript_from(rt, it, member, question, deadline)? else {
         return Ok(None);
     };
-    if !is_of(it.alloc, &text, question, bit)? {
+    let named = question_in(it.scope.size, question);
+    if !is_of(it.alloc, &text, named, bit)? {
         return Ok(None);
     }
     match audited(it.alloc, it.scope.size, &text) {
