@@ -737,44 +737,62 @@ def window(gateway):
 def liars_move_no_window(folder, port):
     """The window moves with t + 1 members: one that claims slots far ahead moves nothing, and is heard once the others are there."""
     desks = MadeUpDesks(folder, port, 1024, [0, 0, 0, 2**53])
-    with contextlib.closing(desks), gateways(desks) as gateway:
-        desks.told[3] = [2**63 - 5, 2**63 - 1]
-        desks.told[0] = list(range(9000))
-        found = differs("one member tells, and one is far ahead", soon(lambda: gateway.json("/v1/questions/6000")["members"][0]["says"] == 0, 20), True)
-        time.sleep(1)
-        first = window(gateway)[0]
-        found += differs("the window goes no further than the first of them has come", first <= 9000 - 2 * 2048 and first % 1 == 0, True)
-        found += differs("nothing of it is decided", gateway.json(f"/v1/questions/{first + 10}")["state"], "proposed")
-        desks.told[1] = desks.told[0] = list(range(30_000))
-        found += differs("two more", soon(lambda: window(gateway)[0] >= 30_000 - 3 * 2048, 40), True)
-        first, last = window(gateway)
-        found += differs("the window", (last - first, first <= 30_000 - 2048 < last), (8192, True))
-        slot = 29_998
-        found += differs("a slot that two told", soon(lambda: gateway.json(f"/v1/questions/{slot}")["state"] == "decided"), True)
-        found += differs("a slot before it", gateway.json(f"/v1/questions/{first - 1}", 410), {"error": "past"})
-        found += differs("a transcript of it", gateway.json(f"/v1/questions/{first - 1}/transcript", 410), {"error": "past"})
-        found += differs("a proposal on it", gateway.propose(first - 1, 1), (410, {"error": "past"}))
-        found += differs("the first slot", gateway.ask("GET", f"/v1/questions/{first}")[0], 200)
-        found += differs("a slot after it", gateway.json(f"/v1/questions/{last}", 404), {"error": "question"})
-        found += differs("a part before it", [gateway.json("/v1/questions?from=0&to=5")[it] for it in ("from", "to", "states")], [first, first, ""])
-        found += differs("a new slot", gateway.propose(30_001, 1)[0], 202)
-        memory = gateway.memory()
-        desks.told[2] = list(range(29_000, 30_000))
-        found += differs("one that comes later", soon(lambda: gateway.json(f"/v1/questions/{slot}")["members"][2]["says"] == 0), True)
-        found += differs(f"memory ({memory} kB)", memory < 64 * 1024, True)
-        program = browser.find()
-        if program is None:
-            print("chromium is missing: the page of a chain wasn't looked at")
-            return found
-        with contextlib.closing(browser.Browser(program)) as chromium:
-            tab = chromium.page(f"http://127.0.0.1:{gateway.port}/", 1200, 900)
-            found += differs("its page", tab.until(f"{STATE}.F === {first} && {STATE}.Q === 8192"), True)
-            found += differs("a slot of it", tab.until(f'{STATE}.states[{slot} - {STATE}.F] === "0"'), True)
-            for it in (0, 1):
-                desks.told[it] = list(range(40_000))
-            found += differs("it goes along", tab.until(f'{STATE}.F > {first} && {STATE}.states[39000 - {STATE}.F] === "0"', 40), True)
-            found += differs("it has no faults", tab.faults(), [])
-            tab.close()
+    with contextlib.closing(desks):
+        with gateways(desks) as gateway:
+            found = windows(desks, gateway) + page_of_a_chain(desks, gateway)
+        desks.closed = [38, 38, 38, 2**53]
+        desks.told[0] = desks.told[1] = list(range(40_000))
+        with gateways(desks) as gateway:
+            first = 38 * 1024 - 4096
+            found += differs("a gateway that starts late", soon(lambda: window(gateway) == (first, first + 8192)), True)
+            told = soon(lambda: gateway.json(f"/v1/questions?from={first}&to=40001")["states"] == "01" * ((40_000 - first) // 2) + "-")
+            found += differs("all of its window is told", told, True)
+            return found + differs("and nothing before it", gateway.json(f"/v1/questions/{first - 1}", 410), {"error": "past"})
+
+
+def windows(desks, gateway):
+    """The windows that come as members go on."""
+    desks.told[3] = [2**63 - 5, 2**63 - 1]
+    desks.told[0] = list(range(9000))
+    found = differs("one member tells, and one is far ahead", soon(lambda: gateway.json("/v1/questions/6000")["members"][0]["says"] == 0, 20), True)
+    time.sleep(1)
+    first = window(gateway)[0]
+    found += differs("the window goes no further than the first of them has come", first <= 9000 - 2 * 2048, True)
+    found += differs("nothing of it is decided", gateway.json(f"/v1/questions/{first + 10}")["state"], "proposed")
+    desks.told[1] = desks.told[0] = list(range(30_000))
+    found += differs("two more", soon(lambda: window(gateway)[0] >= 30_000 - 3 * 2048, 40), True)
+    first, last = window(gateway)
+    found += differs("the window", (last - first, first <= 30_000 - 2048 < last), (8192, True))
+    slot = 29_998
+    found += differs("a slot that two told", soon(lambda: gateway.json(f"/v1/questions/{slot}")["state"] == "decided"), True)
+    found += differs("a slot before it", gateway.json(f"/v1/questions/{first - 1}", 410), {"error": "past"})
+    found += differs("a transcript of it", gateway.json(f"/v1/questions/{first - 1}/transcript", 410), {"error": "past"})
+    found += differs("a proposal on it", gateway.propose(first - 1, 1), (410, {"error": "past"}))
+    found += differs("the first slot", gateway.ask("GET", f"/v1/questions/{first}")[0], 200)
+    found += differs("a slot after it", gateway.json(f"/v1/questions/{last}", 404), {"error": "question"})
+    found += differs("a part before it", [gateway.json("/v1/questions?from=0&to=5")[it] for it in ("from", "to", "states")], [first, first, ""])
+    found += differs("a new slot", gateway.propose(30_001, 1)[0], 202)
+    desks.told[2] = list(range(29_000, 30_000))
+    found += differs("one that comes later", soon(lambda: gateway.json(f"/v1/questions/{slot}")["members"][2]["says"] == 0), True)
+    memory = gateway.memory()
+    return found + differs(f"memory ({memory} kB)", memory < 64 * 1024, True)
+
+
+def page_of_a_chain(desks, gateway):
+    """The page shows the window, and goes along with it."""
+    program = browser.find()
+    if program is None:
+        print("chromium is missing: the page of a chain wasn't looked at")
+        return []
+    first = window(gateway)[0]
+    with contextlib.closing(browser.Browser(program)) as chromium:
+        tab = chromium.page(f"http://127.0.0.1:{gateway.port}/", 1200, 900)
+        found = differs("its page", tab.until(f"{STATE}.F === {first} && {STATE}.Q === 8192"), True)
+        found += differs("a slot of it", tab.until(f'{STATE}.states[29998 - {STATE}.F] === "0"'), True)
+        desks.told[0] = desks.told[1] = list(range(40_000))
+        found += differs("it goes along", tab.until(f'{STATE}.F > {first} && {STATE}.states[39000 - {STATE}.F] === "0"', 40), True)
+        found += differs("it has no faults", tab.faults(), [])
+        tab.close()
         return found
 
 
