@@ -2,10 +2,11 @@
 """tests/gateway.py [PROGRAM]
 
 Runs clusters of four with a gateway in front of them, one desk of which lies, and looks at each answer over HTTP: questions, proposals,
-events, transcripts, members, metrics, health, the page in headless Chromium; at what is refused, at members that are killed, and at
-clients that send garbage, stall or stay idle. PROGRAM is crates/bracha/out/bracha unless another is named. It takes the ports 28310 to
-28417 and a minute. What Chromium or promtool would look at is left out, which is said, where they are missing. Prints what is wrong, and
-in its last line `N passed, M failed`; the status is 1 where M isn't 0.
+events, transcripts, members, metrics, health, the page in headless Chromium; at a chain of epochs, also at made-up desks of which one
+claims slots far ahead; at what is refused, at members that are killed, and at clients that send garbage, stall or stay idle. PROGRAM is
+crates/bracha/out/bracha unless another is named. It takes the ports 28262 to 28297 and 28310 to 28405, and a minute. What Chromium or
+promtool would look at is left out, which is said, where they are missing. Prints what is wrong, and in its last line `N passed, M failed`;
+the status is 1 where M isn't 0.
 """
 import concurrent.futures
 import contextlib
@@ -97,22 +98,27 @@ class LyingDesk:
         self.listener.close()
 
 
+def write_client(folder, questions, desks, chain):
+    with open(f"{folder}/client.toml", "w", encoding="ascii") as file:
+        file.write(f"cluster = 7\nn = 4\nt = 1\nquestions = {questions}\ndesks = {json.dumps(desks)}\n" + ("chain = true\n" if chain else ""))
+
+
 class Cluster:
     """Four members and a client's settings of them, in which the desk of the last one lies."""
 
-    def __init__(self, folder, port, questions=512, made_up=None):
+    def __init__(self, folder, port, questions=512, made_up=None, chain=False):
         self.folder, self.port, self.members = folder, port, {}
         peers = [f"127.0.0.1:{port + it}" for it in range(4)]
         for me in range(4):
             with open(self.path(me), "w", encoding="ascii") as file:
                 file.write(f'cluster = 7\nn = 4\nt = 1\nquestions = {questions}\nme = {me}\njournal = "{folder}/member-{me}.journal"\n'
-                           f'peers = {json.dumps(peers)}\ndesk = "127.0.0.1:{port + 4 + me}"\nseed = "{me + 1:064x}"\n')
+                           f'peers = {json.dumps(peers)}\ndesk = "127.0.0.1:{port + 4 + me}"\nseed = "{me + 1:064x}"\n'
+                           + (f'epochs = "{folder}/{me}.epochs"\n' if chain else ""))
             subprocess.run([PROGRAM, "init", self.path(me)], check=True)
             self.start(me)
         self.liar = LyingDesk(port + 8, port + 7, made_up)
         desks = [f"127.0.0.1:{port + 4 + it}" for it in (0, 1, 2, 4)]
-        with open(f"{folder}/client.toml", "w", encoding="ascii") as file:
-            file.write(f"cluster = 7\nn = 4\nt = 1\nquestions = {questions}\ndesks = {json.dumps(desks)}\n")
+        write_client(folder, questions, desks, chain)
 
     def path(self, me):
         return f"{self.folder}/member-{me}.toml"
@@ -666,6 +672,158 @@ def places_are_given_back(folder, port):
         return found + differs(f"a slow head ({took.result():.1f} s)", 8 < took.result() < 16, True)
 
 
+@check
+def a_chain_goes_on(folder, port):
+    """Slots of many epochs are proposed and told; a gateway that starts anew knows those of its window; a member comes back."""
+    with clusters(folder, port, questions=16, chain=True) as cluster:
+        with gateways(cluster) as gateway:
+            soon(lambda: gateway.json("/ready") == {"ready": True})
+            found = decide(gateway, 0, 40)
+            members = gateway.json("/v1/members")
+            found += differs("the chain", [members[it] for it in ("questions", "chain")], [16, True])
+            found += differs("the words on 33", soon(lambda: [it["says"] for it in gateway.json("/v1/questions/33")["members"]] == [1, 1, 1, 0]), True)
+            found += differs("who contradicts", soon(lambda: [len(it["contradicts"]) for it in gateway.json("/v1/members")["members"]] == [0, 0, 0, 40]), True)
+            told = gateway.json("/v1/members")["members"][3]["contradicts"]
+            found += differs("on what", [it["question"] for it in told], list(range(40)))
+            states = gateway.json("/v1/questions")
+            found += differs("the window", (states["questions"], states["from"], states["to"], states["states"][:42]), (16, 0, 8192, "01" * 20 + "--"))
+            found += differs("a part", gateway.json("/v1/questions?from=30&to=44")["states"], "01" * 5 + "----")
+            found += differs("a part past it", [gateway.json("/v1/questions?from=8190&to=99999999999")[it] for it in ("from", "to", "states")], [8190, 8192, "--"])
+            found += differs("a wrong range", gateway.ask("GET", "/v1/questions?from=5&to=4")[0], 400)
+            for slot in (8192, 2**63, 2**64 - 1):
+                found += differs(f"slot {slot}", gateway.json(f"/v1/questions/{slot}", 404), {"error": "question"})
+                found += differs(f"a proposal on {slot}", gateway.propose(slot, 1), (404, {"error": "question"}))
+            found += differs("slot 2^64", gateway.ask("GET", f"/v1/questions/{2**64}")[0], 404)
+            status, _, body = gateway.ask("GET", "/v1/questions/20/transcript")
+            found += differs("a transcript", (status, json.loads(body).get("bit")), (200, 0))
+            values, _ = samples(gateway.ask("GET", "/metrics")[2].decode())
+            found += differs("the numbers", [values[f"bracha_{it}"] for it in ("questions", "questions_open", "decisions_total")], [8192, 0, 40])
+        with gateways(cluster) as gateway:
+            known = soon(lambda: gateway.json("/v1/questions?from=0&to=40")["states"] == "01" * 20, 15)
+            found += differs("a gateway that starts anew knows them", known, True)
+            cluster.kill(1)
+            found += decide(gateway, 40, 60)
+            cluster.start(1)
+            said = soon(lambda: gateway.json("/v1/questions/59")["members"][1]["says"] == 1, 30)
+            found += differs("a member that comes back tells what it missed", said, True)
+            return found + decide(gateway, 60, 64)
+
+
+class MadeUpDesks:
+    """Desks of a chain of which each tells the slots that it is told to, in order, and says that so many epochs are closed."""
+
+    def __init__(self, folder, port, questions, closed):
+        self.questions, self.closed, self.told = questions, closed, [[] for _ in closed]
+        self.listeners = [socket.create_server(("127.0.0.1", port + me), backlog=64) for me in range(len(closed))]
+        self.folder, self.port = folder, port
+        write_client(folder, questions, [f"127.0.0.1:{port + me}" for me in range(len(closed))], True)
+        for me in range(len(closed)):
+            threading.Thread(target=self.accept, args=(me,), daemon=True).start()
+
+    def accept(self, me):
+        with contextlib.suppress(OSError):
+            while True:
+                link, _ = self.listeners[me].accept()
+                threading.Thread(target=self.serve, args=(me, link), daemon=True).start()
+
+    def serve(self, me, link):
+        with contextlib.suppress(OSError, ValueError), link, link.makefile("rb") as lines:
+            for line in lines:
+                words = line.decode().split()
+                if words[0] == "FOLLOW":
+                    return self.tell(me, link, int(words[1]))
+                reply = {"EPOCHS": f"EPOCHS {self.closed[me]} {self.closed[me]}", "STATUS": "UP 5 1", "LINKS": "LINKS 4 4 - -", "PROPOSE": "OK"}
+                link.sendall(reply.get(words[0], "UNPROPOSED").encode() + b"\n")
+
+    def tell(self, me, link, number):
+        """Each slot from the number's on, and an empty line now and then."""
+        slot, quiet = number, time.monotonic()
+        while True:
+            part = [it for it in self.told[me] if it >= slot][:500]
+            if part:
+                link.sendall("".join(f"DECIDED {it} {it % 2}\n" for it in part).encode())
+                slot, quiet = part[-1] + 1, time.monotonic()
+            elif time.monotonic() - quiet > 4:
+                link.sendall(b"\n")
+                quiet = time.monotonic()
+            else:
+                time.sleep(0.02)
+
+    def close(self):
+        for listener in self.listeners:
+            with contextlib.suppress(OSError):
+                listener.shutdown(socket.SHUT_RDWR)
+            listener.close()
+
+
+def window(gateway):
+    states = gateway.json("/v1/questions")
+    return states["from"], states["to"]
+
+
+@check
+def liars_move_no_window(folder, port):
+    """The window moves with t + 1 members: one that claims slots far ahead moves nothing, and is heard once the others are there."""
+    desks = MadeUpDesks(folder, port, 1024, [0, 0, 0, 2**53])
+    with contextlib.closing(desks):
+        with gateways(desks) as gateway:
+            found = windows(desks, gateway) + page_of_a_chain(desks, gateway)
+        desks.closed = [38, 38, 38, 2**53]
+        desks.told[0] = desks.told[1] = list(range(40_000))
+        with gateways(desks) as gateway:
+            first = 38 * 1024 - 4096
+            found += differs("a gateway that starts late", soon(lambda: window(gateway) == (first, first + 8192)), True)
+            told = soon(lambda: gateway.json(f"/v1/questions?from={first}&to=40001")["states"] == "01" * ((40_000 - first) // 2) + "-")
+            found += differs("all of its window is told", told, True)
+            return found + differs("and nothing before it", gateway.json(f"/v1/questions/{first - 1}", 410), {"error": "past"})
+
+
+def windows(desks, gateway):
+    """The windows that come as members go on."""
+    desks.told[3] = [2**63 - 5, 2**63 - 1]
+    desks.told[0] = list(range(9000))
+    found = differs("one member tells, and one is far ahead", soon(lambda: gateway.json("/v1/questions/6000")["members"][0]["says"] == 0, 20), True)
+    time.sleep(1)
+    first = window(gateway)[0]
+    found += differs("the window goes no further than the first of them has come", first <= 9000 - 2 * 2048, True)
+    found += differs("nothing of it is decided", gateway.json(f"/v1/questions/{first + 10}")["state"], "proposed")
+    desks.told[1] = desks.told[0] = list(range(30_000))
+    found += differs("two more", soon(lambda: window(gateway)[0] >= 30_000 - 3 * 2048, 40), True)
+    first, last = window(gateway)
+    found += differs("the window", (last - first, first <= 30_000 - 2048 < last), (8192, True))
+    slot = 29_998
+    found += differs("a slot that two told", soon(lambda: gateway.json(f"/v1/questions/{slot}")["state"] == "decided"), True)
+    found += differs("a slot before it", gateway.json(f"/v1/questions/{first - 1}", 410), {"error": "past"})
+    found += differs("a transcript of it", gateway.json(f"/v1/questions/{first - 1}/transcript", 410), {"error": "past"})
+    found += differs("a proposal on it", gateway.propose(first - 1, 1), (410, {"error": "past"}))
+    found += differs("the first slot", gateway.ask("GET", f"/v1/questions/{first}")[0], 200)
+    found += differs("a slot after it", gateway.json(f"/v1/questions/{last}", 404), {"error": "question"})
+    found += differs("a part before it", [gateway.json("/v1/questions?from=0&to=5")[it] for it in ("from", "to", "states")], [first, first, ""])
+    found += differs("a new slot", gateway.propose(30_001, 1)[0], 202)
+    desks.told[2] = list(range(29_000, 30_000))
+    found += differs("one that comes later", soon(lambda: gateway.json(f"/v1/questions/{slot}")["members"][2]["says"] == 0), True)
+    memory = gateway.memory()
+    return found + differs(f"memory ({memory} kB)", memory < 64 * 1024, True)
+
+
+def page_of_a_chain(desks, gateway):
+    """The page shows the window, and goes along with it."""
+    program = browser.find()
+    if program is None:
+        print("chromium is missing: the page of a chain wasn't looked at")
+        return []
+    first = window(gateway)[0]
+    with contextlib.closing(browser.Browser(program)) as chromium:
+        tab = chromium.page(f"http://127.0.0.1:{gateway.port}/", 1200, 900)
+        found = differs("its page", tab.until(f"{STATE}.F === {first} && {STATE}.Q === 8192"), True)
+        found += differs("a slot of it", tab.until(f'{STATE}.states[29998 - {STATE}.F] === "0"'), True)
+        desks.told[0] = desks.told[1] = list(range(40_000))
+        found += differs("it goes along", tab.until(f'{STATE}.F > {first} && {STATE}.states[39000 - {STATE}.F] === "0"', 40), True)
+        found += differs("it has no faults", tab.faults(), [])
+        tab.close()
+        return found
+
+
 STATE = "window.brachaLive.state()"
 
 
@@ -720,7 +878,7 @@ def main():
         folder = f"{room}/{function.__name__}"
         os.makedirs(folder)
         try:
-            return function, function(folder, 28310 + 12 * number)
+            return function, function(folder, 28310 + 12 * (number % 8) - 48 * (number // 8))
         except Exception as error:  # pylint: disable=broad-except
             return function, [f"{type(error).__name__}: {error}"]
 

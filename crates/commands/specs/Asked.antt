@@ -9,7 +9,7 @@ use Rattle.toml.specs.View.{view, items_view}
 use Rattle.toml.specs.declared.value.Value.{Value}
 use Rattle.settings.specs.declared.address.Address.{Address}
 use Rattle.settings.specs.declared.keys.Key.{Key}
-use Rattle.settings.specs.declared.keys.Key.TheVariants.{Cluster, N, T, Questions, Me, Journal, Peers, Desk, Seed, Listen, DeskSocket, Epochs, Desks}
+use Rattle.settings.specs.declared.keys.Key.TheVariants.{Cluster, N, T, Questions, Me, Journal, Peers, Desk, Seed, Listen, DeskSocket, Epochs, Desks, Chain}
 use Rattle.commands.specs.TextLines.{IsFirstLine, SaysKey, lines_in}
 use Rattle.settings.specs.Keys.{key_text}
 use Rattle.settings.specs.Settings.{HasSmall, HasValue, IsAddressText}
@@ -29,6 +29,7 @@ asked_text Listen = codes "localhost or four numbers with points between them, a
 asked_text DeskSocket = codes "a path"
 asked_text Epochs = codes "a path"
 asked_text Desks = codes "an array of n texts HOST:PORT"
+asked_text Chain = codes "true or false"
 
 -- the key, and what its value has to be
 abbrev pub asked_words : Key → List ℕ
@@ -133,6 +134,7 @@ IsValueWords Desk ms words = words ≡ asked_words Desk
 IsValueWords Listen ms words = words ≡ asked_words Listen
 IsValueWords DeskSocket ms words = words ≡ asked_words DeskSocket
 IsValueWords Epochs ms words = words ≡ asked_words Epochs
+IsValueWords Chain ms words = words ≡ asked_words Chain
 
 -- what is said of a key in the table of this text
 abbrev pub IsTableWords : Key → List ℕ → Members → List ℕ → Type 0

@@ -33,6 +33,7 @@ fn asked(key: Key) -> &'static str
         }
         Key::DeskSocket | Key::Epochs => "a path",
         Key::Seed => "a text of 64 hexadecimal digits",
+        Key::Chain => "true or false",
     }
 }
 

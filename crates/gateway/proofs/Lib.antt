@@ -1,3 +1,5 @@
 mod Cuts
 mod Items
 mod Keeping
+mod Reaching
+mod Counting

@@ -1,12 +1,15 @@
 pub mod Routes
+pub mod Scopes
 pub mod Queries
 pub mod Guards
 pub mod Motions
 pub mod Requests
+pub mod Heads
 pub mod Watches
 pub mod Standings
 pub mod Answers
 pub mod Views
 pub mod Events
+pub mod Times
 pub mod Metrics
 pub mod Replies

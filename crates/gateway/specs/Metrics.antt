@@ -1,10 +1,12 @@
 -- The text for Prometheus.
-use Rattle.std.specs.Prelude.{ℕ, suc, ◌/◌, ◌%◌, is_some, nat_le, List, [], ◌∷◌, ◌++◌, codes, count_by, length}
+use Rattle.std.specs.Prelude.{ℕ, suc, ◌/◌, ◌%◌, is_some, List, [], ◌∷◌, ◌++◌, codes, count_by, length}
 use Rattle.std.specs.List.{flat_map}
 use Rattle.std.specs.Fmt.{decimal}
 use Rattle.gateway.specs.declared.metrics.Gauge.{Gauge}
 use Rattle.gateway.specs.declared.metrics.Gauge.TheVariants as gauge
 use Rattle.gateway.specs.declared.metrics.Tally.{Tally}
+use Rattle.gateway.specs.Times.{bounds, bucket_of}
+use Rattle.gateway.specs.declared.times.Bucket.{Bucket}
 use Rattle.gateway.specs.declared.metrics.Total.{Total}
 use Rattle.gateway.specs.declared.metrics.Total.TheVariants as total
 use Rattle.gateway.specs.declared.views.MemberState.{MemberState}
@@ -93,10 +95,13 @@ abbrev pub seconds_text : ℕ → List ℕ
 seconds_text ms =
     decimal (ms / 1000) ++ (codes "." ++ (decimal (ms / 100 % 10) ++ (decimal (ms / 10 % 10) ++ decimal (ms % 10))))
 
--- how many decisions took at most so many milliseconds
+-- the row of a bucket, and that of how many decisions took at most so many milliseconds
+abbrev pub bucket_text : Bucket → List ℕ
+bucket_text bucket =
+    codes "bracha_decision_seconds_bucket{le=\"" ++ (seconds_text bucket.most ++ (codes "\"} " ++ (decimal bucket.count ++ codes "\n")))
+
 abbrev pub bucket_row : List ℕ → ℕ → List ℕ
-bucket_row times most =
-    codes "bracha_decision_seconds_bucket{le=\"" ++ (seconds_text most ++ (codes "\"} " ++ (decimal (count_by (λ ms. nat_le ms most) times) ++ codes "\n")))
+bucket_row times most = bucket_text (bucket_of times most)
 
 -- all decisions whose time is known, and the sum of the times
 abbrev pub times_end : ℕ → ℕ → List ℕ
@@ -108,11 +113,8 @@ abbrev pub times_head : List ℕ
 times_head =
     codes "# HELP bracha_decision_seconds Time from the proposal here to the decision of more than t members.\n# TYPE bracha_decision_seconds histogram\n"
 
-unfoldable pub bounds : List ℕ
-bounds = 5 ∷ 10 ∷ 25 ∷ 50 ∷ 100 ∷ 250 ∷ 500 ∷ 1000 ∷ 2500 ∷ 5000 ∷ 10000 ∷ []
-
-unfoldable pub times_text : Tally → List ℕ
-times_text tally = (times_head ++ flat_map (bucket_row tally.times.items) bounds) ++ times_end (length tally.times.items) tally.sum
+unfoldable pub times_text : List ℕ → ℕ → List ℕ
+times_text times sum = (times_head ++ flat_map (bucket_row times) bounds) ++ times_end (length times) sum
 
 -- all metrics
 unfoldable pub gauges : List Gauge
@@ -121,5 +123,7 @@ gauges = gauge.Up ∷ gauge.Coming ∷ gauge.Going ∷ gauge.Statements ∷ gaug
 unfoldable pub totals : List Total
 totals = total.Questions ∷ total.Open ∷ total.Decisions ∷ total.Refusals ∷ []
 
-abbrev pub metrics_text : Tally → List MemberView → List ℕ
-metrics_text tally views = (flat_map (gauge_text views) gauges ++ flat_map (total_text tally) totals) ++ times_text tally
+-- of times from proposals to decisions that were these
+abbrev pub metrics_text : Tally → List MemberView → List ℕ → List ℕ
+metrics_text tally views times =
+    (flat_map (gauge_text views) gauges ++ flat_map (total_text tally) totals) ++ times_text times tally.sum

@@ -22,7 +22,7 @@ pub record IsCut (text first second : List ℕ) : Type 0 where
 
 -- `A&to=B`, and `from=A&to=B`
 abbrev pub AreBoundsOf : List ℕ → ℕ → ℕ → Type 0
-AreBoundsOf text from to = (first : List ℕ) × (second : List ℕ) × IsCut text first second × IsBelow 16 first from × IsBelow 16 second to
+AreBoundsOf text from to = (first : List ℕ) × (second : List ℕ) × IsCut text first second × IsBelow 64 first from × IsBelow 64 second to
 
 abbrev pub AreBounds : List ℕ → ℕ → ℕ → Type 0
 AreBounds query from to = (rest : List ℕ) × (query ≡ codes "from=" ++ rest) × AreBoundsOf rest from to

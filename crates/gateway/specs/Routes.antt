@@ -21,10 +21,10 @@ IsListPath path route =
 -- what follows `/v1/questions/`: a number, or a number and `/transcript`
 abbrev pub IsTranscriptRest : List ℕ → Route → Type 0
 IsTranscriptRest rest route =
-    (digits : List ℕ) × (question : ℕ) × (rest ≡ digits ++ codes "/transcript") × IsBelow 16 digits question × (route ≡ Transcript question)
+    (digits : List ℕ) × (question : ℕ) × (rest ≡ digits ++ codes "/transcript") × IsBelow 64 digits question × (route ≡ Transcript question)
 
 abbrev pub IsQuestionRest : List ℕ → Route → Type 0
-IsQuestionRest rest route = ((question : ℕ) × IsBelow 16 rest question × (route ≡ Question question)) ⊎ IsTranscriptRest rest route
+IsQuestionRest rest route = ((question : ℕ) × IsBelow 64 rest question × (route ≡ Question question)) ⊎ IsTranscriptRest rest route
 
 abbrev pub IsQuestionPath : List ℕ → Route → Type 0
 IsQuestionPath path route = (rest : List ℕ) × (path ≡ codes "/v1/questions/" ++ rest) × IsQuestionRest rest route

@@ -1,8 +1,9 @@
 -- Objects of JSON about members.
-use Rattle.std.specs.Prelude.{ℕ, suc, ◌≡◌, ◌≤◌, ◌-◌, Bool, Option, Some, None, List, [], ◌∷◌, ◌++◌, codes, drop}
+use Rattle.std.specs.Prelude.{ℕ, suc, ◌≡◌, ◌≤◌, ◌-◌, Bool, true, false, Option, Some, None, List, [], ◌∷◌, ◌++◌, codes, drop}
 use Rattle.std.specs.Fmt.{decimal}
 use Rattle.terms_prelude.specs.Terms.{Size}
 use Rattle.gateway.specs.Answers.{says_text}
+use Rattle.gateway.specs.declared.scopes.Scope.{Scope}
 use Rattle.gateway.specs.declared.views.MemberState.{MemberState}
 use Rattle.gateway.specs.declared.views.MemberState.TheVariants.{Up, Silent, Stopped}
 use Rattle.gateway.specs.declared.views.MemberView.{MemberView}
@@ -43,7 +44,7 @@ member_counts view =
 -- the item of a member behind a comma, and the items of members from one on
 abbrev pub member_item : ℕ → MemberView → List ℕ
 member_item member view =
-    ((member_head member view ++ member_counts view) ++ drop 1 (contradiction_items 0 view.contradicts.items)) ++ codes "]}"
+    ((member_head member view ++ member_counts view) ++ drop 1 (contradiction_items view.first view.contradicts.items)) ++ codes "]}"
 
 abbrev pub member_items : ℕ → List MemberView → List ℕ
 member_items member [] = []
@@ -58,11 +59,15 @@ size_fields cluster size =
 abbrev pub proposing_field : Proposing → List ℕ
 proposing_field proposing = codes ",\"propose\":\"" ++ (proposing_word proposing ++ codes "\",\"members\":[")
 
-abbrev pub members_head : ℕ → Size → Proposing → List ℕ
-members_head cluster size proposing = size_fields cluster size ++ proposing_field proposing
+abbrev pub chain_field : Bool → List ℕ
+chain_field false = []
+chain_field true = codes ",\"chain\":true"
 
-abbrev pub members_object : ℕ → Size → Proposing → List MemberView → List ℕ
-members_object cluster size proposing views = (members_head cluster size proposing ++ drop 1 (member_items 0 views)) ++ codes "]}\n"
+abbrev pub members_head : ℕ → Scope → Proposing → List ℕ
+members_head cluster scope proposing = (size_fields cluster scope.size ++ chain_field scope.chain) ++ proposing_field proposing
+
+abbrev pub members_object : ℕ → Scope → Proposing → List MemberView → List ℕ
+members_object cluster scope proposing views = (members_head cluster scope proposing ++ drop 1 (member_items 0 views)) ++ codes "]}\n"
 
 -- the member answers, and as many links come in and go out as it needs to decide
 pub record IsLinked (size : Size) (view : MemberView) : Type 0 where

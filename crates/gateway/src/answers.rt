@@ -3,7 +3,7 @@
 ghost use Rattle.std.specs.Prelude.{◌≡◌, ◌≤◌, ◌++◌, List, IfOk, drop, string_bytes};
 ghost use Rattle.client.specs.Readings.{first_word};
 ghost use Rattle.gateway.specs.Answers.{TellsQuestion, proposal_object, question_head, escaped, escaped_byte, ready_object, refusal_object, number_item, number_items, says_text, states_front, states_head, states_object, transcript_head, transcript_object, word_item, word_items, yes_or_no};
-ghost use Rattle.gateway.specs.Watches.{Watches, watch_size, words_on};
+ghost use Rattle.gateway.specs.Watches.{Watches, watch_first, watch_size, words_on};
 ghost use Rattle.gateway.specs.declared.watch.Told.{Told};
 
 use crate::queries::Position;
@@ -31,9 +31,9 @@ fn word_item(alloc: Global, member: u8, word: Option<bool>) -> Result<String, Al
 }
 
 /// Returns the items of all members, with a comma before each.
-fn word_items(alloc: Global, watch: &Watch, question: u16, n: u8) -> Result<String, AllocError>
+fn word_items(alloc: Global, watch: &Watch, question: u64, n: u8) -> Result<String, AllocError>
     requires { n ≤ 64 }
-    ensures { (heard : List Told) → Watches watch.now heard →
+    ensures { (heard : List Told) → Watches watch.now heard → watch_first watch.now ≤ question →
         IfOk result (λ text. string_bytes text
         ≡ word_items (first_word (words_on question heard)) 0 n) }
 {
@@ -46,7 +46,7 @@ fn word_items(alloc: Global, watch: &Watch, question: u16, n: u8) -> Result<Stri
 }
 
 /// Returns what stands before the members' items.
-fn question_head(alloc: Global, question: u16, standing: Standing) -> Result<String, AllocError>
+fn question_head(alloc: Global, question: u64, standing: Standing) -> Result<String, AllocError>
     ensures { IfOk result (λ text. string_bytes text ≡ question_head question standing) }
 {
     format!(in alloc;
@@ -81,8 +81,9 @@ pub(crate) fn joined(
     Ok(bytes)
 }
 
-/// Returns the object of JSON of a question: its state, and what each member told. A decision in it
-/// is one that more than t members told; before there is one the state is that of the stage.
+/// Returns the object of JSON of a question that isn't before the watch's window: its state, and
+/// what each member told. A decision in it is one that more than t members told; before there is
+/// one the state is that of the stage.
 ///
 /// # Errors
 ///
@@ -90,10 +91,10 @@ pub(crate) fn joined(
 pub fn question_text(
     alloc: Global,
     watch: &Watch,
-    question: u16,
+    question: u64,
     stage: Stage,
 ) -> Result<Vec<u8>, AllocError>
-    ensures { (heard : List Told) → Watches watch.now heard →
+    ensures { (heard : List Told) → Watches watch.now heard → watch_first watch.now ≤ question →
         IfOk result (λ bytes. TellsQuestion
         (watch_size watch.now) heard question stage bytes.items) }
 {
@@ -117,7 +118,7 @@ pub fn question_text(
 /// [`AllocError`] if an allocation failed.
 pub fn proposal_text(
     alloc: Global,
-    question: u16,
+    question: u64,
     standing: Standing,
     taken: u8,
     have: u8,
@@ -146,7 +147,7 @@ pub fn refusal_text(alloc: Global, refusal: Refusal) -> Result<String, AllocErro
 #[derive(Clone, Copy, Debug, PartialEq, Eq)]
 pub struct Transcript<'a> {
     /// The question.
-    pub question: u16,
+    pub question: u64,
     /// The bit that it is for.
     pub bit: bool,
     /// The member.
@@ -215,12 +216,12 @@ pub fn transcript_text(alloc: Global, told: &Transcript<'_>) -> Result<Vec<u8>, 
 /// The moment at which states were looked at.
 #[derive(Clone, Copy, Debug, PartialEq, Eq)]
 pub struct Moment {
-    /// The number of questions of the cluster.
+    /// The number of questions of the cluster, or of each of a chain.
     pub questions: u16,
     /// The first question that is told.
-    pub from: u16,
+    pub from: u64,
     /// The question after the last.
-    pub to: u16,
+    pub to: u64,
     /// The last event before the moment.
     pub after: Position,
 }

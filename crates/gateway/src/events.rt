@@ -14,7 +14,7 @@ pub enum Event {
     /// More than t members told this decision.
     Decided {
         /// The question.
-        question: u16,
+        question: u64,
         /// The bit.
         bit: bool,
         /// The milliseconds since it was proposed here, if it was.
@@ -23,9 +23,9 @@ pub enum Event {
         time: u64,
     },
     /// A bit was proposed on the question.
-    Proposed(u16),
+    Proposed(u64),
     /// The question comes to no decision.
-    Spent(u16),
+    Spent(u64),
     /// The desk of a member has another state.
     Member {
         /// The member.
@@ -38,7 +38,7 @@ pub enum Event {
         /// The member.
         member: u8,
         /// The question.
-        question: u16,
+        question: u64,
         /// The bit that it told.
         bit: bool,
     },
@@ -68,7 +68,7 @@ fn ms_text(alloc: Global, ms: Option<u32>) -> Result<String, AllocError>
 }
 
 /// Returns the data of an event of one question.
-fn question_data(alloc: Global, question: u16) -> Result<String, AllocError>
+fn question_data(alloc: Global, question: u64) -> Result<String, AllocError>
     ensures { IfOk result (λ text. string_bytes text ≡ question_data question) }
 {
     format!(in alloc; "{{\"question\":{question}}}")

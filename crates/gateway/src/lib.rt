@@ -8,13 +8,16 @@
 mod answers;
 mod events;
 mod guards;
+mod heads;
 mod metrics;
 mod motions;
 mod queries;
 mod replies;
 mod requests;
 mod routes;
+mod scopes;
 mod standings;
+mod times;
 mod views;
 mod watch;
 
@@ -28,6 +31,8 @@ pub use metrics::{Tally, metrics_text};
 pub use queries::Position;
 pub use replies::{Reply, reply_of};
 pub use requests::{Method, Refusal, Request, Task, status_of, task_of, word_of};
+pub use scopes::Scope;
 pub use standings::{Stage, Standing, standing_of, states_text};
+pub use times::Times;
 pub use views::{MemberState, MemberView, Proposing, is_linked, members_text};
 pub use watch::{Told, Watch};

@@ -1,18 +1,20 @@
 //! The text for Prometheus: begin at `metrics_text`, last.
 
-ghost use Rattle.std.specs.Prelude.{◌≡◌, ◌++◌, IfOk, codes, is_some, count_by, nat_le, string_bytes};
+ghost use Rattle.std.specs.Prelude.{◌≡◌, ◌++◌, ℕ, IfOk, List, codes, is_some, count_by, string_bytes};
 ghost use Rattle.std.specs.Fmt.{decimal};
 ghost use Rattle.std.specs.List.{flat_map};
-ghost use Rattle.gateway.specs.Metrics.{bounds, bucket_row, gauge_help, gauge_name, gauge_row, gauge_rows, gauge_text, gauge_value, gauges, head_text, metrics_text, seconds_text, times_end, times_head, times_text, total_help, total_kind, total_name, total_text, total_value, totals, up_value};
+ghost use Rattle.gateway.specs.Metrics.{bucket_row, bucket_text, gauge_help, gauge_name, gauge_row, gauge_rows, gauge_text, gauge_value, gauges, head_text, metrics_text, seconds_text, times_end, times_head, times_text, total_help, total_kind, total_name, total_text, total_value, totals, up_value};
+ghost use Rattle.gateway.specs.Times.{Counts, bounds};
 
 use crate::answers::joined;
+use crate::times::{Bucket, Times};
 use crate::views::{MemberState, MemberView};
 use std::alloc::{AllocError, Global};
 
 /// The numbers of a cluster, as the gateway knows them.
-#[derive(Debug, Drop)]
+#[derive(Clone, Copy, Debug, PartialEq, Eq)]
 pub struct Tally {
-    /// The number of questions.
+    /// The number of questions that the gateway knows.
     pub questions: u64,
     /// The number of questions that were proposed and aren't decided.
     pub waiting: u64,
@@ -20,9 +22,8 @@ pub struct Tally {
     pub decisions: u64,
     /// The number of requests that were refused.
     pub refusals: u64,
-    /// The milliseconds from proposal to decision, of the questions that were proposed here.
-    pub times: Vec<u32>,
-    /// The sum of these.
+    /// The sum of the milliseconds from proposal to decision, of the questions that were proposed
+    /// here.
     pub sum: u64,
 }
 
@@ -255,37 +256,30 @@ fn seconds_text(alloc: Global, ms: u64) -> Result<String, AllocError>
     )
 }
 
-/// Returns how many of the times are at most so many milliseconds.
-fn times_within(times: &[u32], most: u32) -> usize
-    ensures { result ≡ count_by (λ ms. nat_le ms most) times.now }
+/// Returns the row of a bucket.
+fn bucket_text(alloc: Global, bucket: &Bucket) -> Result<String, AllocError>
+    ensures { IfOk result (λ text. string_bytes text ≡ bucket_text bucket.now) }
 {
-    times.iter().filter(|ms| **ms <= most).count()
-}
-
-/// Returns the row of the decisions that took at most so many milliseconds.
-fn bucket_row(alloc: Global, times: &[u32], most: u32) -> Result<String, AllocError>
-    ensures { IfOk result (λ text. string_bytes text ≡ bucket_row times.now most) }
-{
-    let seconds = seconds_text(alloc, u64::from(most))?;
+    let seconds = seconds_text(alloc, u64::from(bucket.most))?;
     format!(in alloc;
         "bracha_decision_seconds_bucket{{le=\"{seconds}\"}} {}\n",
-        times_within(times, most)
+        bucket.count
     )
 }
 
-/// Returns the rows of all these bounds.
-fn bucket_rows(alloc: Global, times: &[u32], bounds: &[u32]) -> Result<String, AllocError>
-    ensures { IfOk result (λ text. string_bytes text ≡ flat_map (bucket_row times.now) bounds.now) }
+/// Returns the rows of all buckets.
+fn bucket_texts(alloc: Global, buckets: &[Bucket]) -> Result<String, AllocError>
+    ensures { IfOk result (λ text. string_bytes text ≡ flat_map bucket_text buckets.now) }
 {
     let mut text = String::new(alloc);
-    for most in bounds {
-        text.push_str(bucket_row(alloc, times, *most)?.as_str())?;
+    for bucket in buckets {
+        text.push_str(bucket_text(alloc, bucket)?.as_str())?;
     }
     Ok(text)
 }
 
 /// Returns the row of all decisions whose time is known, their sum and their number.
-fn times_end(alloc: Global, count: usize, sum: u64) -> Result<String, AllocError>
+fn times_end(alloc: Global, count: u64, sum: u64) -> Result<String, AllocError>
     ensures { IfOk result (λ text. string_bytes text ≡ times_end count sum) }
 {
     let seconds = seconds_text(alloc, sum)?;
@@ -306,22 +300,21 @@ fn times_head() -> &'static str
 }
 
 /// Returns the rows of all bounds.
-#[tactic(auto, unfolding(crate::specs::Metrics::bounds))]
-fn all_buckets(alloc: Global, times: &[u32]) -> Result<String, AllocError>
-    ensures { IfOk result (λ text. string_bytes text ≡ flat_map (bucket_row times.now) bounds) }
+fn all_buckets(alloc: Global, times: &Times) -> Result<String, AllocError>
+    ensures { (all : List ℕ) → Counts times.now all →
+        IfOk result (λ text. string_bytes text ≡ flat_map (bucket_row all) bounds) }
 {
-    let bounds = [5, 10, 25, 50, 100, 250, 500, 1000, 2500, 5000, 10000];
-    bucket_rows(alloc, times, &bounds)
+    bucket_texts(alloc, times.buckets())
 }
 
-/// Returns the lines of the times from proposal to decision.
+/// Returns the lines of the times from proposal to decision, with their sum.
 #[tactic(auto, unfolding(crate::specs::Metrics::times_text))]
-fn times_text(alloc: Global, tally: &Tally) -> Result<Vec<u8>, AllocError>
-    ensures { IfOk result (λ bytes. bytes.items ≡ times_text tally.now) }
+fn times_text(alloc: Global, times: &Times, sum: u64) -> Result<Vec<u8>, AllocError>
+    ensures { (all : List ℕ) → Counts times.now all →
+        IfOk result (λ bytes. bytes.items ≡ times_text all sum) }
 {
-    let times = tally.times.as_slice();
     let rows = all_buckets(alloc, times)?;
-    let end = times_end(alloc, times.len(), tally.sum)?;
+    let end = times_end(alloc, times.count(), sum)?;
     joined(
         alloc,
         times_head().as_bytes(),
@@ -360,7 +353,8 @@ fn all_totals(alloc: Global, tally: &Tally) -> Result<String, AllocError>
     total_texts(alloc, &totals, tally)
 }
 
-/// Returns all metrics, as Prometheus reads them.
+/// Returns all metrics, as Prometheus reads them, with a histogram of the times from proposal to
+/// decision.
 ///
 /// # Errors
 ///
@@ -369,11 +363,13 @@ pub fn metrics_text(
     alloc: Global,
     tally: &Tally,
     views: &[MemberView],
+    times: &Times,
 ) -> Result<Vec<u8>, AllocError>
-    ensures { IfOk result (λ bytes. bytes.items ≡ metrics_text tally.now views.now) }
+    ensures { (all : List ℕ) → Counts times.now all →
+        IfOk result (λ bytes. bytes.items ≡ metrics_text tally.now views.now all) }
 {
     let members = all_gauges(alloc, views)?;
     let cluster = all_totals(alloc, tally)?;
-    let times = times_text(alloc, tally)?;
+    let times = times_text(alloc, times, tally.sum)?;
     joined(alloc, members.as_bytes(), cluster.as_bytes(), &times)
 }

@@ -80,14 +80,14 @@ fn both_words(rest: &[u8]) -> Option<(&[u8], &[u8])>
 }
 
 /// Returns the two numbers that the words write.
-fn both_numbers(first: &[u8], second: &[u8]) -> Option<(u16, u16)>
+fn both_numbers(first: &[u8], second: &[u8]) -> Option<(u64, u64)>
     ensures some { IfSome result
-        (λ found. IsBelow 16 first.now found.0 × IsBelow 16 second.now found.1) }
-    ensures exact { (from to : ℕ) → IsBelow 16 first.now from → IsBelow 16 second.now to →
+        (λ found. IsBelow 64 first.now found.0 × IsBelow 64 second.now found.1) }
+    ensures exact { (from to : ℕ) → IsBelow 64 first.now from → IsBelow 64 second.now to →
         result ≡ Some (from, to) }
 {
-    match number16(first) {
-        Some(from) => match number16(second) {
+    match number(first) {
+        Some(from) => match number(second) {
             Some(to) => Some((from, to)),
             None => None,
         },
@@ -96,7 +96,7 @@ fn both_numbers(first: &[u8], second: &[u8]) -> Option<(u16, u16)>
 }
 
 /// Returns the numbers of `A&to=B`.
-fn rest_bounds(rest: &[u8]) -> Option<(u16, u16)>
+fn rest_bounds(rest: &[u8]) -> Option<(u64, u64)>
     ensures some { IfSome result (λ found. AreBoundsOf rest.now found.0 found.1) }
     ensures exact { (from to : ℕ) → AreBoundsOf rest.now from to → result ≡ Some (from, to) }
 {
@@ -107,7 +107,7 @@ fn rest_bounds(rest: &[u8]) -> Option<(u16, u16)>
 }
 
 /// Returns the numbers of `from=A&to=B`.
-fn bounds_of(query: &[u8]) -> Option<(u16, u16)>
+fn bounds_of(query: &[u8]) -> Option<(u64, u64)>
     ensures some { IfSome result (λ found. AreBounds query.now found.0 found.1) }
     ensures exact { (from to : ℕ) → AreBounds query.now from to → result ≡ Some (from, to) }
 {
@@ -118,14 +118,14 @@ fn bounds_of(query: &[u8]) -> Option<(u16, u16)>
 }
 
 /// Returns `true` if the bounds are in order and the questions exist.
-fn are_within(from: u16, to: u16, questions: u16) -> bool
+fn are_within(from: u64, to: u64, questions: u64) -> bool
     ensures { IsTrue result ↔ ((from ≤ to) × (to ≤ questions)) }
 {
     from <= to && to <= questions
 }
 
 /// Returns the range of questions that the query names, if they exist.
-fn named_range(questions: u16, query: &[u8]) -> Option<(u16, u16)>
+fn named_range(questions: u64, query: &[u8]) -> Option<(u64, u64)>
     ensures some { IfSome result (λ found. IsNamed questions query.now found.0 found.1) }
     ensures none { IsNone result → (from to : ℕ) → IsNamed questions query.now from to → ⊥ }
 {
@@ -143,7 +143,7 @@ fn named_range(questions: u16, query: &[u8]) -> Option<(u16, u16)>
 
 /// Returns the first question that is asked for and the one after the last: all without a query,
 /// else as `from=A&to=B` says.
-pub(crate) fn range_of(questions: u16, query: &[u8]) -> Option<(u16, u16)>
+pub(crate) fn range_of(questions: u64, query: &[u8]) -> Option<(u64, u64)>
     ensures some { IfSome result (λ found. IsRange questions query.now found.0 found.1) }
     ensures none { IsNone result → (from to : ℕ) → IsRange questions query.now from to → ⊥ }
 {

@@ -5,7 +5,7 @@ ghost use Rattle.gateway.specs.Replies.{AreLinks, AreQuestionAndBit, AreTwo, Say
 ghost use Rattle.gateway.specs.declared.replies.Reply.TheVariants.{Have};
 
 use crate::motions::bit_in;
-use numerals::{behind, is, number, number16, split_at_space};
+use numerals::{behind, is, number, split_at_space};
 
 /// A line of a desk.
 #[derive(Clone, Copy, Debug, PartialEq, Eq)]
@@ -13,7 +13,7 @@ pub enum Reply {
     /// The member decided the question so: a line to a follower.
     Decided {
         /// The question.
-        question: u16,
+        question: u64,
         /// The bit.
         bit: bool,
     },
@@ -31,10 +31,19 @@ pub enum Reply {
         /// The number of links that go out.
         going: u64,
     },
+    /// The epochs of a member of a chain: the reply to `EPOCHS`.
+    Epochs {
+        /// The first epoch that isn't closed.
+        closed: u64,
+        /// The newest epoch.
+        newest: u64,
+    },
     /// The member took a proposal.
     Taken,
-    /// The member had a proposal, or decided the question.
+    /// The member had a proposal.
     Have,
+    /// The member decided the question so: a reply to `PROPOSE` or `STATE`.
+    Told(bool),
     /// The member came to the last step of the question's last round: a reply to `STATE`.
     Spent,
     /// The member is stopped.
@@ -53,11 +62,11 @@ fn two_numbers(words: &[u8]) -> Option<(u64, u64)>
 }
 
 /// Returns the question and the bit that the words write.
-fn question_and_bit(words: &[u8]) -> Option<(u16, bool)>
+fn question_and_bit(words: &[u8]) -> Option<(u64, bool)>
     ensures { IfSome result (λ found. AreQuestionAndBit words.now found.0 found.1) }
 {
     let (digits, bit) = split_at_space(words)?;
-    let question = number16(digits)?;
+    let question = number(digits)?;
     Some((question, bit_in(bit)?))
 }
 
@@ -113,14 +122,40 @@ fn links_reply(line: &[u8]) -> Option<Reply>
     }
 }
 
-/// Returns `true` if the line is that of a member that had a proposal, or decided the question.
+/// Returns the epochs that the line tells.
+fn epochs_reply(line: &[u8]) -> Option<Reply>
+    ensures { IfSome result (Says line.now) }
+{
+    match behind(line, "EPOCHS ") {
+        Some(words) => match two_numbers(words) {
+            Some((closed, newest)) => Some(Reply::Epochs { closed, newest }),
+            None => None,
+        },
+        None => None,
+    }
+}
+
+/// Returns `true` if the line is that of a member that had a proposal.
 fn is_had(line: &[u8]) -> bool
     ensures { IsTrue result → Says line.now Have }
 {
-    is(line, "HAVE 0") || is(line, "HAVE 1") || is(line, "DECIDED 0") || is(line, "DECIDED 1")
+    is(line, "HAVE 0") || is(line, "HAVE 1")
 }
 
-/// Returns what a line that has no number of questions, statements or links says.
+/// Returns the decision that the line tells to one who asked for the question.
+fn told_reply(line: &[u8]) -> Option<Reply>
+    ensures { IfSome result (Says line.now) }
+{
+    match behind(line, "DECIDED ") {
+        Some(word) => match bit_in(word) {
+            Some(bit) => Some(Reply::Told(bit)),
+            None => None,
+        },
+        None => None,
+    }
+}
+
+/// Returns what a line says that has no number and no bit.
 fn plain_reply(line: &[u8]) -> Reply
     ensures { Says line.now result }
 {
@@ -139,16 +174,36 @@ fn plain_reply(line: &[u8]) -> Reply
     Reply::Other
 }
 
+/// Returns what a line says that has no number of questions, statements, links or epochs.
+fn short_reply(line: &[u8]) -> Reply
+    ensures { Says line.now result }
+{
+    match told_reply(line) {
+        Some(reply) => reply,
+        None => plain_reply(line),
+    }
+}
+
+/// Returns what a line of a desk says that tells no decision and no counts.
+fn counted_reply(line: &[u8]) -> Reply
+    ensures { Says line.now result }
+{
+    match links_reply(line) {
+        Some(reply) => reply,
+        None => match epochs_reply(line) {
+            Some(reply) => reply,
+            None => short_reply(line),
+        },
+    }
+}
+
 /// Returns what a line of a desk says that tells no decision.
 fn other_reply(line: &[u8]) -> Reply
     ensures { Says line.now result }
 {
     match up_reply(line) {
         Some(reply) => reply,
-        None => match links_reply(line) {
-            Some(reply) => reply,
-            None => plain_reply(line),
-        },
+        None => counted_reply(line),
     }
 }
 

@@ -1,9 +1,9 @@
 //! Requests, and what is to be done for one: begin at `task_of`, last.
 
 ghost use Rattle.std.specs.Prelude.{◌≡◌, IfErr, IfOk, IfSome, IsNone};
-ghost use Rattle.terms_prelude.specs.Terms.{Size};
 ghost use Rattle.gateway.specs.declared.guards.Policy.{Policy};
 ghost use Rattle.gateway.specs.declared.routes.Route.{Route};
+ghost use Rattle.gateway.specs.declared.scopes.Scope.{Scope};
 ghost use Rattle.gateway.specs.Motions.{IsMotion};
 ghost use Rattle.gateway.specs.Requests.{AsksFor, IsRead, IsRefused, IsRefusedAt, IsTask, MayPropose, Proposes, status_of, word_of};
 ghost use Rattle.gateway.specs.declared.requests.Method.TheVariants as method;
@@ -15,8 +15,8 @@ use crate::guards::{
 use crate::motions::motion_of;
 use crate::queries::{Position, after_of, range_of, wait_of};
 use crate::routes::{Route, route_of};
+use crate::scopes::Scope;
 use std::alloc::Global;
-use terms::Size;
 
 /// The method of a request.
 #[derive(Clone, Copy, Debug, PartialEq, Eq)]
@@ -68,25 +68,25 @@ pub enum Task {
     /// The states of these questions are told.
     Questions {
         /// The first question.
-        from: u16,
+        from: u64,
         /// The question after the last.
-        to: u16,
+        to: u64,
     },
     /// A question is told, at its decision or after so many seconds.
     Question {
         /// The question, below the number of questions.
-        question: u16,
+        question: u64,
         /// The seconds, 0 to 60.
         wait: u16,
     },
     /// The transcript of a question is sent.
-    Transcript(u16),
+    Transcript(u64),
     /// Events are told as they come, from the position on if it is of this life.
     Decisions(Option<Position>),
     /// A bit is proposed to all members.
     Propose {
         /// The question, below the number of questions.
-        question: u16,
+        question: u64,
         /// The bit.
         bit: bool,
         /// The seconds for which its decision is waited for, 0 to 60.
@@ -103,8 +103,10 @@ pub enum Refusal {
     Path,
     /// The path doesn't take this method.
     Method,
-    /// The cluster hasn't this question.
+    /// The cluster hasn't this question, or it comes after those of a chain that the gateway knows.
     Question,
+    /// The question came before those of a chain that the gateway knows.
+    Past,
     /// The query isn't one of this path.
     Query,
     /// The gateway takes no proposals: it has no token, and listens at an address that isn't a
@@ -141,6 +143,7 @@ pub fn status_of(refusal: Refusal) -> u16
         Refusal::Path => 404,
         Refusal::Method => 405,
         Refusal::Question => 404,
+        Refusal::Past => 410,
         Refusal::Query => 400,
         Refusal::Closed => 403,
         Refusal::Origin => 403,
@@ -165,6 +168,7 @@ pub fn word_of(refusal: Refusal) -> &'static str
         Refusal::Path => "path",
         Refusal::Method => "method",
         Refusal::Question => "question",
+        Refusal::Past => "past",
         Refusal::Query => "query",
         Refusal::Closed => "closed",
         Refusal::Origin => "origin",
@@ -181,11 +185,11 @@ pub fn word_of(refusal: Refusal) -> &'static str
 }
 
 /// Returns the range of questions that is asked for.
-fn questions_task(policy: &Policy<'_>, size: Size, request: &Request<'_>) -> Result<Task, Refusal>
-    ensures ok { IfOk result (IsRead size route.Questions request.now) }
-    ensures err { IfErr result (IsRefusedAt policy.now size route.Questions request.now) }
+fn questions_task(policy: &Policy<'_>, scope: Scope, request: &Request<'_>) -> Result<Task, Refusal>
+    ensures ok { IfOk result (IsRead scope route.Questions request.now) }
+    ensures err { IfErr result (IsRefusedAt policy.now scope route.Questions request.now) }
 {
-    match range_of(size.questions(), request.query) {
+    match range_of(scope.questions(), request.query) {
         Some((from, to)) => Ok(Task::Questions { from, to }),
         None => Err(Refusal::Query),
     }
@@ -194,14 +198,15 @@ fn questions_task(policy: &Policy<'_>, size: Size, request: &Request<'_>) -> Res
 /// Returns the question that is asked for.
 fn question_task(
     policy: &Policy<'_>,
-    size: Size,
-    question: u16,
+    scope: Scope,
+    question: u64,
     request: &Request<'_>,
 ) -> Result<Task, Refusal>
-    ensures ok { IfOk result (IsRead size (route.Question question) request.now) }
-    ensures err { IfErr result (IsRefusedAt policy.now size (route.Question question) request.now) }
+    ensures ok { IfOk result (IsRead scope (route.Question question) request.now) }
+    ensures err { IfErr result
+        (IsRefusedAt policy.now scope (route.Question question) request.now) }
 {
-    if question >= size.questions() {
+    if question >= scope.questions() {
         return Err(Refusal::Question);
     }
     match wait_of(request.query) {
@@ -213,15 +218,15 @@ fn question_task(
 /// Returns the question whose transcript is asked for.
 fn transcript_task(
     policy: &Policy<'_>,
-    size: Size,
-    question: u16,
+    scope: Scope,
+    question: u64,
     request: &Request<'_>,
 ) -> Result<Task, Refusal>
-    ensures ok { IfOk result (IsRead size (route.Transcript question) request.now) }
+    ensures ok { IfOk result (IsRead scope (route.Transcript question) request.now) }
     ensures err { IfErr result
-        (IsRefusedAt policy.now size (route.Transcript question) request.now) }
+        (IsRefusedAt policy.now scope (route.Transcript question) request.now) }
 {
-    if question >= size.questions() {
+    if question >= scope.questions() {
         return Err(Refusal::Question);
     }
     Ok(Task::Transcript(question))
@@ -230,12 +235,12 @@ fn transcript_task(
 /// Returns what a request that only reads asks for.
 fn read_task(
     policy: &Policy<'_>,
-    size: Size,
+    scope: Scope,
     route: Route,
     request: &Request<'_>,
 ) -> Result<Task, Refusal>
-    ensures ok { IfOk result (IsRead size route request.now) }
-    ensures err { IfErr result (IsRefusedAt policy.now size route request.now) }
+    ensures ok { IfOk result (IsRead scope route request.now) }
+    ensures err { IfErr result (IsRefusedAt policy.now scope route request.now) }
 {
     match route {
         Route::Page => Ok(Task::Page),
@@ -243,18 +248,18 @@ fn read_task(
         Route::Ready => Ok(Task::Ready),
         Route::Metrics => Ok(Task::Metrics),
         Route::Members => Ok(Task::Members),
-        Route::Questions => questions_task(policy, size, request),
+        Route::Questions => questions_task(policy, scope, request),
         Route::Decisions => Ok(Task::Decisions(after_of(request.query, request.last))),
-        Route::Question(question) => question_task(policy, size, question, request),
-        Route::Transcript(question) => transcript_task(policy, size, question, request),
+        Route::Question(question) => question_task(policy, scope, question, request),
+        Route::Transcript(question) => transcript_task(policy, scope, question, request),
     }
 }
 
 /// Refuses a request that may not propose, whatever it proposes.
 fn refuse_stranger(policy: &Policy<'_>, request: &Request<'_>) -> Option<Refusal>
     ensures none { IsNone result → MayPropose policy.now request.now }
-    ensures some { request.now.method ≡ method.Post → (size : Size) (at : Route) →
-        IfSome result (IsRefusedAt policy.now size at request.now) }
+    ensures some { request.now.method ≡ method.Post → (scope : Scope) (at : Route) →
+        IfSome result (IsRefusedAt policy.now scope at request.now) }
 {
     if !takes_proposals(policy) {
         return Some(Refusal::Closed);
@@ -274,8 +279,9 @@ fn refuse_stranger(policy: &Policy<'_>, request: &Request<'_>) -> Option<Refusal
 /// Returns the bit that the body proposes.
 fn bit_task(alloc: Global, request: &Request<'_>) -> Result<bool, Refusal>
     ensures ok { IfOk result (IsMotion request.now.body.now) }
-    ensures err { request.now.method ≡ method.Post → (policy : Policy) (size : Size) (at : Route) →
-        IfErr result (IsRefusedAt policy size at request.now) }
+    ensures err { request.now.method ≡ method.Post →
+        (policy : Policy) (scope : Scope) (at : Route) →
+        IfErr result (IsRefusedAt policy scope at request.now) }
 {
     match motion_of(alloc, request.body) {
         Ok(Some(bit)) => Ok(bit),
@@ -288,16 +294,16 @@ fn bit_task(alloc: Global, request: &Request<'_>) -> Result<bool, Refusal>
 fn motion_task(
     alloc: Global,
     policy: &Policy<'_>,
-    size: Size,
-    question: u16,
+    scope: Scope,
+    question: u64,
     request: &Request<'_>,
 ) -> Result<Task, Refusal>
     requires { MayPropose policy.now request.now }
-    ensures ok { IfOk result (Proposes policy.now size (route.Question question) request.now) }
+    ensures ok { IfOk result (Proposes policy.now scope (route.Question question) request.now) }
     ensures err { request.now.method ≡ method.Post →
-        IfErr result (IsRefusedAt policy.now size (route.Question question) request.now) }
+        IfErr result (IsRefusedAt policy.now scope (route.Question question) request.now) }
 {
-    if question >= size.questions() {
+    if question >= scope.questions() {
         return Err(Refusal::Question);
     }
     match wait_of(request.query) {
@@ -317,17 +323,17 @@ fn motion_task(
 fn proposal_task(
     alloc: Global,
     policy: &Policy<'_>,
-    size: Size,
-    question: u16,
+    scope: Scope,
+    question: u64,
     request: &Request<'_>,
 ) -> Result<Task, Refusal>
-    ensures ok { IfOk result (Proposes policy.now size (route.Question question) request.now) }
+    ensures ok { IfOk result (Proposes policy.now scope (route.Question question) request.now) }
     ensures err { request.now.method ≡ method.Post →
-        IfErr result (IsRefusedAt policy.now size (route.Question question) request.now) }
+        IfErr result (IsRefusedAt policy.now scope (route.Question question) request.now) }
 {
     match refuse_stranger(policy, request) {
         Some(refusal) => Err(refusal),
-        None => motion_task(alloc, policy, size, question, request),
+        None => motion_task(alloc, policy, scope, question, request),
     }
 }
 
@@ -335,16 +341,16 @@ fn proposal_task(
 fn change_task(
     alloc: Global,
     policy: &Policy<'_>,
-    size: Size,
+    scope: Scope,
     route: Route,
     request: &Request<'_>,
 ) -> Result<Task, Refusal>
-    ensures ok { IfOk result (Proposes policy.now size route request.now) }
+    ensures ok { IfOk result (Proposes policy.now scope route request.now) }
     ensures err { request.now.method ≡ method.Post →
-        IfErr result (IsRefusedAt policy.now size route request.now) }
+        IfErr result (IsRefusedAt policy.now scope route request.now) }
 {
     match route {
-        Route::Question(question) => proposal_task(alloc, policy, size, question, request),
+        Route::Question(question) => proposal_task(alloc, policy, scope, question, request),
         Route::Page
         | Route::Health
         | Route::Ready
@@ -360,22 +366,22 @@ fn change_task(
 fn routed_task(
     alloc: Global,
     policy: &Policy<'_>,
-    size: Size,
+    scope: Scope,
     route: Route,
     request: &Request<'_>,
 ) -> Result<Task, Refusal>
-    ensures ok { IfOk result (AsksFor request.now.method policy.now size route request.now) }
-    ensures err { IfErr result (IsRefusedAt policy.now size route request.now) }
+    ensures ok { IfOk result (AsksFor request.now.method policy.now scope route request.now) }
+    ensures err { IfErr result (IsRefusedAt policy.now scope route request.now) }
 {
     match request.method {
-        Method::Get => read_task(policy, size, route, request),
-        Method::Post => change_task(alloc, policy, size, route, request),
+        Method::Get => read_task(policy, scope, route, request),
+        Method::Post => change_task(alloc, policy, scope, route, request),
         Method::Other => Err(Refusal::Method),
     }
 }
 
-/// Returns what is to be done for a request to a gateway with this policy and a cluster of this
-/// size.
+/// Returns what is to be done for a request to a gateway with this policy, for this cluster or
+/// chain.
 ///
 /// # Errors
 ///
@@ -385,23 +391,23 @@ fn routed_task(
 /// - [`Refusal::Path`] if nothing has the path;
 /// - [`Refusal::Method`] if the path doesn't take the method;
 /// - of a proposal [`Refusal::Closed`], [`Refusal::Origin`], [`Refusal::Type`], [`Refusal::Token`];
-/// - [`Refusal::Question`] if the cluster hasn't the question;
+/// - [`Refusal::Question`] if the cluster hasn't the question: a chain has each;
 /// - [`Refusal::Query`] if the query isn't one of the path;
 /// - of a proposal [`Refusal::Body`], or [`Refusal::Memory`] if memory to read it was refused.
 pub fn task_of(
     alloc: Global,
     policy: &Policy<'_>,
-    size: Size,
+    scope: Scope,
     request: &Request<'_>,
 ) -> Result<Task, Refusal>
-    ensures ok { IfOk result (IsTask policy.now size request.now) }
-    ensures err { IfErr result (IsRefused policy.now size request.now) }
+    ensures ok { IfOk result (IsTask policy.now scope request.now) }
+    ensures err { IfErr result (IsRefused policy.now scope request.now) }
 {
     if !is_own_host(policy, request.host) {
         return Err(Refusal::Host);
     }
     match route_of(request.path) {
-        Some(route) => routed_task(alloc, policy, size, route, request),
+        Some(route) => routed_task(alloc, policy, scope, route, request),
         None => Err(Refusal::Path),
     }
 }

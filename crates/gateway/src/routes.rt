@@ -4,7 +4,7 @@ ghost use Rattle.std.specs.Prelude.{◌≡◌, ◌++◌, ℕ, List, IfSome, IsNo
 ghost use Rattle.gateway.specs.Routes.{IsListPath, IsPlainPath, IsQuestionPath, IsQuestionRest, IsRoute, IsTranscriptRest};
 ghost use Rattle.gateway.specs.declared.routes.Route.{Route};
 
-use numerals::{behind, is, number16};
+use numerals::{behind, is, number};
 
 /// The object of a request, by its path.
 #[derive(Clone, Copy, Debug, PartialEq, Eq)]
@@ -24,9 +24,9 @@ pub enum Route {
     /// The stream of events.
     Decisions,
     /// One question.
-    Question(u16),
+    Question(u64),
     /// The transcript of one question.
-    Transcript(u16),
+    Transcript(u64),
 }
 
 /// Returns the route of the page or of what supervisors ask for.
@@ -87,7 +87,7 @@ fn transcript_route(rest: &[u8]) -> Option<Route>
     ensures none { IsNone result → (route : Route) → IsTranscriptRest rest.now route → ⊥ }
 {
     match before(rest, "/transcript") {
-        Some(digits) => match number16(digits) {
+        Some(digits) => match number(digits) {
             Some(question) => Some(Route::Transcript(question)),
             None => None,
         },
@@ -100,7 +100,7 @@ fn question_route(rest: &[u8]) -> Option<Route>
     ensures some { IfSome result (IsQuestionRest rest.now) }
     ensures none { IsNone result → (route : Route) → IsQuestionRest rest.now route → ⊥ }
 {
-    match number16(rest) {
+    match number(rest) {
         Some(question) => Some(Route::Question(question)),
         None => transcript_route(rest),
     }

@@ -1,9 +1,10 @@
 //! Objects of JSON about members.
 
 ghost use Rattle.std.specs.Prelude.{◌≡◌, ◌↔◌, ◌≤◌, ◌-◌, ◌++◌, IfOk, IsTrue, string_bytes};
-ghost use Rattle.gateway.specs.Views.{IsLinked, contradiction_item, contradiction_items, member_counts, member_head, member_item, member_items, members_head, members_object, proposing_field, proposing_word, size_fields, state_word};
+ghost use Rattle.gateway.specs.Views.{IsLinked, chain_field, contradiction_item, contradiction_items, member_counts, member_head, member_item, member_items, members_head, members_object, proposing_field, proposing_word, size_fields, state_word};
 
 use crate::answers::{behind_first, joined, says_text};
+use crate::scopes::Scope;
 use std::alloc::{AllocError, Global};
 use terms::Size;
 
@@ -42,7 +43,9 @@ pub struct MemberView {
     pub statements: u64,
     /// The number of questions that it decided.
     pub decided: u64,
-    /// The bit that it told on each question, if more than t members told the other one.
+    /// The first question of those that follow.
+    pub first: u64,
+    /// The bit that it told on each of these questions, if more than t members told the other one.
     pub contradicts: Vec<Option<bool>>,
 }
 
@@ -72,7 +75,7 @@ fn proposing_word(proposing: Proposing) -> &'static str
 /// if it doesn't.
 fn contradiction_item(
     alloc: Global,
-    question: usize,
+    question: u128,
     found: Option<bool>,
 ) -> Result<String, AllocError>
     ensures { IfOk result (λ text. string_bytes text ≡ contradiction_item question found) }
@@ -86,13 +89,18 @@ fn contradiction_item(
     }
 }
 
-/// Returns the items of all such questions, with a comma before each.
-fn contradiction_items(alloc: Global, found: &[Option<bool>]) -> Result<String, AllocError>
-    ensures { IfOk result (λ text. string_bytes text ≡ contradiction_items 0 found.now) }
+/// Returns the items of all such questions from the first on, with a comma before each.
+fn contradiction_items(
+    alloc: Global,
+    first: u64,
+    found: &[Option<bool>],
+) -> Result<String, AllocError>
+    ensures { IfOk result (λ text. string_bytes text ≡ contradiction_items first found.now) }
 {
     let mut text = String::new(alloc);
-    for question in 0..found.len() {
-        let item = contradiction_item(alloc, question, found[question])?;
+    for place in 0..found.len() {
+        let question = u128::from(first) + place as u128;
+        let item = contradiction_item(alloc, question, found[place])?;
         text.push_str(item.as_str())?;
     }
     Ok(text)
@@ -136,7 +144,7 @@ fn member_item(alloc: Global, member: usize, view: &MemberView) -> Result<Vec<u8
     ensures { IfOk result (λ bytes. bytes.items ≡ member_item member view.now) }
 {
     let front = member_front(alloc, member, view)?;
-    let items = contradiction_items(alloc, &view.contradicts)?;
+    let items = contradiction_items(alloc, view.first, &view.contradicts)?;
     joined(
         alloc,
         front.as_bytes(),
@@ -180,16 +188,24 @@ fn proposing_field(alloc: Global, proposing: Proposing) -> Result<String, AllocE
     )
 }
 
+/// Returns the field of a chain; nothing for another cluster.
+fn chain_field(chain: bool) -> &'static str
+    ensures { result.now ≡ chain_field chain }
+{
+    if chain { ",\"chain\":true" } else { "" }
+}
+
 /// Returns what stands before the members' items.
 fn members_head(
     alloc: Global,
     cluster: u64,
-    size: Size,
+    scope: Scope,
     proposing: Proposing,
 ) -> Result<String, AllocError>
-    ensures { IfOk result (λ text. string_bytes text ≡ members_head cluster size proposing) }
+    ensures { IfOk result (λ text. string_bytes text ≡ members_head cluster scope proposing) }
 {
-    let mut text = size_fields(alloc, cluster, size)?;
+    let mut text = size_fields(alloc, cluster, scope.size)?;
+    text.push_str(chain_field(scope.chain))?;
     let rest = proposing_field(alloc, proposing)?;
     text.push_str(rest.as_str())?;
     Ok(text)
@@ -203,13 +219,14 @@ fn members_head(
 pub fn members_text(
     alloc: Global,
     cluster: u64,
-    size: Size,
+    scope: Scope,
     proposing: Proposing,
     views: &[MemberView],
 ) -> Result<Vec<u8>, AllocError>
-    ensures { IfOk result (λ bytes. bytes.items ≡ members_object cluster size proposing views.now) }
+    ensures { IfOk result
+        (λ bytes. bytes.items ≡ members_object cluster scope proposing views.now) }
 {
-    let head = members_head(alloc, cluster, size, proposing)?;
+    let head = members_head(alloc, cluster, scope, proposing)?;
     let items = member_items(alloc, views)?;
     joined(alloc, head.as_bytes(), behind_first(&items), b"]}\n")
 }

@@ -8,7 +8,7 @@ pub(crate) const LIVE: &str = "<!DOCTYPE html>\n\
 <meta name=\"viewport\" content=\"width=device-width, initial-scale=1\">\n\
 <meta name=\"color-scheme\" content=\"light dark\">\n\
 <meta name=\"referrer\" content=\"no-referrer\">\n\
-<meta http-equiv=\"Content-Security-Policy\" content=\"default-src 'none'; connect-src 'self'; script-src 'sha256-AKTy12DhZDaKtjTVxvQnbP5xJV96W7xuRcfxWC2btdE='; style-src 'sha256-XVniBvl1O6+WLDxC9FTeWsTryPkTksJimd839yo/5Fs='; img-src data:; base-uri 'none'; form-action 'none'; require-trusted-types-for 'script'; trusted-types 'none'\">\n\
+<meta http-equiv=\"Content-Security-Policy\" content=\"default-src 'none'; connect-src 'self'; script-src 'sha256-81atW9js23PBRyCpSDdQ3aKiKfOY30nBc87M7BdTPTg='; style-src 'sha256-XVniBvl1O6+WLDxC9FTeWsTryPkTksJimd839yo/5Fs='; img-src data:; base-uri 'none'; form-action 'none'; require-trusted-types-for 'script'; trusted-types 'none'\">\n\
 <link rel=\"icon\" href=\"data:,\">\n\
 <title>bracha cluster</title>\n\
 <style>\n\
@@ -193,10 +193,12 @@ const num = (x) => String(x).replace(/\\B(?=(\\d{3})+(?!\\d))/g, \"\\u202f\");\n
 const css = (name) => getComputedStyle(document.documentElement).getPropertyValue(name).trim();\n\
 const still = matchMedia(\"(prefers-reduced-motion: reduce)\"), dark = matchMedia(\"(prefers-color-scheme: dark)\");\n\
 const whole = (x, most) => Number.isInteger(x) && x >= 0 && x <= most;   // numbers from the gateway are looked at\n\
+const MOST = Number.MAX_SAFE_INTEGER;\n\
 const clock = (ms) => new Date(ms).toTimeString().slice(0, 8);\n\
 \n\
 const STATES = { \"-\": \"unproposed\", p: \"proposed\", 0: \"decided 0\", 1: \"decided 1\", x: \"spent\" };\n\
-let Q = 0, n = 0, t = 0, states = [], tally = { \"-\": 0, p: 0, 0: 0, 1: 0, x: 0 }, members = [], life = \"\", after = 0;\n\
+// The questions that are shown are Q from F on: all of a cluster; of a chain, whose epochs have E each, those that the gateway knows.\n\
+let F = 0, Q = 0, E = 0, chain = false, n = 0, t = 0, states = [], tally = { \"-\": 0, p: 0, 0: 0, 1: 0, x: 0 }, members = [], life = \"\", after = 0;\n\
 let cursor = 0, picked = -1, heardAt = 0, goneAt = 0, tries = 0, source = null;\n\
 const fresh = new Map();                        // question -> when it was decided, for a short mark\n\
 const perSecond = new Map();                    // second -> decisions\n\
@@ -230,10 +232,10 @@ async function pollMembers() {\n\
 \x20\x20try {\n\
 \x20\x20\x20\x20const r = await get(\"v1/members\");\n\
 \x20\x20\x20\x20if (!whole(r.n, 64) || !whole(r.t, 21) || !whole(r.questions, 4096) || !Array.isArray(r.members)) throw new Error(\"not the members of a cluster\");\n\
-\x20\x20\x20\x20const other = r.n !== n || r.questions !== Q || r.cluster !== cluster;\n\
-\x20\x20\x20\x20cluster = r.cluster; n = r.n; t = r.t; propose = r.propose;\n\
+\x20\x20\x20\x20const other = r.n !== n || r.questions !== E || r.cluster !== cluster || chain !== (r.chain === true);\n\
+\x20\x20\x20\x20cluster = r.cluster; n = r.n; t = r.t; propose = r.propose; E = r.questions; chain = r.chain === true;\n\
 \x20\x20\x20\x20members = r.members.filter((m) => whole(m.member, n - 1)).slice(0, 64);\n\
-\x20\x20\x20\x20if (other) await load(r.questions);\n\
+\x20\x20\x20\x20if (other) await load();\n\
 \x20\x20\x20\x20if (lost && Date.now() - lost > 6000) gone(\"its stream doesn't come back\"); else alive();\n\
 \x20\x20\x20\x20showMembers();\n\
 \x20\x20\x20\x20if (!source && !resting) follow();\n\
@@ -243,16 +245,28 @@ async function pollMembers() {\n\
 }\n\
 let cluster = null, propose = \"token\", pollAt = 0, lost = 0;   // lost: since when the stream is away\n\
 function reason(fault) { return fault.name === \"TimeoutError\" ? \"no answer in time\" : fault instanceof TypeError ? \"no connection\" : String(fault.message).slice(0, 80); }\n\
-async function load(questions) {\n\
-\x20\x20const r = await get(\"v1/questions?from=0&to=\" + questions);\n\
-\x20\x20if (typeof r.states !== \"string\" || r.states.length !== questions || /[^\\-p01x]/.test(r.states)) throw new Error(\"not the states of the questions\");\n\
-\x20\x20Q = questions; states = Array.from(r.states); life = String(r.life); after = r.after;\n\
+async function load() {\n\
+\x20\x20const r = await get(\"v1/questions\" + (chain ? \"\" : \"?from=0&to=\" + E)), before = F;\n\
+\x20\x20if (!whole(r.from, MOST) || !whole(r.to, MOST) || typeof r.states !== \"string\" || r.states.length > 65536 || r.states.length !== r.to - r.from || /[^\\-p01x]/.test(r.states)) throw new Error(\"not the states of the questions\");\n\
+\x20\x20F = r.from; Q = r.states.length; states = Array.from(r.states); life = String(r.life); after = r.after;\n\
+\x20\x20fresh.clear(); dirty.clear();\n\
 \x20\x20tally = { \"-\": 0, p: 0, 0: 0, 1: 0, x: 0 };\n\
 \x20\x20for (const s of states) tally[s]++;\n\
 \x20\x20if (Array.isArray(r.lately)) { const now = Math.floor(Date.now() / 1000); r.lately.slice(-60).forEach((c, i, all) => { if (whole(c, 1e6)) perSecond.set(now - all.length + i, c); }); }\n\
-\x20\x20cursor = Math.min(cursor, Math.max(0, Q - 1));\n\
-\x20\x20$(\"grid\").setAttribute(\"aria-valuemax\", Q - 1); $(\"pq\").max = Q - 1;\n\
+\x20\x20cursor = Math.max(0, Math.min(cursor + before - F, Q - 1));\n\
+\x20\x20$(\"grid\").setAttribute(\"aria-valuemin\", F); $(\"grid\").setAttribute(\"aria-valuemax\", F + Q - 1); $(\"pq\").min = F; $(\"pq\").max = F + Q - 1;\n\
 \x20\x20layGrid(); showCounts(); readOut();\n\
+}\n\
+async function again() {\n\
+\x20\x20if (source) source.close();\n\
+\x20\x20source = null;\n\
+\x20\x20try { await load(); if (!source && !resting) follow(); } catch (fault) { gone(reason(fault)); }\n\
+}\n\
+// The place of an event's question among those that are shown, if it has one. All is loaded anew where a chain has come past them.\n\
+function placed(d) {\n\
+\x20\x20if (!whole(d.question, MOST)) return -1;\n\
+\x20\x20if (chain && source && d.question >= F + Q) again();\n\
+\x20\x20return d.question >= F && d.question < F + Q ? d.question - F : -1;\n\
 }\n\
 function follow() {\n\
 \x20\x20if (source) source.close();\n\
@@ -266,17 +280,18 @@ function follow() {\n\
 \x20\x20\x20\x20act(d);\n\
 \x20\x20});\n\
 \x20\x20on(\"decision\", (d) => {\n\
-\x20\x20\x20\x20if (!whole(d.question, Q - 1) || (d.bit !== 0 && d.bit !== 1)) return;\n\
+\x20\x20\x20\x20const q = placed(d);\n\
+\x20\x20\x20\x20if (q < 0 || (d.bit !== 0 && d.bit !== 1)) return;\n\
 \x20\x20\x20\x20const at = whole(d.time, 1e14) ? d.time : Date.now(), second = Math.floor(Date.now() / 1000);\n\
 \x20\x20\x20\x20perSecond.set(second, (perSecond.get(second) || 0) + 1);\n\
-\x20\x20\x20\x20set(d.question, String(d.bit)); fresh.set(d.question, performance.now());\n\
+\x20\x20\x20\x20set(q, String(d.bit)); fresh.set(q, performance.now());\n\
 \x20\x20\x20\x20line(String(d.bit), String(d.bit), \"question \" + d.question + \" is decided: \" + d.bit + (whole(d.ms, 1e9) ? \", after \" + num(d.ms) + \" ms\" : \"\"), at);\n\
 \x20\x20});\n\
-\x20\x20on(\"proposed\", (d) => { if (whole(d.question, Q - 1) && states[d.question] === \"-\") { set(d.question, \"p\"); line(\"p\", \"p\", \"question \" + d.question + \" is proposed\"); } });\n\
-\x20\x20on(\"spent\", (d) => { if (whole(d.question, Q - 1) && \"-p\".includes(states[d.question])) { set(d.question, \"x\"); line(\"x\", \"\\u2715\", \"question \" + d.question + \" is spent: it has no round left\"); } });\n\
+\x20\x20on(\"proposed\", (d) => { const q = placed(d); if (q >= 0 && states[q] === \"-\") { set(q, \"p\"); line(\"p\", \"p\", \"question \" + d.question + \" is proposed\"); } });\n\
+\x20\x20on(\"spent\", (d) => { const q = placed(d); if (q >= 0 && \"-p\".includes(states[q])) { set(q, \"x\"); line(\"x\", \"\\u2715\", \"question \" + d.question + \" is spent: it has no round left\"); } });\n\
 \x20\x20on(\"member\", (d) => { if (whole(d.member, n - 1)) { clearTimeout(pollAt); pollAt = setTimeout(pollMembers, 150); line(d.state === \"up\" ? \"g\" : \"b\", d.state === \"up\" ? \"\\u2713\" : \"\\u2715\", \"member \" + d.member + \" is \" + stateWord(d.state)); } });\n\
-\x20\x20on(\"contradiction\", (d) => { if (whole(d.member, n - 1) && whole(d.question, Q - 1) && (d.says === 0 || d.says === 1)) line(\"b\", \"!\", \"member \" + d.member + \" says \" + (d.says === 0 ? 0 : 1) + \" on question \" + d.question + \", more than \" + others() + \" say \" + (d.says === 0 ? 1 : 0)); });\n\
-\x20\x20on(\"restarted\", async () => { line(\"g\", \"\\u21bb\", \"the gateway was started anew\"); source.close(); source = null; try { await load(Q); } catch (fault) { gone(reason(fault)); } });\n\
+\x20\x20on(\"contradiction\", (d) => { if (whole(d.member, n - 1) && whole(d.question, MOST) && (d.says === 0 || d.says === 1)) line(\"b\", \"!\", \"member \" + d.member + \" says \" + (d.says === 0 ? 0 : 1) + \" on question \" + d.question + \", more than \" + others() + \" say \" + (d.says === 0 ? 1 : 0)); });\n\
+\x20\x20on(\"restarted\", async () => { line(\"g\", \"\\u21bb\", \"the gateway was started anew\"); await again(); });\n\
 \x20\x20on(\"beat\", () => {});\n\
 \x20\x20source.onopen = () => { lost = 0; };\n\
 \x20\x20source.onerror = () => { lost = lost || Date.now(); if (source && source.readyState === EventSource.CLOSED) source = null; };\n\
@@ -362,9 +377,9 @@ function move(q) {\n\
 }\n\
 function readOut() {\n\
 \x20\x20if (!Q) return;\n\
-\x20\x20const words = \"Question \" + cursor + \": \" + STATES[states[cursor]];\n\
+\x20\x20const words = \"Question \" + (F + cursor) + \": \" + STATES[states[cursor]];\n\
 \x20\x20$(\"what\").textContent = words + \".\";\n\
-\x20\x20$(\"grid\").setAttribute(\"aria-valuenow\", cursor);\n\
+\x20\x20$(\"grid\").setAttribute(\"aria-valuenow\", F + cursor);\n\
 \x20\x20$(\"grid\").setAttribute(\"aria-valuetext\", words);\n\
 \x20\x20$(\"ask\").disabled = false;\n\
 }\n\
@@ -380,10 +395,10 @@ function under(e) {\n\
 \x20\x20const q = y * grid.cols + x;\n\
 \x20\x20return x >= 0 && x < grid.cols && y >= 0 && q < Q ? q : -1;\n\
 }\n\
-$(\"grid\").addEventListener(\"click\", (e) => { const q = under(e); if (q >= 0) { move(q); $(\"pq\").value = q; $(\"says\").textContent = \"\"; } });\n\
-$(\"grid\").addEventListener(\"mousemove\", (e) => { const q = under(e); $(\"grid\").title = q < 0 ? \"\" : q + \": \" + STATES[states[q]]; });\n\
+$(\"grid\").addEventListener(\"click\", (e) => { const q = under(e); if (q >= 0) { move(q); $(\"pq\").value = F + q; $(\"says\").textContent = \"\"; } });\n\
+$(\"grid\").addEventListener(\"mousemove\", (e) => { const q = under(e); $(\"grid\").title = q < 0 ? \"\" : F + q + \": \" + STATES[states[q]]; });\n\
 async function ask() {\n\
-\x20\x20const q = cursor;\n\
+\x20\x20const q = F + cursor;\n\
 \x20\x20$(\"says\").textContent = \"Asking ..\";\n\
 \x20\x20try {\n\
 \x20\x20\x20\x20const r = await get(\"v1/questions/\" + q), by = new Map();\n\
@@ -429,7 +444,7 @@ function showMembers() {\n\
 \x20\x20const up = members.filter((m) => m.state === \"up\").length, want = n - t;\n\
 \x20\x20$(\"nup\").textContent = up + \" of \" + n;\n\
 \x20\x20$(\"name\").textContent = \"bracha cluster\" + (cluster === null || cluster === undefined ? \"\" : \" \" + String(cluster).slice(0, 20));\n\
-\x20\x20$(\"size\").textContent = n + \" members, at most \" + t + (t === 1 ? \" lies, \" : \" lie, \") + num(Q) + \" questions\";\n\
+\x20\x20$(\"size\").textContent = n + \" members, at most \" + t + (t === 1 ? \" lies, \" : \" lie, \") + (chain ? \"a chain: questions \" + num(F) + \" to \" + num(F + Q - 1) : num(Q) + \" questions\");\n\
 \x20\x20$(\"short\").hidden = up >= want;\n\
 \x20\x20if (up < want) $(\"short\").textContent = \"Only \" + up + \" of \" + n + \" members are reachable from the gateway; \" + want + \" are needed. Nothing new may be decided until more are.\";\n\
 \x20\x20const liars = members.filter((m) => Array.isArray(m.contradicts) ? m.contradicts.length : m.contradicts > 0);\n\
@@ -529,11 +544,11 @@ function flush() {\n\
 $(\"hold\").onchange = flush;\n\
 \n\
 // ---- proposing -----------------------------------------------------------------------------------------------\n\
-$(\"free\").onclick = () => { const q = states.indexOf(\"-\"); $(\"said\").textContent = q < 0 ? \"No question is unproposed.\" : \"\"; if (q >= 0) { $(\"pq\").value = q; move(q); } };\n\
+$(\"free\").onclick = () => { const q = states.indexOf(\"-\"); $(\"said\").textContent = q < 0 ? \"No question is unproposed.\" : \"\"; if (q >= 0) { $(\"pq\").value = F + q; move(q); } };\n\
 $(\"form\").addEventListener(\"submit\", async (e) => {\n\
 \x20\x20e.preventDefault();\n\
 \x20\x20const q = Number($(\"pq\").value), bit = Number(new FormData($(\"form\")).get(\"bit\")), token = $(\"token\").value;\n\
-\x20\x20if (!whole(q, Q - 1)) { $(\"said\").textContent = \"There is no such question.\"; return; }\n\
+\x20\x20if (!whole(q, MOST) || q < F || q >= F + Q) { $(\"said\").textContent = \"There is no such question.\"; return; }\n\
 \x20\x20if (/[^\\x21-\\x7e]/.test(token)) { $(\"said\").textContent = \"A token has only letters, digits and signs.\"; return; }\n\
 \x20\x20$(\"send\").disabled = true; $(\"said\").textContent = \"Proposing ..\";\n\
 \x20\x20try {\n\
@@ -544,8 +559,8 @@ $(\"form\").addEventListener(\"submit\", async (e) => {\n\
 \x20\x20\x20\x20if (r.status === 202 || r.status === 200) {\n\
 \x20\x20\x20\x20\x20\x20const took = whole(b.taken, n) ? \" \" + b.taken + \" of \" + n + \" members took it\" + (whole(b.have, n) && b.have ? \"; \" + b.have + \" had a proposal before\" : \"\") + \".\" : \"\";\n\
 \x20\x20\x20\x20\x20\x20$(\"said\").textContent = (b.state === \"decided\" ? \"Question \" + q + \" is decided: \" + (b.bit === 0 ? 0 : 1) + \".\" : \"Proposed \" + bit + \" for question \" + q + \".\") + took;\n\
-\x20\x20\x20\x20\x20\x20if (b.state !== \"decided\" && states[q] === \"-\") set(q, \"p\");\n\
-\x20\x20\x20\x20} else $(\"said\").textContent = { 401: \"Refused: the token is missing or wrong.\", 403: \"Refused: this gateway takes no proposals from here.\", 404: \"There is no such question.\", 429: \"Too many at once: try again in a moment.\", 503: \"Too few members are reachable.\" }[r.status] || \"Refused with status \" + r.status + \".\";\n\
+\x20\x20\x20\x20\x20\x20if (b.state !== \"decided\" && states[q - F] === \"-\") set(q - F, \"p\");\n\
+\x20\x20\x20\x20} else $(\"said\").textContent = { 401: \"Refused: the token is missing or wrong.\", 403: \"Refused: this gateway takes no proposals from here.\", 404: \"There is no such question.\", 410: \"That was too long ago.\", 429: \"Too many at once: try again in a moment.\", 503: \"Too few members are reachable.\" }[r.status] || \"Refused with status \" + r.status + \".\";\n\
 \x20\x20} catch (fault) { $(\"said\").textContent = \"It isn't known whether it was proposed: \" + reason(fault) + \". Proposing again does no harm.\"; }\n\
 \x20\x20$(\"send\").disabled = false;\n\
 });\n\
@@ -559,7 +574,7 @@ dark.addEventListener(\"change\", () => { layKey(); layGrid(); spark(); showCoun
 pollMembers(); spark();\n\
 document.documentElement.dataset.ready = \"yes\";\n\
 // For tests: what the page believes.\n\
-window.brachaLive = { state: () => ({ n, t, Q, tally: { ...tally }, after, life, gone: !!goneAt, tries, members: members.length, cursor, states: states.join(\"\"), feed: $(\"feed\").children.length }), move, layGrid, grid: () => ({ ...grid, g: undefined }) };\n\
+window.brachaLive = { state: () => ({ n, t, F, Q, tally: { ...tally }, after, life, gone: !!goneAt, tries, members: members.length, cursor, states: states.join(\"\"), feed: $(\"feed\").children.length }), move, layGrid, grid: () => ({ ...grid, g: undefined }) };\n\
 })();\n\
 </script>\n\
 </body>\n\
@@ -568,4 +583,4 @@ window.brachaLive = { state: () => ({ n, t, Q, tally: { ...tally }, after, life,
 
 /// The policy of this page, as a header.
 pub(crate) const LIVE_POLICY: &str =
-    "default-src 'none'; connect-src 'self'; script-src 'sha256-AKTy12DhZDaKtjTVxvQnbP5xJV96W7xuRcfxWC2btdE='; style-src 'sha256-XVniBvl1O6+WLDxC9FTeWsTryPkTksJimd839yo/5Fs='; img-src data:; base-uri 'none'; form-action 'none'; require-trusted-types-for 'script'; trusted-types 'none'; frame-ancestors 'none'";
+    "default-src 'none'; connect-src 'self'; script-src 'sha256-81atW9js23PBRyCpSDdQ3aKiKfOY30nBc87M7BdTPTg='; style-src 'sha256-XVniBvl1O6+WLDxC9FTeWsTryPkTksJimd839yo/5Fs='; img-src data:; base-uri 'none'; form-action 'none'; require-trusted-types-for 'script'; trusted-types 'none'; frame-ancestors 'none'";

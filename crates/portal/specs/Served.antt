@@ -13,6 +13,7 @@ use Rattle.gateway.specs.declared.requests.Method.TheVariants.{Get, Post, Other}
 use Rattle.gateway.specs.declared.requests.Request.{Request as Asked}
 use Rattle.gateway.specs.declared.requests.Task.{Task}
 use Rattle.gateway.specs.declared.requests.Task.TheVariants.{Page, Health, Ready, Metrics, Members, Questions, Question, Transcript, Decisions, Propose}
+use Rattle.gateway.specs.declared.scopes.Scope.{Scope}
 use Rattle.gateway.specs.declared.standings.Stage.{Stage}
 use Rattle.gateway.specs.declared.watch.Told.{Told}
 use Rattle.gateway.specs.Answers.{TellsQuestion}
@@ -68,13 +69,13 @@ pub record IsAskedBy (request : Request (List ℕ)) (asked : Asked) : Type 0 whe
   pub body : asked.body.now ≡ body_of request
 
 -- the request asks for this
-abbrev pub AsksFor : Policy → Size → Request (List ℕ) → Task → Type 0
-AsksFor policy size request task = (asked : Asked) × IsAskedBy request asked × IsTask policy size asked task
+abbrev pub AsksFor : Policy → Scope → Request (List ℕ) → Task → Type 0
+AsksFor policy scope request task = (asked : Asked) × IsAskedBy request asked × IsTask policy scope asked task
 
 -- nothing is handed on to the members but what the request may propose
-abbrev pub Proposes : Policy → Size → Request (List ℕ) → List (ℕ × Bool) → List (ℕ × Bool) → Type 0
-Proposes policy size request before after =
-    (after ≡ before) ⊎ ((question : ℕ) × (bit : Bool) × (wait : ℕ) × AsksFor policy size request (Propose question bit wait)
+abbrev pub Proposes : Policy → Scope → Request (List ℕ) → List (ℕ × Bool) → List (ℕ × Bool) → Type 0
+Proposes policy scope request before after =
+    (after ≡ before) ⊎ ((question : ℕ) × (bit : Bool) × (wait : ℕ) × AsksFor policy scope request (Propose question bit wait)
     × (after ≡ before ++ (question, bit) ∷ []))
 
 -- what an answer of status 200 to this task says: to one who asks for a question, what members told of it
@@ -91,6 +92,6 @@ SaysOf size (Decisions after) body = Unit {0}
 SaysOf size (Propose question bit wait) body = Unit {0}
 
 -- an answer of status 200 is one to what the request asks for
-abbrev pub Tells : Policy → Size → Request (List ℕ) → ℕ → List ℕ → Type 0
-Tells policy size request status body =
-    status ≡ 200 → (task : Task) × AsksFor policy size request task × SaysOf size task body
+abbrev pub Tells : Policy → Scope → Request (List ℕ) → ℕ → List ℕ → Type 0
+Tells policy scope request status body =
+    status ≡ 200 → (task : Task) × AsksFor policy scope request task × SaysOf scope.size task body

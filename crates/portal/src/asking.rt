@@ -5,8 +5,8 @@ use crate::deadline::Deadline;
 use crate::following::{FIRST_REST, PROMPT, connect, longer_rest};
 use crate::lines::DeskLines;
 use crate::serving::Runner;
-use crate::shared::Shared;
-use gateway::{MemberState, Reply, reply_of};
+use crate::shared::{Shared, time_now};
+use gateway::{MemberState, Reply, Told, reply_of};
 use std::sync::Arc;
 use std::time::Duration;
 use std::{io, thread};
@@ -45,6 +45,25 @@ fn propose<R: Runner>(
     Ok(())
 }
 
+/// Takes what a member replied to `STATE`. A decision that it tells is its word: one that came late
+/// in an epoch may be told to no follower.
+fn hear_state<R: Runner>(rt: &R, it: &Shared, member: u8, question: u64, reply: Reply) {
+    match reply {
+        Reply::Spent => it.book.lock(rt).set_spent(question, member),
+        Reply::Told(bit) => {
+            let told = Told {
+                member,
+                question,
+                bit,
+            };
+            let time = time_now(rt);
+            let _heard = it.book.lock(rt).hear(told, time);
+        }
+        _ => return,
+    }
+    it.changed.notify_all();
+}
+
 /// Asks the member how it stands with some of the questions that are under way, from this one on.
 /// Returns the question after the last of them; 0 after the last of all.
 fn ask_open<R: Runner>(
@@ -52,8 +71,8 @@ fn ask_open<R: Runner>(
     it: &Shared,
     lines: &mut DeskLines,
     member: u8,
-    from: u16,
-) -> io::Result<u16> {
+    from: u64,
+) -> io::Result<u64> {
     let mut next = from;
     for _ in 0..MOST_STATES {
         let open = it.book.lock(rt).open_from(next, member);
@@ -61,10 +80,8 @@ fn ask_open<R: Runner>(
             return Ok(0);
         };
         let line = format!(in it.alloc; "STATE {question}\n")?;
-        if exchange(rt, it, lines, line.as_str())? == Reply::Spent {
-            it.book.lock(rt).set_spent(question, member);
-            it.changed.notify_all();
-        }
+        let reply = exchange(rt, it, lines, line.as_str())?;
+        hear_state(rt, it, member, question, reply);
         next = question.saturating_add(1);
     }
     Ok(next)

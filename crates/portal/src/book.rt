@@ -5,13 +5,14 @@ ghost use Rattle.gateway.specs.Watches.{Watches};
 ghost use Rattle.gateway.specs.declared.watch.Told.{Told};
 
 use crate::hearing::Hearing;
+use crate::notes::{Note, Notes};
+use crate::recent::Recent;
 use gateway::{
-    Event, MemberState, MemberView, Position, Reply, Stage, Standing, Tally, Told, Watch,
-    standing_of,
+    Event, MemberState, MemberView, Position, Refusal, Reply, Scope, Stage, Standing, Tally, Times,
+    Told, Watch, standing_of,
 };
 use std::alloc::{AllocError, Global};
 use std::mem;
-use terms::Size;
 
 /// The most events that are kept. Who follows from an earlier one loads everything anew.
 const MOST_EVENTS: usize = 16_384;
@@ -19,15 +20,12 @@ const MOST_EVENTS: usize = 16_384;
 /// The most proposals that are under way.
 const MOST_MOTIONS: usize = 64;
 
-/// The seconds whose decisions are counted.
-const SECONDS: usize = 60;
-
 /// A proposal that is being made to all members.
 #[derive(Clone, Copy, Debug, PartialEq, Eq)]
 pub(crate) struct Motion {
     /// Its number.
     pub(crate) number: u64,
-    pub(crate) question: u16,
+    pub(crate) question: u64,
     pub(crate) bit: bool,
     /// The members that replied, a bit each.
     pub(crate) replied: u64,
@@ -41,13 +39,9 @@ pub(crate) struct Motion {
 #[derive(Drop)]
 pub(crate) struct Book {
     alloc: Global,
-    size: Size,
+    scope: Scope,
     hearing: Hearing,
-    stages: Vec<Stage>,
-    /// The milliseconds since 1970 at which each question was proposed here.
-    begun: Vec<Option<u64>>,
-    /// The members that came to the last step of each question's last round, a bit each.
-    spent: Vec<u64>,
+    notes: Notes,
     views: Vec<MemberView>,
     events: Vec<Event>,
     /// The number of events before these.
@@ -55,11 +49,12 @@ pub(crate) struct Book {
     motions: Vec<Motion>,
     /// The number of proposals that were made.
     motion_count: u64,
-    /// The milliseconds since 1970 of each decision, in their order.
-    decided_at: Vec<u64>,
+    recent: Recent,
     decisions: u64,
     refusals: u64,
-    times: Vec<u32>,
+    /// The milliseconds from the proposals here to the decisions.
+    times: Times,
+    /// Their sum.
     sum: u64,
 }
 
@@ -71,6 +66,7 @@ fn new_view(alloc: Global) -> MemberView {
         going: 0,
         statements: 0,
         decided: 0,
+        first: 0,
         contradicts: Vec::new(alloc),
     }
 }
@@ -82,36 +78,26 @@ fn first_of(events: &[Event]) -> &[Event] {
 }
 
 impl Book {
-    /// Returns a book of a cluster of which nothing is known.
-    pub(crate) fn new(alloc: Global, size: Size) -> Result<Book, AllocError> {
-        let mut stages = Vec::new(alloc);
-        let mut begun = Vec::new(alloc);
-        let mut spent = Vec::new(alloc);
+    /// Returns a book of a cluster or chain of which nothing is known.
+    pub(crate) fn new(alloc: Global, scope: Scope) -> Result<Book, AllocError> {
         let mut views = Vec::new(alloc);
-        for _ in 0..size.questions() {
-            stages.push(Stage::Unproposed)?;
-            begun.push(None)?;
-            spent.push(0)?;
-        }
-        for _ in 0..size.n() {
+        for _ in 0..scope.size.n() {
             views.push(new_view(alloc))?;
         }
         Ok(Book {
             alloc,
-            size,
-            hearing: Hearing::new(alloc, size)?,
-            stages,
-            begun,
-            spent,
+            scope,
+            hearing: Hearing::new(alloc, scope)?,
+            notes: Notes::new(alloc, scope.window_length())?,
             views,
             events: Vec::new(alloc),
             before: 0,
             motions: Vec::new(alloc),
             motion_count: 0,
-            decided_at: Vec::new(alloc),
+            recent: Recent::new(alloc)?,
             decisions: 0,
             refusals: 0,
-            times: Vec::new(alloc),
+            times: Times::new(alloc)?,
             sum: 0,
         })
     }
@@ -151,13 +137,23 @@ impl Book {
     }
 
     /// Returns the decision of a question: the bit that more than t members told.
-    pub(crate) fn decision(&self, question: u16) -> Option<bool> {
+    pub(crate) fn decision(&self, question: u64) -> Option<bool> {
         self.hearing.watch().decision(question)
     }
 
     /// Returns the bit that a member told of a question.
-    pub(crate) fn word_of(&self, question: u16, member: u8) -> Option<bool> {
+    pub(crate) fn word_of(&self, question: u64, member: u8) -> Option<bool> {
         self.hearing.watch().word_of(question, member)
+    }
+
+    /// Returns `true` if the question is one of the window and isn't decided.
+    pub(crate) fn awaits(&self, question: u64) -> bool {
+        self.watch().refusal(question).is_none() && self.decision(question).is_none()
+    }
+
+    /// Returns the first question of the window, and the one after the last.
+    fn window(&self) -> (u64, u64) {
+        (self.watch().first(), self.watch().within(u64::MAX))
     }
 
     /// Counts a request that was refused.
@@ -166,20 +162,17 @@ impl Book {
     }
 
     /// Returns the stage of a question.
-    pub(crate) fn stage(&self, question: u16) -> Stage {
-        match self.stages.get(usize::from(question)) {
-            Some(stage) => *stage,
-            None => Stage::Unproposed,
-        }
+    pub(crate) fn stage(&self, question: u64) -> Stage {
+        self.notes.at(question).stage
     }
 
     /// Returns the state of a question.
-    pub(crate) fn standing(&self, question: u16) -> Standing {
+    pub(crate) fn standing(&self, question: u64) -> Standing {
         standing_of(self.decision(question), self.stage(question))
     }
 
-    /// Returns the states of questions.
-    pub(crate) fn standings(&self, from: u16, to: u16) -> Result<Vec<Standing>, AllocError> {
+    /// Returns the states of questions of the window.
+    pub(crate) fn standings(&self, from: u64, to: u64) -> Result<Vec<Standing>, AllocError> {
         let mut standings = Vec::new(self.alloc);
         for question in from..to {
             standings.push(self.standing(question))?;
@@ -187,35 +180,41 @@ impl Book {
         Ok(standings)
     }
 
-    /// Notes that a question is under way.
-    fn begin(&mut self, question: u16) {
-        if let Some(stage) = self.stages.get_mut(usize::from(question)) {
-            if *stage == Stage::Unproposed {
-                *stage = Stage::Proposed;
-                self.note(Event::Proposed(question));
-            }
+    /// Notes that a question of the window is under way.
+    fn begin(&mut self, question: u64) {
+        let note = self.notes.at(question);
+        if note.stage == Stage::Unproposed {
+            self.notes.put(Note {
+                stage: Stage::Proposed,
+                ..note
+            });
+            self.note(Event::Proposed(question));
         }
     }
 
     /// Returns the milliseconds from the proposal of the question to this moment, if it was
     /// proposed here.
-    fn time_of(&self, question: u16, time: u64) -> Option<u32> {
-        match self.begun.get(usize::from(question)) {
-            Some(Some(begun)) => Some(u32::try_from(time.saturating_sub(*begun)).unwrap_or(
-                u32::MAX,
-            )),
-            _ => None,
+    fn time_of(&self, question: u64, time: u64) -> Option<u32> {
+        match self.notes.at(question).begun {
+            Some(begun) => Some(u32::try_from(time.saturating_sub(begun)).unwrap_or(u32::MAX)),
+            None => None,
+        }
+    }
+
+    /// Counts the milliseconds from a proposal to its decision.
+    fn count_time(&mut self, ms: u32) {
+        if self.times.note(self.alloc, ms).is_ok() {
+            self.sum = self.sum.saturating_add(u64::from(ms));
         }
     }
 
     /// Notes a decision that is new.
-    fn decide(&mut self, question: u16, bit: bool, time: u64) {
+    fn decide(&mut self, question: u64, bit: bool, time: u64) {
         let ms = self.time_of(question, time);
         self.decisions = self.decisions.saturating_add(1);
-        let _uncounted = self.decided_at.push(time).is_err();
+        self.recent.note(time);
         if let Some(ms) = ms {
-            self.sum = self.sum.saturating_add(u64::from(ms));
-            let _untold = self.times.push(ms).is_err();
+            self.count_time(ms);
         }
         self.note(Event::Decided {
             question,
@@ -223,7 +222,7 @@ impl Book {
             ms,
             time,
         });
-        for member in 0..self.size.n() {
+        for member in 0..self.scope.size.n() {
             if let Some(bit) = self.watch().contradiction(question, member) {
                 self.note(Event::Contradiction {
                     member,
@@ -234,8 +233,26 @@ impl Book {
         }
     }
 
-    /// Takes a decision that a member told.
-    pub(crate) fn hear(&mut self, told: Told, time: u64) {
+    /// Notes that a member of a chain has come to a slot: the window moves ahead once more than t
+    /// members have.
+    pub(crate) fn reach(&mut self, member: u8, slot: u64) -> Result<(), AllocError> {
+        self.hearing.reach(self.alloc, member, slot)
+    }
+
+    /// Takes a decision that a member told. Returns `false` if it comes after the window of a
+    /// chain: it is to be told again.
+    pub(crate) fn hear(&mut self, told: Told, time: u64) -> bool {
+        let _moved = self.reach(told.member, told.question).is_ok();
+        match self.watch().refusal(told.question) {
+            None => self.take(told, time),
+            Some(Refusal::Question) => return !self.scope.chain,
+            Some(_) => {}
+        }
+        true
+    }
+
+    /// Takes a decision that a member told of a question of the window.
+    fn take(&mut self, told: Told, time: u64) {
         if self.word_of(told.question, told.member).is_some() {
             return;
         }
@@ -260,16 +277,7 @@ impl Book {
 
     /// Returns the number of decisions in each of the last 60 seconds, the present one last.
     pub(crate) fn lately(&self, time: u64) -> Result<Vec<u32>, AllocError> {
-        let mut counts: Vec<u32> = Vec::new(self.alloc);
-        counts.resize(SECONDS, 0)?;
-        for decided_at in &self.decided_at {
-            let ago = (time / 1000).saturating_sub(*decided_at / 1000);
-            let place = usize::try_from(ago).unwrap_or(usize::MAX);
-            if let Some(count) = counts.get_mut(SECONDS.saturating_sub(1).wrapping_sub(place)) {
-                *count = count.saturating_add(1);
-            }
-        }
-        Ok(counts)
+        self.recent.counts(self.alloc, time)
     }
 
     /// Notes the state of a member's desk.
@@ -302,14 +310,20 @@ impl Book {
                 }
             }
             Reply::Stopped => self.set_state(member, MemberState::Stopped),
-            Reply::Decided { .. } | Reply::Taken | Reply::Have | Reply::Spent | Reply::Other => {}
+            Reply::Decided { .. }
+            | Reply::Epochs { .. }
+            | Reply::Taken
+            | Reply::Have
+            | Reply::Told(_)
+            | Reply::Spent
+            | Reply::Other => {}
         }
     }
 
     /// Returns the members, with what each contradicts.
     pub(crate) fn members(&self) -> Result<Vec<MemberView>, AllocError> {
         let mut views = Vec::new(self.alloc);
-        for member in 0..self.size.n() {
+        for member in 0..self.scope.size.n() {
             let contradicts = self.watch().contradictions(self.alloc, member)?;
             let Some(view) = self.views.get(usize::from(member)) else {
                 return Err(AllocError);
@@ -320,6 +334,7 @@ impl Book {
                 going: view.going,
                 statements: view.statements,
                 decided: view.decided,
+                first: self.watch().first(),
                 contradicts,
             })?;
         }
@@ -337,38 +352,40 @@ impl Book {
         mask
     }
 
+    /// Returns the times from proposals here to decisions.
+    pub(crate) fn times(&self) -> &Times {
+        &self.times
+    }
+
     /// Returns the numbers for Prometheus.
-    pub(crate) fn tally(&self) -> Result<Tally, AllocError> {
+    pub(crate) fn tally(&self) -> Tally {
+        let (first, end) = self.window();
         let mut waiting: u64 = 0;
-        for question in 0..self.size.questions() {
+        for question in first..end {
             if self.standing(question) == Standing::Proposed {
                 waiting = waiting.saturating_add(1);
             }
         }
-        let mut times = Vec::new(self.alloc);
-        times.extend_from_slice(&self.times)?;
-        Ok(Tally {
-            questions: u64::from(self.size.questions()),
+        Tally {
+            questions: end.saturating_sub(first),
             waiting,
             decisions: self.decisions,
             refusals: self.refusals,
-            times,
             sum: self.sum,
-        })
+        }
     }
 
     /// Returns `true` if the question is under way, and the member wasn't seen at its end.
-    fn is_open_for(&self, question: u16, member: u8) -> bool {
-        let Some(spent) = self.spent.get(usize::from(question)) else {
-            return false;
-        };
-        *spent >> (member & 63) & 1 == 0 && self.standing(question) == Standing::Proposed
+    fn is_open_for(&self, question: u64, member: u8) -> bool {
+        let spent = self.notes.at(question).spent;
+        spent >> (member & 63) & 1 == 0 && self.standing(question) == Standing::Proposed
     }
 
-    /// Returns the first question from this one on that is under way, and at whose end the member
-    /// wasn't seen.
-    pub(crate) fn open_from(&self, question: u16, member: u8) -> Option<u16> {
-        for question in question..self.size.questions() {
+    /// Returns the first question of the window from this one on that is under way, and at whose
+    /// end the member wasn't seen.
+    pub(crate) fn open_from(&self, question: u64, member: u8) -> Option<u64> {
+        let (first, end) = self.window();
+        for question in question.max(first)..end {
             if self.is_open_for(question, member) {
                 return Some(question);
             }
@@ -378,35 +395,56 @@ impl Book {
 
     /// Notes that a member came to the last step of the question's last round. Once n - t did, no
     /// decision is awaited.
-    pub(crate) fn set_spent(&mut self, question: u16, member: u8) {
-        let place = usize::from(question);
-        let Some(spent) = self.spent.get_mut(place) else {
-            return;
-        };
-        *spent |= 1 << (member & 63);
-        let count = spent.count_ones();
-        self.size.recall();
-        if count < u32::from(self.size.n() - self.size.t()) {
+    pub(crate) fn set_spent(&mut self, question: u64, member: u8) {
+        if self.watch().refusal(question).is_some() {
             return;
         }
-        self.end_question(place, question);
+        let note = self.notes.at(question);
+        let spent = note.spent | 1 << (member & 63);
+        self.notes.put(Note { spent, ..note });
+        let count = spent.count_ones();
+        self.scope.size.recall();
+        if count < u32::from(self.scope.size.n() - self.scope.size.t()) {
+            return;
+        }
+        self.end_question(question);
     }
 
     /// Notes that no decision of the question is awaited.
-    fn end_question(&mut self, place: usize, question: u16) {
-        if let Some(stage) = self.stages.get_mut(place) {
-            if *stage == Stage::Proposed {
-                *stage = Stage::Spent;
-                self.note(Event::Spent(question));
-            }
+    fn end_question(&mut self, question: u64) {
+        let note = self.notes.at(question);
+        if note.stage == Stage::Proposed {
+            self.notes.put(Note {
+                stage: Stage::Spent,
+                ..note
+            });
+            self.note(Event::Spent(question));
         }
     }
 
-    /// Begins a proposal to all members, and returns its number. `None` if as many are under way as
-    /// are taken.
-    pub(crate) fn propose(&mut self, question: u16, bit: bool, time: u64) -> Option<u64> {
+    /// Notes the time at which a question was proposed here, if it wasn't before.
+    fn set_begun(&mut self, question: u64, time: u64) {
+        let note = self.notes.at(question);
+        if note.begun.is_none() {
+            self.notes.put(Note {
+                begun: Some(time),
+                ..note
+            });
+        }
+    }
+
+    /// Begins a proposal to all members, and returns its number.
+    ///
+    /// # Errors
+    ///
+    /// [`Refusal::Past`] or [`Refusal::Question`] if the question isn't one of the window;
+    /// [`Refusal::Busy`] if as many proposals are under way as are taken.
+    pub(crate) fn propose(&mut self, question: u64, bit: bool, time: u64) -> Result<u64, Refusal> {
+        if let Some(refusal) = self.watch().refusal(question) {
+            return Err(refusal);
+        }
         if self.motions.len() >= MOST_MOTIONS {
-            return None;
+            return Err(Refusal::Busy);
         }
         let number = self.motion_count;
         let motion = Motion {
@@ -418,16 +456,12 @@ impl Book {
             have: 0,
         };
         if self.motions.push(motion).is_err() {
-            return None;
+            return Err(Refusal::Busy);
         }
         self.motion_count = number.saturating_add(1);
-        if let Some(begun) = self.begun.get_mut(usize::from(question)) {
-            if begun.is_none() {
-                *begun = Some(time);
-            }
-        }
+        self.set_begun(question, time);
         self.begin(question);
-        Some(number)
+        Ok(number)
     }
 
     /// Returns a proposal that the member hasn't replied to, if there is one.
@@ -445,7 +479,7 @@ impl Book {
                 motion.replied |= 1 << (member & 63);
                 match reply {
                     Reply::Taken => motion.taken = motion.taken.saturating_add(1),
-                    Reply::Have => motion.have = motion.have.saturating_add(1),
+                    Reply::Have | Reply::Told(_) => motion.have = motion.have.saturating_add(1),
                     _ => {}
                 }
             }

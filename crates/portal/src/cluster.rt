@@ -35,7 +35,7 @@ pub(crate) struct Answer {
 #[derive(Clone, Copy, Debug, PartialEq, Eq)]
 pub(crate) struct Proposal {
     /// The question, below the number of questions.
-    pub(crate) question: u16,
+    pub(crate) question: u64,
     pub(crate) bit: bool,
     /// The seconds for which the decision is waited for.
     pub(crate) wait: u16,

@@ -9,12 +9,11 @@ ghost use Rattle.portal.specs.Served.{HandsOnFor, IsAskedBy, Proposes, SaysOf, T
 
 use crate::cluster::{Answer, Cluster, Kind, Proposal};
 use bytes::{BufMut, Bytes};
-use gateway::{Method, Policy, Position, Request as Asked, Task, task_of};
+use gateway::{Method, Policy, Position, Request as Asked, Scope, Task, task_of};
 use http::{HeaderName, HeaderValue, Request, StatusCode, header};
 use http_server::{Response, Service};
 use pages::live_policy;
 use std::alloc::{AllocError, Global};
-use terms::Size;
 
 /// The service of one connection.
 #[derive(Drop)]
@@ -22,8 +21,8 @@ pub(crate) struct Door<'a, C> {
     pub(crate) alloc: Global,
     /// The rules for clients.
     pub(crate) policy: Policy<'a>,
-    /// The cluster's size.
-    pub(crate) size: Size,
+    /// The cluster or chain.
+    pub(crate) scope: Scope,
     pub(crate) cluster: C,
     /// Set once a request asks for the stream of events, with the position from which it goes on.
     pub(crate) follow: Option<Option<Position>>,
@@ -187,7 +186,7 @@ impl<'a, C: Cluster> Door<'a, C> {
     fn perform(&mut self, task: Task) -> Result<Answer, AllocError>
         ensures handed { HandsOnFor task (C.handed self.old.cluster) (C.handed self.new.cluster) }
         ensures says { IfOk result
-            (λ answer. answer.status ≡ 200 → SaysOf self.old.size task answer.body.items) }
+            (λ answer. answer.status ≡ 200 → SaysOf self.old.scope.size task answer.body.items) }
     {
         match task {
             Task::Propose {
@@ -199,20 +198,20 @@ impl<'a, C: Cluster> Door<'a, C> {
                 bit,
                 wait,
             }),
-            _ => self.cluster.read(self.size, task),
+            _ => self.cluster.read(self.scope.size, task),
         }
     }
 
     /// Returns the answer to a request.
     fn answer(&mut self, request: &Request<Bytes>) -> Result<Answer, AllocError>
-        ensures proposes { Proposes self.old.policy self.old.size request.now
+        ensures proposes { Proposes self.old.policy self.old.scope request.now
             (C.handed self.old.cluster) (C.handed self.new.cluster) }
         ensures tells { IfOk result
-            (λ answer. Tells self.old.policy self.old.size request.now answer.status
+            (λ answer. Tells self.old.policy self.old.scope request.now answer.status
             answer.body.items) }
     {
         let asked = asked_of(request);
-        match task_of(self.alloc, &self.policy, self.size, &asked) {
+        match task_of(self.alloc, &self.policy, self.scope, &asked) {
             Ok(task) => self.perform(task),
             Err(refusal) => self.cluster.refuse(refusal),
         }
@@ -225,9 +224,9 @@ impl<'a, C: Cluster> Door<'a, C> {
         response: &mut Response,
     ) -> Option<Option<Position>>
         requires { response.old.body.items ≡ [] }
-        ensures proposes { Proposes self.old.policy self.old.size request.now
+        ensures proposes { Proposes self.old.policy self.old.scope request.now
             (C.handed self.old.cluster) (C.handed self.new.cluster) }
-        ensures tells { Tells self.old.policy self.old.size request.now response.new.status
+        ensures tells { Tells self.old.policy self.old.scope request.now response.new.status
             response.new.body.items }
     {
         match self.answer(request) {
@@ -246,8 +245,8 @@ impl<'a, C: Cluster> Service for Door<'a, C> {
     // Nothing is handed on to the members but what the request may propose, and a decision of a
     // question is what more than t members told.
     ghost answers = { λ old request response new.
-        Proposes old.policy old.size request (C.handed old.cluster) (C.handed new.cluster)
-        × Tells old.policy old.size request response.status response.body.items };
+        Proposes old.policy old.scope request (C.handed old.cluster) (C.handed new.cluster)
+        × Tells old.policy old.scope request response.status response.body.items };
 
     fn call(
         &mut self,

@@ -53,7 +53,7 @@ fn transcript_from<R: Speaker>(
     rt: &R,
     it: &Shared,
     member: u8,
-    question: u16,
+    question: u64,
     deadline: Deadline,
 ) -> io::Result<Option<Vec<u8>>> {
     let mut lines = connect(rt, it, member)?;
@@ -76,10 +76,16 @@ fn transcript_from<R: Speaker>(
 }
 
 /// Returns `true` if the text begins as a transcript of the question and the bit.
-fn is_of(alloc: Global, text: &[u8], question: u16, bit: bool) -> Result<bool, AllocError> {
+fn is_of(alloc: Global, text: &[u8], question: u64, bit: bool) -> Result<bool, AllocError> {
     let bit = u8::from(bit);
     let head = format!(in alloc; "transcript {question} bit {bit} count ")?;
     Ok(text.starts_with(head.as_bytes()))
+}
+
+/// Returns the question that a transcript names: that of its epoch in a chain.
+fn question_in(size: Size, question: u64) -> u64 {
+    size.recall();
+    question % u64::from(size.questions())
 }
 
 /// Returns what an audit says of the text: `None` if it isn't a transcript.
@@ -97,16 +103,17 @@ fn sent_by<R: Speaker>(
     rt: &R,
     it: &Shared,
     member: u8,
-    (question, bit): (u16, bool),
+    (question, bit): (u64, bool),
     deadline: Deadline,
 ) -> io::Result<Option<Sent>> {
     let Some(text) = transcript_from(rt, it, member, question, deadline)? else {
         return Ok(None);
     };
-    if !is_of(it.alloc, &text, question, bit)? {
+    let named = question_in(it.scope.size, question);
+    if !is_of(it.alloc, &text, named, bit)? {
         return Ok(None);
     }
-    match audited(it.alloc, it.size, &text) {
+    match audited(it.alloc, it.scope.size, &text) {
         Some(proven) => Ok(Some(Sent {
             member,
             text,
@@ -121,11 +128,11 @@ fn sent_by<R: Speaker>(
 fn tellers<R: Speaker>(
     rt: &R,
     it: &Shared,
-    question: u16,
+    question: u64,
     bit: bool,
 ) -> Result<Vec<u8>, AllocError> {
     let mut members = Vec::new(it.alloc);
-    let n = u64::from(it.size.n()).max(1);
+    let n = u64::from(it.scope.size.n()).max(1);
     let first = it.turns.fetch_add(1, Ordering::SeqCst) % n;
     let book = it.book.lock(rt);
     for place in 0..n {
@@ -147,7 +154,7 @@ fn sooner<R: Speaker>(rt: &R, all: Deadline) -> io::Result<Deadline> {
 pub(crate) fn fetch<R: Speaker>(
     rt: &R,
     it: &Shared,
-    question: u16,
+    question: u64,
     bit: bool,
 ) -> io::Result<Fetched> {
     let all = Deadline::new(rt, IN_ALL)?;

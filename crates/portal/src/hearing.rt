@@ -4,10 +4,9 @@ ghost use Rattle.std.specs.Prelude.{IfOk, List};
 ghost use Rattle.gateway.specs.Watches.{Watches};
 ghost use Rattle.gateway.specs.declared.watch.Told.{Told};
 
-use gateway::{Told, Watch};
+use gateway::{Scope, Told, Watch};
 use std::alloc::{AllocError, Global};
 use std::marker::Model;
-use terms::Size;
 
 /// A watch that stands for what members told: whatever that is, its decisions are those that more
 /// than t of them told.
@@ -29,9 +28,13 @@ impl Model for Hearing {
 }
 
 impl Hearing {
-    /// Returns a watch over a cluster of this size, before anybody told anything.
-    pub(crate) fn new(alloc: Global, size: Size) -> Result<Hearing, AllocError> {
-        let watch = Watch::new(alloc, size)?;
+    /// Returns a watch over this cluster or chain, before anybody told anything.
+    pub(crate) fn new(alloc: Global, scope: Scope) -> Result<Hearing, AllocError> {
+        if scope.chain {
+            let watch = Watch::of_chain(alloc, scope.size)?;
+            return Ok(Hearing { watch });
+        }
+        let watch = Watch::new(alloc, scope.size)?;
         Ok(Hearing { watch })
     }
 
@@ -42,7 +45,14 @@ impl Hearing {
         &self.watch
     }
 
-    /// Takes a decision that a member told. Returns `false` if there is no such member or question.
+    /// Notes that a member of a chain has come to a slot: the window moves ahead once more than t
+    /// members have. An error leaves it where it is.
+    pub(crate) fn reach(&mut self, alloc: Global, member: u8, slot: u64) -> Result<(), AllocError> {
+        self.watch.reach(alloc, member, slot)
+    }
+
+    /// Takes a decision that a member told. Returns `false` if there is no such member, or the
+    /// question isn't one of the window.
     pub(crate) fn take(&mut self, told: Told) -> bool {
         self.watch.take(told)
     }

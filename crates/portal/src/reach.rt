@@ -41,7 +41,7 @@ pub(crate) struct Reach<'a, R: 'static> {
 
 impl<'a, R: Speaker> Reach<'a, R> {
     /// Waits until the question is decided, for so many seconds.
-    fn await_decision(&self, question: u16, seconds: u16) {
+    fn await_decision(&self, question: u64, seconds: u16) {
         if seconds == 0 {
             return;
         }
@@ -51,34 +51,42 @@ impl<'a, R: Speaker> Reach<'a, R> {
             .it
             .changed
             .wait_timeout_while(self.rt, book, limit, |book| {
-                book.decision(question).is_none() && !self.it.is_over()
+                book.awaits(question) && !self.it.is_over()
             });
     }
 
+    /// Returns the reason why nothing is told of a question now.
+    fn refusal(&self, question: u64) -> Option<Refusal> {
+        self.it.book.lock(self.rt).watch().refusal(question)
+    }
+
     /// Returns the answer about a question.
-    fn question(&self, size: Size, question: u16, wait: u16) -> Result<Answer, AllocError>
+    fn question(&self, size: Size, question: u64, wait: u16) -> Result<Answer, AllocError>
         ensures { IfOk result
             (λ answer. answer.status ≡ 200 → IsToldAt size question answer.body.items) }
     {
+        if let Some(refusal) = self.refusal(question) {
+            return self.refuse(refusal);
+        }
         self.await_decision(question, wait);
         let book = self.it.book.lock(self.rt);
         question_answer(self.it.alloc, &book, size, question)
     }
 
-    /// Returns the answer about these questions.
-    fn questions(&self, from: u16, to: u16) -> Result<Answer, AllocError> {
+    /// Returns the answer about those of these questions that are in the window.
+    fn questions(&self, from: u64, to: u64) -> Result<Answer, AllocError> {
         let book = self.it.book.lock(self.rt);
         let moment = Moment {
-            questions: self.it.size.questions(),
-            from,
-            to,
+            questions: self.it.scope.size.questions(),
+            from: book.watch().within(from),
+            to: book.watch().within(to),
             after: book.position(self.it.life),
         };
         questions_answer(self.it.alloc, &book, &moment, time_now(self.rt))
     }
 
     /// Returns the answer to a transcript that a member sent.
-    fn sent(&self, question: u16, bit: bool, sent: &Sent) -> Result<Answer, AllocError> {
+    fn sent(&self, question: u64, bit: bool, sent: &Sent) -> Result<Answer, AllocError> {
         let told = Transcript {
             question,
             bit,
@@ -91,7 +99,7 @@ impl<'a, R: Speaker> Reach<'a, R> {
     }
 
     /// Returns a transcript of the question's decision.
-    fn fetched(&self, question: u16, bit: bool) -> Result<Answer, AllocError> {
+    fn fetched(&self, question: u64, bit: bool) -> Result<Answer, AllocError> {
         match fetch(self.rt, self.it, question, bit) {
             Ok(Fetched::Sent(sent)) => self.sent(question, bit, &sent),
             Ok(Fetched::Thin) => self.refuse(Refusal::Thin),
@@ -101,7 +109,7 @@ impl<'a, R: Speaker> Reach<'a, R> {
     }
 
     /// Returns a transcript of the question's decision, unless too many are being fetched.
-    fn turned(&self, question: u16, bit: bool) -> Result<Answer, AllocError> {
+    fn turned(&self, question: u64, bit: bool) -> Result<Answer, AllocError> {
         if self.it.fetches.fetch_add(1, Ordering::SeqCst) >= MOST_FETCHES {
             self.it.fetches.fetch_sub(1, Ordering::SeqCst);
             return self.refuse(Refusal::Busy);
@@ -112,7 +120,10 @@ impl<'a, R: Speaker> Reach<'a, R> {
     }
 
     /// Returns a transcript of the question.
-    fn transcript(&self, question: u16) -> Result<Answer, AllocError> {
+    fn transcript(&self, question: u64) -> Result<Answer, AllocError> {
+        if let Some(refusal) = self.refusal(question) {
+            return self.refuse(refusal);
+        }
         let decision = self.it.book.lock(self.rt).decision(question);
         match decision {
             Some(bit) => self.turned(question, bit),
@@ -193,8 +204,9 @@ impl<'a, R: Speaker> Cluster for Reach<'a, R> {
             .book
             .lock(self.rt)
             .propose(proposal.question, proposal.bit, time);
-        let Some(number) = begun else {
-            return self.refuse(Refusal::Busy);
+        let number = match begun {
+            Ok(number) => number,
+            Err(refusal) => return self.refuse(refusal),
         };
         self.handed = self.handed.then(&HandedOn { proposal });
         self.it.changed.notify_all();

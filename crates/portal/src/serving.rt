@@ -12,7 +12,7 @@ use crate::lines::{read_from, write_all, write_to};
 use crate::reach::Reach;
 use crate::shared::Shared;
 use crate::streaming::serve_follower;
-use gateway::Position;
+use gateway::{Position, Scope};
 use ghost_record::GhostRecord;
 use http_server::{Config, Connection};
 use std::alloc::{AllocError, Global};
@@ -186,7 +186,7 @@ fn converse<R: Runner>(
     let mut door = Door {
         alloc: it.alloc,
         policy: it.policy(),
-        size: it.size,
+        scope: it.scope,
         cluster: Reach {
             rt,
             it,
@@ -269,8 +269,10 @@ fn accept_on<R: Runner>(rt: R, it: Arc<Shared>, listener: TcpListener) {
 pub struct Opening {
     /// The cluster's number.
     pub cluster: u64,
-    /// The cluster's size.
+    /// The cluster's size, or that of each of the chain.
     pub size: Size,
+    /// Set if the members run a chain of epochs.
+    pub chain: bool,
     /// The members' desks, in the order of the members.
     pub desks: Vec<SocketAddr>,
     /// The address at which the gateway listens.
@@ -313,23 +315,25 @@ fn new_shared(alloc: Global, opening: Opening) -> Result<Shared, AllocError> {
     let Opening {
         cluster,
         size,
+        chain,
         desks,
         listen,
         token,
         life,
         keys,
     } = opening;
+    let scope = Scope { size, chain };
     Ok(Shared {
         alloc,
         cluster,
-        size,
+        scope,
         desks,
         port: listen.port(),
         local: listen.ip().is_loopback(),
         token,
         life,
         keys,
-        book: Mutex::new(Book::new(alloc, size)?),
+        book: Mutex::new(Book::new(alloc, scope)?),
         changed: Condvar::new(),
         over: AtomicBool::new(false),
         clients: AtomicU64::new(0),

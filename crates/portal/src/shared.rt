@@ -1,21 +1,20 @@
 //! The state that the threads of a gateway share.
 
 use crate::book::Book;
-use gateway::{Policy, Proposing};
+use gateway::{Policy, Proposing, Scope};
 use std::alloc::Global;
 use std::hash::RandomState;
 use std::net::SocketAddr;
 use std::sync::atomic::{AtomicBool, AtomicU64, Ordering};
 use std::sync::{Condvar, Mutex};
 use std::time::{Clock, SystemTime, UNIX_EPOCH};
-use terms::Size;
 
 /// The state that the threads of a gateway share.
 #[derive(Drop)]
 pub(crate) struct Shared {
     pub(crate) alloc: Global,
     pub(crate) cluster: u64,
-    pub(crate) size: Size,
+    pub(crate) scope: Scope,
     pub(crate) desks: Vec<SocketAddr>,
     /// The port at which it listens.
     pub(crate) port: u16,

@@ -1,43 +1,70 @@
 //! The answers that are made of a book, while its lock is held.
 
-ghost use Rattle.std.specs.Prelude.{◌≡◌, IfOk};
+ghost use Rattle.std.specs.Prelude.{◌≡◌, ◌<◌, ◌≤◌, ◌+◌, IfOk, List};
+ghost use Rattle.gateway.specs.Requests.{status_of};
+ghost use Rattle.gateway.specs.Scopes.{window_length};
+ghost use Rattle.gateway.specs.Watches.{Watches, watch_first, watch_scope, watch_size};
+ghost use Rattle.gateway.specs.declared.watch.Told.{Told};
 ghost use Rattle.portal.specs.Served.{IsToldAt};
 
 use crate::book::Book;
 use crate::cluster::{Answer, Kind, answer_of, good_answer};
 use crate::shared::Shared;
 use gateway::{
-    Moment, Refusal, is_linked, members_text, metrics_text, question_text, questions_text,
-    ready_text, refusal_text, status_of,
+    Moment, Refusal, Stage, Watch, is_linked, members_text, metrics_text, question_text,
+    questions_text, ready_text, refusal_text, status_of,
 };
 use std::alloc::{AllocError, Global};
 use terms::Size;
+
+/// Returns the answer to a request that is refused so.
+fn refused_answer(alloc: Global, refusal: Refusal) -> Result<Answer, AllocError>
+    ensures { IfOk result (λ answer. answer.status ≡ status_of refusal) }
+{
+    let text = refusal_text(alloc, refusal)?;
+    answer_of(alloc, status_of(refusal), Kind::Json, text.as_bytes())
+}
+
+/// Returns the answer about a question of the watch's window: what members told of it, or that it
+/// was before the window or comes after it.
+pub(crate) fn window_answer(
+    alloc: Global,
+    watch: &Watch,
+    question: u64,
+    stage: Stage,
+) -> Result<Answer, AllocError>
+    ensures told { (heard : List Told) → Watches watch.now heard →
+        IfOk result (λ answer. answer.status ≡ 200 →
+        IsToldAt (watch_size watch.now) question answer.body.items) }
+    ensures past { question < watch_first watch.now →
+        IfOk result (λ answer. answer.status ≡ 410) }
+    ensures ahead { watch_first watch.now + window_length (watch_scope watch.now) ≤ question →
+        IfOk result (λ answer. answer.status ≡ 404) }
+{
+    match watch.refusal(question) {
+        Some(refusal) => refused_answer(alloc, refusal),
+        None => {
+            let body = question_text(alloc, watch, question, stage)?;
+            Ok(good_answer(Kind::Json, body))
+        }
+    }
+}
 
 /// Returns the answer about a question of a cluster of this size.
 pub(crate) fn question_answer(
     alloc: Global,
     book: &Book,
     size: Size,
-    question: u16,
+    question: u64,
 ) -> Result<Answer, AllocError>
     ensures { IfOk result
         (λ answer. answer.status ≡ 200 → IsToldAt size question answer.body.items) }
 {
     let watch = book.watch();
     if watch.size() != size {
-        return other_answer(alloc);
+        return refused_answer(alloc, Refusal::Question);
     }
-    let body = question_text(alloc, watch, question, book.stage(question))?;
-    Ok(good_answer(Kind::Json, body))
-}
-
-/// Returns the answer about a question of another cluster than the book's. No door asks for it.
-fn other_answer(alloc: Global) -> Result<Answer, AllocError>
-    ensures { IfOk result (λ answer. answer.status ≡ 404) }
-{
-    let refusal = Refusal::Question;
-    let text = refusal_text(alloc, refusal)?;
-    answer_of(alloc, status_of(refusal), Kind::Json, text.as_bytes())
+    window_answer(alloc, watch, question, book.stage(question))
 }
 
 /// Returns the answer about these questions at this moment, with the milliseconds since 1970.
@@ -56,15 +83,15 @@ pub(crate) fn questions_answer(
 /// Returns the answer about all members.
 pub(crate) fn members_answer(it: &Shared, book: &Book) -> Result<Answer, AllocError> {
     let views = book.members()?;
-    let body = members_text(it.alloc, it.cluster, it.size, it.proposing(), &views)?;
+    let body = members_text(it.alloc, it.cluster, it.scope, it.proposing(), &views)?;
     Ok(good_answer(Kind::Json, body))
 }
 
 /// Returns the numbers for Prometheus.
 pub(crate) fn metrics_answer(alloc: Global, book: &Book) -> Result<Answer, AllocError> {
-    let tally = book.tally()?;
+    let tally = book.tally();
     let views = book.members()?;
-    let body = metrics_text(alloc, &tally, &views)?;
+    let body = metrics_text(alloc, &tally, &views, book.times())?;
     Ok(good_answer(Kind::Metrics, body))
 }
 
@@ -83,9 +110,9 @@ fn linked_count(book: &Book, size: Size) -> Result<usize, AllocError> {
 /// Returns whether the cluster can decide: n - t members answer and have as many links as they
 /// need.
 pub(crate) fn ready_answer(it: &Shared, book: &Book) -> Result<Answer, AllocError> {
-    let count = linked_count(book, it.size)?;
-    it.size.recall();
-    let needed = usize::from(it.size.n() - it.size.t());
+    let count = linked_count(book, it.scope.size)?;
+    it.scope.size.recall();
+    let needed = usize::from(it.scope.size.n() - it.scope.size.t());
     let ready = needed <= count;
     let status = if ready { 200 } else { 503 };
     answer_of(it.alloc, status, Kind::Json, ready_text(ready).as_bytes())

@@ -4,7 +4,7 @@ use Rattle.std.proofs.lemmas.Bool.{and_from, and_parts}
 use Rattle.std.proofs.lemmas.Bool.Decides.{Decides-eqb}
 use Rattle.toml.specs.Data.{Members}
 use Rattle.terms_prelude.specs.Terms.{Size, size_fault, SizeFault}
-use Rattle.settings.specs.Words.{Address, ClientEntries, ClientSettings, Cluster, Desks, FitsClientEntries, GivesClients, HasAddresses, HasNumber, HasNumbers, IsClientFault, IsClientMisfit, IsClientSettings, IsOfMany, Key, N, Questions, SaysClientEntries, SettingsFault, T, AllSuit, client_keys, size_or, unfit_client}
+use Rattle.settings.specs.Words.{Address, Chain, ClientEntries, ClientSettings, Cluster, Desks, FitsClientEntries, GivesClients, HasAddresses, HasNumber, HasNumbers, IsClientFault, IsClientMisfit, IsClientSettings, IsOfMany, Key, MayHaveFlag, N, Questions, SaysClientEntries, SettingsFault, T, AllSuit, client_keys, size_or, unfit_client}
 use Rattle.settings.specs.Clients.{AreDesksOf, IsLikeClient, are_desks_of, desks_misfit, stands_twice}
 use Rattle.settings.specs.Settings.{HasSmall}
 use Rattle.settings.specs.declared.fault.SettingsFault.TheVariants as fault
@@ -14,7 +14,7 @@ use Rattle.settings.proofs.Single.{at_fault, no_first, number_same, size_is_good
 all_client_suit : (ms : Members) (e : ClientEntries) → SaysClientEntries ms e → AllSuit client_keys ms
 all_client_suit ms e says = (
   (e.cluster, says.cluster),
-  ((e.n, says.n), ((e.t, says.t), ((e.questions, says.questions), ((e.desks.items, says.desks), tt)))),
+  ((e.n, says.n), ((e.t, says.t), ((e.questions, says.questions), ((e.desks.items, says.desks), ((e.chain, says.chain), tt))))),
 )
 
 numbers : (ms : Members) (e : ClientEntries) → SaysClientEntries ms e → HasNumbers client_keys ms e.n e.t e.questions
@@ -89,7 +89,7 @@ misfit_same ms a b x y = x.0 ∙ sym y.0
 gives_suits : (ms : Members) (s : ClientSettings) → GivesClients ms s → AllSuit client_keys ms
 gives_suits ms s g = (
   (s.cluster, g.cluster),
-  ((s.size.n, g.n), ((s.size.t, g.t), ((s.size.questions, g.questions), ((s.desks.items, g.desks), tt)))),
+  ((s.size.n, g.n), ((s.size.t, g.t), ((s.size.questions, g.questions), ((s.desks.items, g.desks), ((s.chain, g.chain), tt))))),
 )
 
 -- settings fit
@@ -146,4 +146,5 @@ clients_alike (Some ms) read s like g = record {
   desks = subst (λ (desks : List Address). HasAddresses ms Desks desks) like.desks g.desks;
   count = sym (ap (λ (desks : List Address). length desks) like.desks) ∙ (g.count ∙ ap (λ (size : Size). size.n) like.size);
   apart = sym (ap stands_twice like.desks) ∙ g.apart;
+  chain = subst (λ (flag : Bool). MayHaveFlag ms Chain flag) like.chain g.chain;
 }

@@ -3,7 +3,7 @@ use Rattle.std.proofs.Common.{ℕ, pos, ◌≡◌, refl, sym, ap, ◌∙◌, sub
 use Rattle.std.specs.List.{AllByRecursion}
 use Rattle.toml.specs.Data.{Data, Members, Items, integer, array, item, no_items}
 use Rattle.terms_prelude.specs.Terms.{size_fault, SizeFault}
-use Rattle.settings.specs.Words.{Address, Key, Cluster, N, T, Questions, Me, Journal, Peers, Desk, Seed, Listen, DeskSocket, Epochs, Desks, Settings, SettingsFault, Entries, SaysEntries, FitsEntries, unfit, IsOfFirst, Suits, AllSuit, HasNumber, AreAddresses, HasAddresses, HasNumbers, IsFirstBad, IsBadSize, IsOfMany, IsMisfit, IsFault, IsFaultOf, GivesSettings, IsSettings, keys}
+use Rattle.settings.specs.Words.{Address, Key, Cluster, N, T, Questions, Me, Journal, Peers, Desk, Seed, Listen, DeskSocket, Epochs, Desks, Chain, Settings, SettingsFault, Entries, SaysEntries, FitsEntries, unfit, IsOfFirst, Suits, AllSuit, HasNumber, AreAddresses, HasAddresses, HasNumbers, IsFirstBad, IsBadSize, IsOfMany, IsMisfit, IsFault, IsFaultOf, GivesSettings, IsSettings, keys}
 use Rattle.settings.specs.declared.fault.SettingsFault.TheVariants as fault
 
 -- what holds of all holds of the one in the middle
@@ -84,6 +84,7 @@ misfit_many ms Listen h = absurd h
 misfit_many ms DeskSocket h = absurd h
 misfit_many ms Epochs h = absurd h
 misfit_many ms Desks h = absurd h
+misfit_many ms Chain h = absurd h
 
 -- a member that there is not, and one that there is
 not_both : (ms : Members) → IsMisfit ms Me → IsMisfit ms Peers → ⊥
@@ -114,6 +115,7 @@ fits ms s g Listen h = h
 fits ms s g DeskSocket h = h
 fits ms s g Epochs h = h
 fits ms s g Desks h = h
+fits ms s g Chain h = h
 
 -- two misfits are one
 misfit_same : (ms : Members) (a b : Key) → IsMisfit ms a → IsMisfit ms b → a ≡ b
@@ -128,6 +130,7 @@ misfit_same ms Listen b x y = absurd x
 misfit_same ms DeskSocket b x y = absurd x
 misfit_same ms Epochs b x y = absurd x
 misfit_same ms Desks b x y = absurd x
+misfit_same ms Chain b x y = absurd x
 misfit_same ms Me b x y = of_me b y
   where
     of_me : (b : Key) → IsMisfit ms b → Me ≡ b
@@ -144,6 +147,7 @@ misfit_same ms Me b x y = of_me b y
     of_me DeskSocket z = absurd z
     of_me Epochs z = absurd z
     of_me Desks z = absurd z
+    of_me Chain z = absurd z
 misfit_same ms Peers b x y = of_peers b y
   where
     of_peers : (b : Key) → IsMisfit ms b → Peers ≡ b
@@ -160,6 +164,7 @@ misfit_same ms Peers b x y = of_peers b y
     of_peers DeskSocket z = absurd z
     of_peers Epochs z = absurd z
     of_peers Desks z = absurd z
+    of_peers Chain z = absurd z
 
 -- so are all of these
 abbrev IsOfSizes : List Key → (Members → Key → Type 0) → Type 0

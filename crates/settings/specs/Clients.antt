@@ -1,5 +1,5 @@
 -- What the members of a TOML table say of a client's settings, and the first thing that is wrong with them.
-use Rattle.std.specs.Prelude.{ℕ, ◌≡◌, ◌<◌, ◌==◌, ◌&&◌, eqb, filter, nat_lt, not, Bool, false, Option, Some, None, List, [], ◌∷◌, ◌++◌, codes, length, if◌then◌else◌}
+use Rattle.std.specs.Prelude.{ℕ, ◌≡◌, ◌<◌, ◌==◌, ◌&&◌, eqb, filter, nat_lt, not, Bool, true, false, Option, Some, None, List, [], ◌∷◌, ◌++◌, codes, length, if◌then◌else◌}
 use Rattle.std.specs.Cmp.Lexicographic.{pointwise}
 use Rattle.std.specs.List.{flat_map, list_any}
 use Rattle.toml.specs.Data.{Members}
@@ -8,16 +8,17 @@ use Rattle.settings.specs.declared.address.Address.{Address}
 use Rattle.settings.specs.declared.client.ClientSettings.{ClientSettings}
 use Rattle.settings.specs.declared.client_entries.ClientEntries.{ClientEntries}
 use Rattle.settings.specs.declared.keys.Key.{Key}
-use Rattle.settings.specs.declared.keys.Key.TheVariants.{Cluster, N, T, Questions, Desks}
+use Rattle.settings.specs.declared.keys.Key.TheVariants.{Cluster, N, T, Questions, Desks, Chain}
 use Rattle.settings.specs.declared.fault.SettingsFault.{SettingsFault}
 use Rattle.settings.specs.declared.fault.SettingsFault.TheVariants as fault
 use Rattle.settings.specs.Entries.{size_or}
-use Rattle.settings.specs.Settings.{HasAddresses, HasNumber, HasSmall, IsFaultOf, IsOfMany}
+use Rattle.settings.specs.Keys.{key_text}
+use Rattle.settings.specs.Settings.{HasAddresses, HasNumber, HasSmall, IsFaultOf, IsOfMany, MayHaveFlag}
 use Rattle.settings.specs.Texts.{peer_entry, sized_text}
 
 -- a client's keys in the order in which they are looked at
 abbrev pub client_keys : List Key
-client_keys = Cluster ∷ N ∷ T ∷ Questions ∷ Desks ∷ []
+client_keys = Cluster ∷ N ∷ T ∷ Questions ∷ Desks ∷ Chain ∷ []
 
 -- the entries are what the keys say
 pub record SaysClientEntries (ms : Members) (e : ClientEntries) : Type 0 where
@@ -26,6 +27,7 @@ pub record SaysClientEntries (ms : Members) (e : ClientEntries) : Type 0 where
   pub t : HasSmall ms T e.t
   pub questions : HasSmall ms Questions e.questions
   pub desks : HasAddresses ms Desks e.desks.items
+  pub chain : MayHaveFlag ms Chain e.chain
 
 -- two addresses have one host and one port
 abbrev pub is_same : Address → Address → Bool
@@ -59,6 +61,7 @@ pub record FitsClientEntries (e : ClientEntries) (s : ClientSettings) : Type 0 w
   pub cluster : s.cluster ≡ e.cluster
   pub size : s.size ≡ new_size e.n e.t e.questions
   pub desks : s.desks ≡ e.desks
+  pub chain : s.chain ≡ e.chain
 
 -- the numbers make a size, and there aren't as many desks as members, or a desk stands twice
 abbrev pub IsClientMisfit : Members → Key → Type 0
@@ -80,6 +83,7 @@ pub record GivesClients (ms : Members) (s : ClientSettings) : Type 0 where
   pub desks : HasAddresses ms Desks s.desks.items
   pub count : length s.desks.items ≡ s.size.n
   pub apart : stands_twice s.desks.items ≡ false
+  pub chain : MayHaveFlag ms Chain s.chain
 
 -- the document gives the settings
 abbrev pub IsClientSettings : Option Members → ClientSettings → Type 0
@@ -91,13 +95,19 @@ abbrev pub HasDeskTwice : Option Members → Address → Type 0
 HasDeskTwice None desk = ⊥
 HasDeskTwice (Some ms) desk = (desks : List Address) × HasAddresses ms Desks desks × (1 < count_of desks desk)
 
+-- the line of a chain's clients; none of another cluster's
+abbrev pub chain_line : Bool → List ℕ
+chain_line false = []
+chain_line true = key_text Chain ++ codes " = true\n"
+
 -- the text of a client's settings
 abbrev pub client_text : ClientSettings → List ℕ
 client_text s =
-    sized_text s.cluster s.size ++ (codes "desks = [\n" ++ (flat_map peer_entry s.desks.items ++ codes "]\n"))
+    sized_text s.cluster s.size ++ (codes "desks = [\n" ++ (flat_map peer_entry s.desks.items ++ (codes "]\n" ++ chain_line s.chain)))
 
 -- settings of the same values
 pub record IsLikeClient (read s : ClientSettings) : Type 0 where
   pub cluster : read.cluster ≡ s.cluster
   pub size : read.size ≡ s.size
   pub desks : read.desks.items ≡ s.desks.items
+  pub chain : read.chain ≡ s.chain

@@ -1,7 +1,7 @@
 -- The keys of the settings.
 use Rattle.std.specs.Prelude.{ℕ, List, codes}
 use Rattle.settings.specs.declared.keys.Key.{Key}
-use Rattle.settings.specs.declared.keys.Key.TheVariants.{Cluster, N, T, Questions, Me, Journal, Peers, Desk, Seed, Listen, DeskSocket, Epochs, Desks}
+use Rattle.settings.specs.declared.keys.Key.TheVariants.{Cluster, N, T, Questions, Me, Journal, Peers, Desk, Seed, Listen, DeskSocket, Epochs, Desks, Chain}
 
 -- the bytes of a key
 abbrev pub key_text : Key → List ℕ
@@ -18,3 +18,4 @@ key_text Listen = codes "listen"
 key_text DeskSocket = codes "desk-socket"
 key_text Epochs = codes "epochs"
 key_text Desks = codes "desks"
+key_text Chain = codes "chain"

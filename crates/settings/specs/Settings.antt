@@ -1,12 +1,12 @@
 -- What the members of a TOML table say of a member's settings, and the first thing that is wrong with them.
-use Rattle.std.specs.Prelude.{ℕ, pos, ◌≡◌, ◌≢◌, ◌<◌, ◌≤◌, ◌⊎◌, Option, Some, None, Ok, List, [], ◌∷◌, ◌++◌, length, option_map, string_bytes}
+use Rattle.std.specs.Prelude.{ℕ, pos, ◌≡◌, ◌≢◌, ◌<◌, ◌≤◌, ◌⊎◌, Bool, false, Option, Some, None, Ok, List, [], ◌∷◌, ◌++◌, length, option_map, string_bytes}
 use Rattle.std.specs.List.{AllByRecursion}
-use Rattle.toml.specs.Data.{Data, Items, Members, string, integer, array, no_items, item, get_member}
+use Rattle.toml.specs.Data.{Data, Items, Members, string, integer, boolean, array, no_items, item, get_member}
 use Rattle.hex.specs.Hex.{decode_of}
 use Rattle.terms_prelude.specs.Terms.{size_fault, SizeFault}
 use Rattle.settings.specs.declared.address.Address.{Address}
 use Rattle.settings.specs.declared.keys.Key.{Key}
-use Rattle.settings.specs.declared.keys.Key.TheVariants.{Cluster, N, T, Questions, Me, Journal, Peers, Desk, Seed, Listen, DeskSocket, Epochs, Desks}
+use Rattle.settings.specs.declared.keys.Key.TheVariants.{Cluster, N, T, Questions, Me, Journal, Peers, Desk, Seed, Listen, DeskSocket, Epochs, Desks, Chain}
 use Rattle.settings.specs.declared.document.Settings.{Settings}
 use Rattle.settings.specs.declared.fault.SettingsFault.{SettingsFault}
 use Rattle.settings.specs.declared.fault.SettingsFault.TheVariants as fault
@@ -65,6 +65,10 @@ abbrev pub MayHavePath : Members → Key → Option (List ℕ) → Type 0
 MayHavePath ms key None = get_member (key_text key) ms ≡ None
 MayHavePath ms key (Some path) = HasPath ms key path
 
+-- a boolean; false where the table hasn't the key
+abbrev pub MayHaveFlag : Members → Key → Bool → Type 0
+MayHaveFlag ms key flag = HasValue ms key (boolean flag) ⊎ ((get_member (key_text key) ms ≡ None) × (flag ≡ false))
+
 -- the key has a value of its own type and range
 abbrev pub Suits : Members → Key → Type 0
 Suits ms Cluster = (number : ℕ) × HasNumber ms Cluster number
@@ -80,6 +84,7 @@ Suits ms Listen = (address : Option Address) × MayHaveAddress ms Listen address
 Suits ms DeskSocket = (path : Option (List ℕ)) × MayHavePath ms DeskSocket path
 Suits ms Epochs = (path : Option (List ℕ)) × MayHavePath ms Epochs path
 Suits ms Desks = (addresses : List Address) × HasAddresses ms Desks addresses
+Suits ms Chain = (flag : Bool) × MayHaveFlag ms Chain flag
 
 -- all keys of a list have
 abbrev pub AllSuit : List Key → Members → Type 0
@@ -126,6 +131,7 @@ IsMisfit ms Listen = ⊥
 IsMisfit ms DeskSocket = ⊥
 IsMisfit ms Epochs = ⊥
 IsMisfit ms Desks = ⊥
+IsMisfit ms Chain = ⊥
 
 -- what is wrong with a text that is this document, or no TOML at all, where these are its keys and so they fit one another. One
 -- of these is true at most. Memory isn't any of the text's faults

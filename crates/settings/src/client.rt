@@ -2,12 +2,13 @@
 
 ghost use Rattle.std.specs.Prelude.{◌≡◌, ◌⊎◌, IfOk, IfErr, IfSome, IsTrue, string_bytes};
 ghost use Rattle.toml.specs.Parse.{parse_document};
-ghost use Rattle.settings.specs.Clients.{IsLikeClient, client_text};
+ghost use Rattle.settings.specs.Clients.{IsLikeClient, chain_line, client_text};
 
 use crate::address::Address;
 use crate::client_entries::ClientEntries;
 use crate::document::table;
 use crate::fault::SettingsFault;
+use crate::keys::Key;
 use crate::text::{peer_entries, sized_text};
 use std::alloc::{AllocError, Global};
 use terms::Size;
@@ -21,6 +22,8 @@ pub struct ClientSettings {
     pub size: Size,
     /// The addresses at which the members listen to their clients, n in the order of the members.
     pub desks: Vec<Address>,
+    /// Set if the members run a chain of epochs.
+    pub chain: bool,
 }
 
 impl ClientSettings {
@@ -35,8 +38,8 @@ impl ClientSettings {
     /// The first that applies:
     ///
     /// - [`SettingsFault::Text`] if the text isn't TOML;
-    /// - [`SettingsFault::Key`] with the first key of `cluster`, `n`, `t`, `questions` and `desks`
-    ///   that has no value of its own type and range;
+    /// - [`SettingsFault::Key`] with the first key of `cluster`, `n`, `t`, `questions`, `desks` and
+    ///   `chain` that has no value of its own type and range;
     /// - [`SettingsFault::Size`] if the numbers make no size;
     /// - [`SettingsFault::Key`] with `desks` if there aren't as many desks as members, or one
     ///   stands twice: a member that is counted as two would be believed where t + 1 have to agree;
@@ -91,13 +94,25 @@ impl ClientSettings {
     }
 }
 
+/// The line of a chain's clients.
+fn chain_line(alloc: Global, chain: bool) -> Result<String, AllocError>
+    ensures { IfOk result (λ text. string_bytes text ≡ chain_line chain) }
+{
+    if chain {
+        format!(in alloc; "{} = true\n", Key::Chain.text())
+    } else {
+        Ok(String::new(alloc))
+    }
+}
+
 /// The text of the settings, of which nothing is known to be read as it stands.
 fn client_text(alloc: Global, settings: &ClientSettings) -> Result<String, AllocError>
     ensures { IfOk result (λ text. string_bytes text ≡ client_text settings.now) }
 {
     let sized = sized_text(alloc, settings.cluster, settings.size)?;
     let desks = peer_entries(alloc, &settings.desks)?;
-    format!(in alloc; "{sized}desks = [\n{desks}]\n")
+    let chain = chain_line(alloc, settings.chain)?;
+    format!(in alloc; "{sized}desks = [\n{desks}]\n{chain}")
 }
 
 /// Returns `true` if the two have the same desks.
@@ -111,5 +126,8 @@ fn has_same_desks(read: &ClientSettings, settings: &ClientSettings) -> bool
 fn is_like_client(read: &ClientSettings, settings: &ClientSettings) -> bool
     ensures { IsTrue result → IsLikeClient read.now settings.now }
 {
-    read.cluster == settings.cluster && read.size == settings.size && has_same_desks(read, settings)
+    read.cluster == settings.cluster
+        && read.size == settings.size
+        && read.chain == settings.chain
+        && has_same_desks(read, settings)
 }

@@ -6,7 +6,7 @@ ghost use Rattle.settings.specs.Clients.{are_desks_of, count_of, is_same, stands
 
 use crate::address::Address;
 use crate::client::ClientSettings;
-use crate::entries::{addresses, number, small};
+use crate::entries::{addresses, flag, number, small};
 use crate::fault::SettingsFault;
 use crate::keys::Key;
 use numerals::size_from;
@@ -49,6 +49,7 @@ pub struct ClientEntries {
     t: u16,
     questions: u16,
     desks: Vec<Address>,
+    chain: bool,
 }
 
 impl ClientEntries {
@@ -67,6 +68,7 @@ impl ClientEntries {
             t: small(table, Key::T)?,
             questions: small(table, Key::Questions)?,
             desks: addresses(alloc, table, Key::Desks)?,
+            chain: flag(table, Key::Chain)?,
         })
     }
 
@@ -96,6 +98,7 @@ impl ClientEntries {
             cluster: self.cluster,
             size,
             desks: self.desks,
+            chain: self.chain,
         })
     }
 }

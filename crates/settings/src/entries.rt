@@ -4,7 +4,7 @@ ghost use Rattle.std.specs.Prelude.{List, ◌≡◌, ◌<◌, None, Some, IfOk, 
 ghost use Rattle.toml.specs.Data.{get_member};
 ghost use Rattle.toml.specs.View.{view, table_view, items_view};
 ghost use Rattle.settings.specs.Keys.{key_text};
-ghost use Rattle.settings.specs.Settings.{HasNumber, HasSmall, HasPath, HasAddress, HasAddresses, IsAddressText, AreAddresses, HasSeed, MayHaveAddress, MayHavePath};
+ghost use Rattle.settings.specs.Settings.{HasNumber, HasSmall, HasPath, HasAddress, HasAddresses, IsAddressText, AreAddresses, HasSeed, MayHaveAddress, MayHaveFlag, MayHavePath};
 ghost use Rattle.settings.specs.Entries.{IsLack, IsLackOrMemory};
 ghost use Rattle.terms_prelude.specs.Terms.{new_header};
 
@@ -146,6 +146,20 @@ fn optional_path(alloc: Global, table: &Table, key: Key) -> Result<Option<String
         Some(_value) => match path(alloc, table, key) {
             Ok(path) => Ok(Some(path)),
             Err(fault) => Err(fault),
+        },
+    }
+}
+
+/// The boolean at a key; `false` if the table hasn't the key.
+pub(crate) fn flag(table: &Table, key: Key) -> Result<bool, SettingsFault>
+    ensures ok { IfOk result (MayHaveFlag (table_view table.now) key) }
+    ensures fault { IfErr result (IsLack key (MayHaveFlag (table_view table.now) key)) }
+{
+    match value_at(table, key) {
+        None => Ok(false),
+        Some(value) => match value.as_bool() {
+            Some(flag) => Ok(flag),
+            None => Err(SettingsFault::Key(key)),
         },
     }
 }

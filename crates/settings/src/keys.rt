@@ -38,6 +38,9 @@ pub enum Key {
     /// The addresses at which the members listen to their clients, in a client's settings: an array
     /// of n texts `HOST:PORT`.
     Desks,
+    /// Set if the members run a chain of epochs, in a client's settings: a boolean. It may be left
+    /// out: then they run one cluster alone.
+    Chain,
 }
 
 impl Key {
@@ -59,6 +62,7 @@ impl Key {
             Key::DeskSocket => "desk-socket",
             Key::Epochs => "epochs",
             Key::Desks => "desks",
+            Key::Chain => "chain",
         }
     }
 }

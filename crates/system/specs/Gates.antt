@@ -33,6 +33,7 @@ is_open_mode mode = not (bit_and mode 6 == 0)
 pub record Opens (client : ClientSettings) (address : SocketAddr) (secret : List ℕ) (opening : Opening) : Type 0 where
   pub cluster : opening.cluster ≡ client.cluster
   pub size : opening.size ≡ client.size
+  pub chain : opening.chain ≡ client.chain
   pub desks : AreSocketsOf client.desks.items opening.desks.items
   pub listen : opening.listen ≡ address
   pub token : opening.token.items ≡ secret

@@ -214,12 +214,9 @@ fn client_text(alloc: Global, wanted: &NewCluster<'_>, desks: &[Address]) -> Res
         cluster: wanted.cluster,
         size: wanted.size,
         desks: copy,
+        chain: wanted.epochs,
     };
-    let text = client.to_text(alloc).map_err(|fault| of_writing(fault))?;
-    if wanted.epochs {
-        return Ok(format!(in alloc; "{text}chain = true\n")?);
-    }
-    Ok(text)
+    Ok(client.to_text(alloc).map_err(|fault| of_writing(fault))?)
 }
 
 /// The fault of settings that can't be written.

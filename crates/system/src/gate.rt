@@ -215,6 +215,7 @@ fn opening_of(
     Ok(Opening {
         cluster: client.cluster,
         size: client.size,
+        chain: client.chain,
         desks,
         listen,
         token,

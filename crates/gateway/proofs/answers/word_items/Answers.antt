@@ -6,7 +6,7 @@ use Rattle.gateway.proofs.Items.{items_more}
 use Rattle.gateway.proofs.answers.word_items.Goals as goal
 
 pub loop-member-preserved : goal.loop-member-preserved
-loop-member-preserved c = λ heard watches.
+loop-member-preserved c = λ heard watches from.
     let less : c.loop-member.member < c.args.n = search rules in
     let few : c.loop-member.member < 64 = omega arith in
     let item : string_bytes c.push_str.new.self ≡ string_bytes c.loop-member.text ++ word_item c.loop-member.member c.word_of.result =
@@ -14,4 +14,4 @@ loop-member-preserved c = λ heard watches.
     subst (λ (text : List ℕ). text ++ word_items (first_word (words_on c.args.question heard)) (c.loop-member.member + 1) (c.args.n - (c.loop-member.member + 1))
     ≡ word_items (first_word (words_on c.args.question heard)) 0 c.args.n) (sym item)
     (items_more (first_word (words_on c.args.question heard)) c.word_of.result c.loop-member.member c.args.n (string_bytes c.loop-member.text)
-    (word_items (first_word (words_on c.args.question heard)) 0 c.args.n) less (c.word_of.ensures heard watches few) (c.loop-member.invariant heard watches))
+    (word_items (first_word (words_on c.args.question heard)) 0 c.args.n) less (c.word_of.ensures.told heard watches from few) (c.loop-member.invariant heard watches from))

@@ -5,5 +5,5 @@ use Rattle.gateway.proofs.requests.questions_task.Goals as goal
 pub returns-in-None-clause-err : goal.returns-in-None-clause-err
 returns-in-None-clause-err c = inl (
   refl,
-  subst (λ (n : ℕ). (from to : ℕ) → IsRange n c.args.request.now.query.now from to → ⊥) c.questions.ensures.value (c.in-None.ensures.none refl),
+  subst (λ (n : ℕ). (from to : ℕ) → IsRange n c.args.request.now.query.now from to → ⊥) c.questions.ensures (c.in-None.ensures.none refl),
 )

@@ -1,23 +1,34 @@
-use Rattle.std.proofs.Common.{◌≡◌, ◌+◌, ℕ, Bool, Option, List, sym, subst, arith}
-use Rattle.gateway.specs.Watches.{AreContradictions, watch_size}
-use Rattle.gateway.proofs.Keeping.{contradictions_more, none_found}
+use Rattle.std.proofs.Common.{◌≡◌, ◌<◌, ◌+◌, ℕ, Bool, Option, List, refl, rules, sym, subst, arith, length, slice_get}
+use Rattle.std.proofs.lemmas.Option.{slice_get_read}
+use Rattle.terms_prelude.specs.Terms.{Size}
+use Rattle.gateway.specs.Scopes.{window_length}
+use Rattle.gateway.specs.Watches.{AreContradictions, ContradictsOn, Watches, watch_first, watch_scope, watch_size, words_on}
+use Rattle.gateway.proofs.Keeping.{contradictions_more, kept_at, none_found}
 use Rattle.gateway.proofs.watch.Watch.contradictions.Goals as goal
 
-pub loop-question-init : goal.loop-question-init
-loop-question-init c = λ heard watches few.
-    subst (λ (found : List (Option Bool)). AreContradictions (watch_size c.args.self.now) heard c.args.member 0 found) (sym c.new-found.ensures.items)
-    (none_found (watch_size c.args.self.now) heard c.args.member)
+pub loop-place-init : goal.loop-place-init
+loop-place-init c = λ heard watches few.
+    subst (λ (found : List (Option Bool)). AreContradictions (watch_size c.args.self.now) heard c.args.member (watch_first c.args.self.now) 0 found)
+    (sym c.new-found.ensures.items) (none_found (watch_size c.args.self.now) heard c.args.member (watch_first c.args.self.now))
 
-pub loop-question-preserved : goal.loop-question-preserved
-loop-question-preserved c = λ heard watches few.
-    subst (λ (found : List (Option Bool)). AreContradictions (watch_size c.args.self.now) heard c.args.member (c.loop-question.question + 1) found)
+pub loop-place-preserved : goal.loop-place-preserved
+unfolding Watches watch_first watch_size
+loop-place-preserved c = λ heard watches few.
+    let within : c.loop-place.place < length c.args.self.now.readings.items = search (rules, c.loop-place-test.true, c.len-place-end.ensures) in
+    let was = slice_get_read c.args.self.now.readings.items (length c.args.self.now.readings.items) c.loop-place.place c.index.result.now refl within
+    c.index.ensures in
+    let kept = kept_at c.args.self.now.scope.size (slice_get c.args.self.now.readings.items c.loop-place.place) c.index.result.now
+    (words_on (c.args.self.now.first + c.loop-place.place) heard) was (watches.each c.loop-place.place) in
+    let contradicts = subst (λ (size : Size). ContradictsOn size (words_on (c.args.self.now.first + c.loop-place.place) heard) c.args.member c.contradiction_on.result)
+    kept.1 (c.contradiction_on.ensures (words_on (c.args.self.now.first + c.loop-place.place) heard) kept.0 few) in
+    subst (λ (found : List (Option Bool)). AreContradictions c.args.self.now.scope.size heard c.args.member c.args.self.now.first (c.loop-place.place + 1) found)
     (sym c.in_ok-push.ensures.items)
-    (contradictions_more (watch_size c.args.self.now) heard c.args.member c.loop-question.question c.loop-question.found.items c.contradiction.result
-    (c.loop-question.invariant heard watches few) (c.contradiction.ensures heard watches few))
+    (contradictions_more c.args.self.now.scope.size heard c.args.member c.args.self.now.first c.loop-place.place c.loop-place.found.items c.contradiction_on.result
+    (c.loop-place.invariant heard watches few) contradicts)
 
 pub returns : goal.returns
-unfolding watch_size
+unfolding Watches watch_first watch_scope watch_size
 returns c = λ heard watches few.
-    let count : c.loop-question.question ≡ c.args.self.now.size.questions = omega (arith, c.questions-question-end.ensures.value) in
-    subst (λ (n : ℕ). AreContradictions c.args.self.now.size heard c.args.member n c.loop-question.found.items) count
-    (c.loop-question.invariant heard watches few)
+    let count : c.loop-place.place ≡ window_length c.args.self.now.scope = omega (arith, c.loop-place-test.false, c.loop-place.auto.place-end, c.len-place-end.ensures, watches.all) in
+    subst (λ (n : ℕ). AreContradictions c.args.self.now.scope.size heard c.args.member c.args.self.now.first n c.loop-place.found.items) count
+    (c.loop-place.invariant heard watches few)
