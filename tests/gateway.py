@@ -370,7 +370,7 @@ def what_is_refused_is_named(folder, port):
             (404, "path", "GET", "/nothing", None, {}),
             (404, "path", "GET", "/v1/questions/", None, {}),
             (404, "path", "GET", "/v1/questions/x", None, {}),
-            (404, "path", "GET", "/v1/questions/65536", None, {}),
+            (404, "path", "GET", f"/v1/questions/{2**64}", None, {}),
             (404, "path", "GET", "/v1/questions/-7", None, {}),
             (404, "question", "GET", "/v1/questions/512", None, {}),
             (404, "question", "GET", "/v1/questions/512/transcript", None, {}),

@@ -207,22 +207,22 @@ fn founding(alloc: Global, words: NewClusterWords<'_>) -> Option<String> {
 fn short_text(alloc: Global, task: Task<'_>) -> Option<String> {
     let (text, parts) = match task {
         Task::Check(it) => (
-            format!(in alloc; "check {}", it.settings),
+            format!(in alloc; "check {}", it.settings).ok()?,
             [Part::Flag("json", it.json), Part::Flag("", false)],
         ),
         Task::Dump(it) => (
-            format!(in alloc; "dump {}", it.journal),
+            format!(in alloc; "dump {}", it.journal).ok()?,
             [Part::Flag("count", it.count), Part::Flag("json", it.json)],
         ),
         Task::Gateway(it) => (
-            format!(in alloc; "gateway {}", it.file),
+            format!(in alloc; "gateway {}", it.file).ok()?,
             [
                 Part::Text("listen", it.listen),
                 Part::Text("token", it.token),
             ],
         ),
         Task::Epochs(it) => (
-            format!(in alloc; "epochs {}", it.file),
+            format!(in alloc; "epochs {}", it.file).ok()?,
             [
                 Part::Flag("json", it.json),
                 Part::Text("timeout", it.timeout),
@@ -230,7 +230,7 @@ fn short_text(alloc: Global, task: Task<'_>) -> Option<String> {
         ),
         _ => return None,
     };
-    with(alloc, text.ok()?, &parts)
+    with(alloc, text, &parts)
 }
 
 /// The text of a task.
