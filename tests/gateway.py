@@ -373,6 +373,7 @@ def what_is_refused_is_named(folder, port):
             (404, "path", "GET", f"/v1/questions/{2**64}", None, {}),
             (404, "path", "GET", "/v1/questions/-7", None, {}),
             (404, "question", "GET", "/v1/questions/512", None, {}),
+            (404, "question", "GET", f"/v1/questions/{2**64 - 1}", None, {}),
             (404, "question", "GET", "/v1/questions/512/transcript", None, {}),
             (404, "question", "POST", "/v1/questions/512", body, good),
             (400, "query", "GET", "/v1/questions/1?wait=61", None, {}),
