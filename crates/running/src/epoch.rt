@@ -30,6 +30,9 @@ struct Standing {
     rests: AtomicBool,
     /// The members whose links are read, a bit for each.
     links: AtomicU64,
+    /// The links of n - t members have been read at once, so that the member has heard what is left
+    /// to hear.
+    was_linked: AtomicBool,
 }
 
 impl InChain {
@@ -43,6 +46,7 @@ impl InChain {
                 reported: AtomicU64::new(0),
                 rests: AtomicBool::new(false),
                 links: AtomicU64::new(0),
+                was_linked: AtomicBool::new(false),
             },
         }
     }
@@ -60,6 +64,15 @@ impl InChain {
         } else {
             self.standing.links.fetch_and(!bit, Ordering::SeqCst);
         }
+    }
+
+    /// Returns `true` if the links of so many members have been read at once.
+    fn was_linked(&self, needed: u8) -> bool {
+        let links = self.standing.links.load(Ordering::SeqCst);
+        if links.count_ones() >= u32::from(needed) {
+            self.standing.was_linked.store(true, Ordering::SeqCst);
+        }
+        self.standing.was_linked.load(Ordering::SeqCst)
     }
 
     /// Returns `true` if that member is to be dialled. Where the epoch rests that is one whose link
@@ -95,11 +108,15 @@ impl<D: Disk, J: Life> Shared<D, J> {
         let progress = self.hub.said().wrapping_add(decided);
         let is_new = chain.standing.reported.swap(progress, Ordering::SeqCst) != progress;
         let is_behind = chain.board.newest(rt) > chain.epoch;
+        let size = self.hub.header().size();
+        let is_complete = decided >= u64::from(size.questions());
+        // Who was never heard may know decisions: peers run an epoch again as they have room.
+        let is_deaf = !is_complete && !chain.was_linked(size.wait());
         let report = Report {
-            is_undone: !is_behind || is_new || self.is_undone(rt),
+            is_undone: !is_behind || is_new || is_deaf || self.is_undone(rt),
             progress,
             is_begun: decided > 0,
-            is_complete: decided >= u64::from(self.hub.header().size().questions()),
+            is_complete,
         };
         let rests = chain.board.report(rt, chain.epoch, report);
         chain.standing.rests.store(rests, Ordering::SeqCst);
