@@ -537,6 +537,26 @@ def half_decided_epochs_end():
         expect(after == before, f"epochs run again that {closed} say are closed: {before}, {after}")
 
 
+def missed_epochs_are_made_up_for():
+    """A member that was down for eleven epochs, and to which slots of the newest are proposed as soon as it is back, learns all that was
+    decided meanwhile, and calls no epoch closed before."""
+    with chain(27220, starts=3) as it:
+        bits = drawn(180)
+        decide([it.desk(me) for me in range(3)], bits, range(176))
+        end = time.monotonic() + 40
+        while int(it.desk(0).ask("EPOCHS")[0].split()[1]) < 10 and time.monotonic() < end:
+            time.sleep(0.25)
+        it.start(3)
+        desk = it.desk(3)
+        decide([it.desk(me) for me in range(4)], bits, range(176, 180))
+        end = time.monotonic() + 90
+        while left := [slot for slot, reply in enumerate(desk.ask(*[f"ASK {slot}" for slot in range(176)])) if reply != f"DECIDED {bits[slot]}"]:
+            first = int(desk.ask("EPOCHS")[0].split()[1])
+            expect(left[0] >= 16 * first, f"epochs before {first} are closed, and {len(left)} slots from {left[0]} on are unknown")
+            expect(time.monotonic() < end, f"{len(left)} slots from {left[0]} on aren't made up for")
+            time.sleep(0.5)
+
+
 def new_cluster():
     """`new-cluster --epochs` writes settings of chains, `init` makes the first journal of each, and `check` names the folder."""
     folder = tempfile.mkdtemp(prefix="epochs-")
@@ -648,10 +668,10 @@ def main():
     checks = [slots_over_many_epochs, dumps_name_their_clusters, restarts, comeback, followers, quiet, ends, put_away,
               put_away_while_it_runs, epochs_of_made_up_desks, closed_epochs, new_cluster, liar_and_kills]
     # These wait for epochs to end, beside the others.
-    waiting = [asks_for_closed_epochs, half_decided_epochs_end]
+    waiting = [asks_for_closed_epochs, half_decided_epochs_end, missed_epochs_are_made_up_for]
     if LONG:
         checks, waiting = [lambda: liar_and_kills(100_000, 200, questions=1024, width=256), thousand_epochs], []
-    with concurrent.futures.ThreadPoolExecutor(2) as pool:
+    with concurrent.futures.ThreadPoolExecutor(3) as pool:
         beside = [pool.submit(play, check) for check in waiting]
         failed = sum(play(check) for check in checks) + sum(it.result() for it in beside)
     print(f"{len(checks) + len(waiting) - failed} passed, {failed} failed")
