@@ -330,7 +330,7 @@ fn failure_by_bytes(
                 path,
                 bytes: bytes.as_slice(),
             };
-            journal_failure(rt.alloc(), file, fault, found, asked)
+            journal_failure(rt.alloc(), &file, fault, found, asked)
         }
         _ => Failure::about(rt.alloc(), fault, path),
     }

@@ -356,16 +356,17 @@ pub struct ReadFile<'a> {
 /// at which its file goes wrong, and the bytes there.
 pub fn journal_failure(
     alloc: Global,
-    file: ReadFile<'_>,
+    file: &ReadFile<'_>,
     fault: Fault,
     found: JournalFault,
     asked: Option<&Header>,
 ) -> Failure
     ensures fault { result.fault ≡ fault }
-    ensures told { IfSome result.trouble (IsTold file.path.now (IsJournalPlace found file.bytes.now)
-        (IsJournalWords found (option_map (λ header. header.now) asked.entry) file.bytes.now)) }
+    ensures told { IfSome result.trouble
+        (IsTold file.now.path.now (IsJournalPlace found file.now.bytes.now)
+        (IsJournalWords found (option_map (λ header. header.now) asked.entry) file.now.bytes.now)) }
 {
-    let ReadFile { path, bytes } = file;
+    let ReadFile { path, bytes } = *file;
     match found {
         JournalFault::NotEmpty => owner_failure(alloc, path, fault, bytes),
         JournalFault::OtherHeader => match asked {
