@@ -5,7 +5,8 @@
 //! to these. `read` reads the document, and answers the cluster, the size and the member, or the
 //! fault; `journal`, `peers`, `desk`, `seed`, `listen`, `desk-socket` and `epochs` answer its other
 //! values, or `none`. `client` reads it as a client's, and answers the cluster, the size and the
-//! desks, or the fault. `address TEXT` answers the four numbers and the port, or `none`.
+//! desks, and `chain` behind them if its members run one, or the fault. `address TEXT` answers the
+//! four numbers and the port, or `none`.
 //!
 //! `empty` is a new disk, and `fuse CALLS` one that lets so many calls pass. `init` makes the
 //! journal, and answers `0` or the fault; `file` are its bytes.
@@ -58,7 +59,8 @@ fn client_text(alloc: Global, client: &ClientSettings) -> Option<String> {
     let cluster = client.cluster;
     let size = client.size;
     let (n, t, questions) = (size.n(), size.t(), size.questions());
-    format!(in alloc; "{cluster} {n} {t} {questions} {desks}").ok()
+    let chain = if client.chain { " chain" } else { "" };
+    format!(in alloc; "{cluster} {n} {t} {questions} {desks}{chain}").ok()
 }
 
 /// The bytes of a disk.
