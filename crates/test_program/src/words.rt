@@ -5,8 +5,9 @@
 //! one line. Where nothing is to be done it answers `ends` and the status.
 
 use command_line::{
-    AskWords, AuditWords, DecideWords, NewClusterWords, ProposeWords, Request, RoundsWords,
-    RunWords, SimulateWords, StatusWords, Task, TranscriptWords, command,
+    AskWords, AuditWords, CheckWords, DecideWords, DumpWords, EpochsWords, GatewayWords,
+    NewClusterWords, ProposeWords, Request, RoundsWords, RunWords, SimulateWords, StatusWords,
+    Task, TranscriptWords, command,
 };
 use std::alloc::Global;
 use test_words::words_of;
@@ -203,33 +204,39 @@ fn founding(alloc: Global, words: NewClusterWords<'_>) -> Option<String> {
     with(alloc, text, &parts)
 }
 
-/// The text of a task of few words: none of another.
-fn short_text(alloc: Global, task: Task<'_>) -> Option<String> {
-    let (text, parts) = match task {
-        Task::Check(it) => (
-            format!(in alloc; "check {}", it.settings).ok()?,
-            [Part::Flag("json", it.json), Part::Flag("", false)],
-        ),
-        Task::Dump(it) => (
-            format!(in alloc; "dump {}", it.journal).ok()?,
-            [Part::Flag("count", it.count), Part::Flag("json", it.json)],
-        ),
-        Task::Gateway(it) => (
-            format!(in alloc; "gateway {}", it.file).ok()?,
-            [
-                Part::Text("listen", it.listen),
-                Part::Text("token", it.token),
-            ],
-        ),
-        Task::Epochs(it) => (
-            format!(in alloc; "epochs {}", it.file).ok()?,
-            [
-                Part::Flag("json", it.json),
-                Part::Text("timeout", it.timeout),
-            ],
-        ),
-        _ => return None,
-    };
+/// The text of settings that are to be checked.
+fn checking(alloc: Global, words: CheckWords<'_>) -> Option<String> {
+    let text = format!(in alloc; "check {}", words.settings).ok()?;
+    with(alloc, text, &[Part::Flag("json", words.json)])
+}
+
+/// The text of a journal that is to be printed.
+fn dumping(alloc: Global, words: DumpWords<'_>) -> Option<String> {
+    let text = format!(in alloc; "dump {}", words.journal).ok()?;
+    let parts = [
+        Part::Flag("count", words.count),
+        Part::Flag("json", words.json),
+    ];
+    with(alloc, text, &parts)
+}
+
+/// The text of a gateway that is to serve.
+fn serving(alloc: Global, words: GatewayWords<'_>) -> Option<String> {
+    let text = format!(in alloc; "gateway {}", words.file).ok()?;
+    let parts = [
+        Part::Text("listen", words.listen),
+        Part::Text("token", words.token),
+    ];
+    with(alloc, text, &parts)
+}
+
+/// The text of a question for the epochs that are closed.
+fn closing(alloc: Global, words: EpochsWords<'_>) -> Option<String> {
+    let text = format!(in alloc; "epochs {}", words.file).ok()?;
+    let parts = [
+        Part::Flag("json", words.json),
+        Part::Text("timeout", words.timeout),
+    ];
     with(alloc, text, &parts)
 }
 
@@ -251,9 +258,10 @@ fn task_text(alloc: Global, task: Task<'_>) -> Option<String> {
         Task::Hear(it) => {
             format!(in alloc; "hear {} {} {} {}", it.n, it.t, it.questions, it.me).ok()
         }
-        Task::Check(_) | Task::Dump(_) | Task::Gateway(_) | Task::Epochs(_) => {
-            short_text(alloc, task)
-        }
+        Task::Check(words) => checking(alloc, words),
+        Task::Dump(words) => dumping(alloc, words),
+        Task::Gateway(words) => serving(alloc, words),
+        Task::Epochs(words) => closing(alloc, words),
     }
 }
 
