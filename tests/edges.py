@@ -1701,12 +1701,14 @@ def an_open_slot_keeps_its_epoch_open(folder, port):
 
 @check
 def epochs_that_were_left_out_run(folder, port):
-    """The epochs before that of a slot which is proposed far ahead run too, to make up for what others decided in them."""
-    path = of_a_chain(folder, 0, [f"127.0.0.1:{port}", f"127.0.0.1:{port + 2}"], f"127.0.0.1:{port + 1}", 2, 0)
-    with running(path, "--log"):
+    """The epochs before that of a slot which is proposed far ahead run too, two at a time, to make up for what others decided in
+    them."""
+    peers = [f"127.0.0.1:{port}", f"127.0.0.1:{port + 2}"]
+    path, other = (of_a_chain(folder, me, peers, f"127.0.0.1:{port + 2 * me + 1}", 2, 0) for me in range(2))
+    with running(path, "--log"), running(other, "--log"):
         found = differs("a proposal far ahead", told(port + 1, "PROPOSE 20 1")[0], "OK")
-        lines = {f"epoch {epoch} ready member 0" for epoch in range(7)}
-        return found + differs("epochs that don't run", soon(lambda: not lines - set(lines_of(path)), 30) or sorted(lines - set(lines_of(path))), True)
+        lines = {f"epoch {epoch} ready member 0" for epoch in range(4)}
+        return found + differs("epochs that don't run", soon(lambda: not lines - set(lines_of(path)), 40) or sorted(lines - set(lines_of(path))), True)
 
 
 @check

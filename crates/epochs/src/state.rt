@@ -32,6 +32,10 @@ const MOST: usize = 32;
 /// The most epochs behind the newest that begin to run while others do and don't rest.
 const BEHIND: usize = 4;
 
+/// The most of them that begin to run only because they aren't done here. The others are for peers:
+/// else members that each miss other epochs could wait for one another.
+const OWN: usize = 2;
+
 /// The epochs past the newest for which a proposal is taken.
 const AHEAD: u64 = 64;
 
@@ -336,6 +340,28 @@ impl State {
             .count()
     }
 
+    /// Returns how many of these aren't done here.
+    fn made_up_for(&self) -> usize {
+        self.running
+            .iter()
+            .filter(|one| one.epoch < self.newest && !one.rests)
+            .filter(|one| self.undone.iter().any(|epoch| *epoch == one.epoch))
+            .count()
+    }
+
+    /// Returns an epoch that isn't done here and that is to run for that, if there is room for one.
+    fn due_to_make_up(&self, chain: &Chain) -> Option<u64>
+        ensures { IfSome result (IsDue chain.now self.now) }
+    {
+        if self.made_up_for() >= OWN {
+            return None;
+        }
+        match self.undone.iter().find(|one| self.is_due(chain, **one)) {
+            Some(epoch) => Some(*epoch),
+            None => None,
+        }
+    }
+
     /// Returns `true` if there is room for an epoch behind the newest.
     fn has_room(&self) -> bool {
         self.behind() < BEHIND && self.running.len() < MOST
@@ -362,8 +388,8 @@ impl State {
         if self.is_due(chain, front) {
             return Some(front);
         }
-        if let Some(epoch) = self.undone.iter().find(|one| self.is_due(chain, **one)) {
-            return Some(*epoch);
+        if let Some(epoch) = self.due_to_make_up(chain) {
+            return Some(epoch);
         }
         match self.asks.iter().find(|ask| self.is_due(chain, ask.epoch)) {
             Some(ask) => Some(ask.epoch),

@@ -1,4 +1,4 @@
-use Rattle.std.proofs.Common.{◌≡◌, drop, map}
+use Rattle.std.proofs.Common.{◌≡◌, drop}
 use Rattle.epochs.specs.Opens.{least}
 use Rattle.epochs.proofs.state.least_of.Given as goal
 
