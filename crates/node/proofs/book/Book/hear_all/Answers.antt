@@ -8,7 +8,7 @@ use Rattle.node.specs.Words.{Group, IsTallied, lengthened_all, AppliesAll, BookV
 use Rattle.node.proofs.Grouping.{WentAll, all_kept, all_applies, all_lives_by, hearings_length, replies_are}
 use Rattle.node.proofs.Linking.{tied_all}
 use Rattle.node.proofs.Living.{all_cut_by, disk_by, saved_by, stays_by, spares_by, all_full_by, stopped_stays, stopped_spares}
-use Rattle.node.proofs.Replaying.{decided_more, shown}
+use Rattle.node.proofs.Replaying.{front_stays, decided_more, shown}
 use Rattle.node.proofs.Refusing.{bad_faults, bad_lives, bad_refuses, bad_spares}
 use Rattle.node.proofs.Tallying.{tallied_behind}
 use Rattle.node.proofs.book.Book.hear_all.Goals as goal
@@ -44,6 +44,7 @@ invariant_of-self-in-Ok g c =
           (c.add_behind.ensures g.J.Naming.header.size.questions)))
           c.self.invariant.0,
       λ up. tied,
+      front_stays c.self.inside.opened (member_saved c.self.inside.member) (member_saved c.hear_all.new.self) (records_of_all (replies_of c.in-Ok.answers.items)) c.self.invariant.0.within c.in-Ok.ensures.saved.grows ∙ c.self.invariant.2,
     )
 
 pub returns-in-Ok-clause-answer : goal.returns-in-Ok-clause-answer
