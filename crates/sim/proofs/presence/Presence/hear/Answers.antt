@@ -1,10 +1,10 @@
 use Rattle.terms_prelude.specs.Terms.{Hearing}
 use Rattle.member.specs.Words.{MemberIsAt, memory_disk, IsSound, reply_saved}
-use Rattle.sim.specs.Seats.{mine}
+use Rattle.sim.specs.Presences.{mine}
 use Rattle.member.proofs.Outcomes.{full_of}
 use Rattle.sim.proofs.Moves.{told_ok}
 use Rattle.sim.proofs.Room.{never_full}
-use Rattle.sim.proofs.seats.Presence.hear.Goals as goal
+use Rattle.sim.proofs.presence.Presence.hear.Goals as goal
 
 pub returns-clause-moved : goal.returns-clause-moved
 returns-clause-moved c size liars p w correct free at sent =

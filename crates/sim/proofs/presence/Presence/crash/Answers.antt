@@ -1,13 +1,13 @@
 use Rattle.std.proofs.Common.{◌≡◌, ◌∙◌, sym, subst, ap, Option, Some}
 use Rattle.disk.specs.declared.memory.MemDisk.{MemDisk}
 use Rattle.disk.specs.Memory.{memory_state}
-use Rattle.sim.specs.Words.{Presence, IsSeatAt, is_liar, disk_in, HasCrashed}
+use Rattle.sim.specs.Words.{Presence, IsPresenceAt, is_liar, disk_in, HasCrashed}
 use Rattle.sim.proofs.Moves.{crashed, crash_left}
-use Rattle.sim.proofs.seats.Presence.crash.Goals as goal
+use Rattle.sim.proofs.presence.Presence.crash.Goals as goal
 
 pub returns-in_ok-crash-in-Some-clause-at : goal.returns-in_ok-crash-in-Some-clause-at
 returns-in_ok-crash-in-Some-clause-at c header w at =
-    let parts = c.in-Some.ensures.parts header w (subst (λ (x : Presence). IsSeatAt header w x) (sym c.replace.ensures.value) at) in
+    let parts = c.in-Some.ensures.parts header w (subst (λ (x : Presence). IsPresenceAt header w x) (sym c.replace.ensures.value) at) in
     let left = crash_left header (w.journal header.me) (w.doubt header.me) (memory_state c.in-Some.disk) (memory_state c.in_ok-crash-in-Some.field-0) _ parts.1
     c.in_ok-crash-in-Some.ensures.may_leave c.in_ok-crash-in-Some.ensures.state in
     crashed header w c.in_ok-crash-in-Some.field-0 c.in-Some.records.items parts.0 left
@@ -17,7 +17,7 @@ returns-in-None-clause-side c = ap is_liar c.replace.ensures.after ∙ sym c.in-
 
 pub returns-in-None-clause-at : goal.returns-in-None-clause-at
 returns-in-None-clause-at c header w at =
-    absurd (c.in-None.ensures.parts header w (subst (λ (x : Presence). IsSeatAt header w x) (sym c.replace.ensures.value) at))
+    absurd (c.in-None.ensures.parts header w (subst (λ (x : Presence). IsPresenceAt header w x) (sym c.replace.ensures.value) at))
 
 pub returns-in_ok-crash-in-Some-clause-disk : goal.returns-in_ok-crash-in-Some-clause-disk
 returns-in_ok-crash-in-Some-clause-disk c =

@@ -2,7 +2,7 @@ use Rattle.std.proofs.Common.{◌∙◌, refl}
 use Rattle.std.proofs.lemmas.List.{drop_all}
 use Rattle.std.proofs.lemmas.Result.{err_from_is_err_and}
 use Rattle.sim.proofs.Lies.{none_heard, all_heard, one_heard, one_failed, one_more, next_of}
-use Rattle.sim.proofs.seats.Presence.hear_each.Goals as goal
+use Rattle.sim.proofs.presence.Presence.hear_each.Goals as goal
 
 pub loop-statement-init : goal.loop-statement-init
 loop-statement-init c = record {

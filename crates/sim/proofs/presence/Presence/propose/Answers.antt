@@ -1,11 +1,11 @@
 use Rattle.terms_prelude.specs.Terms.{Proposal}
 use Rattle.questions.specs.Replies.{reply_of}
 use Rattle.member.specs.Words.{MemberIsAt, memory_disk, IsSound}
-use Rattle.sim.specs.Seats.{mine}
+use Rattle.sim.specs.Presences.{mine}
 use Rattle.member.proofs.Outcomes.{full_of}
 use Rattle.sim.proofs.Moves.{told_ok}
 use Rattle.sim.proofs.Room.{never_full}
-use Rattle.sim.proofs.seats.Presence.propose.Goals as goal
+use Rattle.sim.proofs.presence.Presence.propose.Goals as goal
 
 pub returns-clause-moved : goal.returns-clause-moved
 returns-clause-moved c size liars p w correct free at =

@@ -20,8 +20,8 @@ use Rattle.member.specs.Life.{MemberIsAt, IsReached, Replies, world_step}
 use Rattle.member.specs.Groups.{AllReply}
 use Rattle.sim.specs.declared.events.Mark.{Mark}
 use Rattle.sim.specs.declared.events.Mark.TheVariants.{Done, Failed, Skipped}
-use Rattle.sim.specs.declared.seats.Presence.{Presence}
-use Rattle.sim.specs.declared.seats.Presence.TheVariants.{Here, Down, Liar}
+use Rattle.sim.specs.declared.presence.Presence.{Presence}
+use Rattle.sim.specs.declared.presence.Presence.TheVariants.{Here, Down, Liar}
 
 -- the header of a member's journal: the cluster has the number 0
 abbrev pub mine : Size → ℕ → Header
@@ -92,17 +92,17 @@ pub record IsDown (header : Header) (w : World) (disk : MemDisk) (records : List
   pub saved : records ≡ w.journal header.me
   pub left : IsLeft (memory_state disk) header (w.journal header.me) (w.doubt header.me)
 
--- the seat is what the world has of the correct member of that header
-abbrev pub IsSeatAt : Header → World → Presence → Type 0
-IsSeatAt header w (Here m) = MemberIsAt memory_disk header w m
-IsSeatAt header w (Down disk records) = IsDown header w disk records.items
-IsSeatAt header w Liar = ⊥
+-- the presence is what the world has of the correct member of that header
+abbrev pub IsPresenceAt : Header → World → Presence → Type 0
+IsPresenceAt header w (Here m) = MemberIsAt memory_disk header w m
+IsPresenceAt header w (Down disk records) = IsDown header w disk records.items
+IsPresenceAt header w Liar = ⊥
 
 -- its journal was created, and nothing was saved
-abbrev pub IsFreshSeat : Header → Presence → Type 0
-IsFreshSeat header (Here m) = ⊥
-IsFreshSeat header (Down disk records) = IsLeft (memory_state disk) header [] None
-IsFreshSeat header Liar = ⊥
+abbrev pub IsFreshPresence : Header → Presence → Type 0
+IsFreshPresence header (Here m) = ⊥
+IsFreshPresence header (Down disk records) = IsLeft (memory_state disk) header [] None
+IsFreshPresence header Liar = ⊥
 
 -- the disk and the records of a member, as the world has them, whether it is up or down
 abbrev pub AreParts : Header → World → Option (MemDisk × Vec Record) → Type 0
@@ -187,15 +187,15 @@ Reopens p fused Done steps = (kept : Bool) × (steps ≡ RestartStep p kept ∷ 
 Reopens p fused Failed steps = (fused ≡ true) × (steps ≡ [])
 Reopens p fused (Skipped reason) steps = ⊥
 
--- These steps may happen now, they are what the mark says, and then the seat is what the world has of the member.
-pub record IsMove (size : Size) (liars : ℕ → Bool) (p : ℕ) (w : World) (Is : List Step → Type 0) (seat : Presence) : Type 0 where
+-- These steps may happen now, they are what the mark says, and then the presence is what the world has of the member.
+pub record IsMove (size : Size) (liars : ℕ → Bool) (p : ℕ) (w : World) (Is : List Step → Type 0) (presence : Presence) : Type 0 where
   pub steps : List Step
   pub is : Is steps
   pub is_run : IsRun size liars w steps
-  pub at : IsSeatAt (mine size p) (after_all w steps) seat
+  pub at : IsPresenceAt (mine size p) (after_all w steps) presence
 
--- after the first opening the seat is what the world has at its start; it failed only where a fuse is in the disk
+-- after the first opening the presence is what the world has at its start; it failed only where a fuse is in the disk
 abbrev pub IsBegun : Header → Bool → Mark → Presence → Type 0
-IsBegun header fused Done seat = IsSeatAt header start seat
-IsBegun header fused Failed seat = fused ≡ true
-IsBegun header fused (Skipped reason) seat = ⊥
+IsBegun header fused Done presence = IsPresenceAt header start presence
+IsBegun header fused Failed presence = fused ≡ true
+IsBegun header fused (Skipped reason) presence = ⊥

@@ -1,6 +1,6 @@
 use Rattle.std.proofs.Common.{◌<◌, length, arith}
 use Rattle.sim.proofs.Numbers.{nth_bound, found}
-use Rattle.sim.proofs.seats.statement_at.Goals as goal
+use Rattle.sim.proofs.presence.statement_at.Goals as goal
 
 pub returns-then-left-eq0-clause-room : goal.returns-then-left-eq0-clause-room
 returns-then-left-eq0-clause-room c =

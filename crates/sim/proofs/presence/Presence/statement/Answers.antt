@@ -4,7 +4,7 @@ use Rattle.member.specs.declared.sealed.Sealed.{Sealed}
 use Rattle.member.specs.Words.{sealed_from, member_saved}
 use Rattle.sim.specs.Words.{Presence, nth_said, saved_in}
 use Rattle.sim.proofs.Numbers.{nth_sealed, nth_none}
-use Rattle.sim.proofs.seats.Presence.statement.Goals as goal
+use Rattle.sim.proofs.presence.Presence.statement.Goals as goal
 
 pub returns-then-index-outbox-clause-said : goal.returns-then-index-outbox-clause-said
 returns-then-index-outbox-clause-said c =

@@ -10,7 +10,7 @@ ghost use Rattle.sim.specs.declared.faults.SimFault.TheVariants as faults;
 ghost use Rattle.member.specs.declared.fault.MemberFault.TheVariants as refusals;
 ghost use Rattle.member.specs.Groups.{hearings, AllCome};
 ghost use Rattle.sim.specs.declared.events.Mark.TheVariants as marks;
-ghost use Rattle.sim.specs.Seats.{IsOneSound, IsSeatAt, IsFreshSeat, IsMarkOf, IsMove, IsBegun, MayCome, Answers, AnswersGroup, AreLies, Reopens, AreParts, AreFreshRecords, HasDiskFuse, HasCrashed, disk_in, disk_among, mine, is_liar, is_up, saved_in, nth_said};
+ghost use Rattle.sim.specs.Presences.{IsOneSound, IsPresenceAt, IsFreshPresence, IsMarkOf, IsMove, IsBegun, MayCome, Answers, AnswersGroup, AreLies, Reopens, AreParts, AreFreshRecords, HasDiskFuse, HasCrashed, disk_in, disk_among, mine, is_liar, is_up, saved_in, nth_said};
 
 use crate::{Mark, Reason, SimFault};
 use disk::{MemDisk, Pick};
@@ -94,11 +94,11 @@ impl Presence {
         ensures only { IfErr result IsOfRun }
         ensures side { is_liar self.new ≡ is_liar self.old }
         ensures moved { (size : Size) (liars : ℕ → Bool) (p : ℕ) (w : World) →
-            IsCorrect size liars p → w.doubt p ≡ None → IsSeatAt (mine size p) w self.old →
+            IsCorrect size liars p → w.doubt p ≡ None → IsPresenceAt (mine size p) w self.old →
             IfOk result (λ mark. IsMove size liars p w
             (Answers size p w fused toss.0 (Proposal question bit) mark) self.new) }
         ensures memory { (size : Size) (liars : ℕ → Bool) (p : ℕ) (w : World) →
-            IsCorrect size liars p → w.doubt p ≡ None → IsSeatAt (mine size p) w self.old →
+            IsCorrect size liars p → w.doubt p ≡ None → IsPresenceAt (mine size p) w self.old →
             MayCome size liars w → IfErr result (λ fault. fault ≡ faults.Memory) }
     {
         let Presence::Here(member) = self else {
@@ -122,12 +122,12 @@ impl Presence {
         ensures only { IfErr result IsOfRun }
         ensures side { is_liar self.new ≡ is_liar self.old }
         ensures moved { (size : Size) (liars : ℕ → Bool) (p : ℕ) (w : World) →
-            IsCorrect size liars p → w.doubt p ≡ None → IsSeatAt (mine size p) w self.old →
+            IsCorrect size liars p → w.doubt p ≡ None → IsPresenceAt (mine size p) w self.old →
             has_sent w.sent from statement.now ≡ true →
             IfOk result (λ mark. IsMove size liars p w
             (Answers size p w fused toss.0 (Hearing from statement.now) mark) self.new) }
         ensures memory { (size : Size) (liars : ℕ → Bool) (p : ℕ) (w : World) →
-            IsCorrect size liars p → w.doubt p ≡ None → IsSeatAt (mine size p) w self.old →
+            IsCorrect size liars p → w.doubt p ≡ None → IsPresenceAt (mine size p) w self.old →
             has_sent w.sent from statement.now ≡ true → MayCome size liars w →
             IfErr result (λ fault. fault ≡ faults.Memory) }
     {
@@ -150,12 +150,12 @@ impl Presence {
         ensures only { IfErr result IsOfRun }
         ensures side { is_liar self.new ≡ is_liar self.old }
         ensures moved { (size : Size) (liars : ℕ → Bool) (p : ℕ) (w : World) →
-            IsCorrect size liars p → w.doubt p ≡ None → IsSeatAt (mine size p) w self.old →
+            IsCorrect size liars p → w.doubt p ≡ None → IsPresenceAt (mine size p) w self.old →
             AllCome w (hearings events.now) →
             IfOk result (λ mark. IsMove size liars p w
             (AnswersGroup size p w fused (hearings events.now) mark) self.new) }
         ensures memory { (size : Size) (liars : ℕ → Bool) (p : ℕ) (w : World) →
-            IsCorrect size liars p → w.doubt p ≡ None → IsSeatAt (mine size p) w self.old →
+            IsCorrect size liars p → w.doubt p ≡ None → IsPresenceAt (mine size p) w self.old →
             AllCome w (hearings events.now) → MayCome size liars w →
             IfErr result (λ fault. fault ≡ faults.Memory) }
     {
@@ -179,12 +179,12 @@ impl Presence {
         ensures only { IfErr result IsOfRun }
         ensures side { is_liar self.new ≡ is_liar self.old }
         ensures moved { (size : Size) (liars : ℕ → Bool) (p : ℕ) (w : World) →
-            IsCorrect size liars p → w.doubt p ≡ None → IsSeatAt (mine size p) w self.old →
+            IsCorrect size liars p → w.doubt p ≡ None → IsPresenceAt (mine size p) w self.old →
             from < size.n → liars from ≡ true → AllByRecursion (IsWellFormed size) statements.now →
             IfOk result (λ mark. IsMove size liars p w
             (AreLies size p w fused from toss.0 statements.now mark) self.new) }
         ensures memory { (size : Size) (liars : ℕ → Bool) (p : ℕ) (w : World) →
-            IsCorrect size liars p → w.doubt p ≡ None → IsSeatAt (mine size p) w self.old →
+            IsCorrect size liars p → w.doubt p ≡ None → IsPresenceAt (mine size p) w self.old →
             from < size.n → liars from ≡ true → AllByRecursion (IsWellFormed size) statements.now →
             MayCome size liars w → IfErr result (λ fault. fault ≡ faults.Memory) }
     {
@@ -204,8 +204,8 @@ impl Presence {
         ensures sound { IsOneSound self.new }
         ensures fuse { HasDiskFuse calls (disk_in self.old) (disk_in self.new) }
         ensures side { is_liar self.new ≡ is_liar self.old }
-        ensures at { (header : Header) (w : World) → IsSeatAt header w self.old →
-            IsSeatAt header w self.new }
+        ensures at { (header : Header) (w : World) → IsPresenceAt header w self.old →
+            IsPresenceAt header w self.new }
     {
         match self {
             Presence::Here(member) => member.fuse(calls),
@@ -221,8 +221,8 @@ impl Presence {
         ensures disk { OnOk result (HasCrashed pick (disk_in self.old) (disk_in self.new)) }
         ensures only { IfErr result (λ fault. fault ≡ faults.Memory) }
         ensures side { OnOk result (is_liar self.new ≡ is_liar self.old) }
-        ensures at { (header : Header) (w : World) → IsSeatAt header w self.old →
-            OnOk result (IsSeatAt header (after w (Crash header.me)) self.new) }
+        ensures at { (header : Header) (w : World) → IsPresenceAt header w self.old →
+            OnOk result (IsPresenceAt header (after w (Crash header.me)) self.new) }
     {
         match mem::replace(self, Presence::Liar).into_parts() {
             Some((disk, records)) => {
@@ -247,9 +247,9 @@ impl Presence {
         ensures side { OnOk result (is_liar self.new ≡ is_liar self.old) }
         ensures moved { (size : Size) (liars : ℕ → Bool) (p : ℕ) (w : World) (batch : List Record) →
             IsCorrect size liars p → header.now ≡ mine size p → w.doubt p ≡ Some batch →
-            IsSeatAt (mine size p) w self.old →
+            IsPresenceAt (mine size p) w self.old →
             IfOk result (λ mark. IsMove size liars p w (Reopens p fused mark) self.new) }
-        ensures begun { IsFreshSeat header.now self.old →
+        ensures begun { IsFreshPresence header.now self.old →
             IfOk result (λ mark. IsBegun header.now fused mark self.new) }
     {
         let (disk, records) = match mem::replace(self, Presence::Liar).into_parts() {
@@ -272,9 +272,9 @@ impl Presence {
     /// Its disk, and what its member has saved.
     fn into_parts(self) -> Option<(MemDisk, Vec<Record>)>
         requires sound { IsOneSound self }
-        ensures parts { (header : Header) (w : World) → IsSeatAt header w self →
+        ensures parts { (header : Header) (w : World) → IsPresenceAt header w self →
             AreParts header w result }
-        ensures fresh { (header : Header) → IsFreshSeat header self →
+        ensures fresh { (header : Header) → IsFreshPresence header self →
             AreFreshRecords header result }
         ensures disk { disk_among result ≡ disk_in self }
         ensures side { MatchOption result (is_liar self ≡ true) (λ _. is_liar self ≡ false) }

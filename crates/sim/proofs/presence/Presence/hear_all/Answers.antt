@@ -1,9 +1,9 @@
 use Rattle.member.specs.Words.{hearings, MemberIsAt, memory_disk, IsSound}
-use Rattle.sim.specs.Seats.{mine}
+use Rattle.sim.specs.Presences.{mine}
 use Rattle.member.proofs.Outcomes.{full_of}
 use Rattle.sim.proofs.Moves.{told_all_ok}
 use Rattle.sim.proofs.Room.{never_full_all}
-use Rattle.sim.proofs.seats.Presence.hear_all.Goals as goal
+use Rattle.sim.proofs.presence.Presence.hear_all.Goals as goal
 
 pub returns-clause-moved : goal.returns-clause-moved
 returns-clause-moved c size liars p w correct free at come =

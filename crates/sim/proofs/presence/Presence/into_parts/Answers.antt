@@ -1,6 +1,6 @@
 use Rattle.member.specs.Words.{MemberIsAt, IsSound, memory_disk}
 use Rattle.sim.proofs.Moves.{parts_of}
-use Rattle.sim.proofs.seats.Presence.into_parts.Goals as goal
+use Rattle.sim.proofs.presence.Presence.into_parts.Goals as goal
 
 pub returns-in-Here-clause-parts : goal.returns-in-Here-clause-parts
 returns-in-Here-clause-parts c header w at =
