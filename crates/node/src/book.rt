@@ -36,8 +36,8 @@ use crate::entry::Entry;
 use crate::group::{add_all_taken, prepare};
 use crate::history::History;
 use crate::marks::{Firsts, keep_all};
-use crate::notes::Notes;
 use crate::order::Decision;
+use crate::publisher::Publisher;
 use crate::seat::Seat;
 use crate::settle::is_settled;
 use crate::shown::part;
@@ -101,7 +101,7 @@ pub struct Book<D: Disk, J: Naming> {
     member: Member<D>,
     opened: usize,
     history: History,
-    notes: Notes,
+    publisher: Publisher,
     tally: Tally,
     account: Account<J>,
 }
@@ -120,12 +120,13 @@ impl<D: Disk, J: Naming> Model for Book<D, J> {
           member = b.member;
           opening = take b.opened (member_saved b.member);
           history = b.history.entries;
-          known = b.notes.known;
+          known = b.publisher.known;
           log = b.account;
         } };
 
-    ghost invariant = { λ b. IsKept D.Disk J.names.cells J.header b.notes.cells b.member b.opened
-        b.history.entries b.notes.known b.tally × IsTied b.member b.history.entries b.account
+    ghost invariant = { λ b. IsKept D.Disk J.names.cells J.header b.publisher.cells b.member
+        b.opened b.history.entries b.publisher.known b.tally
+        × IsTied b.member b.history.entries b.account
         × (take b.opened (member_saved b.member) ≡ J.opening) };
 }
 
@@ -150,15 +151,15 @@ impl<D: Disk, J: Naming> Book<D, J> {
         ensures { IfOk result (λ book. IsJustOpened member book) }
     {
         let opened = member.records().len();
-        let mut notes = Notes::new(alloc, board)?;
+        let mut publisher = Publisher::new(alloc, board)?;
         let tally = Tally::of(alloc, &member)?;
-        publish(&member, &mut notes, member.records());
+        publish(&member, &mut publisher, member.records());
         Ok(Book {
             alloc,
             member,
             opened,
             history: History::new(alloc),
-            notes,
+            publisher,
             tally,
             account,
         })
@@ -237,7 +238,7 @@ impl<D: Disk, J: Naming> Book<D, J> {
                     },
                     &answer,
                 );
-                publish(&self.member, &mut self.notes, records_in(&answer));
+                publish(&self.member, &mut self.publisher, records_in(&answer));
                 self.tally.add_behind(self.member.records(), before);
                 Ok(answer)
             }
@@ -376,7 +377,7 @@ impl<D: Disk, J: Naming> Book<D, J> {
         match self.member.hear_all(events) {
             Ok(answers) => {
                 add_all_taken(&mut self.history, events, &answers);
-                publish_all(&self.member, &mut self.notes, &answers);
+                publish_all(&self.member, &mut self.publisher, &answers);
                 self.tally.add_behind(self.member.records(), before);
                 Ok(answers)
             }
@@ -436,7 +437,7 @@ impl<D: Disk, J: Naming> Book<D, J> {
                     },
                     &answer,
                 );
-                publish(&self.member, &mut self.notes, records_in(&answer));
+                publish(&self.member, &mut self.publisher, records_in(&answer));
                 self.tally.add_behind(self.member.records(), before);
                 Ok(answer)
             }
@@ -634,7 +635,7 @@ impl<D: Disk, J: Naming> Book<D, J> {
             member,
             opened,
             history,
-            notes: _,
+            publisher: _,
             tally: _,
             account: _,
         } = self;
@@ -664,7 +665,7 @@ impl<D: Disk, J: Naming> Book<D, J> {
         ensures agree { IfSome (known_at pass.old.known question) (λ b.
             IfSome (known_at self.old.known question) (λ c. c ≡ b)) }
     {
-        self.notes.meet(pass, question);
+        self.publisher.meet(pass, question);
     }
 }
 
@@ -748,42 +749,42 @@ pub(crate) fn add_if_taken(history: &mut History, entry: Entry, answer: &Answer)
 }
 
 /// Publishes the decisions of the questions that these records decide.
-fn publish<D: Disk>(member: &Member<D>, notes: &mut Notes, records: &[Record])
+fn publish<D: Disk>(member: &Member<D>, publisher: &mut Publisher, records: &[Record])
     requires sound { IsSound D.Disk member.now }
-    requires decided { AreDecided (member_saved member.now) notes.old.known }
-    ensures cells { notes.new.cells ≡ notes.old.cells }
-    ensures decided { AreDecided (member_saved member.now) notes.new.known }
-    ensures more { KnowsMore notes.old.known notes.new.known }
+    requires decided { AreDecided (member_saved member.now) publisher.old.known }
+    ensures cells { publisher.new.cells ≡ publisher.old.cells }
+    ensures decided { AreDecided (member_saved member.now) publisher.new.known }
+    ensures more { KnowsMore publisher.old.known publisher.new.known }
 {
     for one in records {
         if let Record::Decided { question, .. } = *one {
-            publish_one(member, notes, question);
+            publish_one(member, publisher, question);
         }
     }
 }
 
 /// Publishes the decisions of the questions that the records of these answers decide.
-fn publish_all<D: Disk>(member: &Member<D>, notes: &mut Notes, answers: &[Answer])
+fn publish_all<D: Disk>(member: &Member<D>, publisher: &mut Publisher, answers: &[Answer])
     requires sound { IsSound D.Disk member.now }
-    requires decided { AreDecided (member_saved member.now) notes.old.known }
-    ensures cells { notes.new.cells ≡ notes.old.cells }
-    ensures decided { AreDecided (member_saved member.now) notes.new.known }
-    ensures more { KnowsMore notes.old.known notes.new.known }
+    requires decided { AreDecided (member_saved member.now) publisher.old.known }
+    ensures cells { publisher.new.cells ≡ publisher.old.cells }
+    ensures decided { AreDecided (member_saved member.now) publisher.new.known }
+    ensures more { KnowsMore publisher.old.known publisher.new.known }
 {
     for answer in answers {
-        publish(member, notes, records_in(answer));
+        publish(member, publisher, records_in(answer));
     }
 }
 
 /// Publishes the decision of the question, if there is one.
-fn publish_one<D: Disk>(member: &Member<D>, notes: &mut Notes, question: u16)
+fn publish_one<D: Disk>(member: &Member<D>, publisher: &mut Publisher, question: u16)
     requires sound { IsSound D.Disk member.now }
-    requires decided { AreDecided (member_saved member.now) notes.old.known }
-    ensures cells { notes.new.cells ≡ notes.old.cells }
-    ensures decided { AreDecided (member_saved member.now) notes.new.known }
-    ensures more { KnowsMore notes.old.known notes.new.known }
+    requires decided { AreDecided (member_saved member.now) publisher.old.known }
+    ensures cells { publisher.new.cells ≡ publisher.old.cells }
+    ensures decided { AreDecided (member_saved member.now) publisher.new.known }
+    ensures more { KnowsMore publisher.old.known publisher.new.known }
 {
     if let Some(ruling) = member.ruling(question) {
-        notes.publish(ruling);
+        publisher.publish(ruling);
     }
 }

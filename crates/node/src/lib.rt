@@ -4,7 +4,6 @@
 #![tactic(auto)]
 
 mod account;
-mod batch;
 mod bell;
 mod block;
 mod board;
@@ -19,10 +18,10 @@ pub mod laws;
 mod line;
 mod link_table;
 mod marks;
-mod notes;
 mod order;
 mod pace;
 mod pause;
+mod publisher;
 mod rack;
 mod seat;
 mod settle;

@@ -10,7 +10,7 @@ use crate::machine::Machine;
 use crate::shared::Shared;
 use crate::tossers::LifeTosser;
 use disk::Disk;
-use links::{LinkEnd, Open, read_link};
+use links::{LinkEnd, OpenGate, read_link};
 use node::{Rack, Seat};
 use std::net::IpAddr;
 use std::sync::Wait;
@@ -78,7 +78,9 @@ impl<J: Life> Seated<J> {
         tosser: &mut LifeTosser<J>,
     ) -> LinkEnd {
         let Seated { seat, host: _ } = self;
-        let (seat, end) = read_link(rt, it.alloc, &it.hub, seat, stream, version, &Open, tosser);
+        let (seat, end) = read_link(
+            rt, it.alloc, &it.hub, seat, stream, version, &OpenGate, tosser,
+        );
         it.seats.rack.put(rt, seat);
         end
     }

@@ -19,7 +19,7 @@ returns-then-not-make_ready-clause-life g c = λ header liars w correct at comes
 
 pub publish_all-requires-clause-decided : goal.publish_all-requires-clause-decided
 publish_all-requires-clause-decided g c =
-    decided_more (member_saved c.self.inside.member) (member_saved c.hear_all.new.self) (records_of_all (replies_of c.in-Ok.answers.items)) c.self.inside.notes.known c.in-Ok.ensures.saved.grows c.self.invariant.0.decided
+    decided_more (member_saved c.self.inside.member) (member_saved c.hear_all.new.self) (records_of_all (replies_of c.in-Ok.answers.items)) c.self.inside.publisher.known c.in-Ok.ensures.saved.grows c.self.invariant.0.decided
 
 pub invariant_of-self-in-Ok : goal.invariant_of-self-in-Ok
 invariant_of-self-in-Ok g c =
@@ -35,8 +35,8 @@ invariant_of-self-in-Ok g c =
     let tied = λ (p : ℕ). ap (link_part p) longer
     ∙ tied_all _ _ _ c.self.inside.history.entries c.self.inside.account es (replies_of c.in-Ok.answers.items) are (c.self.invariant.1 went.up) p
     ∙ ap (λ (l : List Group). firsts_of p (said_by p l)) (sym account) in (
-      all_kept g.D.Disk g.J.Naming.names.cells g.J.Naming.header c.self.inside.notes.cells c.publish_all.new.notes.cells c.self.inside.member c.hear_all.new.self es (replies_of c.in-Ok.answers.items) c.self.inside.opened
-          c.self.inside.history.entries c.add_all_taken.new.history.entries c.self.inside.notes.known c.publish_all.new.notes.known c.self.inside.tally c.add_behind.new.self
+      all_kept g.D.Disk g.J.Naming.names.cells g.J.Naming.header c.self.inside.publisher.cells c.publish_all.new.publisher.cells c.self.inside.member c.hear_all.new.self es (replies_of c.in-Ok.answers.items) c.self.inside.opened
+          c.self.inside.history.entries c.add_all_taken.new.history.entries c.self.inside.publisher.known c.publish_all.new.publisher.known c.self.inside.tally c.add_behind.new.self
           went c.in-Ok.ensures.sound longer c.publish_all.ensures.cells c.publish_all.ensures.decided
           (tallied_behind g.J.Naming.header.size.questions (member_saved c.self.inside.member) (member_saved c.hear_all.new.self) (records_of_all (replies_of c.in-Ok.answers.items)) (length c.records-before.result.now) c.self.inside.tally c.add_behind.new.self
           c.in-Ok.ensures.saved.grows (search rules) c.self.invariant.0.tallied
@@ -58,10 +58,10 @@ returns-in-Ok-clause-answer g c =
     let noted : c.make_ready.new.account ≡ with_group c.self.inside.account (hearings c.args.group.now.items) = search rules in
     let account : c.make_ready.new.account ≡ with_group c.self.inside.account es = noted ∙ ap (λ (l : List (ℕ × Statement × Toss)). with_group c.self.inside.account (hearings l)) (sym c.as_slice-events.ensures.value) in
     let applies = all_applies c.self.inside.member c.hear_all.new.self es c.in-Ok.answers.items c.self.inside.opened
-    c.self.inside.history.entries c.add_all_taken.new.history.entries c.self.inside.notes.known c.publish_all.new.notes.known c.self.inside.account c.make_ready.new.account
+    c.self.inside.history.entries c.add_all_taken.new.history.entries c.self.inside.publisher.known c.publish_all.new.publisher.known c.self.inside.account c.make_ready.new.account
     went account c.in-Ok.ensures.saved.goes_on longer c.self.invariant.0.within c.self.invariant.0.replayed c.publish_all.ensures.more in
-    subst (λ (l : List (ℕ × Statement × Toss)). AppliesAll c.args.self.now (hearings l) c.in-Ok.answers.items (shown c.hear_all.new.self c.self.inside.opened c.add_all_taken.new.history.entries c.publish_all.new.notes.known c.make_ready.new.account)) c.as_slice-events.ensures.value
-    (subst (λ (v : BookView g.row.D.Denot). AppliesAll v es c.in-Ok.answers.items (shown c.hear_all.new.self c.self.inside.opened c.add_all_taken.new.history.entries c.publish_all.new.notes.known c.make_ready.new.account)) c.self.view_is applies)
+    subst (λ (l : List (ℕ × Statement × Toss)). AppliesAll c.args.self.now (hearings l) c.in-Ok.answers.items (shown c.hear_all.new.self c.self.inside.opened c.add_all_taken.new.history.entries c.publish_all.new.publisher.known c.make_ready.new.account)) c.as_slice-events.ensures.value
+    (subst (λ (v : BookView g.row.D.Denot). AppliesAll v es c.in-Ok.answers.items (shown c.hear_all.new.self c.self.inside.opened c.add_all_taken.new.history.entries c.publish_all.new.publisher.known c.make_ready.new.account)) c.self.view_is applies)
 
 pub returns-in-Ok-clause-length : goal.returns-in-Ok-clause-length
 returns-in-Ok-clause-length g c = c.in-Ok.ensures.answers.count ∙ hearings_length c.as_slice-events.result.now ∙ ap length c.as_slice-events.ensures.value
