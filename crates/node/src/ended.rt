@@ -3,6 +3,7 @@ ghost use Rattle.std.specs.Prelude.{◌≡◌, IfNone, IfSome, length, slice_get
 ghost use Rattle.member.specs.Readers.{member_header, member_saved};
 ghost use Rattle.node.specs.Books.{IsReplayed};
 ghost use Rattle.node.specs.Entries.{noted};
+ghost use Rattle.node.specs.Settled.{AreSeated};
 ghost use Rattle.node.specs.Views.{ended_of};
 
 use crate::book::Naming;
@@ -15,7 +16,8 @@ use std::marker::Model;
 use terms::Record;
 
 /// What is left of a life that has ended: the member, and its history since it was opened. Only a
-/// book that was closed leaves one ([`Closing::end`]). It is of no hub any more.
+/// book whose history has what the seats handed in leaves one ([`Closing::end`]). It is of no hub
+/// any more.
 #[derive(Drop)]
 pub struct Ended<D: Disk> {
     pub(crate) member: Member<D>,
@@ -69,8 +71,11 @@ impl<D: Disk> Ended<D> {
 }
 
 impl<D: Disk + Drop, J: Naming> Closing<D, J> {
-    /// Returns what is left of the life whose book it is. The seats are gone.
+    /// Returns what is left of the life whose book it is, where [`close`](crate::close) found that
+    /// the seats fit. They are gone.
     pub fn end(self) -> Ended<D>
+        requires settled { AreSeated (member_header self.book.member).size.n self.book.history
+            self.seats.items }
         ensures book { result ≡ ended_of self.book }
         ensures opening { result.opening ≡ J.opening }
         ensures header { member_header result.member ≡ J.header }

@@ -1,10 +1,9 @@
 //! The life of a member, from its opening to its end: begin at `run_member`, last.
 
-ghost use Rattle.std.specs.Prelude.{◌≡◌, ◌*◌, ◌+◌, ◌<◌, ◌^◌, [], false, length, IfErr, IfOk};
+ghost use Rattle.std.specs.Prelude.{◌≡◌, ◌*◌, ◌+◌, ◌<◌, ◌^◌, [], false, length, IfOk};
 ghost use Rattle.member.specs.Sound.{HasItsFile, IsSound};
 ghost use Rattle.member.specs.Readers.{member_header, member_saved, member_is_stopped, MemberStandsFor};
 ghost use Rattle.node.specs.Books.{IsReplayed};
-ghost use Rattle.node.specs.Settled.{AreSeated};
 
 use crate::ahead::{Ahead, Welcomes};
 use crate::clients::accept_clients;
@@ -30,7 +29,7 @@ use crate::watch::Telling;
 use desk::Turns;
 use disk::Disk;
 use member::Member;
-use node::{Closing, Ended, Hub, NewBoard, close};
+use node::{Ended, Hub, NewBoard, close};
 use std::alloc::Global;
 use std::marker::Brand;
 use std::net::{SocketAddr, TcpListener};
@@ -342,14 +341,15 @@ fn run_shared<D: Disk + Send, J: Life + Send + Sync, O: Operator, L: Log + Send,
 /// # Errors
 ///
 /// [`RunFault::Torn`]: they differ.
-fn settle<D: Disk + Drop, J: Life>(shared: Shared<D, J>) -> Result<Closing<D, J>, RunFault>
-    ensures seats { IfOk result
-        (λ c. AreSeated (member_header c.book.member).size.n c.book.history c.seats.items) }
-    ensures torn { IfErr result (λ fault. fault ≡ RunFault.Torn) }
+fn settle<D: Disk + Drop, J: Life>(shared: Shared<D, J>) -> Result<Ended<D>, RunFault>
+    ensures opening { IfOk result (λ ended. ended.opening ≡ J.opening) }
+    ensures header { IfOk result (λ ended. member_header ended.member ≡ J.header) }
+    ensures replay { IfOk result
+        (λ ended. IsReplayed ended.member ended.opening ended.history) }
 {
     let (hub, seats) = shared.into_parts();
     match close(hub, seats.into_seats()) {
-        Ok(closing) => Ok(closing),
+        Ok(closing) => Ok(closing.end()),
         Err(_) => Err(RunFault::Torn),
     }
 }
@@ -380,10 +380,7 @@ fn run_named<D: Disk + Drop + Send, J: Life + Send + Sync, O: Operator, L: Log +
 {
     let shared = share::<D, J>(opened)?;
     run_shared(rt, operator, log, &shared, &doors)?;
-    match settle(shared) {
-        Ok(closing) => Ok(closing.end()),
-        Err(fault) => Err(fault),
-    }
+    settle(shared)
 }
 
 /// Tells what is left to tell when all threads have ended, and the end.
