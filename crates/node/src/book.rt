@@ -107,7 +107,7 @@ pub struct Book<D: Disk, J: Naming> {
 }
 
 impl<D: Disk, J: Naming> Model for Book<D, J> {
-    ghost use Rattle.std.specs.Prelude.{take};
+    ghost use Rattle.std.specs.Prelude.{◌≡◌, take};
     ghost use Rattle.member.specs.Readers.{member_saved};
     ghost use Rattle.node.specs.Views.{BookView};
 
