@@ -4,8 +4,8 @@ tests/reference/fair.py --events SCRIPT
 tests/reference/fair.py --rows
 
 Plays a script as `bracha simulate` does, and prints what that prints; SCRIPT `-` is standard input. `--events` prints its events
-with their tosses, `--rows` the rows of crates/test_rows/data/fair_of_the_reference.txt. It is written from docs/FORMATS.md and
-docs/PROTOCOL.md alone and shares nothing with the program.
+with their tosses, `--rows` the rows of crates/test_rows/data/fair_of_the_reference.txt. It is written from docs/FORMATS.md,
+docs/PROTOCOL.md and crates/script/README.md alone and shares nothing with the program.
 
 How many calls of its disk an opening takes is said nowhere, so a script that opens a member whose fuse hasn't burnt is refused.
 """
