@@ -2,7 +2,7 @@
 ghost use Rattle.std.specs.Prelude.{◌≡◌, ◌⊎◌, ◌↔◌, ◌+◌, ◌<◌, ◌≤◌, ◌^◌, ℕ, List, [], ◌∷◌, ◌++◌, length, take, drop, Bool, true, false, IfOk, IfErr, IfSome, OnOk, OnErr, Some, None, IsErrOf, IsSome, IfNone, MatchBool, slice_get, vec_len};
 ghost use Rattle.std.specs.Arc.{arc_value};
 ghost use mathlib.Core.List.{IsPrefix};
-ghost use Rattle.terms_prelude.specs.Terms.{Hearing, Proposal, records_of, records_of_all, Header};
+ghost use Rattle.terms_prelude.specs.Terms.{Hearing, Proposal, Record, records_of, records_of_all, Header};
 ghost use Rattle.questions.specs.Replay.Entry.{Heard, Proposed};
 ghost use Rattle.questions.specs.Replies.{reply_of};
 ghost use Rattle.world.specs.World.{World, IsCorrect};
@@ -27,9 +27,11 @@ ghost use Rattle.node.specs.Standings.{status_of};
 ghost use Rattle.node.specs.States.{IsState};
 ghost use Rattle.node.specs.Transcripts.{IsDossier, IsTranscript, HasNoDossier, HasNoTranscript};
 ghost use Rattle.node.specs.Verdicts.{known_at, KnowsMore};
+ghost use Rattle.node.specs.Views.{ended_of};
 
 use crate::account::{Account, Witness};
 use crate::board::{Board, Pass};
+use crate::ended::Ended;
 use crate::entry::Entry;
 use crate::group::{add_all_taken, prepare};
 use crate::history::History;
@@ -51,16 +53,19 @@ use std::marker::{Brand, Model};
 use std::sync::Arc;
 use terms::{Header, Memory, Record, Statement};
 
-/// Names a hub, by its board and the header of its member: contracts say by it that a book, its hub
-/// and a pass are of one board, that a seat counts by the account of the book behind its hub's
-/// lock, and that a book and its hub are of one member of one cluster. A program is generic over
-/// it, and is called at `Brand`.
+/// Names a hub, by its board, the header of its member, and the records with which that was opened:
+/// contracts say by it that a book, its hub and a pass are of one board, that a seat counts by the
+/// account of the book behind its hub's lock, and that a book and its hub are of one life of one
+/// member. A program is generic over it, and is called at `Brand`.
 pub trait Naming {
+    ghost use Rattle.std.specs.Prelude.{List};
     ghost use Rattle.node.specs.Accounts.{BoardName};
 
     ghost names: { BoardName };
 
     ghost header: { Header };
+
+    ghost opening: { List Record };
 }
 
 impl Naming for Brand {
@@ -76,6 +81,8 @@ impl Naming for Brand {
       size = record { n = 0; t = 0; questions = 0 };
       me = 0;
     } };
+
+    ghost opening = { [] };
 }
 
 /// A member with what happened since its opening: its history has each event that it took, in
@@ -100,7 +107,7 @@ pub struct Book<D: Disk, J: Naming> {
 }
 
 impl<D: Disk, J: Naming> Model for Book<D, J> {
-    ghost use Rattle.std.specs.Prelude.{take};
+    ghost use Rattle.std.specs.Prelude.{◌≡◌, take};
     ghost use Rattle.member.specs.Readers.{member_saved};
     ghost use Rattle.node.specs.Views.{BookView};
 
@@ -119,7 +126,8 @@ impl<D: Disk, J: Naming> Model for Book<D, J> {
 
     ghost invariant = { λ b. IsKept D.Disk J.names.cells J.header b.publisher.cells b.member
         b.opened b.history.entries b.publisher.known b.tally
-        × IsTied b.member b.history.entries b.account };
+        × IsTied b.member b.history.entries b.account
+        × (take b.opened (member_saved b.member) ≡ J.opening) };
 }
 
 impl<D: Disk, J: Naming> Book<D, J> {
@@ -137,6 +145,7 @@ impl<D: Disk, J: Naming> Book<D, J> {
         requires fresh { member_is_stopped member ≡ false →
             MemberStandsFor member (member_saved member) [] }
         requires header { member_header member ≡ J.header }
+        requires opening { member_saved member ≡ J.opening }
         requires board { arc_value board ≡ J.names.cells }
         requires account { account ≡ [] }
         ensures { IfOk result (λ book. IsJustOpened member book) }
@@ -441,6 +450,7 @@ impl<D: Disk, J: Naming> Book<D, J> {
     pub fn records(&self) -> &[Record]
         ensures saved { result.now ≡ member_saved self.now.member }
         ensures replay { IsReplayed self.now.member self.now.opening self.now.history }
+        ensures opening { self.now.opening ≡ J.opening }
         ensures sound { IsSound D.Disk self.now.member }
         // While it isn't stopped it has of each link just the firsts of what its account has of it.
         ensures account { IsTied self.now.member self.now.history self.now.log }
@@ -611,6 +621,29 @@ impl<D: Disk, J: Naming> Book<D, J> {
         ensures none { IfNone result (length self.now.history ≤ at) }
     {
         self.history.get(at)
+    }
+
+    /// Returns what is left of its life.
+    pub(crate) fn into_ended(self) -> Ended<D>
+        ensures life { result ≡ ended_of self }
+        ensures opening { result.opening ≡ J.opening }
+        ensures header { member_header result.member ≡ J.header }
+        ensures replay { IsReplayed result.member result.opening result.history }
+    {
+        let Book {
+            alloc: _,
+            member,
+            opened,
+            history,
+            publisher: _,
+            tally: _,
+            account: _,
+        } = self;
+        Ended {
+            member,
+            opened,
+            history,
+        }
     }
 
     /// Returns `true` if the seats are those of all members, each with the link part of its peer.

@@ -9,6 +9,7 @@ mod block;
 mod board;
 mod book;
 mod compact;
+mod ended;
 mod entry;
 mod group;
 mod history;
@@ -33,6 +34,7 @@ mod voice;
 
 pub use board::{Board, NewBoard, Pass};
 pub use book::{Book, Naming};
+pub use ended::Ended;
 pub use entry::Entry;
 pub use hub::Hub;
 pub use link_table::LinkCount;

@@ -51,6 +51,11 @@ impl<J: Life> Seats<J> {
         }
     }
 
+    /// All of them, once no thread has one.
+    pub(crate) fn into_seats(self) -> Vec<Seat<J>> {
+        self.rack.into_seats()
+    }
+
     /// Puts the seat back that was taken out.
     pub(crate) fn put<R: Wait>(&self, rt: &R, seated: Seated<J>) {
         let Seated { seat, host: _ } = seated;

@@ -70,6 +70,12 @@ pub(crate) struct Shared<D: Disk, J: Life> {
 
 /// The beginning and the end of a run.
 impl<D: Disk, J: Life> Shared<D, J> {
+    /// The hub and the seats, once no thread shares them.
+    pub(crate) fn into_parts(self) -> (Hub<D, J>, Seats<J>) {
+        let Shared { hub, seats, .. } = self;
+        (hub, seats)
+    }
+
     /// Returns `true` if the member is coming to its end.
     pub(crate) fn is_closing(&self) -> bool {
         self.ending.has_begun()

@@ -403,6 +403,7 @@ fn open<J: Naming>(
     requires sound { IsSound memory_disk member }
     requires fresh { MemberStandsFor member (member_saved member) [] }
     requires header { member_header member ≡ J.header }
+    requires opening { member_saved member ≡ J.opening }
     requires board { board ≡ J.names }
     requires cells { length board.cells ≡ (member_header member).size.questions }
 {
@@ -445,6 +446,7 @@ fn play_at<J: Naming, R: Wait + Clock>(
     requires sound { IsSound memory_disk member }
     requires fresh { MemberStandsFor member (member_saved member) [] }
     requires header { member_header member ≡ J.header }
+    requires opening { member_saved member ≡ J.opening }
     requires board { board ≡ J.names }
     requires cells { length board.cells ≡ (member_header member).size.questions }
 {

@@ -8,14 +8,14 @@ use Rattle.node.specs.Words.{Group, IsTallied, lengthened_all, AppliesAll, BookV
 use Rattle.node.proofs.Grouping.{WentAll, all_kept, all_applies, all_lives_by, hearings_length, replies_are}
 use Rattle.node.proofs.Linking.{tied_all}
 use Rattle.node.proofs.Living.{all_cut_by, disk_by, saved_by, stays_by, spares_by, all_full_by, stopped_stays, stopped_spares}
-use Rattle.node.proofs.Replaying.{decided_more, shown}
+use Rattle.node.proofs.Replaying.{decided_more, front_stays, members_are, shown}
 use Rattle.node.proofs.Refusing.{bad_faults, bad_lives, bad_refuses, bad_spares}
 use Rattle.node.proofs.Tallying.{tallied_behind}
 use Rattle.node.proofs.book.Book.hear_all.Goals as goal
 
 pub returns-then-not-make_ready-clause-life : goal.returns-then-not-make_ready-clause-life
 returns-then-not-make_ready-clause-life g c = λ header liars w correct at comes.
-    inr (refl, c.stop.ensures.life header liars w correct (subst (λ (n : Member g.row.D.Denot). MemberIsAt g.D.Disk header w n) (sym (ap (λ (v : BookView g.row.D.Denot). v.member) c.self.view_is)) at) (sym c.is_stopped.ensures ∙ c.if-is_stopped.false))
+    inr (refl, c.stop.ensures.life header liars w correct (subst (λ (n : Member g.row.D.Denot). MemberIsAt g.D.Disk header w n) (sym (members_are c.self.view_is)) at) (sym c.is_stopped.ensures ∙ c.if-is_stopped.false))
 
 pub publish_all-requires-clause-decided : goal.publish_all-requires-clause-decided
 publish_all-requires-clause-decided g c =
@@ -44,6 +44,7 @@ invariant_of-self-in-Ok g c =
           (c.add_behind.ensures g.J.Naming.header.size.questions)))
           c.self.invariant.0,
       λ up. tied,
+      front_stays c.self.inside.opened (member_saved c.self.inside.member) (member_saved c.hear_all.new.self) (records_of_all (replies_of c.in-Ok.answers.items)) c.self.invariant.0.within c.in-Ok.ensures.saved.grows ∙ c.self.invariant.2,
     )
 
 pub returns-in-Ok-clause-answer : goal.returns-in-Ok-clause-answer
@@ -67,40 +68,40 @@ returns-in-Ok-clause-length g c = c.in-Ok.ensures.answers.count ∙ hearings_len
 
 pub returns-in-Ok-clause-life : goal.returns-in-Ok-clause-life
 returns-in-Ok-clause-life g c =
-    all_lives_by g.D.Disk c.self.inside.member c.args.self.now.member c.hear_all.new.self (hearings c.as_slice-events.result.now) (hearings c.args.group.now.items) (Ok c.in-Ok.answers) (ap (λ (v : BookView g.row.D.Denot). v.member) c.self.view_is)
+    all_lives_by g.D.Disk c.self.inside.member c.args.self.now.member c.hear_all.new.self (hearings c.as_slice-events.result.now) (hearings c.args.group.now.items) (Ok c.in-Ok.answers) (members_are c.self.view_is)
     (ap hearings c.as_slice-events.ensures.value) c.in-Ok.ensures.event.life
 
 pub returns-in-Ok-clause-saved : goal.returns-in-Ok-clause-saved
-returns-in-Ok-clause-saved g c = saved_by g.D.Disk c.self.inside.member c.args.self.now.member c.hear_all.new.self (records_of_all (replies_of c.in-Ok.answers.items)) (ap (λ (v : BookView g.row.D.Denot). v.member) c.self.view_is) c.in-Ok.ensures.saved
+returns-in-Ok-clause-saved g c = saved_by g.D.Disk c.self.inside.member c.args.self.now.member c.hear_all.new.self (records_of_all (replies_of c.in-Ok.answers.items)) (members_are c.self.view_is) c.in-Ok.ensures.saved
 
 pub returns-in-Ok-clause-stays : goal.returns-in-Ok-clause-stays
-returns-in-Ok-clause-stays g c = stays_by g.D.Disk c.self.inside.member c.args.self.now.member c.hear_all.new.self (ap (λ (v : BookView g.row.D.Denot). v.member) c.self.view_is) c.in-Ok.ensures.stays
+returns-in-Ok-clause-stays g c = stays_by g.D.Disk c.self.inside.member c.args.self.now.member c.hear_all.new.self (members_are c.self.view_is) c.in-Ok.ensures.stays
 
 pub returns-in-Err-clause-stays : goal.returns-in-Err-clause-stays
-returns-in-Err-clause-stays g c = stays_by g.D.Disk c.self.inside.member c.args.self.now.member c.hear_all.new.self (ap (λ (v : BookView g.row.D.Denot). v.member) c.self.view_is) c.in-Err.ensures.stays
+returns-in-Err-clause-stays g c = stays_by g.D.Disk c.self.inside.member c.args.self.now.member c.hear_all.new.self (members_are c.self.view_is) c.in-Err.ensures.stays
 
 pub returns-in-Err-clause-disk : goal.returns-in-Err-clause-disk
 returns-in-Err-clause-disk g c =
-    spares_by g.D.Disk c.self.inside.member c.args.self.now.member c.hear_all.new.self _ (IsFullOfAll c.self.inside.member (hearings c.as_slice-events.result.now)) (IsFullOfAll c.args.self.now.member (hearings c.args.group.now.items)) c.in-Err.fault (ap (λ (v : BookView g.row.D.Denot). v.member) c.self.view_is)
-    (λ full. all_full_by c.self.inside.member c.args.self.now.member (hearings c.as_slice-events.result.now) (hearings c.args.group.now.items) (ap (λ (v : BookView g.row.D.Denot). v.member) c.self.view_is) (ap hearings c.as_slice-events.ensures.value) full) c.in-Err.ensures.fault
+    spares_by g.D.Disk c.self.inside.member c.args.self.now.member c.hear_all.new.self _ (IsFullOfAll c.self.inside.member (hearings c.as_slice-events.result.now)) (IsFullOfAll c.args.self.now.member (hearings c.args.group.now.items)) c.in-Err.fault (members_are c.self.view_is)
+    (λ full. all_full_by c.self.inside.member c.args.self.now.member (hearings c.as_slice-events.result.now) (hearings c.args.group.now.items) (members_are c.self.view_is) (ap hearings c.as_slice-events.ensures.value) full) c.in-Err.ensures.fault
 
 pub returns-then-not-make_ready-clause-stays : goal.returns-then-not-make_ready-clause-stays
-returns-then-not-make_ready-clause-stays g c = stopped_stays g.D.Disk c.self.inside.member c.args.self.now.member c.stop.new.self (ap (λ (v : BookView g.row.D.Denot). v.member) c.self.view_is) c.stop.ensures.disk c.stop.ensures.header
+returns-then-not-make_ready-clause-stays g c = stopped_stays g.D.Disk c.self.inside.member c.args.self.now.member c.stop.new.self (members_are c.self.view_is) c.stop.ensures.disk c.stop.ensures.header
 
 pub returns-then-not-make_ready-clause-disk : goal.returns-then-not-make_ready-clause-disk
-returns-then-not-make_ready-clause-disk g c = stopped_spares g.D.Disk _ c.self.inside.member c.args.self.now.member c.stop.new.self (ap (λ (v : BookView g.row.D.Denot). v.member) c.self.view_is) c.stop.ensures.disk
+returns-then-not-make_ready-clause-disk g c = stopped_spares g.D.Disk _ c.self.inside.member c.args.self.now.member c.stop.new.self (members_are c.self.view_is) c.stop.ensures.disk
 
 pub returns-then-not-make_ready-clause-cut : goal.returns-then-not-make_ready-clause-cut
-returns-then-not-make_ready-clause-cut g c = λ header liars w correct at comes. inl (disk_by c.self.inside.member c.args.self.now.member c.stop.new.self (ap (λ (v : BookView g.row.D.Denot). v.member) c.self.view_is) c.stop.ensures.disk)
+returns-then-not-make_ready-clause-cut g c = λ header liars w correct at comes. inl (disk_by c.self.inside.member c.args.self.now.member c.stop.new.self (members_are c.self.view_is) c.stop.ensures.disk)
 
 pub returns-in-Ok-clause-cut : goal.returns-in-Ok-clause-cut
 returns-in-Ok-clause-cut g c =
-    all_cut_by g.D.Disk c.self.inside.member c.args.self.now.member c.hear_all.new.self (hearings c.as_slice-events.result.now) (hearings c.args.group.now.items) (ap (λ (v : BookView g.row.D.Denot). v.member) c.self.view_is)
+    all_cut_by g.D.Disk c.self.inside.member c.args.self.now.member c.hear_all.new.self (hearings c.as_slice-events.result.now) (hearings c.args.group.now.items) (members_are c.self.view_is)
     (ap hearings c.as_slice-events.ensures.value) c.in-Ok.ensures.event.cut
 
 pub returns-in-Err-clause-cut : goal.returns-in-Err-clause-cut
 returns-in-Err-clause-cut g c =
-    all_cut_by g.D.Disk c.self.inside.member c.args.self.now.member c.hear_all.new.self (hearings c.as_slice-events.result.now) (hearings c.args.group.now.items) (ap (λ (v : BookView g.row.D.Denot). v.member) c.self.view_is)
+    all_cut_by g.D.Disk c.self.inside.member c.args.self.now.member c.hear_all.new.self (hearings c.as_slice-events.result.now) (hearings c.args.group.now.items) (members_are c.self.view_is)
     (ap hearings c.as_slice-events.ensures.value) c.in-Err.ensures.event.cut
 
 pub returns-in-Some-clause-life : goal.returns-in-Some-clause-life
