@@ -42,7 +42,7 @@ pub use owners::{long_owner, other_owner, owner};
 pub use patience::milliseconds;
 pub use playing::Template;
 pub use report::Choice;
-pub use shown::{PagePaths, Shelf, SimulationEnd, show_simulation};
+pub use shown::{PagePaths, ScriptPages, Shelf, SimulationEnd, show_simulation};
 pub use simulate::{Simulation, print, print_verdicts, simulate_text, takes_output};
 pub use survey::{
     Next, Word, later_word, next_of, remarks, tell_decision, transcript_bit, word_of,

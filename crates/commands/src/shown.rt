@@ -56,6 +56,15 @@ pub struct PagePaths<'a> {
     pub play: Option<&'a str>,
 }
 
+/// The text of a script, and the paths of the pages that are wanted of its simulation.
+#[derive(Clone, Copy)]
+pub struct ScriptPages<'a> {
+    /// The text.
+    pub text: &'a [u8],
+    /// The paths.
+    pub paths: PagePaths<'a>,
+}
+
 /// Returns `true` if a page has a path.
 fn has_pages(paths: &PagePaths<'_>) -> bool
     ensures { result ≡ wants_pages paths.now }
@@ -133,8 +142,7 @@ fn play<S: Shelf>(
 /// the path of a page is `-`. The status is 0.
 pub fn show_simulation<S: Shelf, W: Write, E: Write>(
     alloc: Global,
-    text: &[u8],
-    paths: &PagePaths<'_>,
+    script: &ScriptPages<'_>,
     shelf: &mut S,
     output: &mut W,
     errors: &mut E,
@@ -143,20 +151,20 @@ pub fn show_simulation<S: Shelf, W: Write, E: Write>(
     // What was put and is printed is of a simulation of the script that the text says, which is a
     // run of the world.
     ensures all { OnOk result
-        ((simulation : Simulation) × IsScript text.now simulation.script
+        ((simulation : Simulation) × IsScript script.now.text.now simulation.script
         × IsOutcome simulation.script simulation.outcome
-        × (wants_pages paths.now ≡ true → S.has simulation shelf.new)
-        × AreSaid paths.now (Appends (W.contents output.old) (W.contents output.new)
+        × (wants_pages script.now.paths ≡ true → S.has simulation shelf.new)
+        × AreSaid script.now.paths (Appends (W.contents output.old) (W.contents output.new)
         (simulation_text simulation.outcome))
         (Appends (E.contents errors.old) (E.contents errors.new)
         (simulation_text simulation.outcome))) }
     // The other writer is left alone.
-    ensures no_output { TakesOutput paths.now → output.new ≡ output.old }
-    ensures no_errors { (TakesOutput paths.now → ⊥) → errors.new ≡ errors.old }
+    ensures no_output { TakesOutput script.now.paths → output.new ≡ output.old }
+    ensures no_errors { (TakesOutput script.now.paths → ⊥) → errors.new ≡ errors.old }
     // A fault of the script comes before anything is put or printed, and one of a page before
     // anything is printed.
     ensures script { (fault : SimulateFault) → result ≡ Err (ends.Script fault) →
-        IsOfSimulate text.now fault }
+        IsOfSimulate script.now.text.now fault }
     ensures unput { (fault : SimulateFault) → result ≡ Err (ends.Script fault) →
         shelf.new ≡ shelf.old }
     ensures unprinted { (fault : SimulateFault) → result ≡ Err (ends.Script fault) →
@@ -166,11 +174,11 @@ pub fn show_simulation<S: Shelf, W: Write, E: Write>(
     ensures printing { (fault : SimulateFault) → result ≡ Err (ends.Printing fault) →
         IsOfWriting fault }
 {
-    let verdicts = match play(alloc, text, has_pages(paths), shelf) {
+    let verdicts = match play(alloc, script.text, has_pages(&script.paths), shelf) {
         Ok(verdicts) => verdicts,
         Err(end) => return Err(end),
     };
-    let aside = takes_any(paths);
+    let aside = takes_any(&script.paths);
     match print_verdicts(aside, verdicts.as_str(), output, errors) {
         Ok(status) => Ok(status),
         Err(fault) => Err(SimulationEnd::Printing(fault)),

@@ -110,7 +110,8 @@ impl<D: Disk, J: Life> Shared<D, J> {
         let is_behind = chain.board.newest(rt) > chain.epoch;
         let size = self.hub.header().size();
         let is_complete = decided >= u64::from(size.questions());
-        // Peers that were never heard may know decisions: they run an epoch again as they have room.
+        // Peers that were never heard may know decisions: they run an epoch again as they have
+        // room.
         let is_deaf = !is_complete && !chain.was_linked(size.wait());
         let report = Report {
             is_undone: !is_behind || is_new || is_deaf || self.is_undone(rt),

@@ -1,13 +1,15 @@
-//! Those that follow decisions, whom one thread tells: begin at `follow_on`, last.
+//! Those that follow decisions, whom one thread tells: begin at `Shared::follow_on`.
 
 ghost use Rattle.std.specs.Prelude.{ℕ, List, ◌≡◌, ◌+◌, ◌-◌, ◌≤◌, ◌++◌, nat_lt, min, take};
 ghost use Rattle.std.specs.Prelude.{length, if◌then◌else◌, IfOk, OnErr};
 
+use crate::admission::Chair;
 use crate::life::Life;
 use crate::machine::Machine;
 use crate::refusals::Refusal;
-use crate::shared::{Chair, Shared};
+use crate::shared::Shared;
 use crate::sockets::{host_of, shut};
+use crate::timing::{FOLLOWER_PAUSE, ROUND_PAUSE, ROUND_TIMES};
 use desk::{FollowEnd, Follower, Outlet, Telling};
 use disk::Disk;
 use ghost_record::{Change, GhostRecord, Recorded};
@@ -21,15 +23,6 @@ use std::time::{Duration, Instant};
 
 /// The most followers of a member.
 pub(crate) const FOLLOWERS: u16 = 1024;
-
-/// The milliseconds after which a client that has to take lines first is tried again.
-const RETRY: u64 = 10;
-
-/// The length of the rest behind a round, in times of what that took.
-const TIMES: u32 = 3;
-
-/// The milliseconds of the longest rest behind a round, so that a member's end isn't held up.
-const LONGEST: u64 = 100;
 
 /// The number of followers, and the most that there may be. Contracts see both.
 #[derive(Drop)]
@@ -180,9 +173,9 @@ impl FollowerSeat {
     fn tell<D: Disk, J: Life, R: Machine>(
         &mut self,
         rt: &R,
-        it: &Shared<D, J>,
+        shared: &Shared<D, J>,
     ) -> Result<Telling, FollowEnd> {
-        self.follower.tell(rt, &it.hub, &mut self.socket)
+        self.follower.tell(rt, &shared.hub, &mut self.socket)
     }
 
     /// The host from which it comes; this one if the system names none, as for a client at a path.
@@ -230,96 +223,158 @@ impl Followers {
     }
 }
 
-/// Ends a follower's session. That it took nothing for long is to be told.
-fn leave<D: Disk, J: Life, R: Machine>(
-    rt: &R,
-    it: &Shared<D, J>,
-    seat: FollowerSeat,
-    end: FollowEnd,
-) {
-    if end == FollowEnd::Stalled {
-        it.log_refusal(rt, Refusal::Stalled(seat.host()), None);
-    }
-    shut(&seat.socket.socket);
-    let mut followers = it.followers.lock(rt);
-    followers.crowd.leave();
-}
-
-/// The seat of the client at this socket, which follows decisions from that number on. Where too
-/// many follow, which is to be told, it has none, and is closed.
-fn seat_at<D: Disk, J: Life, R: Machine>(
-    rt: &R,
-    it: &Shared<D, J>,
-    socket: TcpStream,
-    number: u64,
-) -> Option<FollowerSeat> {
-    let is_in = it.followers.lock(rt).crowd.enter();
-    if !is_in {
-        it.log_refusal(rt, Refusal::Crowded, None);
-        shut(&socket);
-        return None;
-    }
-    match FollowerSocket::new(socket) {
-        Some(socket) => Some(FollowerSeat {
-            follower: Follower::new(&it.hub, number),
-            socket,
-        }),
-        None => {
-            it.followers.lock(rt).crowd.leave();
-            None
+impl<D: Disk, J: Life> Shared<D, J> {
+    /// Ends a follower's session. That it took nothing for long is to be told.
+    fn end_following<R: Machine>(&self, rt: &R, seat: FollowerSeat, end: FollowEnd) {
+        if end == FollowEnd::Stalled {
+            self.log_refusal(rt, Refusal::Stalled(seat.host()), None);
         }
+        shut(&seat.socket.socket);
+        let mut followers = self.followers.lock(rt);
+        followers.crowd.leave();
     }
-}
 
-/// Tells one that came all that there is, as far as it takes that at once, and returns how many
-/// decisions there were.
-fn catch_up<D: Disk, J: Life, R: Machine>(
-    rt: &R,
-    it: &Shared<D, J>,
-    seat: &mut FollowerSeat,
-) -> Result<u64, FollowEnd> {
-    for _ in rt.forever() {
-        let decided = it.hub.decided();
-        match seat.tell(rt, it) {
-            Ok(Telling::Lines) => {}
-            Ok(_) => return Ok(decided),
-            Err(end) => return Err(end),
+    /// The seat of the client at this socket, which follows decisions from that number on. Where
+    /// too many follow, which is to be told, it has none, and is closed.
+    fn follower_at<R: Machine>(
+        &self,
+        rt: &R,
+        socket: TcpStream,
+        number: u64,
+    ) -> Option<FollowerSeat> {
+        let is_in = self.followers.lock(rt).crowd.enter();
+        if !is_in {
+            self.log_refusal(rt, Refusal::Crowded, None);
+            shut(&socket);
+            return None;
         }
-    }
-    unreachable!()
-}
-
-/// Hands one that came to the thread that tells followers, once it was told what there is.
-fn enlist<D: Disk, J: Life, R: Machine>(rt: &R, it: &Shared<D, J>, mut seat: FollowerSeat) {
-    match catch_up(rt, it, &mut seat) {
-        Ok(decided) => {
-            it.followers.lock(rt).come(seat);
-            it.followed.notify_all();
-            // The thread may have told the others of a decision in between, and waits for the next
-            // one.
-            if it.hub.decided() != decided {
-                it.hub.ring(rt);
+        match FollowerSocket::new(socket) {
+            Some(socket) => Some(FollowerSeat {
+                follower: Follower::new(&self.hub, number),
+                socket,
+            }),
+            None => {
+                self.followers.lock(rt).crowd.leave();
+                None
             }
         }
-        Err(end) => leave(rt, it, seat, end),
     }
-}
 
-/// Hands the client in a chair on, who follows decisions from that number on. The chair's place is
-/// free when this returns.
-pub(crate) fn hand_on<D: Disk, J: Life, R: Machine>(
-    rt: &R,
-    it: &Shared<D, J>,
-    chair: Chair,
-    number: u64,
-) {
-    let taken = it.sockets.lock(rt).take(chair.socket);
-    if let Some(socket) = taken {
-        if let Some(seat) = seat_at(rt, it, socket, number) {
-            enlist(rt, it, seat);
+    /// Tells one that came all that there is, as far as it takes that at once, and returns how many
+    /// decisions there were.
+    fn catch_up<R: Machine>(&self, rt: &R, seat: &mut FollowerSeat) -> Result<u64, FollowEnd> {
+        for _ in rt.forever() {
+            let decided = self.hub.decided();
+            match seat.tell(rt, self) {
+                Ok(Telling::Lines) => {}
+                Ok(_) => return Ok(decided),
+                Err(end) => return Err(end),
+            }
+        }
+        unreachable!()
+    }
+
+    /// Hands one that came to the thread that tells followers, once it was told what there is.
+    fn enlist<R: Machine>(&self, rt: &R, mut seat: FollowerSeat) {
+        match self.catch_up(rt, &mut seat) {
+            Ok(decided) => {
+                self.followers.lock(rt).come(seat);
+                self.followed.notify_all();
+                // The thread may have told the others of a decision in between, and waits for the
+                // next one.
+                if self.hub.decided() != decided {
+                    self.hub.ring(rt);
+                }
+            }
+            Err(end) => self.end_following(rt, seat, end),
         }
     }
-    it.leave_slot(rt, chair.slot.slot());
+
+    /// Hands the client in a chair on, who follows decisions from that number on. The chair's place
+    /// is free when this returns.
+    pub(crate) fn hand_to_followers<R: Machine>(&self, rt: &R, chair: Chair, number: u64) {
+        let taken = self.admission.sockets.lock(rt).take(chair.socket);
+        if let Some(socket) = taken {
+            if let Some(seat) = self.follower_at(rt, socket, number) {
+                self.enlist(rt, seat);
+            }
+        }
+        self.admission.leave_slot(rt, chair.slot.slot());
+    }
+
+    /// Tells the follower at a place what there is; none if its session ended: then another has the
+    /// place.
+    fn tell_follower<R: Machine>(
+        &self,
+        rt: &R,
+        seats: &mut Vec<FollowerSeat>,
+        at: usize,
+    ) -> Option<Telling> {
+        if at >= seats.len() {
+            return None;
+        }
+        match seats[at].tell(rt, self) {
+            Ok(telling) => Some(telling),
+            Err(end) => {
+                let seat = seats.swap_remove(at);
+                self.end_following(rt, seat, end);
+                None
+            }
+        }
+    }
+
+    /// Tells each follower what there is.
+    fn tell_followers<R: Machine>(&self, rt: &R, seats: &mut Vec<FollowerSeat>) -> Round {
+        let mut round = Round {
+            told: false,
+            waits: false,
+        };
+        let mut at = 0usize;
+        for _ in 0..seats.len() {
+            if let Some(telling) = self.tell_follower(rt, seats, at) {
+                round = round.with(telling);
+                at = at.saturating_add(1);
+            }
+        }
+        round
+    }
+
+    /// Takes over those that came, and waits for one while nobody follows; false at the end.
+    fn take_over_followers<R: Machine>(&self, rt: &R, seats: &mut Vec<FollowerSeat>) -> bool {
+        let mut followers = self.followers.lock(rt);
+        for _ in rt.forever() {
+            if self.is_closing() {
+                return false;
+            }
+            followers.take_over(seats);
+            if !seats.is_empty() {
+                return true;
+            }
+            followers = self.followed.wait(rt, followers);
+        }
+        unreachable!()
+    }
+
+    /// Tells followers each decision that the member saves, round by round, until the end. Nobody
+    /// waits for one of them.
+    pub(crate) fn follow_on<R: Machine>(&self, rt: &R) {
+        let mut seats = Vec::new(self.alloc);
+        for _ in rt.forever() {
+            if !self.take_over_followers(rt, &mut seats) {
+                return;
+            }
+            let (began, decided) = (time_of(rt), self.hub.decided());
+            let round = self.tell_followers(rt, &mut seats);
+            if round.told {
+                thread::sleep(rt, rest_behind(rt, began));
+            } else if round.waits {
+                thread::sleep(rt, Duration::from_millis(FOLLOWER_PAUSE));
+            } else if !seats.is_empty() {
+                self.hub.await_news(rt, decided);
+            }
+        }
+        unreachable!()
+    }
 }
 
 /// The result of a round, in which each follower was told once.
@@ -345,67 +400,6 @@ impl Round {
     }
 }
 
-/// Tells the follower at a place what there is; none if its session ended: then another has the
-/// place.
-fn tell_at<D: Disk, J: Life, R: Machine>(
-    rt: &R,
-    it: &Shared<D, J>,
-    seats: &mut Vec<FollowerSeat>,
-    at: usize,
-) -> Option<Telling> {
-    if at >= seats.len() {
-        return None;
-    }
-    match seats[at].tell(rt, it) {
-        Ok(telling) => Some(telling),
-        Err(end) => {
-            let seat = seats.swap_remove(at);
-            leave(rt, it, seat, end);
-            None
-        }
-    }
-}
-
-/// Tells each follower what there is.
-fn tell_each<D: Disk, J: Life, R: Machine>(
-    rt: &R,
-    it: &Shared<D, J>,
-    seats: &mut Vec<FollowerSeat>,
-) -> Round {
-    let mut round = Round {
-        told: false,
-        waits: false,
-    };
-    let mut at = 0usize;
-    for _ in 0..seats.len() {
-        if let Some(telling) = tell_at(rt, it, seats, at) {
-            round = round.with(telling);
-            at = at.saturating_add(1);
-        }
-    }
-    round
-}
-
-/// Takes over those that came, and waits for one while nobody follows; false at the end.
-fn take_over<D: Disk, J: Life, R: Machine>(
-    rt: &R,
-    it: &Shared<D, J>,
-    seats: &mut Vec<FollowerSeat>,
-) -> bool {
-    let mut followers = it.followers.lock(rt);
-    for _ in rt.forever() {
-        if it.is_closing() {
-            return false;
-        }
-        followers.take_over(seats);
-        if !seats.is_empty() {
-            return true;
-        }
-        followers = it.followed.wait(rt, followers);
-    }
-    unreachable!()
-}
-
 /// The time, if the clock tells it.
 fn time_of<R: Machine>(rt: &R) -> Option<Instant> {
     match Instant::now(rt) {
@@ -417,33 +411,15 @@ fn time_of<R: Machine>(rt: &R) -> Option<Instant> {
 /// The rest behind a round that began at that time and ends now: three times as long as it took, so
 /// that followers take a quarter of a processor at most.
 fn rest_behind<R: Machine>(rt: &R, began: Option<Instant>) -> Duration {
-    let longest = Duration::from_millis(LONGEST);
+    let longest = Duration::from_millis(ROUND_PAUSE);
     let (Some(began), Some(ended)) = (began, time_of(rt)) else {
         return longest;
     };
-    match ended.saturating_duration_since(began).checked_mul(TIMES) {
+    match ended
+        .saturating_duration_since(began)
+        .checked_mul(ROUND_TIMES)
+    {
         Some(rest) => rest.min(longest),
         None => longest,
     }
-}
-
-/// Tells followers each decision that the member saves, round by round, until the end. Nobody waits
-/// for one of them.
-pub(crate) fn follow_on<D: Disk, J: Life, R: Machine>(rt: &R, it: &Shared<D, J>) {
-    let mut seats = Vec::new(it.alloc);
-    for _ in rt.forever() {
-        if !take_over(rt, it, &mut seats) {
-            return;
-        }
-        let (began, decided) = (time_of(rt), it.hub.decided());
-        let round = tell_each(rt, it, &mut seats);
-        if round.told {
-            thread::sleep(rt, rest_behind(rt, began));
-        } else if round.waits {
-            thread::sleep(rt, Duration::from_millis(RETRY));
-        } else if !seats.is_empty() {
-            it.hub.await_news(rt, decided);
-        }
-    }
-    unreachable!()
 }

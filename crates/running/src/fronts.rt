@@ -7,6 +7,7 @@ use crate::machine::Machine;
 use crate::places::GREETINGS;
 use crate::run::{Operator, listen, local_door};
 use crate::sockets::shut;
+use crate::timing::{ACCEPT_PAUSE, HELLO_LIMIT};
 use epochs::{Arrival, Said, Switchboard};
 use std::io::Read;
 use std::net::{IpAddr, SocketAddr, TcpStream};
@@ -17,9 +18,6 @@ use std::time::Duration;
 
 /// The length of a Hello.
 const HELLO: usize = 18;
-
-/// The seconds that a link that comes in has for its Hello.
-const PATIENCE: u64 = 10;
 
 /// The addresses at which a process that runs a chain listens.
 #[derive(Drop)]
@@ -124,7 +122,7 @@ fn hand_on<R: Machine>(
     host: IpAddr,
 ) {
     if socket
-        .set_read_timeout(Some(Duration::from_secs(PATIENCE)))
+        .set_read_timeout(Some(Duration::from_secs(HELLO_LIMIT)))
         .is_err()
     {
         return;
@@ -162,7 +160,7 @@ fn next<R: Machine>(rt: &R, board: &Switchboard, listener: &Listener) -> Option<
         match listener.accept(rt) {
             Ok(arrival) => return Some(arrival),
             // The listener was shut down, or the system has no descriptor left.
-            Err(_) => thread::sleep(rt, Duration::from_millis(100)),
+            Err(_) => thread::sleep(rt, Duration::from_millis(ACCEPT_PAUSE)),
         }
     }
     unreachable!()
@@ -299,21 +297,21 @@ pub fn run_fronts<O: Operator, R: Machine>(
         local,
         hosts,
     } = fronts;
-    let doors = FrontDoors {
+    let opened = FrontDoors {
         links: listen(rt, links, operator)?,
         desk: listen(rt, desk, operator)?,
         local: local_door(local)?,
         hosts,
     };
-    let it = &doors;
+    let doors = &opened;
     thread::scope(thread::scope_env(), rt, |scope| -> Result<(), RunFault> {
-        let (listener, hosts) = (&it.links.listener, &it.hosts);
+        let (listener, hosts) = (&doors.links.listener, &doors.hosts);
         if scope
             .spawn(move || accept_links(rt, board, listener, hosts))
             .is_err()
         {
             return Err(RunFault::Memory);
         }
-        run_desk(rt, board, operator, it)
+        run_desk(rt, board, operator, doors)
     })
 }

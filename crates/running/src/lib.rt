@@ -5,11 +5,14 @@
 //! write what the book has, and answer clients.
 #![tactic(auto)]
 
+mod admission;
 mod ahead;
 mod callers;
 mod clients;
+mod clock;
 mod dialling;
 mod doors;
+mod ending;
 mod epoch;
 mod events;
 mod fault;
@@ -20,6 +23,7 @@ mod incoming;
 mod life;
 mod linking;
 mod log;
+mod logger;
 mod machine;
 mod outgoing;
 mod pace;
@@ -35,6 +39,7 @@ mod slot_stream;
 mod slots;
 mod sockets;
 mod threads;
+mod timing;
 mod tossers;
 mod versions;
 mod watch;

@@ -71,7 +71,7 @@ pub(crate) struct Peer {
 #[derive(Drop)]
 pub(crate) struct Outgoing<'a, D: Disk, J: Life, R> {
     rt: &'a R,
-    it: &'a Shared<D, J>,
+    shared: &'a Shared<D, J>,
     stream: NetStream,
     peer: Peer,
     standing: Standing,
@@ -86,18 +86,18 @@ impl<'a, D: Disk, J: Life, R: Wait> Outgoing<'a, D, J, R> {
     /// The stream of a link to this peer.
     pub(crate) fn new(
         rt: &'a R,
-        it: &'a Shared<D, J>,
+        shared: &'a Shared<D, J>,
         stream: NetStream,
         peer: Peer,
     ) -> Outgoing<'a, D, J, R> {
         Outgoing {
             rt,
-            it,
+            shared,
             stream,
             peer,
             standing: Standing::Greeting,
             feeder: Feeder::new(peer.size),
-            read: Vec::new(it.alloc),
+            read: Vec::new(shared.alloc),
             welcomed: false,
         }
     }
@@ -124,7 +124,7 @@ impl<'a, D: Disk, J: Life, R: Wait> Outgoing<'a, D, J, R> {
         } else {
             LogEvent::LinkUpTo(self.peer.number, self.peer.version)
         };
-        self.it.log_of_peer(self.rt, self.peer.number, event);
+        self.shared.log_of_peer(self.rt, self.peer.number, event);
     }
 
     /// Notes the Welcome, once it was read.
@@ -135,7 +135,7 @@ impl<'a, D: Disk, J: Life, R: Wait> Outgoing<'a, D, J, R> {
             return;
         }
         self.welcomed = true;
-        self.it
+        self.shared
             .note_welcome(self.rt, self.peer.number, self.excess());
     }
 

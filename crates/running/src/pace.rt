@@ -3,11 +3,10 @@
 ghost use Rattle.std.specs.Prelude.{◌≡◌};
 ghost use Rattle.running.specs.Paces.{admits, after_line, pace_at};
 
+use crate::timing::MINUTE;
+
 /// The most lines of the links of one member that are told in a minute.
 const LINES: u8 = 20;
-
-/// The seconds of that minute.
-const MINUTE: u64 = 60;
 
 /// The lines of the links from and to one member that were told in the minute that began at a
 /// second.

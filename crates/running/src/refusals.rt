@@ -12,15 +12,13 @@ use crate::callers::Caller;
 use crate::dialling::DialFault;
 use crate::events::LogEvent;
 use crate::log::Queue;
+use crate::timing::MINUTE;
 use links::LinkEnd;
 use std::marker::Model;
 use std::net::IpAddr;
 
 /// The most refusals that are told apart.
 const PLACES: usize = 64;
-
-/// The seconds between two lines of the same refusal.
-const MINUTE: u64 = 60;
 
 /// A refusal that may come again.
 #[derive(Clone, Copy, Debug, PartialEq, Eq)]

@@ -5,24 +5,24 @@ ghost use Rattle.member.specs.Sound.{HasItsFile, IsSound};
 ghost use Rattle.member.specs.Readers.{member_header, member_saved, member_is_stopped, MemberStandsFor};
 ghost use Rattle.node.specs.Books.{IsReplayed};
 
+use crate::admission::Admission;
 use crate::ahead::{Ahead, Welcomes};
 use crate::clients::accept_clients;
+use crate::clock::RunClock;
 use crate::doors::{Door, Doors, Listener};
+use crate::ending::Ending;
 use crate::epoch::InChain;
 use crate::events::LogEvent;
 use crate::fault::RunFault;
-use crate::followers::{Followers, follow_on};
+use crate::followers::Followers;
 use crate::hosts::{Hosts, Peers};
 use crate::life::Life;
-use crate::linking::{accept_links, address_of, dial_on};
+use crate::linking::accept_links;
 use crate::log::Log;
+use crate::logger::Logger;
 use crate::machine::Machine;
-use crate::quota::Quota;
 use crate::seats::Seats;
-use crate::seconds::Seconds;
 use crate::shared::Shared;
-use crate::slots::Slots;
-use crate::sockets::Sockets;
 use crate::threads::{can_start, least_threads};
 use crate::tossers::lock_tossers;
 use crate::watch::Telling;
@@ -34,7 +34,6 @@ use std::alloc::Global;
 use std::marker::Brand;
 use std::net::{SocketAddr, TcpListener};
 use std::os::unix::net::UnixListener;
-use std::sync::atomic::AtomicBool;
 use std::sync::{Condvar, Mutex, Wait};
 use std::{io, thread};
 use terms::Memory;
@@ -136,34 +135,38 @@ fn share<D: Disk + Drop, J: Life>(opened: Opened<D>) -> Result<Shared<D, J>, Mem
         peers: Peers::new(addresses, hosts),
         hub,
         seats: Seats::new(seats),
-        link_tossers: tossers.links,
-        desk_tossers: tossers.desk,
+        tossers,
         turns: Turns::new(),
-        slots: Mutex::new(Slots::new(clients)),
-        left: Condvar::new(),
+        admission: Admission::new(alloc, clients),
         followers: Mutex::new(Followers::new(alloc, followers)),
         followed: Condvar::new(),
-        greetings: Mutex::new(Quota::new()),
-        sockets: Mutex::new(Sockets::new(alloc)),
         ahead: Mutex::new(Ahead::nobody()),
         welcomes: Mutex::new(Welcomes::none()),
         patience,
-        closing: AtomicBool::new(false),
-        ended_unheard: AtomicBool::new(false),
-        seconds: Mutex::new(Seconds::new()),
-        ticked: Condvar::new(),
-        telling: Mutex::new(None),
+        ending: Ending::new(),
+        clock: RunClock::new(),
+        logger: Logger::new(),
         chain,
     })
 }
 
-/// Has told from now on what happens, and first that the member is ready.
-fn begin_telling<D: Disk, J: Life, R: Machine>(rt: &R, it: &Shared<D, J>) -> Result<(), Memory> {
-    let book = it.hub.lock(rt);
-    let telling = Telling::new(it.alloc, &book)?;
-    *it.telling.lock(rt) = Some(telling);
-    it.log(rt, LogEvent::Ready(it.hub.header().me()));
-    Ok(())
+impl<D: Disk, J: Life> Shared<D, J> {
+    /// Has told from now on what happens, and first that the member is ready.
+    fn begin_log<R: Machine>(&self, rt: &R) -> Result<(), Memory> {
+        let book = self.hub.lock(rt);
+        let telling = Telling::new(self.alloc, &book)?;
+        self.logger.begin(rt, telling);
+        self.logger.put(rt, LogEvent::Ready(self.hub.header().me()));
+        Ok(())
+    }
+
+    /// Tells what is left to tell when all threads have ended, and the end.
+    fn end_log<L: Log, R: Machine>(&self, rt: &R, log: &Mutex<L>) {
+        self.log_book(rt);
+        self.logger.put_due(rt, u64::MAX);
+        self.logger.tell(rt, self.alloc, log);
+        log.lock(rt).tell(&LogEvent::End);
+    }
 }
 
 /// Dials each member, itself too, in a thread of its own, and runs the other threads until the
@@ -171,21 +174,30 @@ fn begin_telling<D: Disk, J: Life, R: Machine>(rt: &R, it: &Shared<D, J>) -> Res
 fn run_threads<D: Disk + Send, J: Life + Send + Sync, O: Operator, R: Machine>(
     rt: &R,
     operator: &mut O,
-    it: &Shared<D, J>,
+    shared: &Shared<D, J>,
     doors: &Doors,
 ) -> Result<(), RunFault> {
     thread::scope(thread::scope_env(), rt, |scope| -> Result<(), RunFault> {
         let mut peer = 0u8;
         for _ in 0..u64::MAX {
-            let Some(address) = address_of(it, peer) else {
+            let Some(address) = shared.address_of(peer) else {
                 break;
             };
-            if scope.spawn(move || dial_on(rt, it, peer, address)).is_err() {
+            if scope
+                .spawn(move || shared.dial_on(rt, peer, address))
+                .is_err()
+            {
                 break;
             }
             peer = peer.saturating_add(1);
         }
-        run_clock(rt, operator, it, doors, address_of(it, peer).is_none())
+        run_clock(
+            rt,
+            operator,
+            shared,
+            doors,
+            shared.address_of(peer).is_none(),
+        )
     })
 }
 
@@ -194,7 +206,7 @@ fn run_threads<D: Disk + Send, J: Life + Send + Sync, O: Operator, R: Machine>(
 fn run_local<D: Disk + Send, J: Life + Send + Sync, O: Operator, R: Machine>(
     rt: &R,
     operator: &mut O,
-    it: &Shared<D, J>,
+    shared: &Shared<D, J>,
     doors: &Doors,
     started: bool,
 ) -> Result<(), RunFault> {
@@ -203,7 +215,7 @@ fn run_local<D: Disk + Send, J: Life + Send + Sync, O: Operator, R: Machine>(
             Some(door) => {
                 let listener = &door.listener;
                 scope
-                    .spawn(move || accept_clients(rt, it, listener))
+                    .spawn(move || accept_clients(rt, shared, listener))
                     .is_ok()
             }
             None => true,
@@ -214,7 +226,7 @@ fn run_local<D: Disk + Send, J: Life + Send + Sync, O: Operator, R: Machine>(
             operator.unstarted();
             Err(RunFault::Memory)
         };
-        it.close(rt);
+        shared.close(rt);
         doors.shut(rt);
         end
     })
@@ -225,13 +237,13 @@ fn run_local<D: Disk + Send, J: Life + Send + Sync, O: Operator, R: Machine>(
 fn run_followers<D: Disk + Send, J: Life + Send + Sync, O: Operator, R: Machine>(
     rt: &R,
     operator: &mut O,
-    it: &Shared<D, J>,
+    shared: &Shared<D, J>,
     doors: &Doors,
     started: bool,
 ) -> Result<(), RunFault> {
     thread::scope(thread::scope_env(), rt, |scope| -> Result<(), RunFault> {
-        let tells = scope.spawn(move || follow_on(rt, it)).is_ok();
-        run_local(rt, operator, it, doors, started && tells)
+        let tells = scope.spawn(move || shared.follow_on(rt)).is_ok();
+        run_local(rt, operator, shared, doors, started && tells)
     })
 }
 
@@ -240,16 +252,16 @@ fn run_followers<D: Disk + Send, J: Life + Send + Sync, O: Operator, R: Machine>
 fn run_desk<D: Disk + Send, J: Life + Send + Sync, O: Operator, R: Machine>(
     rt: &R,
     operator: &mut O,
-    it: &Shared<D, J>,
+    shared: &Shared<D, J>,
     doors: &Doors,
     started: bool,
 ) -> Result<(), RunFault> {
     thread::scope(thread::scope_env(), rt, |scope| -> Result<(), RunFault> {
         let listener = &doors.desk.listener;
         let clients = scope
-            .spawn(move || accept_clients(rt, it, listener))
+            .spawn(move || accept_clients(rt, shared, listener))
             .is_ok();
-        run_followers(rt, operator, it, doors, started && clients)
+        run_followers(rt, operator, shared, doors, started && clients)
     })
 }
 
@@ -258,14 +270,16 @@ fn run_desk<D: Disk + Send, J: Life + Send + Sync, O: Operator, R: Machine>(
 fn run_links<D: Disk + Send, J: Life + Send + Sync, O: Operator, R: Machine>(
     rt: &R,
     operator: &mut O,
-    it: &Shared<D, J>,
+    shared: &Shared<D, J>,
     doors: &Doors,
     started: bool,
 ) -> Result<(), RunFault> {
     thread::scope(thread::scope_env(), rt, |scope| -> Result<(), RunFault> {
         let listener = &doors.links.listener;
-        let links = scope.spawn(move || accept_links(rt, it, listener)).is_ok();
-        run_desk(rt, operator, it, doors, started && links)
+        let links = scope
+            .spawn(move || accept_links(rt, shared, listener))
+            .is_ok();
+        run_desk(rt, operator, shared, doors, started && links)
     })
 }
 
@@ -274,13 +288,13 @@ fn run_links<D: Disk + Send, J: Life + Send + Sync, O: Operator, R: Machine>(
 fn run_clock<D: Disk + Send, J: Life + Send + Sync, O: Operator, R: Machine>(
     rt: &R,
     operator: &mut O,
-    it: &Shared<D, J>,
+    shared: &Shared<D, J>,
     doors: &Doors,
     dials: bool,
 ) -> Result<(), RunFault> {
     thread::scope(thread::scope_env(), rt, |scope| -> Result<(), RunFault> {
-        let clock = scope.spawn(move || it.tick_on(rt)).is_ok();
-        run_links(rt, operator, it, doors, dials && clock)
+        let clock = scope.spawn(move || shared.tick_on(rt)).is_ok();
+        run_links(rt, operator, shared, doors, dials && clock)
     })
 }
 
@@ -290,13 +304,13 @@ fn run_logged<D: Disk + Send, J: Life + Send + Sync, O: Operator, L: Log + Send,
     rt: &R,
     operator: &mut O,
     log: &Mutex<L>,
-    it: &Shared<D, J>,
+    shared: &Shared<D, J>,
     doors: &Doors,
 ) -> Result<(), RunFault> {
-    let tells = || it.tell_on(rt, log);
-    let runs = || run_threads(rt, operator, it, doors);
+    let tells = || shared.logger.tell_on(rt, shared.alloc, &shared.ending, log);
+    let runs = || run_threads(rt, operator, shared, doors);
     let ((), ended) = thread::join(rt, tells, runs);
-    tell_end(rt, it, log);
+    shared.end_log(rt, log);
     ended
 }
 
@@ -306,13 +320,13 @@ fn run_shared<D: Disk + Send, J: Life + Send + Sync, O: Operator, L: Log + Send,
     rt: &R,
     operator: &mut O,
     log: Option<&Mutex<L>>,
-    it: &Shared<D, J>,
+    shared: &Shared<D, J>,
     doors: &Doors,
 ) -> Result<(), RunFault> {
     if log.is_some() {
-        begin_telling(rt, it)?;
+        shared.begin_log(rt)?;
     }
-    let size = it.hub.header().size();
+    let size = shared.hub.header().size();
     if !can_start(
         rt,
         least_threads(size, log.is_some(), doors.local.is_some()),
@@ -320,16 +334,16 @@ fn run_shared<D: Disk + Send, J: Life + Send + Sync, O: Operator, L: Log + Send,
         operator.unstarted();
         return Err(RunFault::Memory);
     }
-    it.listen(rt);
+    shared.listen(rt);
     operator.ready()?;
     match log {
-        Some(log) => run_logged(rt, operator, log, it, doors)?,
-        None => run_threads(rt, operator, it, doors)?,
+        Some(log) => run_logged(rt, operator, log, shared, doors)?,
+        None => run_threads(rt, operator, shared, doors)?,
     }
-    if it.is_forgotten(rt) {
+    if shared.is_forgotten(rt) {
         return Err(RunFault::Forgotten);
     }
-    if it.hub.lock(rt).is_stopped() && !it.has_ended_unheard() {
+    if shared.hub.lock(rt).is_stopped() && !shared.ending.is_unheard() {
         return Err(RunFault::Stopped);
     }
     Ok(())
@@ -383,14 +397,6 @@ fn run_named<D: Disk + Drop + Send, J: Life + Send + Sync, O: Operator, L: Log +
     settle(shared)
 }
 
-/// Tells what is left to tell when all threads have ended, and the end.
-fn tell_end<D: Disk, J: Life, L: Log, R: Machine>(rt: &R, it: &Shared<D, J>, log: &Mutex<L>) {
-    it.log_book(rt);
-    it.log_due(rt, u64::MAX);
-    it.tell(rt, log);
-    log.lock(rt).tell(&LogEvent::End);
-}
-
 /// A listener at this address, and what shuts it down.
 fn door<R: Machine>(rt: &R, address: SocketAddr) -> io::Result<Door> {
     Door::new(Listener::Tcp(TcpListener::bind(rt, address)?))
@@ -437,6 +443,30 @@ fn epoch_doors(chain: &InChain) -> Result<Doors, RunFault> {
         links,
         desk,
         local: None,
+    })
+}
+
+/// Opens the doors of the member of that number. The door of clients of this machine takes its
+/// listener out.
+fn doors_of<O: Operator, R: Machine>(
+    rt: &R,
+    operator: &mut O,
+    addresses: &mut Addresses,
+    me: u8,
+) -> Result<Doors, RunFault>
+    ensures { IfOk result (λ _. operator.new ≡ operator.old) }
+{
+    let Some(own) = addresses.peers.get(usize::from(me)) else {
+        return Err(RunFault::Listen);
+    };
+    if let Some(chain) = &addresses.chain {
+        return epoch_doors(chain);
+    }
+    let links = addresses.listen.unwrap_or(*own);
+    Ok(Doors {
+        links: listen(rt, links, operator)?,
+        desk: listen(rt, addresses.desk, operator)?,
+        local: local_door(addresses.local.take())?,
     })
 }
 
@@ -509,30 +539,18 @@ pub fn run_member<D: Disk + Drop + Send, O: Operator, L: Log + Send, R: Machine>
         addresses,
         seed,
     } = start;
+    let mut addresses = addresses;
+    let doors = doors_of(rt, operator, &mut addresses, member.header().me())?;
+    let board = NewBoard::new(alloc, member.header().size().questions())?;
     let Addresses {
         peers,
-        listen: elsewhere,
         hosts,
-        desk,
-        local,
         clients,
         followers,
         patience,
         chain,
+        ..
     } = addresses;
-    let header = member.header();
-    let Some(own) = peers.get(usize::from(header.me())) else {
-        return Err(RunFault::Listen);
-    };
-    let doors = match &chain {
-        Some(chain) => epoch_doors(chain)?,
-        None => Doors {
-            links: listen(rt, elsewhere.unwrap_or(*own), operator)?,
-            desk: listen(rt, desk, operator)?,
-            local: local_door(local)?,
-        },
-    };
-    let board = NewBoard::new(alloc, header.size().questions())?;
     let opened = Opened {
         alloc,
         member,

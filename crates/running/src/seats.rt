@@ -77,16 +77,23 @@ impl<J: Life> Seated<J> {
     pub(crate) fn read<D: Disk, R: Machine>(
         self,
         rt: &R,
-        it: &Shared<D, J>,
+        shared: &Shared<D, J>,
         stream: &mut Incoming,
         version: Version,
         tosser: &mut LifeTosser<J>,
     ) -> LinkEnd {
         let Seated { seat, host: _ } = self;
         let (seat, end) = read_link(
-            rt, it.alloc, &it.hub, seat, stream, version, &OpenGate, tosser,
+            rt,
+            shared.alloc,
+            &shared.hub,
+            seat,
+            stream,
+            version,
+            &OpenGate,
+            tosser,
         );
-        it.seats.rack.put(rt, seat);
+        shared.seats.rack.put(rt, seat);
         end
     }
 }

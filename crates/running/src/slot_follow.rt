@@ -4,6 +4,7 @@ use crate::epoch::InChain;
 use crate::life::Life;
 use crate::machine::Machine;
 use crate::shared::Shared;
+use crate::timing::{FOLLOWER_SILENCE, SLOT_PAUSE};
 use chain::Slot;
 use disk::Disk;
 use epochs::Said;
@@ -13,9 +14,6 @@ use std::net::TcpStream;
 use std::sync::Wait;
 use std::thread;
 use std::time::Duration;
-
-/// The seconds after which a follower that was told nothing is told an empty line.
-const SILENCE: u64 = 5;
 
 /// The most epochs of which a follower is told late decisions.
 const LEFT: usize = 16;
@@ -54,7 +52,7 @@ fn write_decision(alloc: Global, socket: &mut TcpStream, slot: u64, bit: bool) -
 /// Returns the decision of that number: one of this epoch, or of one that doesn't run.
 fn decision_at<D: Disk, J: Life, R: Machine>(
     rt: &R,
-    it: &Shared<D, J>,
+    shared: &Shared<D, J>,
     chain: &InChain,
     number: u64,
 ) -> Option<(Slot, bool)> {
@@ -63,7 +61,7 @@ fn decision_at<D: Disk, J: Life, R: Machine>(
         question: at,
     } = chain.board.chain().slot_of(number);
     let (question, bit) = if epoch == chain.epoch {
-        let decision = it.hub.decision(rt, u64::from(at))?;
+        let decision = shared.hub.decision(rt, u64::from(at))?;
         (decision.question, decision.bit)
     } else if chain.board.runs(rt, epoch) {
         return None;
@@ -75,14 +73,14 @@ fn decision_at<D: Disk, J: Life, R: Machine>(
 
 /// Tells a decision; none if it can't be told.
 fn tell<D: Disk, J: Life>(
-    it: &Shared<D, J>,
+    shared: &Shared<D, J>,
     chain: &InChain,
     socket: &mut TcpStream,
     decided: (Slot, bool),
 ) -> Option<()> {
     let (slot, bit) = decided;
     let number = chain.board.chain().number_of(slot)?;
-    write_decision(it.alloc, socket, number, bit)
+    write_decision(shared.alloc, socket, number, bit)
 }
 
 impl SlotFollower {
@@ -104,14 +102,14 @@ impl SlotFollower {
     fn turn<D: Disk, J: Life, R: Machine>(
         &mut self,
         rt: &R,
-        it: &Shared<D, J>,
+        shared: &Shared<D, J>,
         chain: &InChain,
         socket: &mut TcpStream,
     ) -> Option<Turn> {
-        if let Some(decided) = decision_at(rt, it, chain, self.next) {
-            tell(it, chain, socket, decided)?;
+        if let Some(decided) = decision_at(rt, shared, chain, self.next) {
+            tell(shared, chain, socket, decided)?;
             self.next = self.next.checked_add(1)?;
-            self.told = it.hub.seconds();
+            self.told = shared.hub.seconds();
             return Some(Turn::Goes);
         }
         let epoch = chain.board.chain().slot_of(self.next).epoch;
@@ -130,15 +128,15 @@ impl SlotFollower {
     fn tell_late<D: Disk, J: Life, R: Machine>(
         &mut self,
         rt: &R,
-        it: &Shared<D, J>,
+        shared: &Shared<D, J>,
         chain: &InChain,
         socket: &mut TcpStream,
     ) -> Option<()> {
         for left in self.left.iter_mut() {
-            if let Some(decided) = decision_at(rt, it, chain, *left) {
-                tell(it, chain, socket, decided)?;
+            if let Some(decided) = decision_at(rt, shared, chain, *left) {
+                tell(shared, chain, socket, decided)?;
                 *left = left.checked_add(1)?;
-                self.told = it.hub.seconds();
+                self.told = shared.hub.seconds();
             }
         }
         Some(())
@@ -147,13 +145,13 @@ impl SlotFollower {
     /// Tells an empty line, if nothing was told for long; none if it can't be told.
     fn tell_silence<D: Disk, J: Life>(
         &mut self,
-        it: &Shared<D, J>,
+        shared: &Shared<D, J>,
         socket: &mut TcpStream,
     ) -> Option<()> {
-        if it.hub.seconds().saturating_sub(self.told) < SILENCE {
+        if shared.hub.seconds().saturating_sub(self.told) < FOLLOWER_SILENCE {
             return Some(());
         }
-        self.told = it.hub.seconds();
+        self.told = shared.hub.seconds();
         match socket.write_all(b"\n") {
             Ok(()) => Some(()),
             Err(_) => None,
@@ -164,14 +162,14 @@ impl SlotFollower {
     fn rest<D: Disk, J: Life, R: Machine>(
         &self,
         rt: &R,
-        it: &Shared<D, J>,
+        shared: &Shared<D, J>,
         chain: &InChain,
         decided: u64,
     ) {
         if chain.board.chain().slot_of(self.next).epoch == chain.epoch {
-            it.hub.await_news(rt, decided);
+            shared.hub.await_news(rt, decided);
         } else {
-            thread::sleep(rt, Duration::from_millis(100));
+            thread::sleep(rt, Duration::from_millis(SLOT_PAUSE));
         }
     }
 
@@ -191,31 +189,31 @@ impl SlotFollower {
 /// which it does; none if its session ends.
 pub(crate) fn follow<D: Disk, J: Life, R: Machine>(
     rt: &R,
-    it: &Shared<D, J>,
+    shared: &Shared<D, J>,
     chain: &InChain,
     socket: &mut TcpStream,
     from: u64,
 ) -> Option<(Option<u64>, Said)> {
     let mut follower = SlotFollower {
         next: from,
-        left: Vec::new(it.alloc),
-        told: it.hub.seconds(),
+        left: Vec::new(shared.alloc),
+        told: shared.hub.seconds(),
     };
     for _ in rt.forever() {
-        let decided = it.hub.decided();
-        if it.is_closing() {
+        let decided = shared.hub.decided();
+        if shared.is_closing() {
             return None;
         }
-        match follower.turn(rt, it, chain, socket)? {
+        match follower.turn(rt, shared, chain, socket)? {
             Turn::Goes => {}
-            Turn::Elsewhere(epoch) => return Some((Some(epoch), follower.line(it.alloc)?)),
+            Turn::Elsewhere(epoch) => return Some((Some(epoch), follower.line(shared.alloc)?)),
             Turn::Waits => {
                 if chain.board.is_over(rt, chain.epoch) {
-                    return Some((None, follower.line(it.alloc)?));
+                    return Some((None, follower.line(shared.alloc)?));
                 }
-                follower.tell_late(rt, it, chain, socket)?;
-                follower.tell_silence(it, socket)?;
-                follower.rest(rt, it, chain, decided);
+                follower.tell_late(rt, shared, chain, socket)?;
+                follower.tell_silence(shared, socket)?;
+                follower.rest(rt, shared, chain, decided);
             }
         }
     }

@@ -2,11 +2,13 @@
 
 ghost use Rattle.std.specs.Prelude.{◌≡◌, ◌≤◌, length};
 
+use crate::admission::Chair;
 use crate::epoch::InChain;
 use crate::followers::is_passing;
 use crate::life::Life;
-use crate::shared::{Chair, Shared};
+use crate::shared::Shared;
 use crate::sockets::shut;
+use crate::timing::{CLIENT_SILENCE, EPOCH_LIMIT};
 use disk::Disk;
 use epochs::{Said, SlotLine, Stored, Verb, asks_epochs, epochs_reply, follow_line, slot_line};
 use ghost_record::GhostRecord;
@@ -18,12 +20,6 @@ use std::sync::Wait;
 
 /// The most bytes of a read.
 const PIECE: usize = 512;
-
-/// The seconds for which a decision is awaited.
-const AWAITED: u64 = 10;
-
-/// The seconds after which a client that says nothing is given up.
-const SILENCE: u32 = 600;
 
 /// The destination of a client that leaves its epoch.
 #[derive(Clone, Copy, Debug, PartialEq, Eq)]
@@ -91,7 +87,7 @@ pub(crate) struct SlotStream<'a, D: Disk, J: Life, R> {
 #[derive(Drop)]
 struct SlotLines<'a, D: Disk, J: Life, R> {
     rt: &'a R,
-    it: &'a Shared<D, J>,
+    shared: &'a Shared<D, J>,
     chain: &'a InChain,
     slot: u8,
     socket: TcpStream,
@@ -100,7 +96,8 @@ struct SlotLines<'a, D: Disk, J: Life, R> {
     /// Bytes that the desk reads next.
     out: Said,
     away: Option<Away>,
-    silent: u32,
+    /// The seconds that it has said nothing.
+    silent: u64,
     /// The second in which the first line began to wait, if it does.
     waits: Option<u64>,
 }
@@ -139,7 +136,7 @@ impl<'a, D: Disk, J: Life, R: Wait> SlotStream<'a, D, J, R> {
     /// Returns the stream of the client in this chair, over a copy of its socket.
     pub(crate) fn new(
         rt: &'a R,
-        it: &'a Shared<D, J>,
+        shared: &'a Shared<D, J>,
         chain: &'a InChain,
         chair: &Chair,
         socket: TcpStream,
@@ -147,7 +144,7 @@ impl<'a, D: Disk, J: Life, R: Wait> SlotStream<'a, D, J, R> {
         SlotStream {
             lines: SlotLines {
                 rt,
-                it,
+                shared,
                 chain,
                 slot: chair.slot.slot(),
                 socket,
@@ -257,9 +254,9 @@ impl<D: Disk, J: Life, R: Wait> SlotLines<'_, D, J, R> {
     /// Waits for a change, after which the line is looked at anew. After ten seconds it is
     /// answered.
     fn wait_on(&mut self) -> Result<bool, StreamFault> {
-        let now = self.it.hub.seconds();
+        let now = self.shared.hub.seconds();
         let begun = *self.waits.get_or_insert(now);
-        if now.saturating_sub(begun) < AWAITED && !self.chain.board.is_ended() {
+        if now.saturating_sub(begun) < EPOCH_LIMIT && !self.chain.board.is_ended() {
             self.chain.board.await_change(self.rt);
             return Ok(true);
         }
@@ -275,7 +272,7 @@ impl<D: Disk, J: Life, R: Wait> SlotLines<'_, D, J, R> {
     /// A second has passed in silence: `false` if the client is to leave.
     fn note_silence(&mut self) -> Result<bool, StreamFault> {
         self.silent = self.silent.saturating_add(1);
-        if self.silent >= SILENCE {
+        if self.silent >= CLIENT_SILENCE {
             return Err(StreamFault);
         }
         if self.chain.board.is_over(self.rt, self.chain.epoch) {
@@ -299,7 +296,7 @@ impl<D: Disk, J: Life, R: Wait> SlotLines<'_, D, J, R> {
             }
             Ok(count) => {
                 self.silent = 0;
-                self.it.hear_client(self.rt, self.slot);
+                self.shared.hear_client(self.rt, self.slot);
                 self.said.extend(&piece[..count.min(room)]);
                 Ok(true)
             }
@@ -382,7 +379,9 @@ impl<D: Disk, J: Life, R: Wait> Stream for SlotStream<'_, D, J, R> {
             self.trace = self.trace.then(&StreamCall::Failed);
             return Ok(0);
         }
-        self.lines.it.hear_client(self.lines.rt, self.lines.slot);
+        self.lines
+            .shared
+            .hear_client(self.lines.rt, self.lines.slot);
         self.trace = self.trace.then(&StreamCall::Wrote(&bytes[..count]));
         Ok(count)
     }

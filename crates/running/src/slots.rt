@@ -4,15 +4,12 @@ ghost use Rattle.std.specs.Prelude.{ℕ, ◌≡◌, ◌≢◌, ◌<◌, ◌≤�
 ghost use Rattle.std.specs.List.{position_from};
 ghost use Rattle.running.specs.Slots.{Gives, GivesWay, IsSilentLongest, NoneGivesWay, clients_let_in, has_come, has_left, is_free, is_heard, is_longer_silent, sessions_at, shut, slot_at, slot_of, unused};
 
+use crate::timing::SLOT_SILENCE;
 use crate::tossers::CLIENTS;
 use std::marker::Model;
 
 /// The number of slots.
 const SLOTS: usize = CLIENTS as usize;
-
-/// The seconds for which a client may be silent and keeps its slot all the same, if another wants
-/// one.
-const SILENCE: u64 = 10;
 
 /// A slot of a client. While it has two sessions, the first of them comes to its end, and the
 /// second waits for it.
@@ -108,7 +105,7 @@ fn gives_way(slots: &[Slot; SLOTS], now: u64) -> Option<(usize, u64)>
     match longest_silent(slots) {
         Some(at) => {
             let silent = now.saturating_sub(slots[at].heard);
-            if silent > SILENCE {
+            if silent > SLOT_SILENCE {
                 return Some((at, silent));
             }
             None

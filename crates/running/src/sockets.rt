@@ -1,22 +1,12 @@
 //! The sockets of a member, which its end shuts down: begin at `Sockets`. Each has a number while
 //! its session is under way.
 
+use crate::timing::{CLIENT_LIMIT, CLIENT_SILENCE, FRESH_TICKS, GREETING_TICKS, LINK_SILENCE};
 use links::NetStream;
 use std::alloc::Global;
 use std::io;
 use std::net::{IpAddr, Shutdown, TcpStream};
 use std::time::Duration;
-
-/// The ticks, of about a second, that a peer has for its whole greeting.
-const GREETING_TICKS: u8 = 10;
-
-/// The milliseconds for which a link is read on in silence. Its peer says something once a second,
-/// so two of its Idles are missing then.
-const SILENCE: u64 = 2500;
-
-/// The ticks for which a link that was dialled stays untouched by what happens to the link from its
-/// peer.
-const FRESH_TICKS: u64 = 2;
 
 /// A member that was dialled, and the tick of that.
 #[derive(Clone, Copy, Drop)]
@@ -172,7 +162,7 @@ impl Sockets {
         if let Some(Some(open)) = self.open.get_mut(number) {
             open.patience = None;
         }
-        self.limit_reads(number, Duration::from_millis(SILENCE));
+        self.limit_reads(number, Duration::from_millis(LINK_SILENCE));
     }
 
     /// Counts a tick: a socket whose peer has had ten ticks for its greeting is shut down.
@@ -273,7 +263,7 @@ pub(crate) fn shut(socket: &TcpStream) {
 /// that says nothing for ten minutes, or takes nothing for ten seconds, is given up: the read or
 /// the write fails.
 pub fn client_stream(socket: TcpStream) -> io::Result<NetStream> {
-    limit_client(&socket, 600)?;
+    limit_client(&socket, CLIENT_SILENCE)?;
     Ok(NetStream::new(socket))
 }
 
@@ -283,5 +273,5 @@ pub(crate) fn limit_client(socket: &TcpStream, seconds: u64) -> io::Result<()> {
     // A Unix socket has no such delay.
     let _at_once = socket.set_nodelay(true).is_ok();
     socket.set_read_timeout(Some(Duration::from_secs(seconds)))?;
-    socket.set_write_timeout(Some(Duration::from_secs(10)))
+    socket.set_write_timeout(Some(Duration::from_secs(CLIENT_LIMIT)))
 }

@@ -56,20 +56,20 @@ impl Trial {
 
 /// Tries whether the system gives so many threads at once: starts them, and ends them.
 pub(crate) fn can_start<R: Machine>(rt: &R, count: u32) -> bool {
-    let trial = Trial {
+    let tried = Trial {
         is_over: Mutex::new(false),
         ended: Condvar::new(),
     };
-    let it = &trial;
+    let trial = &tried;
     thread::scope(thread::scope_env(), rt, |scope| {
         let mut started = 0u32;
         for _ in 0..count {
-            if scope.spawn(move || it.wait(rt)).is_err() {
+            if scope.spawn(move || trial.wait(rt)).is_err() {
                 break;
             }
             started = started.saturating_add(1);
         }
-        it.end(rt);
+        trial.end(rt);
         started == count
     })
 }

@@ -4,12 +4,9 @@ ghost use Rattle.std.specs.Prelude.{◌≡◌};
 ghost use Rattle.running.specs.Versions.{after_refusal, after_welcome, first_choice, is_told_refusal, received, tries_again, version_after_refusal, version_after_welcome, will_take_two};
 ghost use Rattle.running.specs.declared.versions.Reception.TheVariants as receptions;
 
+use crate::timing::REFUSAL_LIMIT;
 use links::LinkEnd;
 use wire::Version;
-
-/// Within how many seconds a peer that refuses a session has closed it. One that takes longer to
-/// fail met silence.
-const REFUSAL: u64 = 2;
 
 /// The outcome of a session that this member dialled.
 #[derive(Clone, Copy, Debug, PartialEq, Eq)]
@@ -32,7 +29,7 @@ impl Reception {
         }
         match end {
             LinkEnd::Ended | LinkEnd::Broken(_) | LinkEnd::OutOfOrder => Reception::Refused,
-            LinkEnd::Lost if waited < REFUSAL => Reception::Refused,
+            LinkEnd::Lost if waited < REFUSAL_LIMIT => Reception::Refused,
             _ => Reception::Unanswered,
         }
     }

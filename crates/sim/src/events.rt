@@ -161,17 +161,35 @@ impl fmt::Display for Event {
                 Some(calls) => write!(f, "fuse {member} {calls}"),
                 None => write!(f, "fuse {member} off"),
             },
-            Event::Crash { member, pick } => match pick {
-                Pick::Kept => write!(f, "crash {member} kept"),
-                Pick::Lost => write!(f, "crash {member} lost"),
-                Pick::Fill(byte) => {
-                    let bytes = [*byte];
-                    let digits = Digits(bytes.as_slice());
-                    write!(f, "crash {member} fill {digits}")
-                }
-            },
+            Event::Crash { member, pick } => {
+                let left = Left(*pick);
+                write!(f, "crash {member} {left}")
+            }
             Event::Restart { member } => write!(f, "restart {member}"),
             Event::Reset { from, to } => write!(f, "reset {from} {to}"),
+        }
+    }
+}
+
+/// The file that a crash leaves, as a script says it.
+#[derive(Clone, Copy)]
+struct Left(Pick);
+
+impl fmt::Display for Left {
+    ghost use Rattle.std.specs.Prelude.{Some};
+    ghost use Rattle.sim.specs.Texts.{pick_text};
+
+    ghost output = { λ left. Some (pick_text left.0) };
+
+    fn fmt<W: fmt::Write>(&self, f: &mut fmt::Formatter<W>) -> fmt::Result {
+        match self.0 {
+            Pick::Kept => f.write_str("kept"),
+            Pick::Lost => f.write_str("lost"),
+            Pick::Fill(byte) => {
+                let bytes = [byte];
+                let digits = Digits(bytes.as_slice());
+                write!(f, "fill {digits}")
+            }
         }
     }
 }

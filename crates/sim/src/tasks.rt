@@ -58,17 +58,7 @@ pub(crate) fn plan(size: Size, posts: &[Post], event: &Event) -> Result<(u8, Ins
             question,
             bit,
             toss,
-        } => {
-            if *question >= size.questions() {
-                return Err(Reason::NoSuch);
-            }
-            for_running(
-                size,
-                posts,
-                *member,
-                Instruction::Propose(*question, *bit, *toss),
-            )
-        }
+        } => proposal(size, posts, *member, (*question, *bit, *toss)),
         Event::Deliver {
             from,
             to,
@@ -87,25 +77,16 @@ pub(crate) fn plan(size: Size, posts: &[Post], event: &Event) -> Result<(u8, Ins
             bytes: _,
             toss,
         } => lie(size, posts, *liar, *to, *toss),
-        Event::Fuse { member, calls } => for_correct(
-            size,
-            posts,
-            *member,
-            Instruction::Fuse(*calls),
-        ),
-        Event::Crash { member, pick } => for_correct(
-            size,
-            posts,
-            *member,
-            Instruction::Crash(*pick),
-        ),
-        Event::Restart { member } => restart(size, posts, *member),
-        Event::Reset { from, to } => {
-            if *from >= size.n() || *to >= size.n() {
-                return Err(Reason::NoSuch);
-            }
-            Ok((*to, Instruction::Reset(*from)))
+        Event::Fuse { member, calls } => {
+            let task = Instruction::Fuse(*calls);
+            for_correct(size, posts, *member, task)
         }
+        Event::Crash { member, pick } => {
+            let task = Instruction::Crash(*pick);
+            for_correct(size, posts, *member, task)
+        }
+        Event::Restart { member } => restart(size, posts, *member),
+        Event::Reset { from, to } => reset(size, *from, *to),
     }
 }
 
@@ -115,6 +96,38 @@ pub(crate) fn way_of(from: u8, to: u8, toss: Toss) -> Way
     ensures { result ≡ record { from = from; to = to; toss = toss } }
 {
     Way { from, to, toss }
+}
+
+/// A proposal of a bit on a question to a correct member that runs, with the toss there.
+fn proposal(
+    size: Size,
+    posts: &[Post],
+    member: u8,
+    proposed: (u16, bool, Toss),
+) -> Result<(u8, Instruction), Reason>
+    requires ready { AreReady size posts.now }
+    ensures plan { (liars : ℕ → Bool) (c : Scene) → IsCluster size liars c posts.now →
+        result ≡ plan_of size liars c (events.Propose member proposed.0 proposed.1 proposed.2) }
+    ensures within { IfOk result (λ to. (to.0 < size.n) × HasSender size.n to.1) }
+{
+    let (question, bit, toss) = proposed;
+    if question >= size.questions() {
+        return Err(Reason::NoSuch);
+    }
+    let task = Instruction::Propose(question, bit, toss);
+    for_running(size, posts, member, task)
+}
+
+/// The beginning anew of the link from that member to that one.
+fn reset(size: Size, from: u8, to: u8) -> Result<(u8, Instruction), Reason>
+    ensures plan { (liars : ℕ → Bool) (c : Scene) →
+        result ≡ plan_of size liars c (events.Reset from to) }
+    ensures within { IfOk result (λ to. (to.0 < size.n) × HasSender size.n to.1) }
+{
+    if from >= size.n() || to >= size.n() {
+        return Err(Reason::NoSuch);
+    }
+    Ok((to, Instruction::Reset(from)))
 }
 
 /// A task for a correct member.

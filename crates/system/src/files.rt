@@ -27,9 +27,9 @@ use crate::telling::{
 use crate::trouble::{Failure, Whereabouts};
 use crate::unsynced::{MarkedDisk, refuse_unsynced};
 use commands::{
-    Choice, DumpFault, InitFault, MigrationFault, PagePaths, Shelf, Simulation, SimulationEnd,
-    check_journal, dump_count, dump_count_object, dump_lines, dump_objects, init_disk,
-    migrate_disks, print_check, print_settings, show_simulation,
+    Choice, DumpFault, InitFault, MigrationFault, PagePaths, ScriptPages, Shelf, Simulation,
+    SimulationEnd, check_journal, dump_count, dump_count_object, dump_lines, dump_objects,
+    init_disk, migrate_disks, print_check, print_settings, show_simulation,
 };
 use disk::{Disk, FileDisk, FirstError, MemDisk, Premise};
 use hearing::hear_lines;
@@ -625,14 +625,11 @@ pub fn simulate_file(
     };
     let mut output = io::writer(rt);
     let mut errors = rt.stderr();
-    match show_simulation(
-        rt.alloc(),
-        &text,
-        paths,
-        &mut files,
-        &mut output,
-        &mut errors,
-    ) {
+    let script = ScriptPages {
+        text: &text,
+        paths: *paths,
+    };
+    match show_simulation(rt.alloc(), &script, &mut files, &mut output, &mut errors) {
         Ok(status) => Ok(status),
         Err(SimulationEnd::Script(fault)) => Err(script_failure(rt.alloc(), path, &text, fault)),
         Err(SimulationEnd::Page(failure)) => Err(failure),
