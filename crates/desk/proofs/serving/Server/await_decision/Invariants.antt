@@ -4,5 +4,5 @@ use Rattle.node.specs.Verdicts.{KnowsMore}
 use Rattle.desk.proofs.serving.Server.await_decision.Given as goal
 
 abbrev pub invariant-loop : goal.invariant-loop
-invariant-loop g l = (l.pass.cells ≡ g.J.Naming.names.cells) × KnowsMore l.initial.pass.known l.pass.known
+invariant-loop g l = (l.pass.board ≡ g.J.Naming.names) × KnowsMore l.initial.pass.known l.pass.known
     × (has_written (g.S.Stream.told l.stream) l.held.items ≡ has_written (g.S.Stream.told l.initial.stream) l.initial.held.items)
